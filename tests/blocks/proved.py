@@ -8,7 +8,7 @@ from types import SimpleNamespace
 CRATES = Path(__file__).resolve().parent.parent.parent / "crates"
 SPECS = (
     "px_bytes/specs/Reading.antt",
-    "px_bytes/specs/Held.antt",
+    "px_bytes/specs/Claimed.antt",
     "px_iim/specs/Asking.antt",
     "px_tree/specs/Asking.antt",
     "px_engine/specs/Asking.antt",

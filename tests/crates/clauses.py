@@ -23,6 +23,7 @@ TOP = HERE.parent.parent
 Contracts = Dict[str, List[str]]  # the names of the clauses of each function; that of a clause without a name is empty
 BLOCK = re.compile(r"^( {4})?(?:pub(?:\(\w+\))? )?(?:unsafe )?(?:extern \"C\" )?(impl|trait|fn)\b")
 IMPL = re.compile(r"^impl(?:<[^{]*?>)? (?:(\w+)(?:<([\w']+)[^{]*>)? for )?&?(\w+)")
+TYPE = re.compile(r"^(?:pub(?:\(\w+\))? )?(?:struct|enum) (\w+)", re.M)
 ENSURES = re.compile(r"^ +ensures\*? (\w*)")
 
 
@@ -47,17 +48,18 @@ def owner_of(line: str) -> str:
     return f"{found[3]}{found[1] or ''}{found[2] or '' if found[1] == 'From' else ''}::" if found else ""
 
 
-def contracts_in(text: str, module: str) -> Contracts:
-    """The contracts in a source of a module."""
+def contracts_in(text: str, module: str, homes: Dict[str, str]) -> Contracts:
+    """The contracts in a source of a module. A method is named by the module of its type."""
     found: Contracts = {}
-    owner, function = "", ""
+    owner, function = module, ""
     for line in text.splitlines():
         block = BLOCK.match(line)
         if block and block[2] != "fn":
-            owner, function = owner_of(line), ""
+            kind = IMPL.match(line)
+            owner, function = homes.get(kind[3] if kind else "", module) + owner_of(line), ""
         elif block:
             name = line.partition("fn ")[2]
-            function = module + (owner if block[1] else "") + re.split(r"\W", name)[0]
+            function = (owner if block[1] else module) + re.split(r"\W", name)[0]
             found[function] = []
         clause = ENSURES.match(line)
         if clause and function:
@@ -68,10 +70,14 @@ def contracts_in(text: str, module: str) -> Contracts:
 def contracts_of(crate: str) -> Contracts:
     """The contracts of a crate."""
     sources = TOP / "crates" / crate / "src"
-    found: Contracts = {}
+    texts = {}
     for path in sorted(sources.rglob("*.rt")):
         parts = path.relative_to(sources).with_suffix("").parts
-        found.update(contracts_in(path.read_text(encoding="utf-8"), "" if parts == ("lib",) else "::".join(parts) + "::"))
+        texts["" if parts == ("lib",) else "::".join(parts) + "::"] = path.read_text(encoding="utf-8")
+    homes = {kind: module for module, text in texts.items() for kind in TYPE.findall(text)}
+    found: Contracts = {}
+    for module, text in texts.items():
+        found.update(contracts_in(text, module, homes))
     return found
 
 

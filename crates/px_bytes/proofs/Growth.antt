@@ -2,18 +2,19 @@
 use Rattle.std.proofs.Common.{◌≡◌, ◌≤◌, ◌<◌, ◌+◌, ◌*◌, ℕ, inl, inr, arith}
 use Rattle.std.proofs.lemmas.Bool.{cases_lt}
 use Rattle.std.proofs.Math.Nat.{mul-le-mul_left}
-use Rattle.px_bytes.specs.Lacking.{enlarged}
+use Rattle.px_bytes.specs.Allocations.{enlarged}
 use Rattle.px_bytes.specs.calls.Grown.{HasGrown}
 use Rattle.px_bytes.specs.calls.Reading.{HasRead}
 
 -- ---- a vector that at least doubles
 
-pub grown_more : (len more capacity capacity_now refusals asked asked_now : ℕ) → HasGrown len capacity refusals asked
+pub grown_more : (len more capacity capacity_now failed_allocations asked asked_now : ℕ) → HasGrown len capacity failed_allocations asked
     → capacity ≤ capacity_now → (len + more ≤ capacity → asked_now ≡ asked)
     → (capacity < len + more → asked_now ≡ asked + enlarged capacity (len + more) * 1)
-    → (capacity < len + more → enlarged capacity (len + more) ≤ capacity_now) → HasGrown (len + more) capacity_now refusals asked_now
-grown_more len more capacity capacity_now refusals asked asked_now had wider fits grows larger =
-    let failed = mul-le-mul_left {m = 2 * (len + 65536)} {n = 2 * (len + more + 65536)} refusals (omega arith) in
+    → (capacity < len + more → enlarged capacity (len + more) ≤ capacity_now)
+    → HasGrown (len + more) capacity_now failed_allocations asked_now
+grown_more len more capacity capacity_now failed_allocations asked asked_now had wider fits grows larger =
+    let failed = mul-le-mul_left {m = 2 * (len + 65536)} {n = 2 * (len + more + 65536)} failed_allocations (omega arith) in
     elim (cases_lt capacity (len + more)) [
       | inl l ↦ let now = grows l in let most = larger l in omega (arith, had, wider, failed, now, most)
       | inr l ↦ let now = fits l in omega (arith, had, wider, failed, now)

@@ -6,11 +6,11 @@ use Rattle.std.specs.Io.KnownBytes.{Consumes}
 use Rattle.px_bytes.specs.Reading.{ConsumesAtMost, readable}
 
 -- the bytes returned, and those that a failed call lost after them
-pub lost_after : (a b c : Option (List ℕ)) (bs : List ℕ) (room most : ℕ) → Consumes a b bs → ConsumesAtMost b c room
-    → length bs + room ≤ most → ConsumesAtMost a c most
-lost_after None b c bs room most p q e = tt
-lost_after (Some xs) None c bs room most p q e = absurd p
-lost_after (Some xs) (Some ys) c bs room most p (n, small, left) e =
+pub lost_after : (a b c : Option (List ℕ)) (bs : List ℕ) (space most : ℕ) → Consumes a b bs → ConsumesAtMost b c space
+    → length bs + space ≤ most → ConsumesAtMost a c most
+lost_after None b c bs space most p q e = tt
+lost_after (Some xs) None c bs space most p q e = absurd p
+lost_after (Some xs) (Some ys) c bs space most p (n, small, left) e =
     (length bs + n, omega arith, left ∙ ap Some (sym (rw p (drop-append-add bs ys n))))
 
 -- no more bytes are returned than a reader has

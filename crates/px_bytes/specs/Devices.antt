@@ -19,9 +19,9 @@ one_failed calls = record calls { failed = calls.failed + 1 }
 abbrev pub one_flush : Calls → Calls
 one_flush calls = record calls { flushes = calls.flushes + 1 }
 
--- one more failure can be counted: fewer than u64::MAX calls have failed
-abbrev pub CanFail : Calls → Type 0
-CanFail calls = calls.failed + 1 < 2 ^ 64
+-- one more failed call can be counted: fewer than u64::MAX have failed
+abbrev pub CanCountFailure : Calls → Type 0
+CanCountFailure calls = calls.failed + 1 < 2 ^ 64
 
 -- a failed call raised the count by one; any other call left it; and none was a flush
 abbrev pub Counts : {A E : Type 0} → Result A E → Calls → Calls → Type 0
@@ -76,8 +76,9 @@ pub record Device : Type 0 where
   pub old : Option (List ℕ)
   pub new : Option (List ℕ)
 
-abbrev pub over : {W : Type 0} → (W → Calls) → (W → Option (List ℕ)) → W → W → Device
-over calls bytes old new = record { calls = calls old; calls_now = calls new; old = bytes old; new = bytes new }
+-- the device that a call got as `old` and left as `new`: `calls` and `bytes` are the ghost values of its trait
+abbrev pub device_of : {W : Type 0} → (W → Calls) → (W → Option (List ℕ)) → W → W → Device
+device_of calls bytes old new = record { calls = calls old; calls_now = calls new; old = bytes old; new = bytes new }
 
 -- as many bytes were taken as `Writes` states, and a failure is counted
 abbrev pub Sends : {A E : Type 0} → Result A E → Device → List ℕ → Type 0

@@ -3,9 +3,9 @@ pub mod Parts
 pub mod Checks
 pub mod Devices
 pub mod Waiting
-pub mod Lacking
+pub mod Allocations
 pub mod Reading
-pub mod Held
+pub mod Claimed
 pub mod Range
 pub mod calls
 pub mod lemmas

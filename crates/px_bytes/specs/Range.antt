@@ -2,7 +2,7 @@
 -- referenced from more than one place.
 use Rattle.std.specs.Prelude.{◌≡◌, ℕ, ◌+◌, ◌<◌, ◌≤◌, nat_lt, Bool, true, not, ◌&&◌, List, [], ◌∷◌, ⊤}
 use Rattle.std.specs.List.{list_all, AllByRecursion}
-use Rattle.px_bytes.specs.Held.{IsFree}
+use Rattle.px_bytes.specs.Claimed.{IsFree}
 
 pub record Range : Type 0 where
   pub start : ℕ
@@ -28,9 +28,9 @@ shares r s = nat_lt 0 r.size && nat_lt 0 s.size && nat_lt r.start (s.start + s.s
 
 -- whether r shares no byte with the ranges of the list
 abbrev pub is_free : List Range → Range → Bool
-is_free held r = list_all (λ s. not (shares r s)) held
+is_free claimed r = list_all (λ s. not (shares r s)) claimed
 
 -- the list of ranges leaves the same bytes free as the claimed ones
-pub record Agrees (taken : List Range) (held : List (ℕ × ℕ)) : Type 0 where
-  pub free : (s n : ℕ) → is_free taken (range s n) ≡ true → IsFree held s (s + n)
-  pub all_free : (s n : ℕ) → IsFree held s (s + n) → is_free taken (range s n) ≡ true
+pub record Agrees (taken : List Range) (claimed : List (ℕ × ℕ)) : Type 0 where
+  pub free : (s n : ℕ) → is_free taken (range s n) ≡ true → IsFree claimed s (s + n)
+  pub all_free : (s n : ℕ) → IsFree claimed s (s + n) → is_free taken (range s n) ≡ true

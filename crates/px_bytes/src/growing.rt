@@ -1,11 +1,10 @@
 // A writer into memory.
 ghost use Rattle.std.specs.Prelude.{◌≡◌, ◌<◌, [], IfOk, IsErr, ◌↔◌};
-ghost use Rattle.px_bytes.specs.Lacking.{Lacks, AsksAtMost};
+ghost use Rattle.px_bytes.specs.Allocations.{CountsAllocFailure, AsksAtMost};
 ghost use Rattle.px_bytes.specs.calls.Grown.{grown_bytes};
 
-use crate::devices::{Device, Failed, Sink, Spell};
-use crate::flushing::Flushes;
-use crate::memory::{Memory, Refused};
+use crate::devices::{Device, Encode, Failed, Flushes, Sink};
+use crate::memory::{AllocFailed, Memory};
 use std::marker::Model;
 
 // The greatest number of bytes that one call takes.
@@ -17,7 +16,7 @@ const CHUNK: usize = 65_536;
 pub struct Growing {
     memory: Memory,
     taken: Vec<u8>,
-    refusals: u64,
+    failed_allocations: u64,
     // The flushes, which only proofs read.
     flushes: Flushes,
 }
@@ -28,37 +27,43 @@ impl Model for Growing {
 
     ghost Value = { Grown };
 
-    ghost view = { λ g. record { taken = g.taken.items; refusals = g.refusals; flushes = g.flushes.count; since = g.flushes.since } };
+    ghost view = { λ g. record {
+      taken = g.taken.items;
+      failed_allocations = g.failed_allocations;
+      flushes = g.flushes.count;
+      since = g.flushes.since;
+    } };
 
     // One allocation of its memory has failed for each failed call.
-    ghost invariant = { λ g. (g.memory.refusals ≡ g.refusals)
-        × HasGrown (vec_len g.taken) (vec_capacity g.taken) g.refusals g.memory.asked };
+    ghost invariant = { λ g. (g.memory.failed_allocations ≡ g.failed_allocations)
+        × HasGrown (vec_len g.taken) (vec_capacity g.taken) g.failed_allocations g.memory.asked };
 }
 
 impl Growing {
     /// An empty writer. It allocates nothing.
     pub fn new(memory: &Memory) -> Growing
-        ensures { result ≡ record { taken = []; refusals = 0; flushes = 0; since = 0 } }
+        ensures { result ≡ record { taken = []; failed_allocations = 0; flushes = 0; since = 0 } }
     {
         Growing {
             memory: memory.fresh(),
             taken: memory.list(),
-            refusals: 0,
+            failed_allocations: 0,
             flushes: Flushes::none(),
         }
     }
 
-    /// The bytes written, or `Err` if a call has failed.
-    pub fn finish_in(self, memory: &mut Memory) -> Result<Vec<u8>, Refused>
+    /// `Ok`: the bytes written. `Err`, exactly if a call of the writer has failed: `memory` then counts one failed
+    /// allocation more.
+    pub fn finish_in(self, memory: &mut Memory) -> Result<Vec<u8>, AllocFailed>
         ensures bytes { IfOk result (λ bytes. bytes.items ≡ self.taken) }
-        ensures which { IsErr result ↔ (0 < self.refusals) }
-        ensures memory { Lacks result memory.old memory.new }
+        ensures which { IsErr result ↔ (0 < self.failed_allocations) }
+        ensures memory { CountsAllocFailure result memory.old memory.new }
         ensures asked { AsksAtMost (grown_bytes self) memory.old memory.new }
     {
         let Growing {
             memory: own,
             taken,
-            refusals: _,
+            failed_allocations: _,
             flushes: _,
         } = self;
         memory.join(&own)?;
@@ -67,10 +72,10 @@ impl Growing {
 }
 
 impl Device for Growing {
-    ghost calls = { λ g. record { failed = g.refusals; flushes = g.flushes } };
+    ghost calls = { λ g. record { failed = g.failed_allocations; flushes = g.flushes } };
 
     fn failures(&self) -> u64 {
-        self.refusals
+        self.failed_allocations
     }
 }
 
@@ -94,13 +99,13 @@ impl Sink for Growing {
                 Ok(some.len())
             }
             Err(_) => {
-                self.refusals += 1;
+                self.failed_allocations += 1;
                 Err(Failed)
             }
         }
     }
 
-    fn write_spelled<S: Spell>(&mut self, _: &S, _: usize) -> bool {
+    fn write_encoded<S: Encode>(&mut self, _: &S, _: usize) -> bool {
         false
     }
 

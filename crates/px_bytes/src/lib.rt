@@ -10,37 +10,34 @@
 //! let header = b"MM\x00\x2a\x00\x00\x00\x08";
 //! let block = Block::new(header).ok().ok_or("too long")?;
 //! let offset = block.u32_at(Order::Most, 4).ok_or("no offset")?;
-//! let mut held = Ranges::new(rt.alloc());
-//! held.add(0, offset)?; // true: the bytes were free
-//! held.add(7, 1)?; // false: the header has claimed this byte
-//! let mut spelled = [0u8; 4];
-//! Order::Least.put32(offset, &mut spelled);
+//! let mut claimed = Ranges::new(rt.alloc());
+//! claimed.add(0, offset)?; // true: the bytes were free
+//! claimed.add(7, 1)?; // false: the header has claimed this byte
+//! let mut encoded = [0u8; 4];
+//! Order::Least.put32(offset, &mut encoded);
 //! let mut writer = Watched::new(Vec::new(rt.alloc()));
-//! write_whole(&mut writer, &spelled).ok().ok_or("a write failed")?; // 08 00 00 00
+//! write_whole(&mut writer, &encoded).ok().ok_or("a write failed")?; // 08 00 00 00
 //! ```
 #![tactic(auto)]
 
 mod blocks;
 mod causes;
 mod devices;
-mod flushing;
+mod global;
 mod growing;
-mod held;
-mod listed;
-mod marks;
 mod memory;
 mod numbers;
 mod pending;
-mod told;
-mod whole;
+mod ranges;
+mod read_all;
 
 pub use blocks::{Block, LIMIT};
 pub use causes::{Cause, Refusal, WriteRefusal};
-pub use devices::{Device, Failed, Sink, Source, Spell, Watched};
-pub use flushing::Flushes;
+pub use devices::{Device, Encode, Failed, Flushes, Sink, Source, Watched, write_whole};
+pub use global::read_up_to;
 pub use growing::Growing;
-pub use held::Ranges;
-pub use memory::{Memory, Refused};
+pub use memory::{AllocFailed, Memory};
 pub use numbers::{LeastFirst, MostFirst, Order, Spelling};
 pub use pending::{CAPACITY, Pending};
-pub use whole::{ReadFault, read_up_to, read_up_to_in, write_whole};
+pub use ranges::Ranges;
+pub use read_all::{ReadFault, read_up_to_in};

@@ -1,13 +1,13 @@
 /* exifnorm.h: the meaning of a picture's metadata block: its one normal form, and whether two blocks mean the same; where the blocks
- * of a JPEG picture are, and whether two pictures have the same.
+ * of a JPEG picture and its packet of XMP are, and whether two pictures have the same blocks; and the normal form of a packet of XMP.
  *
  * A block is an Exif block or a block of IPTC-NAA IIM DataSets. An Exif block may begin with the six bytes "Exif\0\0" that
  * precede it in a JPEG file. The calls open no picture file: they read a block in memory. Two blocks that mean
  * the same have equal normal forms, byte for byte; two that mean different things have different ones. A block that breaks the
  * rules is refused, with its first fault and the byte offset of that fault. Blocks are never repaired.
  *
- * The head of a JPEG picture is what precedes its first scan: markers, and segments of data (ITU-T T.81, B.1.1). Two calls find the
- * segments that contain blocks, without reading the blocks. A third compares the blocks of two pictures.
+ * The head of a JPEG picture is what precedes its first scan: markers, and segments of data (ITU-T T.81, B.1.1). Three calls find the
+ * segments that contain blocks or a packet of XMP, without reading these. Another one compares the blocks of two pictures.
  *
  * Whether two blocks of Exif or IPTC mean the same is proved. Whether two JPEGs have the same Exif and IPTC is proved of the library's
  * call. How blocks are found in other formats, XMP, and groups of pictures are tested. It is proved of each call which status but
@@ -18,9 +18,9 @@
  * For every call:
  *
  *   Pointers   Each must point to as many bytes, or elements, as its length argument gives. One with the length 0 may be NULL, and no
- *              other may. What a call writes to (out, written, kind, same, unread, fault, parts, resources, blocks, sizes, count)
- *              must not overlap any other argument. The two blocks or pictures of a comparison may overlap or be the same, since they
- *              are only read.
+ *              other may. What a call writes to (out, written, kind, same, unread, fault, parts, resources, blocks, sizes, count;
+ *              and packet of exifnorm_jpeg_xmp) must not overlap any other argument. The two blocks or pictures of a comparison
+ *              may overlap or be the same, since they are only read.
  *   Ownership  The caller keeps ownership of all arguments. A call keeps no pointer after it returns, and frees what it allocated.
  *   Threads    Calls share nothing and keep no state. Any number of threads may call at once, and may read the same block, if each
  *              has its own output arguments. Nobody may write to a block while a call reads it.
@@ -69,10 +69,13 @@ enum {
     /* The first of two blocks is valid, and the second is refused; or the first fault of two pictures is in the second. fault has
        the cause. */
     EXIFNORM_SECOND_REFUSED = 6,
-    /* Two pictures are the same as far as they are read, and a part of the first isn't read. unread has its place. */
+    /* Two pictures are the same as far as they are read, and a part of the first isn't read. Or a picture has XMP that isn't read.
+       unread has the place. */
     EXIFNORM_NOT_READ = 7,
     /* The same, and a part of the second isn't read; all of the first is. unread has its place. */
-    EXIFNORM_SECOND_NOT_READ = 8
+    EXIFNORM_SECOND_NOT_READ = 8,
+    /* The packet of XMP is in a rare form of RDF/XML, which this library doesn't read: another reader may. fault has the cause. */
+    EXIFNORM_RARE = 9
 };
 
 /* The kinds of block. */
@@ -106,7 +109,7 @@ enum {
 
 /* Why a block is refused: its first fault. */
 struct exifnorm_fault {
-    uint32_t cause; /* one of the causes above */
+    uint32_t cause; /* one of the causes above; of a packet of XMP EXIFNORM_XMP_BAD_MARKUP, .. */
     uint32_t place; /* the byte offset in the block, at most EXIFNORM_LIMIT; a leading "Exif\0\0" isn't counted */
 };
 
@@ -280,16 +283,15 @@ struct exifnorm_unread_part {
     size_t start;    /* the byte offset */
 };
 
-/* Compares the Exif and the IPTC of two JPEG pictures. Two pictures have the same if they have as many blocks of Exif and as many of
- * IPTC, and these mean the same, pair by pair, in their order. So two pictures without metadata have the same. Exif is what the segments
- * APP1 contain, and IPTC is Photoshop's resource 0x0404 in segments APP13; one without a byte is no block (docs/FORMAT.md, "The head of a
- * JPEG"). XMP, pixels, and what follows the head are not compared. The first bytes of a file may be enough, as for exifnorm_jpeg_parts.
+/* Compares the Exif and the IPTC of two JPEG pictures. They have the same if they have equal numbers of Exif blocks and of IPTC blocks,
+ * and each block means the same as its counterpart, in their order. So two pictures without metadata have the same. Exif is in segments
+ * APP1, and IPTC in Photoshop's resources 0x0404 in segments APP13. One without a byte is no block (docs/FORMAT.md, "The head of a JPEG").
+ * XMP, pixels, and what follows the head are not compared. The first bytes of a file may be enough, as for exifnorm_jpeg_parts.
  *
- * Other programs read Exif and IPTC in more places. If the pictures have the same, and one of them has something in such a place, then
- * the status is NOT_READ or SECOND_NOT_READ and same is unchanged: they may differ there. exifnorm_jpeg_unread lists these places.
+ * Other programs read Exif and IPTC in more places, which exifnorm_jpeg_unread lists. If the pictures have the same, but one of them has
+ * something in such a place, they may differ there. Then the status is NOT_READ or SECOND_NOT_READ, and same is unchanged.
  *
- * Both heads are read first. Then all blocks of the first picture are checked, and then those of the second: in each picture the Exif
- * blocks before the IPTC blocks.
+ * Both heads are read first. Then the blocks of the first picture are checked, and then those of the second, Exif before IPTC.
  *
  *   DONE             same is set: 1 if the pictures have the same and there is no such place in them, 0 if they don't have the same.
  *   NOT_READ         they have the same, as far as they are read; unread is the first such place, in the first picture.
@@ -304,11 +306,14 @@ uint32_t exifnorm_jpeg_same(const unsigned char *first, size_t first_length,   /
                             struct exifnorm_unread_part *unread,               /* is set to the first place that isn't read */
                             struct exifnorm_picture_fault *fault);             /* is set to the cause of a refusal */
 
-/* Finds the first place in a picture at which something is that other programs read as Exif or IPTC, or may, and exifnorm_jpeg_same
- * doesn't, or the reverse: a segment APP1 that has "Exif" in any case and a zero among its first nine bytes, but doesn't begin with "Exif"
- * and two zeros; a segment APP13 with any data that begins neither with "Photoshop 3.0" and a zero nor with "Adobe_CM"; Photoshop's
- * resource 0x0422 with any data; resource 0x0404 with another signature than "8BIM", which only some programs read; or what follows the
- * last resource, unless all of it is zeros. Segments come before resources.
+/* Finds the first place in a picture where other programs may read Exif or IPTC and exifnorm_jpeg_same doesn't, or the reverse.
+ * Segments come before resources. Such a place is
+ *
+ * - a segment APP1 that has "Exif" in any case and a zero among its first nine bytes, but doesn't begin with "Exif" and two zeros;
+ * - a segment APP13 with any data that begins neither with "Photoshop 3.0" and a zero nor with "Adobe_CM";
+ * - Photoshop's resource 0x0422 with any data;
+ * - resource 0x0404 with another signature than "8BIM", which only some programs read;
+ * - what follows the last resource, unless all of it is zeros.
  *
  *   DONE       unread is set.
  *   REFUSED    fault is set: the bytes have no head, or EXIFNORM_JPEG_TOO_LONG.
@@ -318,7 +323,90 @@ uint32_t exifnorm_jpeg_unread(const unsigned char *bytes, size_t length, /* the 
                               struct exifnorm_unread_part *unread,       /* is set to the place */
                               struct exifnorm_jpeg_fault *fault);        /* is set to the cause of a refusal */
 
-/* Writes the name of a cause, as "Overlap" or "JpegCut", and a zero byte to the beginning of out. A number that is no cause has the
+/* Where the packet of XMP of a picture is. */
+struct exifnorm_jpeg_packet {
+    uint32_t found; /* 1 if there is one, else 0 */
+    size_t start;   /* the byte offset in the picture; 0 if there is none */
+    size_t size;    /* the number of bytes; 0 if there is none */
+};
+
+/* Finds the packet of XMP in the head of a picture: the data of the segment APP1 that begins with "http://ns.adobe.com/xap/1.0/" and a
+ * zero, after that zero (XMP part 3, 1.1.3). The packet isn't read: exifnorm_xmp_normalise reads it. Two pictures with a packet each have the
+ * same XMP in these segments if the forms of both are equal.
+ *
+ * A picture may have more XMP: a second such segment, or extended XMP, a further packet that is cut over segments APP1 which begin with
+ * "http://ns.adobe.com/xmp/extension/" and a zero. This call joins none, so the status is NOT_READ. It doesn't look for XMP elsewhere, as
+ * in Photoshop's resource 0x0424, in a segment with another mark, or after the head. The first bytes of a file may be enough, as for
+ * exifnorm_jpeg_parts.
+ *
+ *   DONE      packet is set: there is one packet, or none.
+ *   NOT_READ  unread is set, to the data of the second packet or of the first piece of extended XMP, whichever comes first, after its mark.
+ *   REFUSED   fault is set: the bytes have no head.
+ */
+uint32_t exifnorm_jpeg_xmp(const unsigned char *bytes, size_t length, /* the picture, or its first bytes */
+                           struct exifnorm_jpeg_packet *packet,       /* is set to the place of the packet */
+                           struct exifnorm_unread_part *unread,       /* is set to the place of XMP that isn't read */
+                           struct exifnorm_jpeg_fault *fault);        /* is set to the cause of a refusal */
+
+/* Why a packet of XMP has no normal form. No other cause has one of these numbers. Those from EXIFNORM_XMP_RARE_ENCODING on come with the
+ * status RARE, all others with REFUSED. */
+enum {
+    EXIFNORM_XMP_TOO_LONG = 201,         /* the packet is longer than EXIFNORM_LIMIT */
+    EXIFNORM_XMP_BAD_CHARACTER = 202,    /* no character that XML allows is here, in UTF-8 */
+    EXIFNORM_XMP_BAD_MARKUP = 203,       /* a tag, a comment, a section or a processing instruction is none of XML's, or is cut */
+    EXIFNORM_XMP_BAD_REFERENCE = 204,    /* a text or a tag has an & that begins no reference to a character or to one of XML's five entities */
+    EXIFNORM_XMP_DOCUMENT_TYPE = 205,    /* there is a document type */
+    EXIFNORM_XMP_OTHER_END = 206,        /* an end tag has another name than its element */
+    EXIFNORM_XMP_ATTRIBUTE_TWICE = 207,  /* a tag has an attribute twice */
+    EXIFNORM_XMP_BAD_PREFIX = 208,       /* a prefix is not declared, or a declaration is not allowed */
+    EXIFNORM_XMP_NO_ROOT = 209,          /* there is text or a second element beside the root, or no root */
+    EXIFNORM_XMP_TOO_DEEP = 210,         /* an element is inside 100 others */
+    EXIFNORM_XMP_NO_RDF = 211,           /* the root is not x:xmpmeta around one rdf:RDF, nor rdf:RDF */
+    EXIFNORM_XMP_SEVERAL_SUBJECTS = 212, /* the packet has properties of several subjects */
+    EXIFNORM_XMP_RARE_ENCODING = 251,    /* another encoding than UTF-8 */
+    EXIFNORM_XMP_RARE_NAME = 252,        /* a name that is not of ASCII */
+    EXIFNORM_XMP_RARE_NAMESPACE = 253,   /* a namespace that has odd characters, could be part of a name, or begins as one of XML's own */
+    EXIFNORM_XMP_RARE_COUNT = 254,       /* more than 256 attributes of a tag, or too many prefixes in scope */
+    EXIFNORM_XMP_RARE_ELEMENT = 255,     /* an element where the usual forms of RDF/XML have none */
+    EXIFNORM_XMP_RARE_ATTRIBUTE = 256,   /* an attribute that the usual forms don't have */
+    EXIFNORM_XMP_RARE_TEXT = 257,        /* text between elements */
+    EXIFNORM_XMP_RARE_LANGUAGE = 258,    /* a language that is none, or has more than 100 characters */
+    EXIFNORM_XMP_RARE_RESOURCE = 259,    /* a resource that is no absolute URI of ASCII */
+    EXIFNORM_XMP_RARE_REPEATED = 260,    /* a property stands twice in one place */
+    EXIFNORM_XMP_RARE_LENGTH = 261       /* the normal form would be longer than EXIFNORM_LIMIT */
+};
+
+/* Judges a packet of XMP: whether it has a normal form, as exifnorm_xmp_normalise writes it.
+ *
+ *   DONE       it has one.
+ *   REFUSED    the packet is wrong; fault is set.
+ *   RARE       it may have a meaning; fault is set, and says where the first rare form is.
+ *   NO_MEMORY  nothing is set.
+ */
+uint32_t exifnorm_xmp_check(const unsigned char *packet, size_t packet_length, /* the packet */
+                            struct exifnorm_fault *fault);                     /* is set to the cause of a refusal */
+
+/* Writes the normal form of a packet of XMP to the beginning of out: a packet of the same properties, which are in the order of their
+ * bytes, as the members of each rdf:Bag are. Two packets with equal forms have the same properties, with the same values and languages.
+ * Prefixes, the order of properties, whether one is an attribute or an element, white space between elements, comments, rdf:about,
+ * x:xmptk and the padding make no difference. Extended XMP is a packet of its own. The place of a fault is the byte offset in the packet
+ * of the tag or the text that has it.
+ *
+ * Which form a packet has is tested and, unlike that of a block, not proved. It is proved that the call ends and is safe for any bytes,
+ * and that it returns NO_MEMORY exactly if an allocation failed.
+ *
+ *   DONE             out begins with the form; written is its length. The rest of out is unchanged.
+ *   REFUSED          the packet is wrong; fault is set.
+ *   RARE             it may have a meaning; fault is set.
+ *   NO_MEMORY        nothing is set.
+ *   TOO_LITTLE_ROOM  written is the length of the form, which is more than out_length.
+ */
+uint32_t exifnorm_xmp_normalise(const unsigned char *packet, size_t packet_length, /* the packet */
+                                unsigned char *out, size_t out_length,             /* receives the form */
+                                size_t *written,                                   /* is set to its length */
+                                struct exifnorm_fault *fault);                     /* is set to the cause of a refusal */
+
+/* Writes the name of a cause, as "Overlap", "JpegCut" or "XmpNoRdf", and a zero byte to the beginning of out. A number that is no cause has the
  * empty name.
  * EXIFNORM_NAME_ROOM bytes are always enough.
  *

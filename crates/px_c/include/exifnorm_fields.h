@@ -1,4 +1,5 @@
-/* exifnorm_fields.h: the fields of a normal form, one after another, and their values as numbers, fractions and texts.
+/* exifnorm_fields.h: the fields of a normal form, one after another, and their values as numbers, fractions and texts; and the properties
+ * of the normal form of a packet of XMP.
  *
  *     struct exifnorm_fields fields;
  *     struct exifnorm_field field;
@@ -8,7 +9,8 @@
  *             printf("%.*s\n", (int)exifnorm_field_text_size(&field), (const char *)field.value);
  *
  * A header alone, for C99 and C++11: it calls nothing of the library but what <string.h> has, and allocates nothing. docs/FORMAT.md,
- * section 6, describes the normal form.
+ * section 6, describes the normal form. What follows is about the form of a block; exifnorm_xmp_start, at the end, begins the properties of
+ * a packet, of which section 10 describes the form.
  *
  *   Order     That of exifnorm_show: the main directory, its IPTC record, the Exif, Interoperability, GPS and thumbnail directories,
  *             the thumbnail's JPEG and its strips; in each directory by ascending tag.
@@ -429,6 +431,239 @@ static inline size_t exifnorm_field_text_size(const struct exifnorm_field *field
     if (field->type == EXIFNORM_TYPE_ASCII || field->type == EXIFNORM_TYPE_UTF8)
         while (size < field->size && field->value[size])
             size++;
+    return size;
+}
+
+/* ---- XMP: the properties of the form that exifnorm_xmp_normalise writes
+ *
+ *     struct exifnorm_xmp_properties properties;
+ *     struct exifnorm_xmp_property property;
+ *     unsigned char text[1000];
+ *     exifnorm_xmp_start(&properties, form, written);
+ *     while (exifnorm_xmp_next(&properties, &property))
+ *         if (exifnorm_xmp_is(&property, "http://purl.org/dc/elements/1.1/", "format")) {
+ *             size_t size = exifnorm_xmp_text(&property, text, sizeof text);
+ *             printf("%.*s\n", (int)(size < sizeof text ? size : sizeof text), (const char *)text);
+ *         }
+ *
+ * The order is that of the form: properties by their bytes, so that the members of a Bag are sorted, too. What is inside a structure or a
+ * container follows it, with a depth that is greater by one. Bytes, lifetime and threads are as above. */
+
+/* What a property is, or a member of a container. */
+enum {
+    EXIFNORM_XMP_TEXT = 1,      /* a text in UTF-8, perhaps with a language */
+    EXIFNORM_XMP_RESOURCE = 2,  /* a URI */
+    EXIFNORM_XMP_STRUCTURE = 3, /* properties; also a text with qualifiers, which is its rdf:value */
+    EXIFNORM_XMP_BAG = 4,       /* a container without an order */
+    EXIFNORM_XMP_SEQ = 5,       /* one with an order */
+    EXIFNORM_XMP_ALT = 6        /* alternatives, as a text in several languages */
+};
+
+/* The depth of each property is less: a packet has no more elements inside one another. */
+enum { EXIFNORM_XMP_DEPTH = 100 };
+
+/* Some bytes in the form, which have no zero byte at their end. */
+struct exifnorm_xmp_bytes {
+    const unsigned char *start;
+    size_t size;
+};
+
+/* A property, or a member of a container. */
+struct exifnorm_xmp_property {
+    uint32_t kind;                      /* EXIFNORM_XMP_TEXT, .. */
+    uint32_t depth;                     /* how many structures and containers it is in */
+    struct exifnorm_xmp_bytes space;    /* the URI of its namespace; empty for a member of a container */
+    struct exifnorm_xmp_bytes name;     /* its local name; empty for a member of a container */
+    struct exifnorm_xmp_bytes language; /* of a text: in small letters, or empty */
+    struct exifnorm_xmp_bytes value;    /* the text or the URI as the form has it: exifnorm_xmp_text decodes it. Otherwise empty */
+};
+
+/* A walk through the properties of a form. */
+struct exifnorm_xmp_properties {
+    const unsigned char *form;
+    size_t length;
+    size_t at;      /* what was passed */
+    uint32_t depth; /* how many structures and containers are open */
+    int ended, whole;
+    unsigned char kinds[EXIFNORM_XMP_DEPTH]; /* of those that are open the kind, and where the name of the start tag is */
+    size_t tags[EXIFNORM_XMP_DEPTH];
+};
+
+/* Passes some bytes, if they follow. */
+static inline int exifnorm_xmp_passes_(struct exifnorm_xmp_properties *properties, const char *text) {
+    size_t size = strlen(text);
+    if (size > properties->length - properties->at || memcmp(properties->form + properties->at, text, size) != 0)
+        return 0;
+    properties->at += size;
+    return 1;
+}
+
+/* Passes all bytes before the next one that is this one or that of a tag. */
+static inline struct exifnorm_xmp_bytes exifnorm_xmp_until_(struct exifnorm_xmp_properties *properties, unsigned char last) {
+    struct exifnorm_xmp_bytes bytes = {properties->form + properties->at, 0};
+    size_t room = properties->length - properties->at;
+    while (bytes.size < room && bytes.start[bytes.size] != last && bytes.start[bytes.size] != '<' && bytes.start[bytes.size] != '>')
+        bytes.size++;
+    properties->at += bytes.size;
+    return bytes;
+}
+
+/* Passes the end tag for a start tag, of which the name is at this offset. */
+static inline int exifnorm_xmp_passes_end_(struct exifnorm_xmp_properties *properties, size_t tag) {
+    size_t size = 0;
+    if (!exifnorm_xmp_passes_(properties, "</"))
+        return 0;
+    while (properties->form[tag + size] != ' ' && properties->form[tag + size] != '>') /* one of them follows each name that was passed */
+        size++;
+    if (size >= properties->length - properties->at || memcmp(properties->form + tag, properties->form + properties->at, size) != 0)
+        return 0;
+    properties->at += size;
+    return exifnorm_xmp_passes_(properties, ">");
+}
+
+/* The bytes are not laid out as a form: nothing follows. */
+static inline int exifnorm_xmp_broken_(struct exifnorm_xmp_properties *properties) {
+    properties->ended = 1;
+    return 0;
+}
+
+/* Stands before the first property of a form of length bytes, which are in [form, form + length). Bytes that are no form, also none at all
+ * (then form may be NULL), have no property. */
+static inline void exifnorm_xmp_start(struct exifnorm_xmp_properties *properties, const unsigned char *form, size_t length) {
+    memset(properties, 0, sizeof *properties);
+    properties->form = form;
+    properties->length = length;
+    properties->ended = length == 0 || !exifnorm_xmp_passes_(properties, "<x:xmpmeta xmlns:x=\"adobe:ns:meta/\"><rdf:RDF xmlns:rdf=\""
+                                                                         "http://www.w3.org/1999/02/22-rdf-syntax-ns#\">"
+                                                                         "<rdf:Description rdf:about=\"\">");
+}
+
+/* Begins a structure or a container. */
+static inline int exifnorm_xmp_open_(struct exifnorm_xmp_properties *properties, struct exifnorm_xmp_property *property, uint32_t kind,
+                                     size_t tag) {
+    if (properties->depth + 1 == EXIFNORM_XMP_DEPTH)
+        return exifnorm_xmp_broken_(properties);
+    property->kind = kind;
+    properties->kinds[properties->depth] = (unsigned char)kind;
+    properties->tags[properties->depth] = tag;
+    properties->depth++;
+    return 1;
+}
+
+/* Ends the innermost structure or container, if its end follows. */
+static inline int exifnorm_xmp_close_(struct exifnorm_xmp_properties *properties) {
+    static const char *const ends[7] = {"", "", "", "", "</rdf:Bag>", "</rdf:Seq>", "</rdf:Alt>"};
+    uint32_t inner = properties->depth - 1;
+    size_t at = properties->at;
+    if (exifnorm_xmp_passes_(properties, ends[properties->kinds[inner]]) && exifnorm_xmp_passes_end_(properties, properties->tags[inner])) {
+        properties->depth = inner;
+        return 1;
+    }
+    properties->at = at;
+    return 0;
+}
+
+/* Reads what follows the name and the namespace of a start tag. */
+static inline int exifnorm_xmp_value_(struct exifnorm_xmp_properties *properties, struct exifnorm_xmp_property *property, size_t tag) {
+    int is_plain;
+    if (exifnorm_xmp_passes_(properties, " rdf:parseType=\"Resource\">"))
+        return exifnorm_xmp_open_(properties, property, EXIFNORM_XMP_STRUCTURE, tag);
+    if (exifnorm_xmp_passes_(properties, " rdf:resource=\"")) {
+        property->kind = EXIFNORM_XMP_RESOURCE;
+        property->value = exifnorm_xmp_until_(properties, '"');
+        return exifnorm_xmp_passes_(properties, "\"/>") ? 1 : exifnorm_xmp_broken_(properties);
+    }
+    is_plain = !exifnorm_xmp_passes_(properties, " xml:lang=\"");
+    if (!is_plain)
+        property->language = exifnorm_xmp_until_(properties, '"');
+    if (!exifnorm_xmp_passes_(properties, is_plain ? ">" : "\">"))
+        return exifnorm_xmp_broken_(properties);
+    if (is_plain && exifnorm_xmp_passes_(properties, "<rdf:Bag>"))
+        return exifnorm_xmp_open_(properties, property, EXIFNORM_XMP_BAG, tag);
+    if (is_plain && exifnorm_xmp_passes_(properties, "<rdf:Seq>"))
+        return exifnorm_xmp_open_(properties, property, EXIFNORM_XMP_SEQ, tag);
+    if (is_plain && exifnorm_xmp_passes_(properties, "<rdf:Alt>"))
+        return exifnorm_xmp_open_(properties, property, EXIFNORM_XMP_ALT, tag);
+    property->kind = EXIFNORM_XMP_TEXT;
+    property->value = exifnorm_xmp_until_(properties, '<');
+    return exifnorm_xmp_passes_end_(properties, tag) ? 1 : exifnorm_xmp_broken_(properties);
+}
+
+/* Reads a property, or a member of a container. */
+static inline int exifnorm_xmp_item_(struct exifnorm_xmp_properties *properties, struct exifnorm_xmp_property *property) {
+    int is_member = properties->depth > 0 && properties->kinds[properties->depth - 1] != EXIFNORM_XMP_STRUCTURE;
+    size_t tag = properties->at + 1;
+    memset(property, 0, sizeof *property);
+    property->depth = properties->depth;
+    if (!exifnorm_xmp_passes_(properties, is_member ? "<rdf:li" : "<p:"))
+        return exifnorm_xmp_broken_(properties);
+    if (!is_member) {
+        property->name = exifnorm_xmp_until_(properties, ' ');
+        if (property->name.size == 0 || !exifnorm_xmp_passes_(properties, " xmlns:p=\""))
+            return exifnorm_xmp_broken_(properties);
+        property->space = exifnorm_xmp_until_(properties, '"');
+        if (!exifnorm_xmp_passes_(properties, "\""))
+            return exifnorm_xmp_broken_(properties);
+    }
+    return exifnorm_xmp_value_(properties, property, tag);
+}
+
+/* Sets property to the next property or member, and returns 1. Returns 0 if none follows; then the members of property have no meaning. */
+static inline int exifnorm_xmp_next(struct exifnorm_xmp_properties *properties, struct exifnorm_xmp_property *property) {
+    while (!properties->ended) {
+        if (properties->depth > 0) {
+            if (exifnorm_xmp_close_(properties))
+                continue;
+        } else if (exifnorm_xmp_passes_(properties, "</rdf:Description></rdf:RDF></x:xmpmeta>")) {
+            properties->ended = 1;
+            properties->whole = properties->at == properties->length;
+            return 0;
+        }
+        return exifnorm_xmp_item_(properties, property);
+    }
+    return 0;
+}
+
+/* After exifnorm_xmp_next has returned 0: 1 if all bytes were passed; 0 if they are not laid out as a form. 1 is no proof of a form. */
+static inline int exifnorm_xmp_whole(const struct exifnorm_xmp_properties *properties) {
+    return properties->whole;
+}
+
+/* Whether a property has this name in this namespace. A form has a namespace that ends with a letter or a digit without these, which begin
+ * the local name: here both are compared together. */
+static inline int exifnorm_xmp_is(const struct exifnorm_xmp_property *property, const char *space, const char *name) {
+    size_t first = strlen(space), size = first + strlen(name);
+    if (property->name.size == 0 || property->space.size + property->name.size != size)
+        return 0;
+    for (size_t i = 0; i < size; i++) {
+        unsigned char octet = i < property->space.size ? property->space.start[i] : property->name.start[i - property->space.size];
+        if (octet != (unsigned char)(i < first ? space[i] : name[i - first]))
+            return 0;
+    }
+    return 1;
+}
+
+/* Writes the text or the URI of a property or member to the beginning of out, without a zero byte at its end, and returns the number of its
+ * bytes. If that is more than room, only the first ones are written. It is at most value.size. */
+static inline size_t exifnorm_xmp_text(const struct exifnorm_xmp_property *property, unsigned char *out, size_t room) {
+    static const char *const references[4] = {"&amp;", "&lt;", "&gt;", "&#13;"};
+    static const unsigned char octets[4] = {'&', '<', '>', '\r'};
+    size_t size = 0;
+    for (size_t at = 0; at < property->value.size; size++) {
+        const unsigned char *start = property->value.start + at;
+        unsigned char octet = *start;
+        size_t passed = 1;
+        for (int i = 0; octet == '&' && passed == 1 && i < 4; i++) {
+            size_t length = strlen(references[i]);
+            if (length <= property->value.size - at && memcmp(start, references[i], length) == 0) {
+                octet = octets[i];
+                passed = length;
+            }
+        }
+        if (size < room)
+            out[size] = octet;
+        at += passed;
+    }
     return size;
 }
 

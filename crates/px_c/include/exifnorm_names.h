@@ -4,7 +4,7 @@
  *         printf("%s:%s\n", exifnorm_field_group(&field), exifnorm_field_name(&field));      IFD0:Artist
  *
  * The names and the groups are those that ExifTool and the command exifnorm-pictures print. All texts are ASCII, are in the program
- * itself, and end with a zero byte. A header alone, for C99 and C++11; a program that doesn't need its 5,930 bytes of texts leaves it out.
+ * itself, and end with a zero byte. A header alone, for C99 and C++11; a program that doesn't need its 7,465 bytes of texts leaves it out.
  */
 #ifndef EXIFNORM_NAMES_H
 #define EXIFNORM_NAMES_H
@@ -146,12 +146,13 @@ static inline const char *exifnorm_status_text(uint32_t status) {
     case EXIFNORM_SECOND_REFUSED: return "The second block or JPEG is refused.";
     case EXIFNORM_NOT_READ: return "Two JPEGs are the same as far as they were read; a part of the first was not read.";
     case EXIFNORM_SECOND_NOT_READ: return "Two JPEGs are the same as far as they were read; a part of the second was not read.";
+    case EXIFNORM_RARE: return "The packet of XMP is in a rare form, which this library does not read.";
     default: return "";
     }
 }
 
-/* What is wrong, in a sentence, by the cause of a block's refusal or that of a JPEG's head, as docs/REFUSALS.md has it. "" for a number that
- * is no cause. */
+/* What is wrong, in a sentence, by the cause of a block's refusal, that of a JPEG's head or that of a packet of XMP. "" for a number that is
+ * no cause. */
 static inline const char *exifnorm_cause_text(uint32_t cause) {
     switch (cause) {
     case EXIFNORM_CAUSE_TOO_LONG: return "The block is longer than 16,777,216 bytes.";
@@ -178,6 +179,29 @@ static inline const char *exifnorm_cause_text(uint32_t cause) {
     case EXIFNORM_JPEG_LENGTH_FORM: return "The head of the JPEG is damaged: a segment's length is less than 2.";
     case EXIFNORM_JPEG_HEAD_CUT: return "The JPEG ends inside its head, before the first scan.";
     case EXIFNORM_JPEG_TOO_LONG: return "The blocks of the JPEG that are in several pieces are too long together.";
+    case EXIFNORM_XMP_TOO_LONG: return "The packet is longer than 16,777,216 bytes.";
+    case EXIFNORM_XMP_BAD_CHARACTER: return "The packet has bytes that are no UTF-8, or a character that XML does not allow.";
+    case EXIFNORM_XMP_BAD_MARKUP: return "The packet is not well-formed: a tag, a comment or a section is damaged or cut.";
+    case EXIFNORM_XMP_BAD_REFERENCE: return "The packet is not well-formed: an & begins no reference that XML has.";
+    case EXIFNORM_XMP_DOCUMENT_TYPE: return "The packet has a document type declaration, which XMP does not allow.";
+    case EXIFNORM_XMP_OTHER_END: return "The packet is not well-formed: an end tag has another name than its element.";
+    case EXIFNORM_XMP_ATTRIBUTE_TWICE: return "The packet is not well-formed: a tag has an attribute twice.";
+    case EXIFNORM_XMP_BAD_PREFIX: return "The packet is not well-formed: a prefix is not declared, or a declaration is not allowed.";
+    case EXIFNORM_XMP_NO_ROOT: return "The packet is not one XML element: it is empty, or has text or elements beside the root.";
+    case EXIFNORM_XMP_TOO_DEEP: return "More than 100 elements are nested in one another.";
+    case EXIFNORM_XMP_NO_RDF: return "The packet is not x:xmpmeta around one rdf:RDF, nor rdf:RDF by itself.";
+    case EXIFNORM_XMP_SEVERAL_SUBJECTS: return "The packet makes statements about several subjects.";
+    case EXIFNORM_XMP_RARE_ENCODING: return "The packet is not in UTF-8, or has a rare XML declaration.";
+    case EXIFNORM_XMP_RARE_NAME: return "A name in the packet is not of ASCII.";
+    case EXIFNORM_XMP_RARE_NAMESPACE: return "A namespace in the packet is a rare one: it has odd characters, or ends as no namespace of XMP does.";
+    case EXIFNORM_XMP_RARE_COUNT: return "A tag has more than 256 attributes, or too many prefixes are declared at one place.";
+    case EXIFNORM_XMP_RARE_ELEMENT: return "The packet has an element in a rare form of RDF/XML.";
+    case EXIFNORM_XMP_RARE_ATTRIBUTE: return "The packet has an attribute in a rare form of RDF/XML.";
+    case EXIFNORM_XMP_RARE_TEXT: return "The packet has text between elements.";
+    case EXIFNORM_XMP_RARE_LANGUAGE: return "A text has a language that is none, or has more than 100 characters.";
+    case EXIFNORM_XMP_RARE_RESOURCE: return "A resource is no absolute URI of ASCII.";
+    case EXIFNORM_XMP_RARE_REPEATED: return "A property stands twice in one place.";
+    case EXIFNORM_XMP_RARE_LENGTH: return "The normal form would be longer than 16,777,216 bytes.";
     default: return "";
     }
 }

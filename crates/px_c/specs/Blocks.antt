@@ -1,6 +1,6 @@
 -- What the call for the blocks of a JPEG picture returns, and what it stores for its caller.
 use Rattle.std.specs.Prelude.{◌≡◌, ◌⊎◌, ◌<◌, ℕ, if◌then◌else◌, List, length, map}
-use Rattle.px_jpeg.specs.declared.faults.Cause.{Cause}
+use Rattle.px_jpeg.specs.declared.faults.HeadCause.{HeadCause}
 use Rattle.px_jpeg.specs.declared.parts.Part.{Part}
 use Rattle.px_jpeg.specs.Blocks.{blocks}
 use Rattle.px_jpeg.specs.Front.{EndedBefore}
@@ -29,12 +29,12 @@ StoresBlocks b sizes old new out out_now = (parts : List Part) × HasHead b part
 -- the head has this first fault, and the blocks that end before it are stored
 abbrev pub StoresEnded : List ℕ → ExifnormJpegFault → ExifnormJpegSizes → List ExifnormJpegBlock → List ExifnormJpegBlock → List ℕ → List ℕ
     → Type 0
-StoresEnded b fault sizes old new out out_now = (parts : List Part) × (cause : Cause) × (fault.cause ≡ head_cause cause)
+StoresEnded b fault sizes old new out out_now = (parts : List Part) × (cause : HeadCause) × (fault.cause ≡ head_cause cause)
     × EndedBefore b parts cause fault.place × StoresPlaces b parts sizes old new out out_now
 
 -- one of the arrays is too short for the blocks, or for those that end before the first fault, and both are unchanged
-abbrev pub LacksRoomForBlocks : List ℕ → ExifnormJpegSizes → List ExifnormJpegBlock → List ExifnormJpegBlock → List ℕ → List ℕ → Type 0
-LacksRoomForBlocks b sizes old new out out_now = (parts : List Part)
-    × (HasHead b parts ⊎ ((cause : Cause) × (p : ℕ) × EndedBefore b parts cause p)) × (sizes.blocks ≡ length (blocks b parts))
+abbrev pub IsTooShortForBlocks : List ℕ → ExifnormJpegSizes → List ExifnormJpegBlock → List ExifnormJpegBlock → List ℕ → List ℕ → Type 0
+IsTooShortForBlocks b sizes old new out out_now = (parts : List Part)
+    × (HasHead b parts ⊎ ((cause : HeadCause) × (p : ℕ) × EndedBefore b parts cause p)) × (sizes.blocks ≡ length (blocks b parts))
     × (sizes.joined ≡ length (joined_bytes b parts)) × ((length old < sizes.blocks) ⊎ (length out < sizes.joined))
     × (new ≡ old) × (out_now ≡ out)

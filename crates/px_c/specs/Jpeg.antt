@@ -1,11 +1,11 @@
 -- What the calls for JPEG pictures return, and what they store for their caller.
 use Rattle.std.specs.Prelude.{◌≡◌, ◌⊎◌, ◌≤◌, ◌<◌, ◌++◌, ℕ, if◌then◌else◌, Option, Some, None, List, length, map, drop}
 use Rattle.px_jpeg.specs.declared.contents.HeadPart.{HeadPart}
-use Rattle.px_jpeg.specs.declared.faults.Cause.{Cause}
-use Rattle.px_jpeg.specs.declared.faults.Cause.TheVariants.{NoStart, NoMarker, LengthForm, HeadCut}
+use Rattle.px_jpeg.specs.declared.faults.HeadCause.{HeadCause}
+use Rattle.px_jpeg.specs.declared.faults.HeadCause.TheVariants.{NoStart, NoMarker, LengthForm, HeadCut}
 use Rattle.px_jpeg.specs.declared.parts.Part.{Part}
-use Rattle.px_jpeg.specs.declared.pieces.Kind.{Kind}
-use Rattle.px_jpeg.specs.declared.pieces.Kind.TheVariants.{Exif, Photoshop, Xmp, ExtendedXmp}
+use Rattle.px_jpeg.specs.declared.pieces.SegmentKind.{SegmentKind}
+use Rattle.px_jpeg.specs.declared.pieces.SegmentKind.TheVariants.{Exif, Photoshop, Xmp, ExtendedXmp}
 use Rattle.px_jpeg.specs.declared.pieces.Piece.{Piece}
 use Rattle.px_jpeg.specs.declared.resources.Resource.{Resource}
 use Rattle.px_jpeg.specs.Fault.{FaultAfter}
@@ -17,14 +17,14 @@ use Rattle.px_c.specs.declared.jpeg.ExifnormJpegPart.{ExifnormJpegPart}
 use Rattle.px_c.specs.declared.jpeg.ExifnormPhotoshopResource.{ExifnormPhotoshopResource}
 
 -- the numbers of the causes; no cause of a block has one of them
-abbrev pub head_cause : Cause → ℕ
+abbrev pub head_cause : HeadCause → ℕ
 head_cause NoStart = 101
 head_cause NoMarker = 102
 head_cause LengthForm = 103
 head_cause HeadCut = 104
 
 -- the numbers of the kinds; 0 is the kind of a part with no piece
-abbrev pub piece_kind : Kind → ℕ
+abbrev pub piece_kind : SegmentKind → ℕ
 piece_kind Exif = 1
 piece_kind Photoshop = 2
 piece_kind Xmp = 3
@@ -65,12 +65,12 @@ StoresHead b n old new = (parts : List Part) × HasHead b parts × IsStored (see
 
 -- the head has this first fault, and the parts before it are stored
 abbrev pub StoresFront : List ℕ → ExifnormJpegFault → ℕ → List ExifnormJpegPart → List ExifnormJpegPart → Type 0
-StoresFront b fault n old new = (parts : List Part) × (cause : Cause) × (fault.cause ≡ head_cause cause)
+StoresFront b fault n old new = (parts : List Part) × (cause : HeadCause) × (fault.cause ≡ head_cause cause)
     × FaultAfter b parts cause fault.place × IsStored (seen_parts b parts) n old new
 
 -- the array is too short for the parts of the head, or for those before its first fault
-abbrev pub LacksRoom : List ℕ → ℕ → List ExifnormJpegPart → List ExifnormJpegPart → Type 0
-LacksRoom b n old new = (parts : List Part) × (HasHead b parts ⊎ ((cause : Cause) × (p : ℕ) × FaultAfter b parts cause p))
+abbrev pub IsTooShort : List ℕ → ℕ → List ExifnormJpegPart → List ExifnormJpegPart → Type 0
+IsTooShort b n old new = (parts : List Part) × (HasHead b parts ⊎ ((cause : HeadCause) × (p : ℕ) × FaultAfter b parts cause p))
     × IsShort (seen_parts b parts) n old new
 
 -- the resources at the start of the bytes are stored
@@ -78,6 +78,6 @@ abbrev pub StoresResources : List ℕ → ℕ → List ExifnormPhotoshopResource
 StoresResources b n old new = (rs : List Resource) × (rest : List ℕ) × HasResources b rs rest × IsStored (map seen_resource rs) n old new
 
 -- the array is too short for them
-abbrev pub LacksRoomForResources : List ℕ → ℕ → List ExifnormPhotoshopResource → List ExifnormPhotoshopResource → Type 0
-LacksRoomForResources b n old new =
+abbrev pub IsTooShortForResources : List ℕ → ℕ → List ExifnormPhotoshopResource → List ExifnormPhotoshopResource → Type 0
+IsTooShortForResources b n old new =
     (rs : List Resource) × (rest : List ℕ) × HasResources b rs rest × IsShort (map seen_resource rs) n old new

@@ -4,3 +4,5 @@ pub mod Jpeg
 pub mod Blocks
 pub mod Pictures
 pub mod Unread
+pub mod Packets
+pub mod Xmp

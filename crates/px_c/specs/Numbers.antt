@@ -1,14 +1,51 @@
 -- The numbers of statuses and kinds in C, and the names of causes by number.
-use Rattle.std.specs.Prelude.{ℕ, List, [], codes, ◌==◌, if◌then◌else◌, Option, Some, None}
+use Rattle.std.specs.Prelude.{ℕ, List, [], codes, nat_lt, ◌==◌, if◌then◌else◌, Option, Some, None}
 use Rattle.px_bytes.specs.declared.Cause.{Cause}
 use Rattle.px_bytes.specs.Causes.{name_of, cause_of}
-use Rattle.px_engine.specs.declared.kinds.BlockKind.{BlockKind}
-use Rattle.px_engine.specs.declared.kinds.BlockKind.TheVariants as kind
+use Rattle.px_engine.specs.declared.kind.BlockKind.{BlockKind}
+use Rattle.px_engine.specs.declared.kind.BlockKind.TheVariants as kind
 
 -- the name of a cause; the empty text if there is no cause
 abbrev pub text_of : Option Cause → List ℕ
 text_of (Some c) = name_of c
 text_of None = []
+
+-- of a packet of XMP that is wrong; no other cause has one of these numbers
+unfoldable pub xmp_fault_name : ℕ → List ℕ
+xmp_fault_name n =
+    if n == 201 then codes "XmpTooLong"
+    else if n == 202 then codes "XmpBadCharacter"
+    else if n == 203 then codes "XmpBadMarkup"
+    else if n == 204 then codes "XmpBadReference"
+    else if n == 205 then codes "XmpDocumentType"
+    else if n == 206 then codes "XmpOtherEnd"
+    else if n == 207 then codes "XmpAttributeTwice"
+    else if n == 208 then codes "XmpBadPrefix"
+    else if n == 209 then codes "XmpNoRoot"
+    else if n == 210 then codes "XmpTooDeep"
+    else if n == 211 then codes "XmpNoRdf"
+    else if n == 212 then codes "XmpSeveralSubjects"
+    else []
+
+-- of a packet of XMP that is left to another reader
+unfoldable pub xmp_rare_name : ℕ → List ℕ
+xmp_rare_name n =
+    if n == 251 then codes "XmpRareEncoding"
+    else if n == 252 then codes "XmpRareName"
+    else if n == 253 then codes "XmpRareNamespace"
+    else if n == 254 then codes "XmpRareCount"
+    else if n == 255 then codes "XmpRareElement"
+    else if n == 256 then codes "XmpRareAttribute"
+    else if n == 257 then codes "XmpRareText"
+    else if n == 258 then codes "XmpRareLanguage"
+    else if n == 259 then codes "XmpRareResource"
+    else if n == 260 then codes "XmpRareRepeated"
+    else if n == 261 then codes "XmpRareLength"
+    else []
+
+-- of a block, or of a packet of XMP
+abbrev pub other_cause_name : ℕ → List ℕ
+other_cause_name n = if nat_lt 250 n then xmp_rare_name n else if nat_lt 200 n then xmp_fault_name n else text_of (cause_of n)
 
 -- of a JPEG's head: the numbers are those of `head_cause`, and 105 for too many joined bytes
 unfoldable pub cause_name : ℕ → List ℕ
@@ -18,7 +55,7 @@ cause_name n =
     else if n == 103 then codes "JpegLength"
     else if n == 104 then codes "JpegCut"
     else if n == 105 then codes "JpegTooLong"
-    else text_of (cause_of n)
+    else other_cause_name n
 
 -- ---- kinds
 
@@ -59,3 +96,7 @@ not_read = 7
 -- they are the same as far as they are read; the first has no place that isn't read, and the second has one
 abbrev pub second_not_read : ℕ
 second_not_read = 8
+
+-- the packet of XMP may have a meaning that another reader reads
+abbrev pub rare : ℕ
+rare = 9

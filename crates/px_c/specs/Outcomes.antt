@@ -2,11 +2,11 @@
 use Rattle.std.specs.Prelude.{◌≡◌, ◌≤◌, ◌==◌, ℕ, List, [], ◌∷◌, ◌++◌, Some}
 use Rattle.px_bytes.specs.declared.Cause.{Cause}
 use Rattle.px_bytes.specs.Causes.{cause_of}
-use Rattle.px_engine.specs.declared.forms.Given.{Given}
-use Rattle.px_engine.specs.declared.kinds.BlockKind.{BlockKind}
+use Rattle.px_engine.specs.declared.normal.Given.{Given}
+use Rattle.px_engine.specs.declared.kind.BlockKind.{BlockKind}
 use Rattle.px_engine.specs.Files.{Said}
-use Rattle.px_engine.specs.Hand.{IsKindOf, SaysSame, IsPut}
-use Rattle.px_engine.specs.Input.{IsSaid, IsFaulty}
+use Rattle.px_engine.specs.Slices.{IsKindOf, IsSameMeaning, IsPut}
+use Rattle.px_engine.specs.Input.{HasMeaning, IsFaulty}
 use Rattle.px_c.specs.declared.faults.ExifnormFault.{ExifnormFault}
 use Rattle.px_c.specs.Numbers.{kind_number}
 
@@ -19,8 +19,8 @@ abbrev pub PutsText : List ℕ → Given → List ℕ → List ℕ → Type 0
 PutsText text given old new = IsPut given (text ++ 0 ∷ []) old new
 
 -- the bytes that `of` makes of the file's meaning are put into the caller's buffer, or the buffer is too small
-abbrev pub PutsSaid : (Said → List ℕ) → List ℕ → Given → List ℕ → List ℕ → Type 0
-PutsSaid of file given old new = (s : Said) × IsSaid file s × IsPut given (of s) old new
+abbrev pub PutsTextOf : (Said → List ℕ) → List ℕ → Given → List ℕ → List ℕ → Type 0
+PutsTextOf of file given old new = (s : Said) × HasMeaning file s × IsPut given (of s) old new
 
 -- the file has a meaning of the kind with this number
 abbrev pub IsOfKind : List ℕ → ℕ → Type 0
@@ -28,4 +28,4 @@ IsOfKind file n = (kind : BlockKind) × IsKindOf file kind × (n ≡ kind_number
 
 -- both files have a meaning: 1 if these are the same, otherwise 0
 abbrev pub AreCompared : List ℕ → List ℕ → ℕ → Type 0
-AreCompared f g n = (n ≤ 1) × SaysSame f g (n == 1)
+AreCompared f g n = (n ≤ 1) × IsSameMeaning f g (n == 1)

@@ -1,11 +1,11 @@
 -- What the comparison of two JPEG pictures returns.
 use Rattle.std.specs.Prelude.{◌≡◌, ◌≤◌, ◌==◌, ℕ, if◌then◌else◌, List, Some}
 use Rattle.px_bytes.specs.Causes.{cause_of}
-use Rattle.px_pictures.specs.declared.faults.BlockKind.{BlockKind}
-use Rattle.px_pictures.specs.declared.faults.BlockKind.TheVariants as kind
-use Rattle.px_pictures.specs.declared.faults.Fault.{Fault}
-use Rattle.px_pictures.specs.declared.faults.Fault.TheVariants.{Head, TooLong, Block, OutOfMemory}
-use Rattle.px_pictures.specs.declared.faults.Side.{Side}
+use Rattle.px_pictures.specs.declared.faults.MetadataKind.{MetadataKind}
+use Rattle.px_pictures.specs.declared.faults.MetadataKind.TheVariants as kind
+use Rattle.px_pictures.specs.declared.faults.MetadataFault.{MetadataFault}
+use Rattle.px_pictures.specs.declared.faults.MetadataFault.TheVariants.{Head, TooLong, Block, OutOfMemory}
+use Rattle.px_pictures.specs.declared.faults.PictureSide.{PictureSide}
 use Rattle.px_pictures.specs.declared.unread.Unread.{Unread}
 use Rattle.px_pictures.specs.Faults.{IsFaultOf}
 use Rattle.px_pictures.specs.Same.{IsComparison}
@@ -17,12 +17,12 @@ use Rattle.px_c.specs.Jpeg.{head_cause}
 use Rattle.px_c.specs.Unread.{seen_unread}
 
 -- the numbers of the kinds of block
-abbrev pub block_kind : BlockKind → ℕ
+abbrev pub block_kind : MetadataKind → ℕ
 block_kind kind.Exif = 1
 block_kind kind.Iptc = 2
 
 -- a fault in C: of a head only cause and offset, of too many bytes only the cause
-abbrev pub IsSeenFault : Fault → ExifnormPictureFault → Type 0
+abbrev pub IsSeenFault : MetadataFault → ExifnormPictureFault → Type 0
 IsSeenFault (Head e) seen = (seen.cause ≡ head_cause e.cause) × (seen.kind ≡ 0) × (seen.number ≡ 0) × (seen.place ≡ e.place)
 IsSeenFault TooLong seen = (seen.cause ≡ 105) × (seen.kind ≡ 0) × (seen.number ≡ 0) × (seen.place ≡ 0)
 IsSeenFault (Block k n cause place) seen =
@@ -30,18 +30,18 @@ IsSeenFault (Block k n cause place) seen =
 IsSeenFault OutOfMemory seen = ⊥
 
 -- the first fault of two pictures, which is in the picture of this side
-abbrev pub RefusesPicture : Side → List ℕ → List ℕ → ExifnormPictureFault → Type 0
-RefusesPicture side f g seen = (e : Fault) × (refused : ℕ) × IsSeenFault e seen × IsFaultOf side f g refused e
+abbrev pub RefusesPicture : PictureSide → List ℕ → List ℕ → ExifnormPictureFault → Type 0
+RefusesPicture side f g seen = (e : MetadataFault) × (refused : ℕ) × IsSeenFault e seen × IsFaultOf side f g refused e
 
 -- the comparison with this number: 1 if the pictures are the same, otherwise 0
-abbrev pub answer_of : ℕ → Comparison
-answer_of n = if n == 1 then Same else Different
+abbrev pub comparison_of : ℕ → Comparison
+comparison_of n = if n == 1 then Same else Different
 
 -- the blocks of both pictures have meanings: 1 if these are the same and there is no place in the pictures that isn't read; 0 if they are
 -- different
 abbrev pub ArePicturesCompared : List ℕ → List ℕ → ℕ → Type 0
-ArePicturesCompared f g n = (n ≤ 1) × IsComparison f g (answer_of n)
+ArePicturesCompared f g n = (n ≤ 1) × IsComparison f g (comparison_of n)
 
 -- the meanings are the same, and the picture of this side has this first place that isn't read; if that is the second, the first has none
-abbrev pub LeavesUnread : Side → List ℕ → List ℕ → ExifnormUnreadPart → Type 0
+abbrev pub LeavesUnread : PictureSide → List ℕ → List ℕ → ExifnormUnreadPart → Type 0
 LeavesUnread side f g seen = (u : Unread) × IsComparison f g (NotRead side u) × (seen ≡ seen_unread (Some u))

@@ -1,7 +1,7 @@
 -- What the call for places that aren't read returns.
 use Rattle.std.specs.Prelude.{◌≡◌, ℕ, if◌then◌else◌, Option, Some, None, List}
-use Rattle.px_pictures.specs.declared.faults.Fault.{Fault}
-use Rattle.px_pictures.specs.declared.faults.Fault.TheVariants.{Head, TooLong, Block, OutOfMemory}
+use Rattle.px_pictures.specs.declared.faults.MetadataFault.{MetadataFault}
+use Rattle.px_pictures.specs.declared.faults.MetadataFault.TheVariants.{Head, TooLong, Block, OutOfMemory}
 use Rattle.px_pictures.specs.declared.unread.Unread.{Unread}
 use Rattle.px_pictures.specs.Faults.{IsHeadFault}
 use Rattle.px_pictures.specs.Unread.{IsUnread}
@@ -19,7 +19,7 @@ abbrev pub ShowsUnread : List ℕ → ExifnormUnreadPart → Type 0
 ShowsUnread b seen = (u : Option Unread) × IsUnread b u × (seen ≡ seen_unread u)
 
 -- a fault of a head in C
-abbrev pub IsSeenHeadFault : Fault → ExifnormJpegFault → Type 0
+abbrev pub IsSeenHeadFault : MetadataFault → ExifnormJpegFault → Type 0
 IsSeenHeadFault (Head e) seen = (seen.cause ≡ head_cause e.cause) × (seen.place ≡ e.place)
 IsSeenHeadFault TooLong seen = (seen.cause ≡ 105) × (seen.place ≡ 0)
 IsSeenHeadFault (Block k n cause place) seen = ⊥
@@ -27,4 +27,4 @@ IsSeenHeadFault OutOfMemory seen = ⊥
 
 -- the picture's first fault: it has no head, or too many bytes are joined
 abbrev pub RefusesJoining : List ℕ → ExifnormJpegFault → Type 0
-RefusesJoining b seen = (e : Fault) × (refused : ℕ) × IsSeenHeadFault e seen × IsHeadFault b refused e
+RefusesJoining b seen = (e : MetadataFault) × (refused : ℕ) × IsSeenHeadFault e seen × IsHeadFault b refused e

@@ -1,7 +1,7 @@
 // Copies bytes into the caller's buffer.
 ghost use Rattle.std.specs.Prelude.{◌≡◌, ◌⊎◌};
-ghost use Rattle.px_engine.specs.declared.forms.Given.TheVariants.{Whole, Needs};
-ghost use Rattle.px_engine.specs.Hand.{IsPut};
+ghost use Rattle.px_engine.specs.declared.normal.Given.TheVariants.{Whole, Needs};
+ghost use Rattle.px_engine.specs.Slices.{IsPut};
 ghost use Rattle.px_c.specs.Outcomes.{PutsText};
 ghost use Rattle.px_c.specs.Numbers as status;
 

@@ -6,7 +6,9 @@ ghost use Rattle.px_c.specs.Jpeg.{head_cause, piece_kind, seen_part, seen_parts,
 ghost use Rattle.px_c.specs.Numbers as status;
 
 use crate::statuses::{DONE, TOO_LITTLE_ROOM};
-use px_jpeg::{Cause, HeadPart, Kind, Resource, Resources, WithPieces, find_parts, with_pieces};
+use px_jpeg::{
+    HeadCause, HeadPart, Resource, Resources, SegmentKind, WithPieces, find_parts, with_pieces,
+};
 
 /// A part of a head: a marker with its segment's data, or one that stands alone.
 #[repr(C)]
@@ -48,26 +50,26 @@ pub struct ExifnormPhotoshopResource {
 }
 
 // A cause as a number.
-pub(crate) fn head_cause(cause: Cause) -> u32
+pub(crate) fn head_cause(cause: HeadCause) -> u32
     ensures { result ≡ head_cause cause }
 {
     match cause {
-        Cause::NoStart => 101,
-        Cause::NoMarker => 102,
-        Cause::LengthForm => 103,
-        Cause::HeadCut => 104,
+        HeadCause::NoStart => 101,
+        HeadCause::NoMarker => 102,
+        HeadCause::LengthForm => 103,
+        HeadCause::HeadCut => 104,
     }
 }
 
 // A kind as a number.
-pub(crate) fn piece_kind(kind: Kind) -> u32
+pub(crate) fn piece_kind(kind: SegmentKind) -> u32
     ensures { result ≡ piece_kind kind }
 {
     match kind {
-        Kind::Exif => 1,
-        Kind::Photoshop => 2,
-        Kind::Xmp => 3,
-        Kind::ExtendedXmp => 4,
+        SegmentKind::Exif => 1,
+        SegmentKind::Photoshop => 2,
+        SegmentKind::Xmp => 3,
+        SegmentKind::ExtendedXmp => 4,
     }
 }
 

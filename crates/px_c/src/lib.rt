@@ -1,5 +1,6 @@
 //! The engine for C: the kind of a block in memory, its normal form, its texts, whether two blocks mean the
-//! same, where the blocks of a JPEG picture are, and whether those of two pictures mean the same. Each call returns one of the
+//! same, where the blocks of a JPEG picture and its packet of XMP are, whether the blocks of two pictures mean the same, and the
+//! normal form of a packet of XMP. Each call returns one of the
 //! statuses of `statuses`. Its contract states for each status when it comes, what the call has written to
 //! its output arguments, and what is unchanged. For each input exactly one status other than `NO_MEMORY` is
 //! possible. `NO_MEMORY` is returned instead exactly if an allocation failed: each call that allocates is
@@ -11,20 +12,22 @@
 #![tactic(auto)]
 
 ghost use Rattle.std.specs.Prelude.{◌≡◌, ◌≢◌, ◌⊎◌, ◌≤◌, length};
-ghost use Rattle.px_engine.specs.declared.faults.Fault.TheVariants.{NormalTooLong};
-ghost use Rattle.px_engine.specs.declared.forms.Given.TheVariants.{Whole, Needs};
-ghost use Rattle.px_engine.specs.declared.kinds.BlockKind.TheVariants.{Iim};
+ghost use Rattle.px_engine.specs.declared.error.Fault.TheVariants.{NormalTooLong};
+ghost use Rattle.px_engine.specs.declared.normal.Given.TheVariants.{Whole, Needs};
+ghost use Rattle.px_engine.specs.declared.kind.BlockKind.TheVariants.{Iim};
 ghost use Rattle.px_engine.specs.Files.{Said, kind_of};
-ghost use Rattle.px_engine.specs.Hand.{PutsForm, IsUnwritten};
-ghost use Rattle.px_engine.specs.Input.{IsSaid};
+ghost use Rattle.px_engine.specs.Slices.{PutsForm, IsUnwritten};
+ghost use Rattle.px_engine.specs.Input.{HasMeaning};
 ghost use Rattle.px_engine.specs.Prints.{caption_text, listing};
-ghost use Rattle.px_pictures.specs.declared.faults.Side.TheVariants.{First, Second};
-ghost use Rattle.px_c.specs.Blocks.{StoresBlocks, StoresEnded, LacksRoomForBlocks};
-ghost use Rattle.px_c.specs.Jpeg.{StoresHead, StoresFront, LacksRoom, StoresResources, LacksRoomForResources};
+ghost use Rattle.px_pictures.specs.declared.faults.PictureSide.TheVariants.{First, Second};
+ghost use Rattle.px_c.specs.Blocks.{StoresBlocks, StoresEnded, IsTooShortForBlocks};
+ghost use Rattle.px_c.specs.Jpeg.{StoresHead, StoresFront, IsTooShort, StoresResources, IsTooShortForResources};
 ghost use Rattle.px_c.specs.Numbers.{cause_name};
-ghost use Rattle.px_c.specs.Outcomes.{Refuses, PutsText, PutsSaid, IsOfKind, AreCompared};
+ghost use Rattle.px_c.specs.Outcomes.{Refuses, PutsText, PutsTextOf, IsOfKind, AreCompared};
+ghost use Rattle.px_c.specs.Packets.{ShowsPacket, LeavesRest, RefusesHead};
 ghost use Rattle.px_c.specs.Pictures.{ArePicturesCompared, LeavesUnread, RefusesPicture};
 ghost use Rattle.px_c.specs.Unread.{ShowsUnread, RefusesJoining};
+ghost use Rattle.px_c.specs.Xmp.{PutsXmp, RefusesXmp, LeavesXmp};
 ghost use Rattle.px_c.specs.Numbers as status;
 
 mod blocks;
@@ -33,9 +36,11 @@ mod giving;
 mod jpeg;
 mod names;
 mod over_memory;
+mod packets;
 mod pictures;
 pub mod statuses;
 mod unread;
+mod xmp;
 
 use blocks::put_blocks;
 pub use blocks::{ExifnormJpegBlock, ExifnormJpegSizes};
@@ -47,6 +52,8 @@ use names::cause_name;
 use over_memory::{
     captions_in, check_in, compare_in, jpeg_same_in, jpeg_unread_in, normalise_in, show_in,
 };
+pub use packets::ExifnormJpegPacket;
+use packets::put_xmp;
 pub use pictures::ExifnormPictureFault;
 use px_bytes::Memory;
 use px_engine::VERSION;
@@ -54,6 +61,7 @@ use px_jpeg::{find_front, find_resources, read_head};
 use statuses::{DONE, NO_MEMORY, REFUSED, SECOND_REFUSED, TOO_LITTLE_ROOM, TOO_LONG};
 use std::alloc::Global;
 pub use unread::ExifnormUnreadPart;
+use xmp::{xmp_check_in, xmp_normalise_in};
 
 /// Stores the kind of the block in a file in `kind`: 1 for Exif, 2 for IIM. It keeps nothing of the block.
 /// Allocates a bit for each byte of an Exif block, and the fields of its thumbnail directory.
@@ -123,7 +131,7 @@ pub extern "C" fn exifnorm_compare(
     ensures known { (result ≡ status.done) ⊎ (result ≡ status.refused) ⊎ (result ≡ status.no_memory) ⊎ (result ≡ status.second_refused) }
     ensures done { result ≡ status.done → AreCompared first.now second.now same.new }
     ensures refused { result ≡ status.refused → Refuses first.now fault.new }
-    ensures second { result ≡ status.second_refused → ((s : Said) × IsSaid first.now s) × Refuses second.now fault.new }
+    ensures second { result ≡ status.second_refused → ((s : Said) × HasMeaning first.now s) × Refuses second.now fault.new }
     ensures same { result ≢ status.done → same.new ≡ same.old }
     ensures fault { result ≢ status.refused → result ≢ status.second_refused → fault.new ≡ fault.old }
 {
@@ -144,9 +152,9 @@ pub extern "C" fn exifnorm_show(
     fault: &mut ExifnormFault,
 ) -> u32
     ensures known { (result ≡ status.done) ⊎ (result ≡ status.refused) ⊎ (result ≡ status.no_memory) ⊎ (result ≡ status.too_little_room) }
-    ensures done { result ≡ status.done → PutsSaid listing file.now (Whole written.new) out.old out.new }
+    ensures done { result ≡ status.done → PutsTextOf listing file.now (Whole written.new) out.old out.new }
     ensures refused { result ≡ status.refused → Refuses file.now fault.new }
-    ensures short { result ≡ status.too_little_room → PutsSaid listing file.now (Needs written.new) out.old out.new }
+    ensures short { result ≡ status.too_little_room → PutsTextOf listing file.now (Needs written.new) out.old out.new }
     ensures out { result ≢ status.done → out.new ≡ out.old }
     ensures written { result ≢ status.done → result ≢ status.too_little_room → written.new ≡ written.old }
     ensures fault { result ≢ status.refused → fault.new ≡ fault.old }
@@ -169,9 +177,9 @@ pub extern "C" fn exifnorm_captions(
     fault: &mut ExifnormFault,
 ) -> u32
     ensures known { (result ≡ status.done) ⊎ (result ≡ status.refused) ⊎ (result ≡ status.no_memory) ⊎ (result ≡ status.too_little_room) }
-    ensures done { result ≡ status.done → PutsSaid caption_text file.now (Whole written.new) out.old out.new }
+    ensures done { result ≡ status.done → PutsTextOf caption_text file.now (Whole written.new) out.old out.new }
     ensures refused { result ≡ status.refused → Refuses file.now fault.new }
-    ensures short { result ≡ status.too_little_room → PutsSaid caption_text file.now (Needs written.new) out.old out.new }
+    ensures short { result ≡ status.too_little_room → PutsTextOf caption_text file.now (Needs written.new) out.old out.new }
     ensures out { result ≢ status.done → out.new ≡ out.old }
     ensures written { result ≢ status.done → result ≢ status.too_little_room → written.new ≡ written.old }
     ensures fault { result ≢ status.refused → fault.new ≡ fault.old }
@@ -194,7 +202,7 @@ pub extern "C" fn exifnorm_jpeg_parts(
     ensures known { (result ≡ status.done) ⊎ (result ≡ status.refused) ⊎ (result ≡ status.too_little_room) }
     ensures done { result ≡ status.done → StoresHead bytes.now count.new parts.old parts.new }
     ensures refused { result ≡ status.refused → StoresFront bytes.now fault.new count.new parts.old parts.new }
-    ensures short { result ≡ status.too_little_room → LacksRoom bytes.now count.new parts.old parts.new }
+    ensures short { result ≡ status.too_little_room → IsTooShort bytes.now count.new parts.old parts.new }
     ensures fault { result ≢ status.refused → fault.new ≡ fault.old }
 {
     match read_head(bytes) {
@@ -233,7 +241,7 @@ pub extern "C" fn exifnorm_jpeg_blocks(
     ensures known { (result ≡ status.done) ⊎ (result ≡ status.refused) ⊎ (result ≡ status.too_little_room) }
     ensures done { result ≡ status.done → StoresBlocks bytes.now sizes.new blocks.old blocks.new out.old out.new }
     ensures refused { result ≡ status.refused → StoresEnded bytes.now fault.new sizes.new blocks.old blocks.new out.old out.new }
-    ensures short { result ≡ status.too_little_room → LacksRoomForBlocks bytes.now sizes.new blocks.old blocks.new out.old out.new }
+    ensures short { result ≡ status.too_little_room → IsTooShortForBlocks bytes.now sizes.new blocks.old blocks.new out.old out.new }
     ensures fault { result ≢ status.refused → fault.new ≡ fault.old }
     ensures few { sizes.new.joined ≤ length bytes.now }
 {
@@ -252,17 +260,18 @@ pub extern "C" fn exifnorm_jpeg_blocks(
     }
 }
 
-/// Stores in `same` whether two pictures have the same Exif and IPTC: 1 if they have as many blocks of each kind, these
-/// mean the same, pair by pair, in order, and `exifnorm_jpeg_unread` finds nothing in either; 0 if they have not as many,
-/// or one pair doesn't mean the same. Exif is that of APP1, IPTC that of Photoshop's resource 0x0404, of which one
-/// without a byte is no block. Each picture may be its first bytes, as far as its head goes. Allocates what
+/// Stores in `same` whether two pictures have the same Exif and IPTC: 1 if they have as many blocks of each kind,
+/// these mean the same, pair by pair, in order, and `exifnorm_jpeg_unread` finds nothing in either; 0 if they have
+/// not as many, or one pair doesn't mean the same. Exif is that of APP1, IPTC that of Photoshop's resource 0x0404, of
+/// which one without a byte is no block. Each picture may be its first bytes, as far as its head goes. Allocates what
 /// `compare_metadata_in` of px_pictures does: the blocks in several pieces, and the meanings of two blocks at a time.
 ///
 /// `NOT_READ`: what is read is the same, and `unread` is the first place of the first picture that isn't read.
-/// `SECOND_NOT_READ`: there is none in the first, and `unread` is that of the second. `REFUSED`: `fault` is in the first
-/// picture; `SECOND_REFUSED`: in the second. It is the first fault: that of the first head, then of the second head, then
-/// of a block of the first picture, then of the second. `NO_MEMORY`: an allocation failed. Only success changes `same`,
-/// only `NOT_READ` and `SECOND_NOT_READ` change `unread`, and only a refusal changes `fault`.
+/// `SECOND_NOT_READ`: there is none in the first, and `unread` is that of the second. `REFUSED`: `fault` is in the
+/// first picture; `SECOND_REFUSED`: in the second. It is the first fault: that of the first head, or that too many of
+/// its bytes are joined; then the same of the second; then of a block of the first picture, then of the second.
+/// `NO_MEMORY`: an allocation failed. Only success changes `same`, only `NOT_READ` and `SECOND_NOT_READ` change
+/// `unread`, and only a refusal changes `fault`.
 #[unsafe(no_mangle)]
 pub extern "C" fn exifnorm_jpeg_same(
     alloc: Global,
@@ -286,14 +295,15 @@ pub extern "C" fn exifnorm_jpeg_same(
     jpeg_same_in(&mut Memory::new(alloc), first, second, same, unread, fault)
 }
 
-/// Stores in `unread` the first place in a picture at which something is that other programs read as metadata, or may,
-/// and that `exifnorm_jpeg_same` doesn't read: an APP1 segment that seems to be Exif by another mark, an APP13 segment
-/// with another mark than Photoshop's and `Adobe_CM`, Photoshop's resource 0x0422, or what follows the last resource,
-/// unless that is zeros. `found` is 0 if there is none: of two such pictures the comparison has read all. Allocates the
-/// blocks in several pieces.
+/// Stores in `unread` the first place in a picture at which something is that other programs read as metadata, or
+/// may, and that `exifnorm_jpeg_same` doesn't read: an APP1 segment that seems to be Exif by another mark, an APP13
+/// segment with another mark than Photoshop's and `Adobe_CM`, Photoshop's resource 0x0422, resource 0x0404 by another
+/// signature than `8BIM`, which is read here and by some other programs alone, or what follows the last resource,
+/// unless that is zeros. `found` is 0 if there is none: of two such pictures the comparison has read all. Allocates
+/// the blocks in several pieces.
 ///
-/// `REFUSED`: the bytes have no head, or too many bytes are joined, and `fault` says which. `NO_MEMORY`: an allocation
-/// failed. Only success changes `unread`, and only a refusal changes `fault`.
+/// `REFUSED`: the bytes have no head, or too many bytes are joined, and `fault` says which. `NO_MEMORY`: an
+/// allocation failed. Only success changes `unread`, and only a refusal changes `fault`.
 #[unsafe(no_mangle)]
 pub extern "C" fn exifnorm_jpeg_unread(
     alloc: Global,
@@ -310,6 +320,40 @@ pub extern "C" fn exifnorm_jpeg_unread(
     jpeg_unread_in(&mut Memory::new(alloc), bytes, unread, fault)
 }
 
+/// Stores in `packet` where the packet of XMP of a picture is: the bytes of the APP1 segment that begins with
+/// `http://ns.adobe.com/xap/1.0/` and a zero, after that zero. `found` is 0 if no segment of the head has one. The picture
+/// may be its first bytes, as far as its head goes. The packet itself isn't read. Allocates nothing.
+///
+/// `NOT_READ`: there is a second packet, or extended XMP, and `unread` is the place of whichever comes first. `REFUSED`: the
+/// bytes have no head, and `fault` is its first fault. Only success changes `packet`, only `NOT_READ` changes `unread`, and
+/// only a refusal changes `fault`.
+#[unsafe(no_mangle)]
+pub extern "C" fn exifnorm_jpeg_xmp(
+    bytes: &[u8],
+    packet: &mut ExifnormJpegPacket,
+    unread: &mut ExifnormUnreadPart,
+    fault: &mut ExifnormJpegFault,
+) -> u32
+    ensures known { (result ≡ status.done) ⊎ (result ≡ status.refused) ⊎ (result ≡ status.not_read) }
+    ensures done { result ≡ status.done → ShowsPacket bytes.now packet.new }
+    ensures left { result ≡ status.not_read → LeavesRest bytes.now unread.new }
+    ensures refused { result ≡ status.refused → RefusesHead bytes.now fault.new }
+    ensures packet { result ≢ status.done → packet.new ≡ packet.old }
+    ensures unread { result ≢ status.not_read → unread.new ≡ unread.old }
+    ensures fault { result ≢ status.refused → fault.new ≡ fault.old }
+{
+    match read_head(bytes) {
+        Ok(head) => put_xmp(&head.front(), packet, unread),
+        Err(why) => {
+            *fault = ExifnormJpegFault {
+                cause: head_cause(why.cause),
+                place: why.place,
+            };
+            REFUSED
+        }
+    }
+}
+
 /// Stores Photoshop's image resources at the start of these bytes at the start of `resources`, and their number in
 /// `count`. They end where no resource is. The bytes are those of one block: its pieces, one after another.
 /// Allocates nothing.
@@ -323,7 +367,7 @@ pub extern "C" fn exifnorm_photoshop_resources(
 ) -> u32
     ensures known { (result ≡ status.done) ⊎ (result ≡ status.too_little_room) }
     ensures done { result ≡ status.done → StoresResources bytes.now count.new resources.old resources.new }
-    ensures short { result ≡ status.too_little_room → LacksRoomForResources bytes.now count.new resources.old resources.new }
+    ensures short { result ≡ status.too_little_room → IsTooShortForResources bytes.now count.new resources.old resources.new }
 {
     let found = find_resources(bytes);
     *count = found.len();
@@ -334,9 +378,50 @@ pub extern "C" fn exifnorm_photoshop_resources(
     DONE
 }
 
-/// Writes the name of the cause with this number, of a block or of a JPEG's head, and a zero byte to the start of `out`, and the number of
-/// these bytes to `written`. A number of no cause has the empty name. `TOO_LITTLE_ROOM`: `out` is too short
-/// and unchanged; 20 bytes are always enough. It allocates nothing.
+/// Judges a packet of XMP: whether it has a normal form. Allocates what `exifnorm_xmp_normalise` does.
+///
+/// Statuses and changes are as for `exifnorm_xmp_normalise`, except that there is no `out` that could be too short.
+#[unsafe(no_mangle)]
+pub extern "C" fn exifnorm_xmp_check(alloc: Global, packet: &[u8], fault: &mut ExifnormFault) -> u32
+    ensures known { (result ≡ status.done) ⊎ (result ≡ status.refused) ⊎ (result ≡ status.rare) ⊎ (result ≡ status.no_memory) }
+    ensures refused { result ≡ status.refused → RefusesXmp fault.new }
+    ensures rare { result ≡ status.rare → LeavesXmp fault.new }
+    ensures fault { result ≢ status.refused → result ≢ status.rare → fault.new ≡ fault.old }
+{
+    xmp_check_in(&mut Memory::new(alloc), packet, fault)
+}
+
+/// Writes the normal form of a packet of XMP to the start of `out`, and its length to `written`. Which form a packet has is
+/// tested, and no contract states it. Allocates the form, and the values of the elements that are open.
+///
+/// `REFUSED`: the packet is wrong, and `fault` is its first fault. `RARE`: it may have a meaning, which this library doesn't
+/// read, and `fault` is where. `TOO_LITTLE_ROOM`: `out` is shorter than the form, whose length is in `written`. `NO_MEMORY`:
+/// an allocation failed. Only success changes `out`, and only as far as the form goes. Only success and `TOO_LITTLE_ROOM`
+/// change `written`. Only `REFUSED` and `RARE` change `fault`.
+#[unsafe(no_mangle)]
+pub extern "C" fn exifnorm_xmp_normalise(
+    alloc: Global,
+    packet: &[u8],
+    out: &mut [u8],
+    written: &mut usize,
+    fault: &mut ExifnormFault,
+) -> u32
+    ensures known { (result ≡ status.done) ⊎ (result ≡ status.refused) ⊎ (result ≡ status.rare) ⊎ (result ≡ status.no_memory)
+        ⊎ (result ≡ status.too_little_room) }
+    ensures done { result ≡ status.done → PutsXmp (Whole written.new) out.old out.new }
+    ensures refused { result ≡ status.refused → RefusesXmp fault.new }
+    ensures rare { result ≡ status.rare → LeavesXmp fault.new }
+    ensures short { result ≡ status.too_little_room → PutsXmp (Needs written.new) out.old out.new }
+    ensures out { result ≢ status.done → out.new ≡ out.old }
+    ensures written { result ≢ status.done → result ≢ status.too_little_room → written.new ≡ written.old }
+    ensures fault { result ≢ status.refused → result ≢ status.rare → fault.new ≡ fault.old }
+{
+    xmp_normalise_in(&mut Memory::new(alloc), packet, out, written, fault)
+}
+
+/// Writes the name of the cause with this number, of a block, of a JPEG's head or of a packet of XMP, and a zero byte to the
+/// start of `out`, and the number of these bytes to `written`. A number of no cause has the empty name. `TOO_LITTLE_ROOM`: `out`
+/// is too short and unchanged; 20 bytes are always enough. It allocates nothing.
 #[unsafe(no_mangle)]
 pub extern "C" fn exifnorm_cause_name(cause: u32, out: &mut [u8], written: &mut usize) -> u32
     ensures known { (result ≡ status.done) ⊎ (result ≡ status.too_little_room) }

@@ -1,17 +1,17 @@
 // The calls over memory. Each returns `NO_MEMORY` exactly if an allocation failed in that call.
 ghost use Rattle.std.specs.Prelude.{◌≡◌, ◌≢◌, ◌⊎◌, ◌+◌, length, true};
-ghost use Rattle.px_bytes.specs.Lacking.{AsksAtMost};
+ghost use Rattle.px_bytes.specs.Allocations.{AsksAtMost};
 ghost use Rattle.px_engine.specs.Asking.{block_request, AsksForText};
-ghost use Rattle.px_engine.specs.declared.faults.Fault.TheVariants.{NormalTooLong};
-ghost use Rattle.px_engine.specs.declared.forms.Given.TheVariants.{Whole, Needs};
-ghost use Rattle.px_engine.specs.declared.kinds.BlockKind.TheVariants.{Iim};
+ghost use Rattle.px_engine.specs.declared.error.Fault.TheVariants.{NormalTooLong};
+ghost use Rattle.px_engine.specs.declared.normal.Given.TheVariants.{Whole, Needs};
+ghost use Rattle.px_engine.specs.declared.kind.BlockKind.TheVariants.{Iim};
 ghost use Rattle.px_engine.specs.Files.{Said, kind_of};
-ghost use Rattle.px_engine.specs.Hand.{PutsForm, IsUnwritten};
-ghost use Rattle.px_engine.specs.Input.{IsSaid};
+ghost use Rattle.px_engine.specs.Slices.{PutsForm, IsUnwritten};
+ghost use Rattle.px_engine.specs.Input.{HasMeaning};
 ghost use Rattle.px_engine.specs.Prints.{caption_text, listing};
 ghost use Rattle.px_pictures.specs.Asking.{AsksForBoth, join_request};
-ghost use Rattle.px_pictures.specs.declared.faults.Side.TheVariants.{First, Second};
-ghost use Rattle.px_c.specs.Outcomes.{Refuses, PutsSaid, IsOfKind, AreCompared};
+ghost use Rattle.px_pictures.specs.declared.faults.PictureSide.TheVariants.{First, Second};
+ghost use Rattle.px_c.specs.Outcomes.{Refuses, PutsTextOf, IsOfKind, AreCompared};
 ghost use Rattle.px_c.specs.Pictures.{ArePicturesCompared, LeavesUnread, RefusesPicture};
 ghost use Rattle.px_c.specs.Unread.{ShowsUnread, RefusesJoining};
 ghost use Rattle.px_c.specs.Numbers as status;
@@ -26,7 +26,7 @@ use crate::statuses::{
 use crate::unread::{ExifnormUnreadPart, seen_unread};
 use px_bytes::Memory;
 use px_engine::{BlockKind, Fault, Given, Side};
-use px_pictures::{Comparison, Fault as HeadFault, Side as PictureSide};
+use px_pictures::{Comparison, MetadataFault, PictureSide};
 
 // The kind of the block in a file.
 pub(crate) fn check_in(
@@ -40,8 +40,8 @@ pub(crate) fn check_in(
     ensures refused { result ≡ status.refused → Refuses file.now fault.new }
     ensures kind { result ≢ status.done → kind.new ≡ kind.old }
     ensures fault { result ≢ status.refused → fault.new ≡ fault.old }
-    ensures lacking { result ≡ status.no_memory → memory.new.refusals ≡ memory.old.refusals + 1 }
-    ensures memory { result ≢ status.no_memory → memory.new.refusals ≡ memory.old.refusals }
+    ensures lacking { result ≡ status.no_memory → memory.new.failed_allocations ≡ memory.old.failed_allocations + 1 }
+    ensures memory { result ≢ status.no_memory → memory.new.failed_allocations ≡ memory.old.failed_allocations }
     ensures datasets { kind_of file.now ≡ Iim → result ≢ status.no_memory }
     ensures asked { AsksAtMost (block_request (length file.now)) memory.old memory.new }
 {
@@ -82,8 +82,8 @@ pub(crate) fn normalise_in(
     ensures out { result ≢ status.done → out.new ≡ out.old }
     ensures written { result ≢ status.done → result ≢ status.too_little_room → written.new ≡ written.old }
     ensures fault { result ≢ status.refused → fault.new ≡ fault.old }
-    ensures lacking { result ≡ status.no_memory → memory.new.refusals ≡ memory.old.refusals + 1 }
-    ensures memory { result ≢ status.no_memory → memory.new.refusals ≡ memory.old.refusals }
+    ensures lacking { result ≡ status.no_memory → memory.new.failed_allocations ≡ memory.old.failed_allocations + 1 }
+    ensures memory { result ≢ status.no_memory → memory.new.failed_allocations ≡ memory.old.failed_allocations }
     ensures asked { AsksAtMost (block_request (length file.now)) memory.old memory.new }
 {
     match px_engine::put_form_in(memory, file, out) {
@@ -117,11 +117,11 @@ pub(crate) fn compare_in(
     ensures known { (result ≡ status.done) ⊎ (result ≡ status.refused) ⊎ (result ≡ status.no_memory) ⊎ (result ≡ status.second_refused) }
     ensures done { result ≡ status.done → AreCompared first.now second.now same.new }
     ensures refused { result ≡ status.refused → Refuses first.now fault.new }
-    ensures second { result ≡ status.second_refused → ((s : Said) × IsSaid first.now s) × Refuses second.now fault.new }
+    ensures second { result ≡ status.second_refused → ((s : Said) × HasMeaning first.now s) × Refuses second.now fault.new }
     ensures same { result ≢ status.done → same.new ≡ same.old }
     ensures fault { result ≢ status.refused → result ≢ status.second_refused → fault.new ≡ fault.old }
-    ensures lacking { result ≡ status.no_memory → memory.new.refusals ≡ memory.old.refusals + 1 }
-    ensures memory { result ≢ status.no_memory → memory.new.refusals ≡ memory.old.refusals }
+    ensures lacking { result ≡ status.no_memory → memory.new.failed_allocations ≡ memory.old.failed_allocations + 1 }
+    ensures memory { result ≢ status.no_memory → memory.new.failed_allocations ≡ memory.old.failed_allocations }
     ensures asked { AsksAtMost (block_request (length first.now) + block_request (length second.now)) memory.old memory.new }
 {
     match px_engine::same_of_in(memory, first, second) {
@@ -159,14 +159,14 @@ pub(crate) fn show_in(
     fault: &mut ExifnormFault,
 ) -> u32
     ensures known { (result ≡ status.done) ⊎ (result ≡ status.refused) ⊎ (result ≡ status.no_memory) ⊎ (result ≡ status.too_little_room) }
-    ensures done { result ≡ status.done → PutsSaid listing file.now (Whole written.new) out.old out.new }
+    ensures done { result ≡ status.done → PutsTextOf listing file.now (Whole written.new) out.old out.new }
     ensures refused { result ≡ status.refused → Refuses file.now fault.new }
-    ensures short { result ≡ status.too_little_room → PutsSaid listing file.now (Needs written.new) out.old out.new }
+    ensures short { result ≡ status.too_little_room → PutsTextOf listing file.now (Needs written.new) out.old out.new }
     ensures out { result ≢ status.done → out.new ≡ out.old }
     ensures written { result ≢ status.done → result ≢ status.too_little_room → written.new ≡ written.old }
     ensures fault { result ≢ status.refused → fault.new ≡ fault.old }
-    ensures lacking { result ≡ status.no_memory → memory.new.refusals ≡ memory.old.refusals + 1 }
-    ensures memory { result ≢ status.no_memory → memory.new.refusals ≡ memory.old.refusals }
+    ensures lacking { result ≡ status.no_memory → memory.new.failed_allocations ≡ memory.old.failed_allocations + 1 }
+    ensures memory { result ≢ status.no_memory → memory.new.failed_allocations ≡ memory.old.failed_allocations }
     ensures asked { AsksForText listing file.now memory.old memory.new }
 {
     match px_engine::show_of_in(memory, file) {
@@ -191,14 +191,14 @@ pub(crate) fn captions_in(
     fault: &mut ExifnormFault,
 ) -> u32
     ensures known { (result ≡ status.done) ⊎ (result ≡ status.refused) ⊎ (result ≡ status.no_memory) ⊎ (result ≡ status.too_little_room) }
-    ensures done { result ≡ status.done → PutsSaid caption_text file.now (Whole written.new) out.old out.new }
+    ensures done { result ≡ status.done → PutsTextOf caption_text file.now (Whole written.new) out.old out.new }
     ensures refused { result ≡ status.refused → Refuses file.now fault.new }
-    ensures short { result ≡ status.too_little_room → PutsSaid caption_text file.now (Needs written.new) out.old out.new }
+    ensures short { result ≡ status.too_little_room → PutsTextOf caption_text file.now (Needs written.new) out.old out.new }
     ensures out { result ≢ status.done → out.new ≡ out.old }
     ensures written { result ≢ status.done → result ≢ status.too_little_room → written.new ≡ written.old }
     ensures fault { result ≢ status.refused → fault.new ≡ fault.old }
-    ensures lacking { result ≡ status.no_memory → memory.new.refusals ≡ memory.old.refusals + 1 }
-    ensures memory { result ≢ status.no_memory → memory.new.refusals ≡ memory.old.refusals }
+    ensures lacking { result ≡ status.no_memory → memory.new.failed_allocations ≡ memory.old.failed_allocations + 1 }
+    ensures memory { result ≢ status.no_memory → memory.new.failed_allocations ≡ memory.old.failed_allocations }
     ensures asked { AsksForText caption_text file.now memory.old memory.new }
 {
     match px_engine::captions_text_in(memory, file) {
@@ -233,8 +233,8 @@ pub(crate) fn jpeg_same_in(
     ensures same { result ≢ status.done → same.new ≡ same.old }
     ensures unread { result ≢ status.not_read → result ≢ status.second_not_read → unread.new ≡ unread.old }
     ensures fault { result ≢ status.refused → result ≢ status.second_refused → fault.new ≡ fault.old }
-    ensures lacking { result ≡ status.no_memory → memory.new.refusals ≡ memory.old.refusals + 1 }
-    ensures memory { result ≢ status.no_memory → memory.new.refusals ≡ memory.old.refusals }
+    ensures lacking { result ≡ status.no_memory → memory.new.failed_allocations ≡ memory.old.failed_allocations + 1 }
+    ensures memory { result ≢ status.no_memory → memory.new.failed_allocations ≡ memory.old.failed_allocations }
     ensures asked { AsksForBoth first.now second.now memory.old memory.new }
 {
     match px_pictures::compare_metadata_in(memory, first, second) {
@@ -280,8 +280,8 @@ pub(crate) fn jpeg_unread_in(
     ensures refused { result ≡ status.refused → RefusesJoining bytes.now fault.new }
     ensures unread { result ≢ status.done → unread.new ≡ unread.old }
     ensures fault { result ≢ status.refused → fault.new ≡ fault.old }
-    ensures lacking { result ≡ status.no_memory → memory.new.refusals ≡ memory.old.refusals + 1 }
-    ensures memory { result ≢ status.no_memory → memory.new.refusals ≡ memory.old.refusals }
+    ensures lacking { result ≡ status.no_memory → memory.new.failed_allocations ≡ memory.old.failed_allocations + 1 }
+    ensures memory { result ≢ status.no_memory → memory.new.failed_allocations ≡ memory.old.failed_allocations }
     ensures asked { AsksAtMost (join_request (length bytes.now)) memory.old memory.new }
 {
     match px_pictures::unread_in(memory, bytes) {
@@ -289,21 +289,21 @@ pub(crate) fn jpeg_unread_in(
             *unread = seen_unread(found);
             DONE
         }
-        Err(HeadFault::Head(head)) => {
+        Err(MetadataFault::Head(head)) => {
             *fault = ExifnormJpegFault {
                 cause: head_cause(head.cause),
                 place: head.place,
             };
             REFUSED
         }
-        Err(HeadFault::TooLong) => {
+        Err(MetadataFault::TooLong) => {
             *fault = ExifnormJpegFault {
                 cause: JOINED_TOO_LONG,
                 place: 0,
             };
             REFUSED
         }
-        Err(HeadFault::OutOfMemory) => NO_MEMORY,
-        Err(HeadFault::Block { .. }) => unreachable!(),
+        Err(MetadataFault::OutOfMemory) => NO_MEMORY,
+        Err(MetadataFault::Block { .. }) => unreachable!(),
     }
 }

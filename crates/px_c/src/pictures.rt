@@ -1,10 +1,10 @@
 // Why two JPEG pictures are not compared, as numbers.
 ghost use Rattle.std.specs.Prelude.{◌≡◌, MatchOption};
-ghost use Rattle.px_pictures.specs.declared.faults.Fault.TheVariants.{OutOfMemory};
+ghost use Rattle.px_pictures.specs.declared.faults.MetadataFault.TheVariants.{OutOfMemory};
 ghost use Rattle.px_c.specs.Pictures.{IsSeenFault, block_kind};
 
 use crate::jpeg::head_cause;
-use px_pictures::{BlockKind, Fault};
+use px_pictures::{MetadataFault, MetadataKind};
 
 // The cause of a picture of which too many bytes would be joined.
 pub(crate) const TOO_LONG: u32 = 105;
@@ -25,33 +25,33 @@ pub struct ExifnormPictureFault {
 }
 
 // The kind of a block as a number.
-fn block_kind(kind: BlockKind) -> u32
+fn block_kind(kind: MetadataKind) -> u32
     ensures { result ≡ block_kind kind }
 {
     match kind {
-        BlockKind::Exif => 1,
-        BlockKind::Iptc => 2,
+        MetadataKind::Exif => 1,
+        MetadataKind::Iptc => 2,
     }
 }
 
 // A fault as numbers; `None` if an allocation failed.
-pub(crate) fn seen_fault(fault: Fault) -> Option<ExifnormPictureFault>
+pub(crate) fn seen_fault(fault: MetadataFault) -> Option<ExifnormPictureFault>
     ensures { MatchOption result (fault ≡ OutOfMemory) (IsSeenFault fault) }
 {
     match fault {
-        Fault::Head(head) => Some(ExifnormPictureFault {
+        MetadataFault::Head(head) => Some(ExifnormPictureFault {
             cause: head_cause(head.cause),
             kind: 0,
             number: 0,
             place: head.place,
         }),
-        Fault::TooLong => Some(ExifnormPictureFault {
+        MetadataFault::TooLong => Some(ExifnormPictureFault {
             cause: TOO_LONG,
             kind: 0,
             number: 0,
             place: 0,
         }),
-        Fault::Block {
+        MetadataFault::Block {
             kind,
             number,
             cause,
@@ -62,6 +62,6 @@ pub(crate) fn seen_fault(fault: Fault) -> Option<ExifnormPictureFault>
             number,
             place: place as usize,
         }),
-        Fault::OutOfMemory => None,
+        MetadataFault::OutOfMemory => None,
     }
 }

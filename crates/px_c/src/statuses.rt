@@ -16,3 +16,5 @@ pub const SECOND_REFUSED: u32 = 6;
 pub const NOT_READ: u32 = 7;
 /// Two pictures are the same as far as they are read, and a part of the second isn't read; all of the first is.
 pub const SECOND_NOT_READ: u32 = 8;
+/// The packet of XMP may have a meaning that another reader reads.
+pub const RARE: u32 = 9;

@@ -8,9 +8,9 @@ use std::test::Fail;
 
 #[test]
 fn a_range_is_claimed(rt: HostRuntime) {
-    let mut held = Ranges::new(rt.alloc());
-    assert_eq!(rt; held.add(0, 8).ok(), Some(true));
-    assert_eq!(rt; held.add(7, 1).ok(), Some(false));
+    let mut claimed = Ranges::new(rt.alloc());
+    assert_eq!(rt; claimed.add(0, 8).ok(), Some(true));
+    assert_eq!(rt; claimed.add(7, 1).ok(), Some(false));
 }
 
 #[test]

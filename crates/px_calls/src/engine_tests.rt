@@ -24,8 +24,8 @@ fn two_files_are_normalised(rt: HostRuntime) -> Result<(), Fail> {
 
 #[test]
 fn captions_are_listed_by_their_labels(rt: HostRuntime) -> Result<(), Fail> {
-    let said = read_any(rt.alloc(), LABELLED).ok().ok_or("refused")?;
-    let captions = captions_of(rt.alloc(), &said)?;
+    let meaning = read_any(rt.alloc(), LABELLED).ok().ok_or("refused")?;
+    let captions = captions_of(rt.alloc(), &meaning)?;
     assert!(rt; captions.utf8());
     assert_eq!(rt; captions.len(), 2);
     let first = captions.at(0);
@@ -38,7 +38,7 @@ fn captions_are_listed_by_their_labels(rt: HostRuntime) -> Result<(), Fail> {
 fn check_flushed(rt: &impl Abort, fault: Option<Fault>, writer: Watched<KeepsBack>, bytes: usize) {
     assert!(rt; matches!(fault, Some(Fault::WriteFailed)));
     let kept = writer.into_inner();
-    assert_eq!(rt; kept.held, bytes);
+    assert_eq!(rt; kept.count, bytes);
     assert_eq!(rt; kept.flushes, 1);
 }
 

@@ -11,7 +11,7 @@ use std::process::Abort;
 fn check_kept_back(rt: &impl Abort, status: u8, lines: Watched<KeepsBack>, bytes: usize) {
     assert_eq!(rt; status, 4);
     let kept = lines.into_inner();
-    assert_eq!(rt; kept.held, bytes);
+    assert_eq!(rt; kept.count, bytes);
     assert_eq!(rt; kept.flushes, 1);
 }
 

@@ -4,7 +4,7 @@ use crate::built::{one, with_field};
 use px_bytes::Order;
 use px_field::{Form, read_value};
 use px_plans::{Chunk, Plan, is_legal, plan_normal, write_with};
-use px_tree::{Dir, fits};
+use px_tree::{Dir, is_writable};
 use std::alloc::{AllocError, Global};
 use std::test::Fail;
 
@@ -44,7 +44,7 @@ fn a_value_is_placed_in_its_directory(rt: HostRuntime) {
 #[test]
 fn the_plan_of_one_field(rt: HostRuntime) -> Result<(), Fail> {
     let m = with_field(rt.alloc(), 0x0112, one())?;
-    assert!(rt; fits(&m));
+    assert!(rt; is_writable(&m));
     assert!(rt; plan_normal(rt.alloc(), &m).is_ok_and(|plan| plan.len() == 26));
     Ok(())
 }
@@ -54,7 +54,7 @@ fn laid(alloc: Global, at: u32, order: Order) -> Result<Option<Vec<u8>>, AllocEr
     let text = read_value(Form::Ascii, Order::Most, b"Urns\x00");
     let m = with_field(alloc, 0x010E, text)?;
     let plan = text_plan(alloc, at);
-    if !fits(&m) || !is_legal(alloc, &m, &plan)? {
+    if !is_writable(&m) || !is_legal(alloc, &m, &plan)? {
         return Ok(None);
     }
     Ok(Some(write_with(alloc, &m, &plan, order, 0xFF)?))

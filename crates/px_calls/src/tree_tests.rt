@@ -2,7 +2,7 @@
 // definitions show which can: the meaning of a block fits, and the normal form of a meaning that fits has that
 // meaning.
 use crate::built::{one, with_field};
-use px_tree::{Fields, Strips, fits};
+use px_tree::{Fields, Strips, is_writable};
 use std::test::Fail;
 
 #[test]
@@ -30,6 +30,6 @@ fn strips_are_a_list(rt: HostRuntime) {
 #[test]
 fn a_short_width_does_not_fit(rt: HostRuntime) -> Result<(), Fail> {
     let m = with_field(rt.alloc(), 0x0100, one())?;
-    assert!(rt; !fits(&m));
+    assert!(rt; !is_writable(&m));
     Ok(())
 }

@@ -12,7 +12,7 @@ use std::io::{ErrorKind, Write};
 #[derive(Drop)]
 pub struct KeepsBack {
     /// How many bytes it has taken.
-    pub held: usize,
+    pub count: usize,
     /// How many flushes were called.
     pub flushes: u32,
 }
@@ -20,10 +20,10 @@ pub struct KeepsBack {
 impl KeepsBack {
     /// No bytes and no flush so far.
     pub fn new() -> KeepsBack
-        ensures { result ≡ record { held = 0; flushes = 0 } }
+        ensures { result ≡ record { count = 0; flushes = 0 } }
     {
         KeepsBack {
-            held: 0,
+            count: 0,
             flushes: 0,
         }
     }
@@ -32,16 +32,16 @@ impl KeepsBack {
 impl Write for KeepsBack {
     fn write(&mut self, buf: &[u8]) -> io::Result<usize>
         ensures all { result ≡ Ok (length buf.now) }
-        ensures held { self.new.held ≡ min (self.old.held + length buf.now) (2 ^ 64 - 1) }
+        ensures count { self.new.count ≡ min (self.old.count + length buf.now) (2 ^ 64 - 1) }
         ensures flushes { self.new.flushes ≡ self.old.flushes }
     {
-        self.held = self.held.saturating_add(buf.len());
+        self.count = self.count.saturating_add(buf.len());
         Ok(buf.len())
     }
 
     fn flush(&mut self) -> io::Result<()>
         ensures failed { IsErr result }
-        ensures held { self.new.held ≡ self.old.held }
+        ensures count { self.new.count ≡ self.old.count }
         ensures flushes { self.new.flushes ≡ min (self.old.flushes + 1) (2 ^ 32 - 1) }
     {
         self.flushes = self.flushes.saturating_add(1);

@@ -53,14 +53,15 @@ one_failure (Err x) old new (inl e) = let failed = ap (λ (calls : Calls). calls
 one_failure (Err x) old new (inr e) = let failed = ap (λ (calls : Calls). calls.failed) e in omega arith
 
 pub text_asks : {A E : Type 0} (r : Result A E) (old new : Grown) (text : List ℕ)
-    → old ≡ record { taken = []; refusals = 0; flushes = 0; since = 0 } → Writes r (Some old.taken) (Some new.taken) text
-    → CountsFlush r (record { failed = old.refusals; flushes = old.flushes }) (record { failed = new.refusals; flushes = new.flushes })
+    → old ≡ record { taken = []; failed_allocations = 0; flushes = 0; since = 0 } → Writes r (Some old.taken) (Some new.taken) text
+    → CountsFlush r (record { failed = old.failed_allocations; flushes = old.flushes })
+    (record { failed = new.failed_allocations; flushes = new.flushes })
     → grown_bytes new ≤ text_request (length text)
 text_asks r old new text start wrote counted =
     let none = ap (λ (g : Grown). length g.taken) start in
-    let zero = ap (λ (g : Grown). g.refusals) start in
+    let zero = ap (λ (g : Grown). g.failed_allocations) start in
     let within = text_within r old.taken new.taken text none wrote in
-    let few = one_failure r (record { failed = old.refusals; flushes = old.flushes })
-    (record { failed = new.refusals; flushes = new.flushes }) counted in
-    let failed = mul-le-mul_right {m = new.refusals} {n = 1} (2 * (length new.taken + 65536)) (omega arith) in
+    let few = one_failure r (record { failed = old.failed_allocations; flushes = old.flushes })
+    (record { failed = new.failed_allocations; flushes = new.flushes }) counted in
+    let failed = mul-le-mul_right {m = new.failed_allocations} {n = 1} (2 * (length new.taken + 65536)) (omega arith) in
     omega (arith, within, failed)

@@ -6,7 +6,7 @@ use Rattle.px_bytes.specs.declared.Cause.{Cause}
 use Rattle.px_bytes.specs.declared.Cause.TheVariants.{TooLong}
 use Rattle.px_bytes.specs.declared.Refusal.{Refusal}
 use Rattle.px_bytes.specs.declared.Refusal.TheVariants as refusal
-use Rattle.px_bytes.specs.Checks.{LacksBlockBy}
+use Rattle.px_bytes.specs.Checks.{CountsAllocFailureInBlockBy}
 use Rattle.px_bytes.specs.Parts.{limit}
 use Rattle.px_bytes.specs.Reading.{ReadsUpTo, ConsumesAtMost}
 use Rattle.px_iim.specs.Group.{Record, IsRecord}
@@ -14,76 +14,78 @@ use Rattle.px_iim.specs.Record.{SaysIim}
 use Rattle.px_iim.specs.lemmas.BoundLaws as iim
 use Rattle.px_meaning.specs.Tree.{Meaning}
 use Rattle.px_meaning.specs.Says.{SaysExif}
-use Rattle.px_meaning.specs.Fits.{Fits}
+use Rattle.px_meaning.specs.Writable.{IsWritable}
 use Rattle.px_layout.specs.Laws.{NormalBound}
 use Rattle.px_tree.specs.FaultLaws as tree_laws
-use Rattle.px_engine.specs.declared.kinds.BlockKind.TheVariants as kind
+use Rattle.px_engine.specs.declared.kind.BlockKind.TheVariants as kind
 use Rattle.px_engine.specs.Files.{Said, Exif, Iim, FirstIn}
-use Rattle.px_engine.specs.declared.faults.Fault.{Fault}
-use Rattle.px_engine.specs.declared.faults.Fault.TheVariants.{Refused, NormalTooLong, OutOfMemory, ReadFailed, WriteFailed}
-use Rattle.px_engine.specs.Input.{most_read, IsSaidIn, IsFaultyIn, IsSaid, IsFaulty, IsRefused, IsUnsaid, IsReadFault, LacksFault}
-use Rattle.px_engine.specs.calls.Kinds.{SaysKind}
-use Rattle.px_engine.specs.Runs.{KnownSaid, Stops}
+use Rattle.px_engine.specs.declared.error.Fault.{Fault}
+use Rattle.px_engine.specs.declared.error.Fault.TheVariants.{Refused, NormalTooLong, OutOfMemory, ReadFailed, WriteFailed}
+use Rattle.px_engine.specs.Input.{most_read, HasMeaningAs, IsFaultyIn, HasMeaning, IsFaulty, IsRefused, IsRunFault, IsReadFault}
+use Rattle.px_engine.specs.Input.{CountsAllocFailureOfFault}
+use Rattle.px_engine.specs.calls.Kinds.{HasMeaningOfKind}
+use Rattle.px_engine.specs.Runs.{KnownMeaning, Stops}
 use Rattle.px_engine.specs.calls.Faults.{refused}
 use Rattle.px_engine.specs.lemmas.FileLaws as file
 use Rattle.px_engine.specs.Laws.{taken}
 
 -- ---- a block
 
-pub iim_said : (b : List ℕ) (i : Record) → SaysIim b i → IsRecord i → IsSaidIn kind.Iim b (Iim i)
-iim_said b i x r = record { says = x; fits = r; bounded = iim.normal_bound b i x }
+pub iim_has_meaning : (b : List ℕ) (i : Record) → SaysIim b i → IsRecord i → HasMeaningAs kind.Iim b (Iim i)
+iim_has_meaning b i x r = record { means = x; fits = r; bounded = iim.normal_bound b i x }
 
 pub exif_judged : {X : Type 0} (b block : List ℕ) → block ≡ b → NormalBound → AreBytes b → (r : Result X Refusal)
-    → IfOk r (λ x. (m : Meaning) × SaysExif block m × Fits m) → IfOk r (λ x. SaysKind kind.Exif b)
+    → IfOk r (λ x. (m : Meaning) × SaysExif block m × IsWritable m) → IfOk r (λ x. HasMeaningOfKind kind.Exif b)
 exif_judged b block is bound bytes (Ok x) h =
     let (m, t, f) = h in
     let s = subst (λ z. SaysExif z m) is t in
-    (Exif m, record { says = s; fits = f; bounded = bound b m bytes s }, refl)
+    (Exif m, record { means = s; fits = f; bounded = bound b m bytes s }, refl)
 exif_judged b block is bound bytes (Err e) h = tt
 
-pub exif_long : (b : List ℕ) → tree_laws.FaultsTell → limit < length b → IsFaultyIn kind.Exif b TooLong limit
-exif_long b tell l =
+pub exif_long : (b : List ℕ) → tree_laws.FaultsDecide → limit < length b → IsFaultyIn kind.Exif b TooLong limit
+exif_long b law l =
     let first : FirstIn kind.Exif b TooLong limit = file.long_in b kind.Exif l in
     record {
       first = first;
-      stands = tell.0 b TooLong limit first;
+      is_fault = law.0 b TooLong limit first;
       bounded = omega arith;
-      unsaid = λ s x. let m = file.short_in b kind.Exif s x in omega arith;
+      no_meaning = λ s x. let m = file.short_in b kind.Exif s x in omega arith;
     }
 
 -- ---- the whole file, from the bytes that are read of it
 
-whole_said : (f : List ℕ) (s : Said) → IsSaid (taken f) s → IsSaid f s
-whole_said f s h = subst (λ z. IsSaid z s) (file.said_whole f s h.says) h
+whole_has_meaning : (f : List ℕ) (s : Said) → HasMeaning (taken f) s → HasMeaning f s
+whole_has_meaning f s h = subst (λ z. HasMeaning z s) (file.meaning_whole f s h.means) h
 
 whole_faulty : (f : List ℕ) (c : Cause) (p : ℕ) → IsFaulty (taken f) c p → IsFaulty f c p
 whole_faulty f c p h =
     record {
-      first = (file.taken_tells.1 f c p).0 h.first;
-      stands = file.stands_whole f c p h.first h.stands;
+      first = (file.taken_decides.1 f c p).0 h.first;
+      is_fault = file.fault_whole f c p h.first h.is_fault;
       bounded = h.bounded;
-      unsaid = λ s x. h.unsaid s ((file.taken_tells.0 f s).1 x);
+      no_meaning = λ s x. h.no_meaning s ((file.taken_decides.0 f s).1 x);
     }
 
-pub refused_is_unsaid : (bytes : List ℕ) (lacking : ℕ) (e : Refusal) (fault : Fault) → fault ≡ refused e → IsRefused bytes lacking e
-    → IsUnsaid bytes lacking fault
-refused_is_unsaid bytes lacking (refusal.Content cause place) fault q h = subst (IsUnsaid bytes lacking) (sym q) h
-refused_is_unsaid bytes lacking refusal.OutOfMemory fault q h = subst (IsUnsaid bytes lacking) (sym q) h
+pub refused_is_no_meaning : (bytes : List ℕ) (lacking : ℕ) (e : Refusal) (fault : Fault) → fault ≡ refused e → IsRefused bytes lacking e
+    → IsRunFault bytes lacking fault
+refused_is_no_meaning bytes lacking (refusal.Content cause place) fault q h = subst (IsRunFault bytes lacking) (sym q) h
+refused_is_no_meaning bytes lacking refusal.OutOfMemory fault q h = subst (IsRunFault bytes lacking) (sym q) h
 
-pub lacks_refused : (e : Refusal) (fault : Fault) (old new : ℕ) → fault ≡ refused e → LacksBlockBy {X = Unit {0}} (Err e) old new
-    → LacksFault fault old new
-lacks_refused (refusal.Content cause place) fault old new q h = subst (λ z. LacksFault z old new) (sym q) h
-lacks_refused refusal.OutOfMemory fault old new q h = subst (λ z. LacksFault z old new) (sym q) h
+pub refused_alloc_failure : (e : Refusal) (fault : Fault) (old new : ℕ) → fault ≡ refused e
+    → CountsAllocFailureInBlockBy {X = Unit {0}} (Err e) old new
+    → CountsAllocFailureOfFault fault old new
+refused_alloc_failure (refusal.Content cause place) fault old new q h = subst (λ z. CountsAllocFailureOfFault z old new) (sym q) h
+refused_alloc_failure refusal.OutOfMemory fault old new q h = subst (λ z. CountsAllocFailureOfFault z old new) (sym q) h
 
 -- ---- the bytes of a reader
 
-pub known_said : (old new : Option (List ℕ)) (bytes : List ℕ) (s : Said) → ReadsUpTo old new most_read bytes → IsSaid bytes s
-    → KnownSaid old s
-known_said None new bytes s r h = tt
-known_said (Some f) new bytes s r h = whole_said f s (subst (λ z. IsSaid z s) r.0 h)
+pub known_meaning : (old new : Option (List ℕ)) (bytes : List ℕ) (s : Said) → ReadsUpTo old new most_read bytes → HasMeaning bytes s
+    → KnownMeaning old s
+known_meaning None new bytes s r h = tt
+known_meaning (Some f) new bytes s r h = whole_has_meaning f s (subst (λ z. HasMeaning z s) r.0 h)
 
 pub known_stops : (old new : Option (List ℕ)) (bytes : List ℕ) (lacking : ℕ) (fault : Fault) → ReadsUpTo old new most_read bytes
-    → IsUnsaid bytes lacking fault → Stops fault old
+    → IsRunFault bytes lacking fault → Stops fault old
 known_stops None new bytes lacking (Refused cause place) r h = (h.bounded, tt)
 known_stops (Some f) new bytes lacking (Refused cause place) r h =
     (h.bounded, whole_faulty f cause place (subst (λ z. IsFaulty z cause place) r.0 h))

@@ -1,8 +1,8 @@
 pub mod Judged
 pub mod Ended
 pub mod Compared
-pub mod Told
+pub mod Reported
 pub mod Printed
-pub mod Room
+pub mod Space
 pub mod Asked
 pub mod Puts

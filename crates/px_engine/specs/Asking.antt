@@ -1,19 +1,19 @@
 -- How many bytes a call asks for at most.
 use Rattle.std.specs.Prelude.{◌≡◌, ℕ, ◌≤◌, ◌+◌, ◌*◌, List, Option, length}
-use Rattle.px_bytes.specs.Lacking.{Taken, AsksAtMost}
+use Rattle.px_bytes.specs.Allocations.{MemoryCounts, AsksAtMost}
 use Rattle.px_bytes.specs.Reading.{readable, read_request}
 use Rattle.px_tree.specs.Asking.{exif_request}
-use Rattle.px_engine.specs.declared.kinds.BlockKind.{BlockKind}
-use Rattle.px_engine.specs.declared.kinds.BlockKind.TheVariants as kind
+use Rattle.px_engine.specs.declared.kind.BlockKind.{BlockKind}
+use Rattle.px_engine.specs.declared.kind.BlockKind.TheVariants as kind
 use Rattle.px_engine.specs.Files.{Said}
-use Rattle.px_engine.specs.Input.{most_read, IsSaid}
+use Rattle.px_engine.specs.Input.{most_read, HasMeaning}
 
 -- to read the block in a file of n bytes: a record of DataSets asks for less than an Exif block
 abbrev pub block_request : ℕ → ℕ
 block_request n = exif_request n
 
 -- to judge a block: nothing is asked for if it is one of DataSets, so that no allocation can fail
-abbrev pub AsksByKind : BlockKind → Taken → Taken → Type 0
+abbrev pub AsksByKind : BlockKind → MemoryCounts → MemoryCounts → Type 0
 AsksByKind k old new = k ≡ kind.Iim → new ≡ old
 
 -- that, and the normal form in memory: a form is at most twice as long as its block
@@ -26,8 +26,8 @@ abbrev pub text_request : ℕ → ℕ
 text_request n = 6 * n + 131072
 
 -- to read the block of a file and to make a text of its meaning
-abbrev pub AsksForText : (Said → List ℕ) → List ℕ → Taken → Taken → Type 0
-AsksForText text file old new = (most : ℕ) → ((s : Said) → IsSaid file s → length (text s) ≤ most)
+abbrev pub AsksForText : (Said → List ℕ) → List ℕ → MemoryCounts → MemoryCounts → Type 0
+AsksForText text file old new = (most : ℕ) → ((s : Said) → HasMeaning file s → length (text s) ≤ most)
     → AsksAtMost (block_request (length file) + text_request most) old new
 
 -- to read n bytes of a reader, and the block in them

@@ -6,15 +6,15 @@ use Rattle.std.specs.List.{starts_with}
 use Rattle.px_bytes.specs.declared.Cause.{Cause}
 use Rattle.px_iim.specs.Group.{Record, IsRecord}
 use Rattle.px_iim.specs.Record.{SaysIim, normal_iim}
-use Rattle.px_iim.specs.Check.{FirstFault as IimFirstFault, Fault as IimFault}
+use Rattle.px_iim.specs.Check.{FirstIimFault, IimFault}
 use Rattle.px_meaning.specs.Tree.{Meaning}
 use Rattle.px_meaning.specs.Says.{SaysExif}
-use Rattle.px_meaning.specs.Fits.{Fits}
-use Rattle.px_tree.specs.Checks.{FirstFault}
-use Rattle.px_tree.specs.Faults.{Fault}
+use Rattle.px_meaning.specs.Writable.{IsWritable}
+use Rattle.px_tree.specs.Checks.{FirstExifFault}
+use Rattle.px_tree.specs.Faults.{ExifFault}
 use Rattle.px_layout.specs.Normal.{normal_exif}
-use Rattle.px_engine.specs.declared.kinds.BlockKind.{BlockKind}
-use Rattle.px_engine.specs.declared.kinds.BlockKind.TheVariants as kind
+use Rattle.px_engine.specs.declared.kind.BlockKind.{BlockKind}
+use Rattle.px_engine.specs.declared.kind.BlockKind.TheVariants as kind
 
 -- a meaning: a tree of directories, or a record
 pub data Said : Type 0 where
@@ -42,23 +42,23 @@ block_of f = if is_prefixed f then drop 6 f else f
 
 -- ---- its meaning
 
-abbrev pub SaysBlock : BlockKind → List ℕ → Said → Type 0
-SaysBlock kind.Exif b (Exif m) = SaysExif b m
-SaysBlock kind.Iim b (Iim i) = SaysIim b i
-SaysBlock _ b s = ⊥
+abbrev pub MeansAs : BlockKind → List ℕ → Said → Type 0
+MeansAs kind.Exif b (Exif m) = SaysExif b m
+MeansAs kind.Iim b (Iim i) = SaysIim b i
+MeansAs _ b s = ⊥
 
 -- the block in the file, read as its kind, has this meaning
 abbrev pub Says : List ℕ → Said → Type 0
-Says f s = SaysBlock (kind_of f) (block_of f) s
+Says f s = MeansAs (kind_of f) (block_of f) s
 
 -- the kind of block that has this meaning
-abbrev pub kind_said : Said → BlockKind
-kind_said (Exif m) = kind.Exif
-kind_said (Iim i) = kind.Iim
+abbrev pub kind_of_meaning : Said → BlockKind
+kind_of_meaning (Exif m) = kind.Exif
+kind_of_meaning (Iim i) = kind.Iim
 
 -- the tree fits, or the record is whole
 abbrev pub CanBeWritten : Said → Type 0
-CanBeWritten (Exif m) = Fits m
+CanBeWritten (Exif m) = IsWritable m
 CanBeWritten (Iim i) = IsRecord i
 
 -- the normal form
@@ -69,17 +69,17 @@ normal (Iim i) = normal_iim i
 -- ---- its faults; byte offsets count from the block's first byte
 
 abbrev pub FirstIn : BlockKind → List ℕ → Cause → ℕ → Type 0
-FirstIn kind.Exif b c p = FirstFault b c p
-FirstIn kind.Iim b c p = IimFirstFault b c p
+FirstIn kind.Exif b c p = FirstExifFault b c p
+FirstIn kind.Iim b c p = FirstIimFault b c p
 
 -- the first fault of the block in the file, by the checks of its kind
 abbrev pub FirstFaultOf : List ℕ → Cause → ℕ → Type 0
 FirstFaultOf f c p = FirstIn (kind_of f) (block_of f) c p
 
-abbrev pub StandsIn : BlockKind → List ℕ → Cause → ℕ → Type 0
-StandsIn kind.Exif b c p = Fault b c p
-StandsIn kind.Iim b c p = IimFault b c p
+abbrev pub IsFaultIn : BlockKind → List ℕ → Cause → ℕ → Type 0
+IsFaultIn kind.Exif b c p = ExifFault b c p
+IsFaultIn kind.Iim b c p = IimFault b c p
 
 -- a fault of the block in the file
 abbrev pub FaultOf : List ℕ → Cause → ℕ → Type 0
-FaultOf f c p = StandsIn (kind_of f) (block_of f) c p
+FaultOf f c p = IsFaultIn (kind_of f) (block_of f) c p

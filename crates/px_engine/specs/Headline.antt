@@ -2,13 +2,13 @@
 use Rattle.std.specs.Prelude.{◌≡◌, ◌↔◌, ℕ, Bool, IsTrue, List, Option, Some, Ok}
 use Rattle.std.specs.Io.KnownBytes.{Appends}
 use Rattle.px_engine.specs.Files.{Said, Says, normal}
-use Rattle.px_engine.specs.Hand.{IsFormOf}
-use Rattle.px_engine.specs.Input.{IsSaid}
+use Rattle.px_engine.specs.Slices.{IsFormOf}
+use Rattle.px_engine.specs.Input.{HasMeaning}
 use Rattle.px_engine.specs.Runs.{Normalises, Compares}
 
 -- as a file n has the meaning s and no other, and n is the normal form of its meaning
 pub record IsItsOwn (n : List ℕ) (s : Said) : Type 0 where
-  pub says : IsSaid n s
+  pub means : HasMeaning n s
   pub alone : (t : Said) → Says n t → t ≡ s
   pub again : (t : Said) → Says n t → normal t ≡ n
 
@@ -22,7 +22,7 @@ pub record Headline (f g m n : List ℕ) : Type 0 where
   pub first_alone : (t : Said) → Says f t → t ≡ first
   pub second_alone : (t : Said) → Says g t → t ≡ second
   -- the meanings are equal exactly if the bytes are
-  pub tells : (m ≡ n) ↔ (first ≡ second)
+  pub decides : (m ≡ n) ↔ (first ≡ second)
   -- what was written is accepted with its meaning unchanged, and normalises to itself
   pub first_again : IsItsOwn m first
   pub second_again : IsItsOwn n second
@@ -31,11 +31,11 @@ pub record Headline (f g m n : List ℕ) : Type 0 where
 
 -- Two runs that normalise two files and succeed, whatever their devices took before: each writer took the normal form, and all
 -- of the above is true of the forms.
-abbrev pub RunsTell : Type 0
-RunsTell = (f g : List ℕ) (i j : ℕ) (old new other_old other_new : Option (List ℕ)) → Normalises (Ok i) (Some f) old new
+abbrev pub RunsDecide : Type 0
+RunsDecide = (f g : List ℕ) (i j : ℕ) (old new other_old other_new : Option (List ℕ)) → Normalises (Ok i) (Some f) old new
     → Normalises (Ok j) (Some g) other_old other_new
     → (m n : List ℕ) × Appends old new m × Appends other_old other_new n × Headline f g m n
 
 -- Comparing two files that have normal forms returns whether these are equal.
-abbrev pub ComparingTells : Type 0
-ComparingTells = (f g m n : List ℕ) (same : Bool) → Headline f g m n → Compares (Ok same) (Some f) (Some g) → IsTrue same ↔ (m ≡ n)
+abbrev pub ComparingDecides : Type 0
+ComparingDecides = (f g m n : List ℕ) (same : Bool) → Headline f g m n → Compares (Ok same) (Some f) (Some g) → IsTrue same ↔ (m ≡ n)

@@ -5,31 +5,31 @@ use Rattle.px_bytes.specs.declared.Refusal.{Refusal}
 use Rattle.px_bytes.specs.declared.Refusal.TheVariants as refusal
 use Rattle.px_bytes.specs.Devices.{Calls, one_failed}
 use Rattle.px_bytes.specs.Parts.{limit}
-use Rattle.px_bytes.specs.Lacking.{Taken}
-use Rattle.px_engine.specs.declared.faults.Fault.{Fault}
-use Rattle.px_engine.specs.declared.faults.Fault.TheVariants.{Refused, OutOfMemory, ReadFailed}
-use Rattle.px_engine.specs.declared.faults.CompareFault.{CompareFault}
-use Rattle.px_engine.specs.declared.faults.Side.{Side}
-use Rattle.px_engine.specs.declared.faults.Side.TheVariants.{First, Second}
-use Rattle.px_engine.specs.declared.kinds.BlockKind.{BlockKind}
-use Rattle.px_engine.specs.Files.{Said, SaysBlock, CanBeWritten, normal, kind_of, block_of, FirstIn, StandsIn}
+use Rattle.px_bytes.specs.Allocations.{MemoryCounts}
+use Rattle.px_engine.specs.declared.error.Fault.{Fault}
+use Rattle.px_engine.specs.declared.error.Fault.TheVariants.{Refused, OutOfMemory, ReadFailed}
+use Rattle.px_engine.specs.declared.error.CompareFault.{CompareFault}
+use Rattle.px_engine.specs.declared.error.Side.{Side}
+use Rattle.px_engine.specs.declared.error.Side.TheVariants.{First, Second}
+use Rattle.px_engine.specs.declared.kind.BlockKind.{BlockKind}
+use Rattle.px_engine.specs.Files.{Said, MeansAs, CanBeWritten, normal, kind_of, block_of, FirstIn, IsFaultIn}
 
 -- how many bytes of a file are read at most: one more than the longest block and the six bytes before it
 abbrev pub most_read : ℕ
 most_read = limit + 7
 
 -- a block, read as its kind, has this meaning; it can be written, in a normal form at most twice as long as the block
-pub record IsSaidIn (k : BlockKind) (b : List ℕ) (s : Said) : Type 0 where
-  pub says : SaysBlock k b s
+pub record HasMeaningAs (k : BlockKind) (b : List ℕ) (s : Said) : Type 0 where
+  pub means : MeansAs k b s
   pub fits : CanBeWritten s
   pub bounded : length (normal s) ≤ 2 * length b
 
 -- this is the block's first fault, and one of its faults; its byte offset is at most the limit; the block has no meaning
 pub record IsFaultyIn (k : BlockKind) (b : List ℕ) (cause : Cause) (place : ℕ) : Type 0 where
   pub first : FirstIn k b cause place
-  pub stands : StandsIn k b cause place
+  pub is_fault : IsFaultIn k b cause place
   pub bounded : place ≤ limit
-  pub unsaid : (s : Said) → SaysBlock k b s → ⊥
+  pub no_meaning : (s : Said) → MeansAs k b s → ⊥
 
 -- a refusal for content names such a fault; a refusal with OutOfMemory means that an allocation failed
 abbrev pub IsRefusedIn : BlockKind → List ℕ → ℕ → Refusal → Type 0
@@ -37,8 +37,8 @@ IsRefusedIn k b refused (refusal.Content cause place) = IsFaultyIn k b cause pla
 IsRefusedIn k b refused refusal.OutOfMemory = 0 < refused
 
 -- the same, for the block in a file
-abbrev pub IsSaid : List ℕ → Said → Type 0
-IsSaid f s = IsSaidIn (kind_of f) (block_of f) s
+abbrev pub HasMeaning : List ℕ → Said → Type 0
+HasMeaning f s = HasMeaningAs (kind_of f) (block_of f) s
 
 abbrev pub IsFaulty : List ℕ → Cause → ℕ → Type 0
 IsFaulty f cause place = IsFaultyIn (kind_of f) (block_of f) cause place
@@ -47,10 +47,10 @@ abbrev pub IsRefused : List ℕ → ℕ → Refusal → Type 0
 IsRefused f refused r = IsRefusedIn (kind_of f) (block_of f) refused r
 
 -- the same as the fault of a run
-abbrev pub IsUnsaid : List ℕ → ℕ → Fault → Type 0
-IsUnsaid f refused (Refused cause place) = IsFaulty f cause place
-IsUnsaid f refused OutOfMemory = 0 < refused
-IsUnsaid f refused fault = ⊥
+abbrev pub IsRunFault : List ℕ → ℕ → Fault → Type 0
+IsRunFault f refused (Refused cause place) = IsFaulty f cause place
+IsRunFault f refused OutOfMemory = 0 < refused
+IsRunFault f refused fault = ⊥
 
 -- a fault of the first file, with `first`; or one of the second, with `second`, and `well` of the first
 abbrev pub OnSide : Side → Type 0 → Type 0 → Type 0 → Type 0
@@ -60,24 +60,24 @@ OnSide Second first well second = well × second
 -- ---- counts of failures, before a call and after it
 
 -- the number of failed allocations rose by one exactly if that is the fault
-abbrev pub LacksFault : Fault → ℕ → ℕ → Type 0
-LacksFault OutOfMemory old new = new ≡ old + 1
-LacksFault fault old new = new ≡ old
+abbrev pub CountsAllocFailureOfFault : Fault → ℕ → ℕ → Type 0
+CountsAllocFailureOfFault OutOfMemory old new = new ≡ old + 1
+CountsAllocFailureOfFault fault old new = new ≡ old
 
-abbrev pub LacksRunBy : {A : Type 0} → Result A Fault → ℕ → ℕ → Type 0
-LacksRunBy (Ok x) old new = new ≡ old
-LacksRunBy (Err fault) old new = LacksFault fault old new
+abbrev pub CountsAllocFailureInRunBy : {A : Type 0} → Result A Fault → ℕ → ℕ → Type 0
+CountsAllocFailureInRunBy (Ok x) old new = new ≡ old
+CountsAllocFailureInRunBy (Err fault) old new = CountsAllocFailureOfFault fault old new
 
-abbrev pub LacksPairBy : {A : Type 0} → Result A CompareFault → ℕ → ℕ → Type 0
-LacksPairBy (Ok x) old new = new ≡ old
-LacksPairBy (Err e) old new = LacksFault e.fault old new
+abbrev pub CountsAllocFailureInPairBy : {A : Type 0} → Result A CompareFault → ℕ → ℕ → Type 0
+CountsAllocFailureInPairBy (Ok x) old new = new ≡ old
+CountsAllocFailureInPairBy (Err e) old new = CountsAllocFailureOfFault e.fault old new
 
 -- the same, with the counts of a memory
-abbrev pub LacksRun : {A : Type 0} → Result A Fault → Taken → Taken → Type 0
-LacksRun r old new = LacksRunBy r old.refusals new.refusals
+abbrev pub CountsAllocFailureInRun : {A : Type 0} → Result A Fault → MemoryCounts → MemoryCounts → Type 0
+CountsAllocFailureInRun r old new = CountsAllocFailureInRunBy r old.failed_allocations new.failed_allocations
 
-abbrev pub LacksPair : {A : Type 0} → Result A CompareFault → Taken → Taken → Type 0
-LacksPair r old new = LacksPairBy r old.refusals new.refusals
+abbrev pub CountsAllocFailureInPair : {A : Type 0} → Result A CompareFault → MemoryCounts → MemoryCounts → Type 0
+CountsAllocFailureInPair r old new = CountsAllocFailureInPairBy r old.failed_allocations new.failed_allocations
 
 -- a call of the reader failed exactly if that is the fault
 abbrev pub CountsFault : Fault → Calls → Calls → Type 0

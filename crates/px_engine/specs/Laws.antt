@@ -7,20 +7,20 @@ use Rattle.px_engine.specs.Files.{Said, Says, CanBeWritten, normal, block_of, Fi
 use Rattle.px_engine.specs.Input.{most_read}
 
 -- A file has at most one meaning.
-abbrev pub OneSaid : Type 0
-OneSaid = (f : List ℕ) (s t : Said) → Says f s → Says f t → s ≡ t
+abbrev pub OneMeaningOfFile : Type 0
+OneMeaningOfFile = (f : List ℕ) (s t : Said) → Says f s → Says f t → s ≡ t
 
 -- The meaning of a file of bytes can be written.
-abbrev pub SaidCanBeWritten : Type 0
-SaidCanBeWritten = (f : List ℕ) (s : Said) → AreBytes f → Says f s → CanBeWritten s
+abbrev pub MeaningCanBeWritten : Type 0
+MeaningCanBeWritten = (f : List ℕ) (s : Said) → AreBytes f → Says f s → CanBeWritten s
 
 -- A normal form that is no longer than the limit has the meaning that it was written from.
-abbrev pub NormalSays : Type 0
-NormalSays = (s : Said) → CanBeWritten s → length (normal s) ≤ limit → Says (normal s) s
+abbrev pub FormHasMeaning : Type 0
+FormHasMeaning = (s : Said) → CanBeWritten s → length (normal s) ≤ limit → Says (normal s) s
 
 -- Normal forms are equal exactly if the meanings are, of either kind.
-abbrev pub NormalTells : Type 0
-NormalTells = (s t : Said) → CanBeWritten s → CanBeWritten t → length (normal s) ≤ limit → length (normal t) ≤ limit
+abbrev pub FormDecides : Type 0
+FormDecides = (s t : Said) → CanBeWritten s → CanBeWritten t → length (normal s) ≤ limit → length (normal t) ≤ limit
     → (normal s ≡ normal t) ↔ (s ≡ t)
 
 -- A normal form, as a file, is the normal form of its meaning.
@@ -33,8 +33,8 @@ NormalBound = (f : List ℕ) (s : Said) → AreBytes f → Says f s → length (
 
 -- A first fault is a fault. A file with a fault has no meaning. Each file has a meaning or a first fault, and at most one
 -- first fault.
-abbrev pub FaultsTell : Type 0
-FaultsTell = ((f : List ℕ) (c : Cause) (p : ℕ) → FirstFaultOf f c p → FaultOf f c p)
+abbrev pub FaultsDecide : Type 0
+FaultsDecide = ((f : List ℕ) (c : Cause) (p : ℕ) → FirstFaultOf f c p → FaultOf f c p)
     × ((f : List ℕ) (c : Cause) (p : ℕ) (s : Said) → FaultOf f c p → Says f s → ⊥)
     × ((f : List ℕ) → ((s : Said) × Says f s) ⊎ ((c : Cause) × (p : ℕ) × FirstFaultOf f c p))
     × ((f : List ℕ) (c d : Cause) (p q : ℕ) → FirstFaultOf f c p → FirstFaultOf f d q → (c ≡ d) × (p ≡ q))
@@ -44,6 +44,6 @@ abbrev pub taken : List ℕ → List ℕ
 taken f = take most_read f
 
 -- A file has the meaning of the bytes that are read of it, and their first fault.
-abbrev pub TakenTells : Type 0
-TakenTells = ((f : List ℕ) (s : Said) → Says (taken f) s ↔ Says f s)
+abbrev pub TakenDecides : Type 0
+TakenDecides = ((f : List ℕ) (s : Said) → Says (taken f) s ↔ Says f s)
     × ((f : List ℕ) (c : Cause) (p : ℕ) → FirstFaultOf (taken f) c p ↔ FirstFaultOf f c p)

@@ -2,7 +2,7 @@ pub mod Files
 pub mod Input
 pub mod Asking
 pub mod Runs
-pub mod Hand
+pub mod Slices
 pub mod Headline
 pub mod Laws
 pub mod Prints

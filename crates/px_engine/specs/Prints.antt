@@ -4,11 +4,11 @@ use Rattle.std.specs.Io.KnownBytes.{Appends}
 use Rattle.px_bytes.specs.Devices.{AppendsPrefix}
 use Rattle.px_text.specs.Listing.{exif_listing, iim_listing}
 use Rattle.px_text.specs.Captions.{Labelled, captions_of_exif, captions_of_iim, exif_text, iim_text}
-use Rattle.px_engine.specs.declared.faults.Fault.{Fault}
-use Rattle.px_engine.specs.declared.faults.Fault.TheVariants.{WriteFailed}
+use Rattle.px_engine.specs.declared.error.Fault.{Fault}
+use Rattle.px_engine.specs.declared.error.Fault.TheVariants.{WriteFailed}
 use Rattle.px_engine.specs.Files.{Said, Exif, Iim}
-use Rattle.px_engine.specs.Input.{IsSaid}
-use Rattle.px_engine.specs.Runs.{KnownSaid, Stops}
+use Rattle.px_engine.specs.Input.{HasMeaning}
+use Rattle.px_engine.specs.Runs.{KnownMeaning, Stops}
 
 abbrev pub listing : Said → List ℕ
 listing (Exif m) = exif_listing m
@@ -27,10 +27,10 @@ caption_text (Iim i) = iim_text i
 -- The writer had taken `old` before the run of `file` and has taken `new` after it. Success: exactly the text of the file's
 -- meaning. A failed write: a prefix of it. Every other fault: nothing. No text is too long.
 abbrev pub Prints : {A : Type 0} → (Said → List ℕ) → Result A Fault → Option (List ℕ) → Option (List ℕ) → Option (List ℕ) → Type 0
-Prints text (Ok x) file old new = (s : Said) × KnownSaid file s × Appends old new (text s)
-Prints text (Err WriteFailed) file old new = (s : Said) × KnownSaid file s × AppendsPrefix old new (text s)
+Prints text (Ok x) file old new = (s : Said) × KnownMeaning file s × Appends old new (text s)
+Prints text (Err WriteFailed) file old new = (s : Said) × KnownMeaning file s × AppendsPrefix old new (text s)
 Prints text (Err fault) file old new = Stops fault file × (new ≡ old)
 
 -- `out` is the text of the meaning of the bytes that were read
 abbrev pub IsTextOf : (Said → List ℕ) → List ℕ → List ℕ → Type 0
-IsTextOf text bytes out = (s : Said) × IsSaid bytes s × (out ≡ text s)
+IsTextOf text bytes out = (s : Said) × HasMeaning bytes s × (out ≡ text s)

@@ -1,17 +1,16 @@
 // The main promise, for two files in memory.
-ghost use Rattle.std.specs.Prelude.{◌≡◌, ◌+◌, ℕ, length, IfOk, IfErr};
-ghost use Rattle.px_bytes.specs.Lacking.{AsksAtMost};
+ghost use Rattle.std.specs.Prelude.{◌≡◌, ◌+◌, length, IfOk, IfErr};
+ghost use Rattle.px_bytes.specs.Allocations.{AsksAtMost};
 ghost use Rattle.px_engine.specs.Asking.{form_request};
 ghost use Rattle.px_engine.specs.Files.{Said};
-ghost use Rattle.px_engine.specs.Input.{LacksPair};
-ghost use Rattle.px_engine.specs.Hand.{IsFormOf, IsUnwritten, IsUnwrittenAt};
+ghost use Rattle.px_engine.specs.Input.{CountsAllocFailureInPair};
+ghost use Rattle.px_engine.specs.Slices.{IsFormOf, IsUnwritten, IsUnwrittenAt};
 ghost use Rattle.px_engine.specs.Headline.{Headline};
 
-use crate::faults::{CompareFault, Side};
-use crate::hand::normal_form_in;
+use crate::error::{CompareFault, Side};
 use crate::laws;
+use crate::slice::normal_form_in;
 use px_bytes::Memory;
-use std::alloc::Global;
 
 /// The normal forms of two files.
 #[derive(Drop)]
@@ -26,8 +25,8 @@ pub struct NormalForms {
 fn form_side(memory: &mut Memory, file: &[u8], side: Side) -> Result<Vec<u8>, CompareFault>
     ensures formed { IfOk result (λ v. (s : Said) × IsFormOf file.now s v.items) }
     ensures side { IfErr result (λ e. e.side ≡ side) }
-    ensures unwritten { IfErr result (λ e. IsUnwritten file.now memory.new.refusals e.fault) }
-    ensures memory { LacksPair result memory.old memory.new }
+    ensures unwritten { IfErr result (λ e. IsUnwritten file.now memory.new.failed_allocations e.fault) }
+    ensures memory { CountsAllocFailureInPair result memory.old memory.new }
     ensures asked { AsksAtMost (form_request (length file.now)) memory.old memory.new }
 {
     match normal_form_in(memory, file) {
@@ -49,28 +48,16 @@ pub fn normalise_both_in(
     second: &[u8],
 ) -> Result<NormalForms, CompareFault>
     ensures done { IfOk result (λ forms. Headline first.now second.now forms.first.items forms.second.items) }
-    ensures failed { IfErr result (IsUnwrittenAt first.now second.now memory.new.refusals) }
-    ensures memory { LacksPair result memory.old memory.new }
+    ensures failed { IfErr result (IsUnwrittenAt first.now second.now memory.new.failed_allocations) }
+    ensures memory { CountsAllocFailureInPair result memory.old memory.new }
     ensures asked { AsksAtMost (form_request (length first.now) + form_request (length second.now)) memory.old memory.new }
 {
-    laws::one_said();
-    laws::normal_says();
+    laws::one_meaning_of_file();
+    laws::form_has_meaning();
     let form = form_side(memory, first, Side::First)?;
     let other = form_side(memory, second, Side::Second)?;
     Ok(NormalForms {
         first: form,
         second: other,
     })
-}
-
-/// Like `normalise_both_in`, with memory of its own.
-pub fn normalise_both(
-    alloc: Global,
-    first: &[u8],
-    second: &[u8],
-) -> Result<NormalForms, CompareFault>
-    ensures done { IfOk result (λ forms. Headline first.now second.now forms.first.items forms.second.items) }
-    ensures failed { IfErr result (λ e. (refused : ℕ) × IsUnwrittenAt first.now second.now refused e) }
-{
-    normalise_both_in(&mut Memory::new(alloc), first, second)
 }

@@ -1,74 +1,86 @@
 //! The laws of files: what follows from the definitions. Each is the contract of a function that does
 //! nothing. Each is also a lemma in this crate's definitions (`FileLaws`), which proofs of other crates cite.
 //! Together with the contracts of reading and writing they are the main promise: see `normalise_both`.
-ghost use Rattle.px_engine.specs.Laws.{OneSaid, SaidCanBeWritten, NormalSays, NormalTells, NormalIsItsOwn, NormalBound, FaultsTell};
-ghost use Rattle.px_engine.specs.Laws.{TakenTells};
-ghost use Rattle.px_engine.specs.Headline.{RunsTell, ComparingTells};
+ghost use Rattle.px_engine.specs.Laws.{OneMeaningOfFile, MeaningCanBeWritten, FormHasMeaning, FormDecides, NormalIsItsOwn, NormalBound};
+ghost use Rattle.px_engine.specs.Laws.{FaultsDecide};
+ghost use Rattle.px_engine.specs.Laws.{TakenDecides};
+ghost use Rattle.px_engine.specs.Headline.{RunsDecide, ComparingDecides};
 
-/// A file has at most one meaning.
-pub fn one_said()
-    ensures { OneSaid }
+/// If a file, any list of numbers, has two meanings (`Says`: what its block means, read as its kind), they are equal.
+pub fn one_meaning_of_file()
+    ensures { OneMeaningOfFile }
 {
     px_tree::laws::one_meaning();
 }
 
-/// The meaning of a file of bytes can be written.
-pub fn said_can_be_written()
-    ensures { SaidCanBeWritten }
+/// If a file of bytes, numbers below 256, has a meaning (`Says`), this can be written (`CanBeWritten`): a tree of
+/// directories is writable (`IsWritable`), a record of DataSets is valid (`IsRecord`). It says nothing of the length
+/// of the normal form.
+pub fn meaning_can_be_written()
+    ensures { MeaningCanBeWritten }
 {
-    px_tree::laws::said_fits();
+    px_tree::laws::meaning_is_writable();
 }
 
-/// A normal form no longer than `LIMIT` has the meaning that it was written from.
-pub fn normal_says()
-    ensures { NormalSays }
+/// If a meaning can be written (`CanBeWritten`), and its normal form has at most `LIMIT` bytes, 16,777,216, then the
+/// normal form, as a file, has that meaning.
+pub fn form_has_meaning()
+    ensures { FormHasMeaning }
 {}
 
-/// Two normal forms are equal exactly if the meanings are. That of an Exif block never equals that of a
-/// record.
-pub fn normal_tells()
-    ensures { NormalTells }
+/// If two meanings can be written (`CanBeWritten`), and their normal forms have at most `LIMIT` bytes each,
+/// 16,777,216, then the normal forms are equal exactly if the meanings are. So that of a tree of directories never
+/// equals that of a record.
+pub fn form_decides()
+    ensures { FormDecides }
 {
     px_tree::laws::one_meaning();
 }
 
-/// The meaning of a normal form has that normal form.
+/// If a meaning can be written (`CanBeWritten`), and its normal form has at most `LIMIT` bytes, 16,777,216, then
+/// whatever the normal form means, as a file, has this same normal form.
 pub fn normal_is_its_own()
     ensures { NormalIsItsOwn }
 {
     px_tree::laws::one_meaning();
 }
 
-/// A normal form is at most twice as long as the block of any file with its meaning.
+/// If a file of bytes, numbers below 256, has a meaning (`Says`), the normal form of this meaning has at most twice
+/// as many bytes as the file's block: the file without `Exif` and two zeros, if it begins so.
 pub fn normal_bound()
     ensures { NormalBound }
 {
-    px_tree::laws::said_fits();
+    px_tree::laws::meaning_is_writable();
 }
 
-/// A file has at most one first fault. A file with a fault has no meaning, and each file has a meaning or a
-/// first fault.
-pub fn faults_tell()
-    ensures { FaultsTell }
+/// The first fault of a file's block, by the order of its kind's checks, is one of its faults, as each cause is
+/// defined (`FaultOf`). A file with a fault has no meaning. Each file has a meaning or a first fault. It has at most
+/// one first fault: two have the same cause and offset.
+pub fn faults_decide()
+    ensures { FaultsDecide }
 {
-    px_tree::fault_laws::faults_tell();
+    px_tree::fault_laws::faults_decide();
 }
 
-/// Only the first `LIMIT` + 7 bytes of a file matter: they have the meaning of the file, and its first fault.
-pub fn taken_tells()
-    ensures { TakenTells }
+/// Only the first `LIMIT` + 7 bytes of a file matter, 16,777,223: for any meaning, these bytes as a file have it
+/// exactly if the file does; and for any cause and offset, this is their first fault exactly if it is the file's.
+pub fn taken_decides()
+    ensures { TakenDecides }
 {}
 
-/// For any two runs of `normalise` that succeed: the two files mean the same exactly if the bytes written are
-/// equal. What was written of a file has the file's meaning, and is its own normal form.
-pub fn runs_tell()
-    ensures { RunsTell }
+/// Let two runs of `normalise` succeed, of readers whose bytes are known. Then there are two forms, one appended by
+/// each run to what its writer had taken, if that is known, for which the headline holds: each file has one meaning,
+/// and its form is the normal form of that, of at most `LIMIT` bytes, 16,777,216; the forms are equal exactly if the
+/// meanings are; each form, as a file, has the meaning of its file and no other, and is its own normal form.
+pub fn runs_decide()
+    ensures { RunsDecide }
 {
-    one_said();
-    normal_says();
+    one_meaning_of_file();
+    form_has_meaning();
 }
 
-/// For two files with normal forms, `compare` returns whether these are equal.
-pub fn comparing_tells()
-    ensures { ComparingTells }
+/// Let the headline hold of two files and two forms, which are their normal forms, and let `compare` return a truth
+/// value for readers that have the bytes of these files. It is true exactly if the two forms are equal.
+pub fn comparing_decides()
+    ensures { ComparingDecides }
 {}

@@ -20,35 +20,31 @@
 //! ```
 #![tactic(auto)]
 
-mod faults;
-mod filling;
-mod forms;
-mod hand;
+mod error;
+mod global;
 mod headline;
-mod input;
-mod judging;
-mod kinds;
-mod labelled;
+mod kind;
 pub mod laws;
-mod meanings;
-mod runs;
-mod texts;
+mod meaning;
+mod normal;
+mod slice;
+mod stream;
+mod text;
 mod version;
 
-pub use faults::{CompareFault, Fault, Side};
-pub use forms::Given;
-pub use hand::{
-    captions_text, captions_text_in, check_of, check_of_in, normal_form, normal_form_in, put_form,
-    put_form_in, same_of, same_of_in, show_of, show_of_in,
+pub use error::{CompareFault, Fault, Side};
+pub use global::{
+    captions, captions_of, captions_text, check, check_of, compare, normal_form, normalise,
+    normalise_both, put_form, read_all, read_any, same_of, show, show_of,
 };
-pub use headline::{NormalForms, normalise_both, normalise_both_in};
-pub use input::{read_all, read_all_in, read_any, read_any_in};
-pub use kinds::BlockKind;
-pub use labelled::{captions_of, captions_of_in};
-pub use meanings::{Said, same};
+pub use headline::{NormalForms, normalise_both_in};
+pub use kind::BlockKind;
+pub use meaning::{Said, read_any_in, same};
+pub use normal::Given;
 pub use px_text::{Caption, Captions, Label};
-pub use runs::{
-    captions, captions_in, check, check_in, compare, compare_in, normalise, normalise_in, show,
-    show_in,
+pub use slice::{
+    captions_text_in, check_of_in, normal_form_in, put_form_in, same_of_in, show_of_in,
 };
+pub use stream::{captions_in, check_in, compare_in, normalise_in, read_all_in, show_in};
+pub use text::captions_of_in;
 pub use version::VERSION;

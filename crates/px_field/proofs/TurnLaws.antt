@@ -20,13 +20,13 @@ use Rattle.px_field.specs.declared.forms.Form.TheVariants as form
 use Rattle.px_field.specs.declared.turning.Width.{Width}
 use Rattle.px_field.specs.declared.turning.Width.TheVariants as width
 use Rattle.px_field.specs.Forms.{size}
-use Rattle.px_field.specs.Values.{Value, spell, spelled, element_of, widened, IsWhole, elements, count_in}
+use Rattle.px_field.specs.Values.{Value, encode, encoded, element_of, widened, IsWhole, elements, count_in}
 use Rattle.px_field.specs.calls.Views.{shown}
 use Rattle.px_field.specs.calls.Turning.{width_of, read_by, turned}
 use Rattle.px_field.specs.lemmas.PieceLaws.{bytes_take, bytes_drop}
-use Rattle.px_field.specs.lemmas.ElementLaws.{spell_element_of, size_pos}
-use Rattle.px_field.specs.lemmas.ValueLaws.{length_spelled}
-use Rattle.px_field.proofs.ViewLemmas.{length_shown, size_shown, IsValue_shown, spelled_one}
+use Rattle.px_field.specs.lemmas.ElementLaws.{encode_element_of, size_pos}
+use Rattle.px_field.specs.lemmas.ValueLaws.{length_encoded}
+use Rattle.px_field.proofs.ViewLemmas.{length_shown, size_shown, IsValue_shown, encoded_one}
 
 -- ---- pieces
 
@@ -80,7 +80,7 @@ turned_ones r o (suc n) (b ∷ x) h = ap (λ l. b ∷ l) (turned_ones r o n x (o
 -- ---- elements by their bytes
 
 turned_piece : (r o : Order) (f : Form) (p : List ℕ) → length p ≡ size f → AreBytes p
-    → spell o (element_of r f p) ≡ turned (width_of false f) r o p
+    → encode o (element_of r f p) ≡ turned (width_of false f) r o p
 turned_piece r o form.Short p l h = refl
 turned_piece r o form.Long p l h = refl
 turned_piece r o form.Float p l h = refl
@@ -92,26 +92,26 @@ turned_piece r o form.SRational p l h =
     ap₂ (λ a b. spelling o 4 a ++ spelling o 4 b)
     (of_z-to_z w32 (number r 4 (take 4 p)) (let b = number_lt r 4 (take 4 p) (bytes_take 4 p h) in b))
     (of_z-to_z w32 (number r 4 (drop 4 p)) (let b = number_lt r 4 (drop 4 p) (bytes_drop 4 p h) in b))
-turned_piece r o form.Byte p l h = spell_element_of r form.Byte p l h
-turned_piece r o form.Ascii p l h = spell_element_of r form.Ascii p l h
-turned_piece r o form.SByte p l h = spell_element_of r form.SByte p l h
-turned_piece r o form.Undefined p l h = spell_element_of r form.Undefined p l h
-turned_piece r o form.Utf8 p l h = spell_element_of r form.Utf8 p l h
+turned_piece r o form.Byte p l h = encode_element_of r form.Byte p l h
+turned_piece r o form.Ascii p l h = encode_element_of r form.Ascii p l h
+turned_piece r o form.SByte p l h = encode_element_of r form.SByte p l h
+turned_piece r o form.Undefined p l h = encode_element_of r form.Undefined p l h
+turned_piece r o form.Utf8 p l h = encode_element_of r form.Utf8 p l h
 
-wide_piece : (r o : Order) (f : Form) (p : List ℕ) → IsWhole f → spell o (widened (element_of r f p)) ≡ turned (width_of true f) r o p
+wide_piece : (r o : Order) (f : Form) (p : List ℕ) → IsWhole f → encode o (widened (element_of r f p)) ≡ turned (width_of true f) r o p
 wide_piece r o form.Short p h = refl
 wide_piece r o form.Long p h = refl
 wide_piece r o _ p h = absurd h
 
 turned_all : (r o : Order) (f : Form) (n : ℕ) (x : List ℕ) → n * size f ≤ length x → AreBytes x
-    → flat_map (spell o) (map (element_of r f) (pieces n (size f) x)) ≡ flat_map (turned (width_of false f) r o) (pieces n (size f) x)
+    → flat_map (encode o) (map (element_of r f) (pieces n (size f) x)) ≡ flat_map (turned (width_of false f) r o) (pieces n (size f) x)
 turned_all r o f zero x l h = refl
 turned_all r o f (suc n) x l h =
     ap₂ (λ u v. u ++ v) (turned_piece r o f (take (size f) x) (length-take-le (size f) x (omega arith)) (bytes_take (size f) x h))
     (turned_all r o f n (drop (size f) x) (let d = length-drop (size f) x in omega arith) (bytes_drop (size f) x h))
 
 wide_all : (r o : Order) (f : Form) (n : ℕ) (x : List ℕ) → IsWhole f
-    → flat_map (spell o) (map widened (map (element_of r f) (pieces n (size f) x))) ≡ flat_map (turned (width_of true f) r o)
+    → flat_map (encode o) (map widened (map (element_of r f) (pieces n (size f) x))) ≡ flat_map (turned (width_of true f) r o)
     (pieces n (size f) x)
 wide_all r o f zero x h = refl
 wide_all r o f (suc n) x h = ap₂ (λ u v. u ++ v) (wide_piece r o f (take (size f) x) h) (wide_all r o f n (drop (size f) x) h)
@@ -132,16 +132,16 @@ part_map g n i xs = ap (take n) (from g i xs) ∙ front g n (drop i xs)
 -- n elements of a value, from index i
 pub part_shown : (w : Bool) (r o : Order) (f : Form) (raw : List ℕ) (n i at : ℕ) → (w ≡ true → IsWhole f) → AreBytes raw → at ≡ i * size f
     → i + n ≤ count_in f raw → n * size f ≤ length (drop at raw)
-    → flat_map (spell o) (take n (drop i (shown w r f raw).elements)) ≡ flat_map (turned (width_of w f) r o)
+    → flat_map (encode o) (take n (drop i (shown w r f raw).elements)) ≡ flat_map (turned (width_of w f) r o)
     (pieces n (size f) (drop at raw))
 unfolding elements
 part_shown true r o f raw n i at whole are e inside fits =
-    ap (flat_map (spell o)) (part_map widened n i (map (element_of r f) (pieces (count_in f raw) (size f) raw))
+    ap (flat_map (encode o)) (part_map widened n i (map (element_of r f) (pieces (count_in f raw) (size f) raw))
     ∙ ap (map widened) (part_map (element_of r f) n i (pieces (count_in f raw) (size f) raw)
     ∙ ap (map (element_of r f)) (pieces_part n i (count_in f raw) (size f) at raw e inside)))
     ∙ wide_all r o f n (drop at raw) (whole refl)
 part_shown false r o f raw n i at whole are e inside fits =
-    ap (flat_map (spell o)) (part_map (element_of r f) n i (pieces (count_in f raw) (size f) raw)
+    ap (flat_map (encode o)) (part_map (element_of r f) n i (pieces (count_in f raw) (size f) raw)
     ∙ ap (map (element_of r f)) (pieces_part n i (count_in f raw) (size f) at raw e inside))
     ∙ turned_all r o f n (drop at raw) fits (bytes_drop at raw are)
 
@@ -167,13 +167,13 @@ read_size false form.Utf8 h = refl
 -- ---- one element
 
 -- its bytes are turned round
-pub spelled_element : (w : Bool) (r o : Order) (f : Form) (raw : List ℕ) → (w ≡ true → IsWhole f) → AreBytes raw → length raw ≡ size f
-    → spelled o (shown w r f raw) ≡ turned (width_of w f) r o raw
-unfolding spelled
-spelled_element w r o f raw whole are e =
+pub encoded_element : (w : Bool) (r o : Order) (f : Form) (raw : List ℕ) → (w ≡ true → IsWhole f) → AreBytes raw → length raw ≡ size f
+    → encoded o (shown w r f raw) ≡ turned (width_of w f) r o raw
+unfolding encoded
+encoded_element w r o f raw whole are e =
     let one : length raw ≡ 1 * size f = omega (arith, e) in
     let count : count_in f raw ≡ 1 = ap (λ (n : ℕ). n / size f) one ∙ mul-div_cancel 1 (size_pos f) in
-    ap (flat_map (spell o)) (sym (take_all 1 (shown w r f raw).elements (omega (arith, length_shown w r f raw, count))))
+    ap (flat_map (encode o)) (sym (take_all 1 (shown w r f raw).elements (omega (arith, length_shown w r f raw, count))))
     ∙ part_shown w r o f raw 1 0 0 whole are (omega arith) (omega (arith, count)) (omega (arith, e))
     ∙ append-nil (turned (width_of w f) r o (take (size f) raw))
     ∙ ap (turned (width_of w f) r o) (take_all (size f) raw (omega (arith, e)))
@@ -190,23 +190,23 @@ pair_size f e = sym (read_size false f (λ h. absurd (cc))) ∙ ap read_by e
 
 -- a value of two numbers that takes eight bytes was read from eight
 pub pair_raw : (w : Bool) (r o : Order) (f : Form) (raw : List ℕ) → (w ≡ true → IsWhole f) → length raw % size f ≡ 0 → AreBytes raw
-    → width_of false f ≡ width.Pair → length (spelled o (shown w r f raw)) ≡ 8 → length raw ≡ 8
+    → width_of false f ≡ width.Pair → length (encoded o (shown w r f raw)) ≡ 8 → length raw ≡ 8
 pair_raw w r o f raw whole rest are e long =
-    sym (size_shown w r f raw rest (pair_plain w f whole e)) ∙ sym (length_spelled o (shown w r f raw) (IsValue_shown w r f raw whole are))
+    sym (size_shown w r f raw rest (pair_plain w f whole e)) ∙ sym (length_encoded o (shown w r f raw) (IsValue_shown w r f raw whole are))
     ∙ long
 
-pub pair_spelled : (w : Bool) (r o : Order) (f : Form) (raw : List ℕ) → (w ≡ true → IsWhole f) → AreBytes raw
-    → width_of false f ≡ width.Pair → length raw ≡ 8 → spelled o (shown w r f raw) ≡ turned width.Pair r o raw
-pair_spelled w r o f raw whole are e long =
-    spelled_element w r o f raw whole are (long ∙ sym (pair_size f e))
+pub pair_encoded : (w : Bool) (r o : Order) (f : Form) (raw : List ℕ) → (w ≡ true → IsWhole f) → AreBytes raw
+    → width_of false f ≡ width.Pair → length raw ≡ 8 → encoded o (shown w r f raw) ≡ turned width.Pair r o raw
+pair_encoded w r o f raw whole are e long =
+    encoded_element w r o f raw whole are (long ∙ sym (pair_size f e))
     ∙ ap (λ (b : Bool). turned (width_of b f) r o raw) (pair_plain w f whole e)
     ∙ ap (λ (k : Width). turned k r o raw) e
 
 -- the bytes of a value, with zeros up to four
 abbrev pub Padded : Order → Value → List ℕ
-Padded o v = spelled o v ++ replicate (4 - length (spelled o v)) 0
+Padded o v = encoded o v ++ replicate (4 - length (encoded o v)) 0
 
-padded_at : (o : Order) (v : Value) (bytes : List ℕ) (n : ℕ) → spelled o v ≡ bytes → length bytes ≡ n
+padded_at : (o : Order) (v : Value) (bytes : List ℕ) (n : ℕ) → encoded o v ≡ bytes → length bytes ≡ n
     → bytes ++ replicate (4 - n) 0 ≡ Padded o v
 padded_at o v bytes n e l = rw e (ap (λ (m : ℕ). bytes ++ replicate (4 - m) 0) (sym l))
 
@@ -214,7 +214,7 @@ pub short_padded : (w : Bool) (r o : Order) (f : Form) (raw : List ℕ) → f �
     → turned width.Two r o raw ++ 0 ∷ 0 ∷ [] ≡ Padded o (shown w r f raw)
 short_padded false r o form.Short raw s plain long are =
     padded_at o (shown false r form.Short raw) (turned width.Two r o raw) 2
-    (spelled_element false r o form.Short raw (λ h. absurd (cc)) are long) (length_spelling o 2 _)
+    (encoded_element false r o form.Short raw (λ h. absurd (cc)) are long) (length_spelling o 2 _)
 short_padded true r o _ raw s plain long are = absurd (cc)
 short_padded false r o _ raw s plain long are = absurd (cc)
 
@@ -225,11 +225,11 @@ long_padded w r o f raw is long whole are = rw is (at w (subst (λ (g : Form). w
     at : (b : Bool) → (b ≡ true → IsWhole form.Long) → turned width.Four r o raw ≡ Padded o (shown b r form.Long raw)
     at true h =
         sym (append-nil (turned width.Four r o raw))
-        ∙ padded_at o (shown true r form.Long raw) (turned width.Four r o raw) 4 (spelled_element true r o form.Long raw h are long)
+        ∙ padded_at o (shown true r form.Long raw) (turned width.Four r o raw) 4 (encoded_element true r o form.Long raw h are long)
         (length_spelling o 4 _)
     at false h =
         sym (append-nil (turned width.Four r o raw))
-        ∙ padded_at o (shown false r form.Long raw) (turned width.Four r o raw) 4 (spelled_element false r o form.Long raw h are long)
+        ∙ padded_at o (shown false r form.Long raw) (turned width.Four r o raw) 4 (encoded_element false r o form.Long raw h are long)
         (length_spelling o 4 _)
 
 -- at most four bytes, then zeros
@@ -245,18 +245,18 @@ four_bytes (a ∷ b ∷ c ∷ d ∷ e ∷ x) h = absurd (omega arith)
 
 pub bytes_padded : (w : Bool) (r o : Order) (f : Form) (raw : List ℕ) → (w ≡ true → IsWhole f) → size f ≡ 1
     → raw ++ replicate (4 - length raw) 0 ≡ Padded o (shown w r f raw)
-bytes_padded w r o f raw whole one = padded_at o (shown w r f raw) raw (length raw) (spelled_one w r o f raw whole one) refl
+bytes_padded w r o f raw whole one = padded_at o (shown w r f raw) raw (length raw) (encoded_one w r o f raw whole one) refl
 
 -- ---- how many elements fit
 
-pub room_for : (n width room : ℕ) → n ≤ room / width → n * width ≤ room
-room_for n width room h = let whole = div-mul-le_self room width in let below = mul-le-mul_right width h in omega arith
+pub space_for : (n width space : ℕ) → n ≤ space / width → n * width ≤ space
+space_for n width space h = let whole = div-mul-le_self space width in let below = mul-le-mul_right width h in omega arith
 
-pub room_of : (n width room : ℕ) → 0 < width → n * width ≤ room → n ≤ room / width
-room_of n width room p h = le-div n room width p h
+pub space_of : (n width space : ℕ) → 0 < width → n * width ≤ space → n ≤ space / width
+space_of n width space p h = le-div n space width p h
 
 pub parts_fit : (i n len : ℕ) (f : Form) → i + n ≤ len / size f → i * size f + n * size f ≤ len
 parts_fit i n len f h =
-    let fits = room_for (i + n) (size f) len h in
+    let fits = space_for (i + n) (size f) len h in
     let split : (i + n) * size f ≡ i * size f + n * size f = omega arith in
     omega arith

@@ -15,10 +15,10 @@ use Rattle.px_field.specs.declared.forms.Kind.TheVariants as kind
 use Rattle.px_field.specs.declared.forms.Element.{Element}
 use Rattle.px_field.specs.declared.forms.Element.TheVariants as element
 use Rattle.px_field.specs.Forms.{size}
-use Rattle.px_field.specs.Values.{elements, widened, count_in, form_in, IsValue, IsWhole, IsOf, Value, is_bytes, spell, spelled, value_in}
+use Rattle.px_field.specs.Values.{elements, widened, count_in, form_in, IsValue, IsWhole, IsOf, Value, is_bytes, encode, encoded, value_in}
 use Rattle.px_field.specs.Values.{whole_in}
 use Rattle.px_field.specs.lemmas.ValueLaws.{length_elements, IsValue_value_in, IsValue_whole_in, count_in_whole, elements_bytes}
-use Rattle.px_field.specs.lemmas.ValueLaws.{spell_bytes, spelled_value_in, spelled_whole_in, value_in_spelled, whole_in_spelled}
+use Rattle.px_field.specs.lemmas.ValueLaws.{encode_bytes, encoded_value_in, encoded_whole_in, value_in_encoded, whole_in_encoded}
 use Rattle.px_field.specs.calls.Views.{shown}
 
 -- the bytes contain the element
@@ -71,11 +71,11 @@ IsOf_shown w o f raw v i e whole are seen here =
 -- ---- encoding a decoded value returns its bytes
 
 -- in either order, if an element is one byte
-pub spelled_one : (w : Bool) (o p : Order) (f : Form) (raw : List ℕ) → (w ≡ true → IsWhole f) → size f ≡ 1
-    → spelled p (shown w o f raw) ≡ raw
-unfolding spelled
-spelled_one w o p f raw whole one =
-    ap (λ (es : List Element). flat_map (spell p) es) (bytes_shown w o f raw whole (bytes_from_size f one)) ∙ spell_bytes p raw
+pub encoded_one : (w : Bool) (o p : Order) (f : Form) (raw : List ℕ) → (w ≡ true → IsWhole f) → size f ≡ 1
+    → encoded p (shown w o f raw) ≡ raw
+unfolding encoded
+encoded_one w o p f raw whole one =
+    ap (λ (es : List Element). flat_map (encode p) es) (bytes_shown w o f raw whole (bytes_from_size f one)) ∙ encode_bytes p raw
   where
     bytes_from_size : (f : Form) → size f ≡ 1 → is_bytes (kind.Of f) ≡ true
     bytes_from_size form.Byte e = refl
@@ -86,22 +86,22 @@ spelled_one w o p f raw whole one =
     bytes_from_size _ e = absurd (omega arith)
 
 -- in the order of reading, if they aren't widened
-pub spelled_plain : (w : Bool) (o p : Order) (f : Form) (raw : List ℕ) → w ≡ false → o ≡ p → length raw % size f ≡ 0 → AreBytes raw
-    → spelled p (shown w o f raw) ≡ raw
-spelled_plain true o p f raw plain same whole are = absurd (cc)
-spelled_plain false o p f raw plain same whole are = rw same (spelled_value_in p f raw whole are)
+pub encoded_plain : (w : Bool) (o p : Order) (f : Form) (raw : List ℕ) → w ≡ false → o ≡ p → length raw % size f ≡ 0 → AreBytes raw
+    → encoded p (shown w o f raw) ≡ raw
+encoded_plain true o p f raw plain same whole are = absurd (cc)
+encoded_plain false o p f raw plain same whole are = rw same (encoded_value_in p f raw whole are)
 
 -- for LONGs, widened or not
-pub spelled_long : (w : Bool) (o p : Order) (f : Form) (raw : List ℕ) → f ≡ form.Long → o ≡ p → length raw % size f ≡ 0 → AreBytes raw
-    → spelled p (shown w o f raw) ≡ raw
-spelled_long true o p f raw long same whole are =
-    rw (same, long) (spelled_whole_in p raw (subst (λ (g : Form). length raw % size g ≡ 0) long whole) are)
-spelled_long false o p f raw long same whole are = spelled_plain false o p f raw refl same whole are
+pub encoded_long : (w : Bool) (o p : Order) (f : Form) (raw : List ℕ) → f ≡ form.Long → o ≡ p → length raw % size f ≡ 0 → AreBytes raw
+    → encoded p (shown w o f raw) ≡ raw
+encoded_long true o p f raw long same whole are =
+    rw (same, long) (encoded_whole_in p raw (subst (λ (g : Form). length raw % size g ≡ 0) long whole) are)
+encoded_long false o p f raw long same whole are = encoded_plain false o p f raw refl same whole are
 
 -- values of one kind with the same encoding are the same
-pub same_spelled : (o : Order) (a b : Value) → a.kind ≡ b.kind → IsValue a → IsValue b → spelled o a ≡ spelled o b → a ≡ b
-same_spelled o a b k h j e = go a.kind refl
+pub same_encoded : (o : Order) (a b : Value) → a.kind ≡ b.kind → IsValue a → IsValue b → encoded o a ≡ encoded o b → a ≡ b
+same_encoded o a b k h j e = go a.kind refl
   where
     go : (t : Kind) → a.kind ≡ t → a ≡ b
-    go (kind.Of f) s = sym (value_in_spelled o f a s h) ∙ ap (value_in o f) e ∙ value_in_spelled o f b (sym k ∙ s) j
-    go kind.Whole s = sym (whole_in_spelled o a s h) ∙ ap (whole_in o form.Long) e ∙ whole_in_spelled o b (sym k ∙ s) j
+    go (kind.Of f) s = sym (value_in_encoded o f a s h) ∙ ap (value_in o f) e ∙ value_in_encoded o f b (sym k ∙ s) j
+    go kind.Whole s = sym (whole_in_encoded o a s h) ∙ ap (whole_in o form.Long) e ∙ whole_in_encoded o b (sym k ∙ s) j

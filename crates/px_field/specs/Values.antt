@@ -16,16 +16,16 @@ use Rattle.px_field.specs.Forms.{size}
 
 -- the bytes of an element: a fraction is two numbers, the numerator first; signed numbers are two's complement; FLOAT and
 -- DOUBLE are bit patterns; the five byte types have one byte in either order
-abbrev pub spell : Order → Element → List ℕ
-spell o (element.Byte n) = n ∷ []
-spell o (element.Short n) = spelling o 2 n
-spell o (element.Long n) = spelling o 4 n
-spell o (element.Rational n d) = spelling o 4 n ++ spelling o 4 d
-spell o (element.SShort z) = spelling o 2 (cast_unsigned w16 z)
-spell o (element.SLong z) = spelling o 4 (cast_unsigned w32 z)
-spell o (element.SRational y z) = spelling o 4 (cast_unsigned w32 y) ++ spelling o 4 (cast_unsigned w32 z)
-spell o (element.Float n) = spelling o 4 n
-spell o (element.Double n) = spelling o 8 n
+abbrev pub encode : Order → Element → List ℕ
+encode o (element.Byte n) = n ∷ []
+encode o (element.Short n) = spelling o 2 n
+encode o (element.Long n) = spelling o 4 n
+encode o (element.Rational n d) = spelling o 4 n ++ spelling o 4 d
+encode o (element.SShort z) = spelling o 2 (cast_unsigned w16 z)
+encode o (element.SLong z) = spelling o 4 (cast_unsigned w32 z)
+encode o (element.SRational y z) = spelling o 4 (cast_unsigned w32 y) ++ spelling o 4 (cast_unsigned w32 z)
+encode o (element.Float n) = spelling o 4 n
+encode o (element.Double n) = spelling o 8 n
 
 -- the element of a type that bytes encode
 abbrev pub element_of : Order → Form → List ℕ → Element
@@ -71,8 +71,8 @@ abbrev pub IsValue : Value → Type 0
 IsValue v = AllByRecursion (IsOf (form_in v.kind)) v.elements
 
 -- the bytes of a value, element by element
-unfoldable pub spelled : Order → Value → List ℕ
-spelled o v = flat_map (spell o) v.elements
+unfoldable pub encoded : Order → Value → List ℕ
+encoded o v = flat_map (encode o) v.elements
 
 -- the n elements of a type that bytes encode
 unfoldable pub elements : Order → Form → ℕ → List ℕ → List Element

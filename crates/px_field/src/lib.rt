@@ -21,11 +21,13 @@
 #![tactic(auto)]
 
 mod forms;
+mod global;
 pub mod laws;
 mod spelling;
 mod turning;
 mod values;
 
 pub use forms::{Element, Form, Kind};
-pub use spelling::{append_value, append_value_in};
+pub use global::append_value;
+pub use spelling::append_value_in;
 pub use values::{Value, read_value, read_whole, same_value};

@@ -1,16 +1,15 @@
 // Values as bytes, in either byte order.
 ghost use Rattle.std.specs.Prelude.{◌≡◌, ◌<◌, ◌≤◌, ◌+◌, ◌++◌, ◌*◌, length, take, drop, Some, slice_get, OnOk, OnErr, IsOk, vec_len};
 ghost use Rattle.std.specs.Prelude.{vec_capacity};
-ghost use Rattle.px_bytes.specs.Lacking.{Lacks, AsksAtMost, enlarged};
+ghost use Rattle.px_bytes.specs.Allocations.{CountsAllocFailure, AsksAtMost, enlarged};
 ghost use Rattle.px_field.specs.declared.forms.Element.{Element};
 ghost use Rattle.px_bytes.specs.Numbers.{spelling};
 ghost use Rattle.px_field.specs.Forms.{size};
-ghost use Rattle.px_field.specs.Values.{form_in, spell, spelled};
+ghost use Rattle.px_field.specs.Values.{form_in, encode, encoded};
 
 use crate::forms::Element;
 use crate::values::Value;
-use px_bytes::{Memory, Order, Refused};
-use std::alloc::AllocError;
+use px_bytes::{AllocFailed, Memory, Order};
 
 impl<'a> Value<'a> {
     /// Writes the encoding of the element at index `i`, below `count`, into the first bytes of `into`.
@@ -18,20 +17,11 @@ impl<'a> Value<'a> {
     pub fn spell_at(&self, order: Order, i: u32, into: &mut [u8; 8]) -> usize
         requires { i < length self.now.elements }
         ensures width { result ≡ size (form_in self.now.kind) }
-        ensures front { (e : Element) → slice_get self.now.elements i ≡ Some e → take result into.new ≡ spell order e }
+        ensures front { (e : Element) → slice_get self.now.elements i ≡ Some e → take result into.new ≡ encode order e }
         ensures rest { drop result into.new ≡ drop result into.old }
     {
         encode_element(order, self.element(i), into)
     }
-}
-
-/// Like `append_value_in`, with memory of its own.
-pub fn append_value(order: Order, value: &Value, out: &mut Vec<u8>) -> Result<(), AllocError>
-    ensures done { OnOk result (out.new.items ≡ out.old.items ++ spelled order value.now) }
-    ensures failed { OnErr result (out.new.items ≡ out.old.items) }
-{
-    let mut memory = Memory::new(*out.allocator());
-    Ok(append_value_in(&mut memory, order, value, out)?)
 }
 
 /// Appends the encoding of the value in `order`: `size` bytes. `Err`: an allocation failed, and the vector's
@@ -42,13 +32,13 @@ pub fn append_value_in(
     order: Order,
     value: &Value,
     out: &mut Vec<u8>,
-) -> Result<(), Refused>
-    ensures done { OnOk result (out.new.items ≡ out.old.items ++ spelled order value.now) }
+) -> Result<(), AllocFailed>
+    ensures done { OnOk result (out.new.items ≡ out.old.items ++ encoded order value.now) }
     ensures failed { OnErr result (out.new.items ≡ out.old.items) }
-    ensures room { vec_len out.old + length (spelled order value.now) ≤ vec_capacity out.old → IsOk result }
-    ensures memory { Lacks result memory.old memory.new }
-    ensures fits { vec_len out.old + length (spelled order value.now) ≤ vec_capacity out.old → memory.new.asked ≡ memory.old.asked }
-    ensures asked { AsksAtMost (enlarged (vec_capacity out.old) (vec_len out.old + length (spelled order value.now)))
+    ensures space { vec_len out.old + length (encoded order value.now) ≤ vec_capacity out.old → IsOk result }
+    ensures memory { CountsAllocFailure result memory.old memory.new }
+    ensures fits { vec_len out.old + length (encoded order value.now) ≤ vec_capacity out.old → memory.new.asked ≡ memory.old.asked }
+    ensures asked { AsksAtMost (enlarged (vec_capacity out.old) (vec_len out.old + length (encoded order value.now)))
         memory.old memory.new }
 {
     if let Some(bytes) = value.in_order(order) {
@@ -64,11 +54,11 @@ fn append_elements(
     order: Order,
     value: &Value,
     out: &mut Vec<u8>,
-) -> Result<(), Refused>
+) -> Result<(), AllocFailed>
     requires { vec_len out.old + length value.now.elements * size (form_in value.now.kind) ≤ vec_capacity out.old }
     ensures ok { IsOk result }
-    ensures done { out.new.items ≡ out.old.items ++ spelled order value.now }
-    ensures memory { memory.new.refusals ≡ memory.old.refusals }
+    ensures done { out.new.items ≡ out.old.items ++ encoded order value.now }
+    ensures memory { memory.new.failed_allocations ≡ memory.old.failed_allocations }
     ensures asked { memory.new.asked ≡ memory.old.asked }
 {
     let mut piece = [0; 8];
@@ -81,8 +71,8 @@ fn append_elements(
 
 // Writes the encoding of the element into the first bytes of `into`. Returns its length.
 fn encode_element(order: Order, element: Element, into: &mut [u8; 8]) -> usize
-    ensures width { result ≡ length (spell order element) }
-    ensures front { into.new ≡ spell order element ++ drop result into.old }
+    ensures width { result ≡ length (encode order element) }
+    ensures front { into.new ≡ encode order element ++ drop result into.old }
 {
     match element {
         Element::Byte(n) => {

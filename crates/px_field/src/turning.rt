@@ -150,7 +150,8 @@ fn turn_wide(read: Order, write: Order, count: usize, from: &[u8], to: &mut [u8]
 
 // ---- one element, without a loop
 
-/// The bytes of one element of two numbers, in the order `write`.
+/// The bytes of one element of two numbers of four bytes each, in the order `write`, that `from` has in the order
+/// `read`.
 pub fn turned_pair(read: Order, write: Order, from: &[u8]) -> [u8; 8]
     requires { length from.now ≡ 8 }
     ensures { result ≡ turned Pair read write from.now }
@@ -160,7 +161,8 @@ pub fn turned_pair(read: Order, write: Order, from: &[u8]) -> [u8; 8]
     bytes
 }
 
-/// The bytes of one number of two bytes in the order `write`, then two zeros.
+/// The bytes of one number of two bytes in the order `write`, that `from` has in the order `read`, and then two
+/// zeros.
 pub fn turned_short(read: Order, write: Order, from: &[u8]) -> [u8; 4]
     requires { length from.now ≡ 2 }
     ensures { result ≡ turned Two read write from.now ++ 0 ∷ 0 ∷ [] }
@@ -170,7 +172,7 @@ pub fn turned_short(read: Order, write: Order, from: &[u8]) -> [u8; 4]
     bytes
 }
 
-/// The bytes of one number of four bytes, in the order `write`.
+/// The bytes of one number of four bytes in the order `write`, that `from` has in the order `read`.
 pub fn turned_long(read: Order, write: Order, from: &[u8]) -> [u8; 4]
     requires { length from.now ≡ 4 }
     ensures { result ≡ turned Four read write from.now }

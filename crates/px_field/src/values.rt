@@ -7,7 +7,7 @@ ghost use Rattle.px_field.specs.declared.forms.Form.TheVariants.{Short, Long};
 ghost use Rattle.px_field.specs.declared.turning.Width.TheVariants.{Pair};
 ghost use Rattle.px_field.specs.calls.Turning.{width_of};
 ghost use Rattle.px_field.specs.Forms.{size};
-ghost use Rattle.px_field.specs.Values.{count_in, element_of, elements, form_in, is_bytes, spell, spelled, value_in, whole_in, widened};
+ghost use Rattle.px_field.specs.Values.{count_in, element_of, elements, form_in, is_bytes, encode, encoded, value_in, whole_in, widened};
 ghost use Rattle.px_field.specs.Values.{IsOf, IsValue, IsWhole};
 
 use crate::forms::{Element, Form, Kind};
@@ -47,7 +47,7 @@ pub fn read_value<'a>(form: Form, order: Order, raw: &'a [u8]) -> Value<'a>
     requires whole { length raw.now % size form ≡ 0 }
     requires bounded { length raw.now ≤ limit }
     ensures value { result ≡ value_in order form raw.now }
-    ensures spells { raw.now ≡ spelled order result }
+    ensures encodes { raw.now ≡ encoded order result }
 {
     Value {
         raw,
@@ -103,11 +103,11 @@ impl<'a> Value<'a> {
         }
     }
 
-    /// The bytes that were read, if they are also the value's encoding in `order`: if its elements are bytes,
-    /// or if it was read in that order and is not widened. `None` for a value of the other order, and for
-    /// SHORTs that are whole numbers.
+    /// If there is a result, it is the value's encoding in `order`. There is one if the elements are bytes. When else
+    /// there is one is not stated: it is the bytes that were read, if they were read in that order and the value
+    /// isn't widened; `None` for a value of the other order, and for SHORTs that are whole numbers.
     pub fn in_order(&self, order: Order) -> Option<&'a [u8]>
-        ensures spelled { IfSome result (λ s. s.now ≡ spelled order self.now) }
+        ensures encoded { IfSome result (λ s. s.now ≡ encoded order self.now) }
         ensures bytes { IsTrue (is_bytes self.now.kind) → IsSome result }
     {
         if self.form.size() == 1 {
@@ -158,11 +158,11 @@ impl<'a> Value<'a> {
     /// Encodes the elements from index `i`, at most `count`, into the first bytes of `into`: as many as the
     /// value has and as fit. Returns how many. Each takes `width` bytes. It makes one pass and allocates
     /// nothing.
-    pub fn spell_many(&self, order: Order, i: u32, into: &mut [u8]) -> u32
+    pub fn encode_many(&self, order: Order, i: u32, into: &mut [u8]) -> u32
         requires { i ≤ length self.now.elements }
         ensures count { result ≡ min (length self.now.elements - i) (length into.old / size (form_in self.now.kind)) }
         ensures front { take (result * size (form_in self.now.kind)) into.new
-            ≡ flat_map (spell order) (take result (drop i self.now.elements)) }
+            ≡ flat_map (encode order) (take result (drop i self.now.elements)) }
     {
         let rest = self.count() - i;
         let width = self.width();
@@ -183,9 +183,9 @@ impl<'a> Value<'a> {
     }
 
     /// Encodes the whole value; `into` has exactly its size.
-    pub fn spell_all(&self, order: Order, into: &mut [u8])
-        requires { length into.old ≡ length (spelled order self.now) }
-        ensures { into.new ≡ spelled order self.now }
+    pub fn encode_all(&self, order: Order, into: &mut [u8])
+        requires { length into.old ≡ length (encoded order self.now) }
+        ensures { into.new ≡ encoded order self.now }
     {
         // Uses the value's invariant: the elements take as many bytes as their encoding.
         let _ = &self.raw;
@@ -193,27 +193,27 @@ impl<'a> Value<'a> {
             into.copy_from_slice(same);
             return;
         }
-        self.spell_many(order, 0, into);
+        self.encode_many(order, 0, into);
     }
 
     /// The encoding of a value of eight bytes, such as one RATIONAL, without a loop.
-    pub fn spell_eight(&self, order: Order) -> [u8; 8]
-        requires { length (spelled order self.now) ≡ 8 }
-        ensures { result ≡ spelled order self.now }
+    pub fn encode_eight(&self, order: Order) -> [u8; 8]
+        requires { length (encoded order self.now) ≡ 8 }
+        ensures { result ≡ encoded order self.now }
     {
         if is_fraction(self.form) {
             return turned_pair(self.order, order, self.raw);
         }
         let mut bytes = [0; 8];
-        self.spell_all(order, &mut bytes);
+        self.encode_all(order, &mut bytes);
         bytes
     }
 
     /// The encoding of a value of at most four bytes, then zeros. One SHORT, one LONG and single bytes need
     /// no loop.
-    pub fn spell_four(&self, order: Order) -> [u8; 4]
-        requires { length (spelled order self.now) ≤ 4 }
-        ensures { result ≡ spelled order self.now ++ replicate (4 - length (spelled order self.now)) 0 }
+    pub fn encode_four(&self, order: Order) -> [u8; 4]
+        requires { length (encoded order self.now) ≤ 4 }
+        ensures { result ≡ encoded order self.now ++ replicate (4 - length (encoded order self.now)) 0 }
     {
         if is_one_short(self.form, self.widened, self.raw) {
             return turned_short(self.order, order, self.raw);
@@ -229,19 +229,19 @@ impl<'a> Value<'a> {
 
     // The same for any value.
     fn encode_few(&self, order: Order) -> [u8; 4]
-        requires { length (spelled order self.now) ≤ 4 }
-        ensures { result ≡ spelled order self.now ++ replicate (4 - length (spelled order self.now)) 0 }
+        requires { length (encoded order self.now) ≤ 4 }
+        ensures { result ≡ encoded order self.now ++ replicate (4 - length (encoded order self.now)) 0 }
     {
         let mut bytes = [0; 4];
         let size = self.size() as usize;
-        self.spell_all(order, &mut bytes[..size]);
+        self.encode_all(order, &mut bytes[..size]);
         bytes
     }
 
     /// The length of the value's encoding in bytes, in either order. A value of kind `Whole` takes four for
     /// each element, so one read from SHORT takes twice the bytes that were read.
     pub fn size(&self) -> u64
-        ensures spelled { (order : Order) → result ≡ length (spelled order self.now) }
+        ensures encoded { (order : Order) → result ≡ length (encoded order self.now) }
         ensures elements { result ≡ length self.now.elements * size (form_in self.now.kind) }
         ensures bounded { result ≤ 2 * limit }
     {
@@ -344,16 +344,16 @@ fn is_one_long(form: Form, raw: &[u8]) -> bool
 }
 
 // How many of `rest` elements of a width fit into so many bytes. Usually all do, which needs no division.
-#[tactic(auto, using(crate::proofs::TurnLaws::room_for, crate::proofs::TurnLaws::room_of))]
-fn how_many(rest: u32, width: u32, room: usize) -> u32
+#[tactic(auto, using(crate::proofs::TurnLaws::space_for, crate::proofs::TurnLaws::space_of))]
+fn how_many(rest: u32, width: u32, space: usize) -> u32
     requires { 0 < width }
-    ensures count { result ≡ min rest (room / width) }
-    ensures fits { result * width ≤ room }
+    ensures count { result ≡ min rest (space / width) }
+    ensures fits { result * width ≤ space }
 {
-    if rest as usize * width as usize <= room {
+    if rest as usize * width as usize <= space {
         return rest;
     }
-    let most = room / width as usize;
+    let most = space / width as usize;
     if most < rest as usize {
         most as u32
     } else {
@@ -367,7 +367,7 @@ fn slice_from(raw: &[u8], form: Form, i: u32, count: u32) -> &[u8]
     requires bounded { length raw.now ≤ limit }
     requires inside { i + count ≤ count_in form raw.now }
     ensures value { result.now ≡ drop (i * size form) raw.now }
-    ensures room { count * size form ≤ length result.now }
+    ensures space { count * size form ≤ length result.now }
 {
     &raw[i as usize * form.size() as usize..]
 }

@@ -30,9 +30,9 @@ caption_between : iim_of (keyword 97 ++ caption ++ keyword 98) ≡ Some ascendin
 unfolding opened keyword caption
 caption_between = refl
 
-caption_behind : iim_of (keyword 97 ++ keyword 98 ++ caption) ≡ Some ascending
+caption_after : iim_of (keyword 97 ++ keyword 98 ++ caption) ≡ Some ascending
 unfolding opened keyword caption
-caption_behind = refl
+caption_after = refl
 
 other_order : iim_of (keyword 98 ++ keyword 97 ++ caption) ≡ Some (keywords ((25, 98 ∷ []) ∷ (25, 97 ∷ []) ∷ []))
 unfolding opened keyword caption
@@ -60,10 +60,10 @@ title_between : iim_of (byline 65 ++ title ++ byline 66) ≡ Some
 unfolding opened
 title_between = refl
 
-title_behind : iim_of (byline 65 ++ byline 66 ++ title) ≡ Some
+title_after : iim_of (byline 65 ++ byline 66 ++ title) ≡ Some
     (record { rec = 2; number = 80; items = (80, 65 ∷ []) ∷ (80, 66 ∷ []) ∷ (85, 88 ∷ []) ∷ [] } ∷ [])
 unfolding opened
-title_behind = refl
+title_after = refl
 
 -- the same caption with an extended count, with a standard one, and with zeros at the end
 abbrev abc : Record

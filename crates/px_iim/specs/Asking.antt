@@ -2,7 +2,7 @@
 use Rattle.std.specs.Prelude.{◌≡◌, ℕ, ◌+◌, ◌*◌, ◌/◌, max, length, flat_map, Result, Ok, Err, ⊤}
 use Rattle.px_bytes.specs.declared.Refusal.{Refusal}
 use Rattle.px_bytes.specs.declared.Refusal.TheVariants.{Content, OutOfMemory}
-use Rattle.px_bytes.specs.Lacking.{Taken}
+use Rattle.px_bytes.specs.Allocations.{MemoryCounts}
 use Rattle.px_iim.specs.Group.{Record}
 
 -- the bytes of a DataSet in a record, besides its data
@@ -18,7 +18,7 @@ abbrev pub iim_request : ℕ → ℕ
 iim_request n = item_bytes * (n / 5) + counter_bytes
 
 -- for a block that is refused nothing is asked for
-abbrev pub RefusesFirst : {A : Type 0} → Result A Refusal → Taken → Taken → Type 0
+abbrev pub RefusesFirst : {A : Type 0} → Result A Refusal → MemoryCounts → MemoryCounts → Type 0
 RefusesFirst (Ok x) old new = ⊤
 RefusesFirst (Err (Content cause place)) old new = new.asked ≡ old.asked
 RefusesFirst (Err OutOfMemory) old new = ⊤

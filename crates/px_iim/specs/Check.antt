@@ -5,7 +5,7 @@ use Rattle.px_bytes.specs.declared.Cause.{Cause}
 use Rattle.px_bytes.specs.declared.Cause.TheVariants.{TooLong, NoMarker, LengthForm, DataSetCut}
 use Rattle.px_bytes.specs.Checks.{Check, check, first_false}
 use Rattle.px_bytes.specs.Parts.{limit}
-use Rattle.px_iim.specs.DataSet.{DataSet, top_bit, Spells}
+use Rattle.px_iim.specs.DataSet.{DataSet, top_bit, Encodes}
 use Rattle.px_iim.specs.Record.{form, extra, size, is_marked, has_form, is_dataset, is_end}
 
 -- the checks of a DataSet at offset p, whose bytes and those after it are x
@@ -30,30 +30,30 @@ unfoldable pub iim_checks : List ℕ → List Check
 iim_checks x = check TooLong limit (nat_le (length x) limit) ∷ checks_from (length x + 1) 0 x
 
 -- the first fault
-abbrev pub FirstFault : List ℕ → Cause → ℕ → Type 0
-FirstFault x cause place = first_false (iim_checks x) ≡ Some (cause, place)
+abbrev pub FirstIimFault : List ℕ → Cause → ℕ → Type 0
+FirstIimFault x cause place = first_false (iim_checks x) ≡ Some (cause, place)
 
 -- ---- the faults of a block, cause by cause
 
 -- after some DataSets, perhaps none, the bytes `rest` are at offset p
-pub record Behind (x : List ℕ) (sequence : List DataSet) (rest : List ℕ) (p : ℕ) : Type 0 where
+pub record SplitAt (x : List ℕ) (sequence : List DataSet) (rest : List ℕ) (p : ℕ) : Type 0 where
   pub front : List ℕ
   pub whole : x ≡ front ++ rest
-  pub spells : Spells sequence front
+  pub encodes : Encodes sequence front
   pub place : p ≡ length front
 
 -- the block has a fault of this cause at offset p
-abbrev pub Fault : List ℕ → Cause → ℕ → Type 0
-Fault x TooLong p = (p ≡ limit) × (limit < length x)
+abbrev pub IimFault : List ℕ → Cause → ℕ → Type 0
+IimFault x TooLong p = (p ≡ limit) × (limit < length x)
 -- no marker where a DataSet must begin: the first, and any other unless the block ends
-Fault x NoMarker p =
-    (sequence : List DataSet) × (rest : List ℕ) × Behind x sequence rest p × ((sequence ≡ []) ⊎ (is_end rest ≡ false)) × (is_marked
+IimFault x NoMarker p =
+    (sequence : List DataSet) × (rest : List ℕ) × SplitAt x sequence rest p × ((sequence ≡ []) ⊎ (is_end rest ≡ false)) × (is_marked
     rest ≡ false)
 -- an extended length of no bytes or of more than four
-Fault x LengthForm p =
-    (sequence : List DataSet) × (rest : List ℕ) × Behind x sequence rest p × (is_marked rest ≡ true) × (5 ≤ length rest) × (top_bit ≤ form
+IimFault x LengthForm p =
+    (sequence : List DataSet) × (rest : List ℕ) × SplitAt x sequence rest p × (is_marked rest ≡ true) × (5 ≤ length rest) × (top_bit ≤ form
     rest) × ((extra rest ≡ 0) ⊎ (4 < extra rest))
 -- the DataSet passes the end: its five bytes, its length, or its data
-Fault x DataSetCut p = (sequence : List DataSet) × (rest : List ℕ) × Behind x sequence rest p × (is_marked rest ≡ true)
+IimFault x DataSetCut p = (sequence : List DataSet) × (rest : List ℕ) × SplitAt x sequence rest p × (is_marked rest ≡ true)
     × ((length rest < 5) ⊎ ((has_form rest ≡ true) × ((length rest < 5 + extra rest) ⊎ (length rest < size rest))))
-Fault x _ p = ⊥
+IimFault x _ p = ⊥

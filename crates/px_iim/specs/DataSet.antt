@@ -29,12 +29,12 @@ IsExtendedCount n count =
     (k : ℕ) × (1 ≤ k) × (k ≤ 4) × (length count ≡ 2 + k) × (number Most 2 count ≡ top_bit + k) × (number Most k (drop 2 count) ≡ n)
 
 -- x is an encoding of the DataSet
-abbrev pub IsSpelling : DataSet → List ℕ → Type 0
-IsSpelling d x =
+abbrev pub IsEncoding : DataSet → List ℕ → Type 0
+IsEncoding d x =
     (count : List ℕ) × (x ≡ marker ∷ d.rec ∷ d.number ∷ (count ++ d.octets)) × (IsStandardCount (length d.octets) count ⊎ IsExtendedCount
     (length d.octets) count)
 
 -- x is an encoding of each DataSet, one after another
-abbrev pub Spells : List DataSet → List ℕ → Type 0
-Spells [] x = x ≡ []
-Spells (d ∷ ds) x = (a : List ℕ) × (b : List ℕ) × (x ≡ a ++ b) × IsSpelling d a × Spells ds b
+abbrev pub Encodes : List DataSet → List ℕ → Type 0
+Encodes [] x = x ≡ []
+Encodes (d ∷ ds) x = (a : List ℕ) × (b : List ℕ) × (x ≡ a ++ b) × IsEncoding d a × Encodes ds b

@@ -6,7 +6,7 @@ use Rattle.px_bytes.specs.Parts.{limit}
 use Rattle.px_iim.specs.DataSet.{DataSet}
 use Rattle.px_iim.specs.Group.{Record, items_at, item_in, IsAscending, put, Gathers, gather, IsRecord}
 use Rattle.px_iim.specs.Record.{SaysIim, iim_of, normal_iim}
-use Rattle.px_iim.specs.Check.{FirstFault, Fault}
+use Rattle.px_iim.specs.Check.{FirstIimFault, IimFault}
 
 -- A block has at most one record.
 abbrev pub OneRecord : Type 0
@@ -27,30 +27,30 @@ abbrev pub GatherGathers : Type 0
 GatherGathers = (ds : List DataSet) (i : Record) → Gathers ds i ↔ (gather [] ds ≡ i)
 
 -- The meaning of a block of bytes is a valid record.
-abbrev pub SaidIsRecord : Type 0
-SaidIsRecord = (x : List ℕ) (i : Record) → AreBytes x → SaysIim x i → IsRecord i
+abbrev pub MeaningIsRecord : Type 0
+MeaningIsRecord = (x : List ℕ) (i : Record) → AreBytes x → SaysIim x i → IsRecord i
 
 -- A normal form has five bytes or more, and has its record as its meaning.
-abbrev pub NormalSays : Type 0
-NormalSays =
+abbrev pub FormHasMeaning : Type 0
+FormHasMeaning =
     (i : Record) → IsRecord i → AreBytes (normal_iim i) × (5 ≤ length (normal_iim i)) × (length (normal_iim i) ≤ limit → SaysIim
     (normal_iim i) i)
 
 -- Records have one normal form exactly if they are one.
-abbrev pub NormalTells : Type 0
-NormalTells = (i j : Record) → IsRecord i → IsRecord j → length (normal_iim i) ≤ limit → length (normal_iim j) ≤ limit
+abbrev pub FormDecides : Type 0
+FormDecides = (i j : Record) → IsRecord i → IsRecord j → length (normal_iim i) ≤ limit → length (normal_iim j) ≤ limit
     → (normal_iim i ≡ normal_iim j) ↔ (i ≡ j)
 
 -- A normal form is at most twice as long as any block with its record.
 abbrev pub NormalBound : Type 0
 NormalBound = (x : List ℕ) (i : Record) → SaysIim x i → length (normal_iim i) ≤ 2 * length x
 
--- There is at most one first fault. A block with a fault has no record, and each block has a record or a first fault.
-abbrev pub FaultsTell : Type 0
-FaultsTell = ((x : List ℕ) (c : Cause) (p : ℕ) → FirstFault x c p → Fault x c p)
-    × ((x : List ℕ) (c : Cause) (p : ℕ) (i : Record) → Fault x c p → SaysIim x i → ⊥)
-    × ((x : List ℕ) → ((i : Record) × SaysIim x i) ⊎ ((c : Cause) × (p : ℕ) × FirstFault x c p))
+-- The first fault is a fault. A block with a fault has no record, and each block has a record or a first fault.
+abbrev pub FaultsDecide : Type 0
+FaultsDecide = ((x : List ℕ) (c : Cause) (p : ℕ) → FirstIimFault x c p → IimFault x c p)
+    × ((x : List ℕ) (c : Cause) (p : ℕ) (i : Record) → IimFault x c p → SaysIim x i → ⊥)
+    × ((x : List ℕ) → ((i : Record) × SaysIim x i) ⊎ ((c : Cause) × (p : ℕ) × FirstIimFault x c p))
 
 -- The first fault of a block is at an offset of at most the limit, however long the block is.
 abbrev pub FaultsBounded : Type 0
-FaultsBounded = (x : List ℕ) (c : Cause) (p : ℕ) → FirstFault x c p → p ≤ limit
+FaultsBounded = (x : List ℕ) (c : Cause) (p : ℕ) → FirstIimFault x c p → p ≤ limit

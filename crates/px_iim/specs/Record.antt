@@ -5,7 +5,7 @@ use Rattle.std.specs.List.{AllByRecursion, list_all}
 use Rattle.px_bytes.specs.declared.Order.TheVariants.{Most}
 use Rattle.px_bytes.specs.Numbers.{number, spelling}
 use Rattle.px_bytes.specs.Parts.{limit, part}
-use Rattle.px_iim.specs.DataSet.{DataSet, marker, top_bit, Spells}
+use Rattle.px_iim.specs.DataSet.{DataSet, marker, top_bit, Encodes}
 use Rattle.px_iim.specs.Group.{Group, Record, Gathers, gather}
 
 -- ---- the record of a block
@@ -15,10 +15,10 @@ pub record SaysIim (x : List ℕ) (i : Record) : Type 0 where
   pub bounded : length x ≤ limit
   pub sequence : List DataSet
   pub some : 1 ≤ length sequence
-  pub spelled : List ℕ
+  pub encoded : List ℕ
   pub zeros : List ℕ
-  pub whole : x ≡ spelled ++ zeros
-  pub spells : Spells sequence spelled
+  pub whole : x ≡ encoded ++ zeros
+  pub encodes : Encodes sequence encoded
   pub short : length zeros ≤ 3
   pub blank : AllByRecursion (λ o. o ≡ 0) zeros
   pub gathered : Gathers sequence i

@@ -10,12 +10,12 @@ use Rattle.px_iim.specs.Group.{Record}
 use Rattle.px_iim.specs.Record.{normal_iim}
 
 -- a normal form is counted up to this length, twice the longest block's
-abbrev pub most : ℕ
-most = 2 * limit
+abbrev pub longest_counted : ℕ
+longest_counted = 2 * limit
 
 -- the length, if it is at most that
 abbrev pub within : ℕ → Option ℕ
-within n = if nat_le n most then Some n else None
+within n = if nat_le n longest_counted then Some n else None
 
 -- the writer has taken the record's normal form, and the result is its length; a form that is too long leaves the writer
 -- unchanged; if a call failed, the writer has taken a prefix of the form; no flush was made

@@ -2,7 +2,7 @@
 pub mod KeyLaws
 pub mod GroupLaws
 pub mod GatherLaws
-pub mod SpellingLaws
+pub mod EncodingLaws
 pub mod SequenceLaws
 pub mod RecordLaws
 pub mod NormalLaws

@@ -1,12 +1,12 @@
 // DataSets, and the groups to which they belong.
 ghost use Rattle.std.specs.Prelude.{◌≡◌, ◌+◌, ◌*◌, ◌/◌, ◌<◌, ◌≤◌, insert, max, vec_len, vec_capacity, OnOk, OnErr};
-ghost use Rattle.px_bytes.specs.Lacking.{Lacks, AsksAtMost};
+ghost use Rattle.px_bytes.specs.Allocations.{CountsAllocFailure, AsksAtMost};
 ghost use Rattle.px_bytes.specs.Parts.{limit};
 ghost use Rattle.px_iim.specs.Asking.{item_bytes, put_request};
 ghost use Rattle.px_iim.specs.Group.{named};
 ghost use Rattle.px_iim.specs.calls.View.{octets_left};
 
-use px_bytes::{LIMIT, Memory, Refused};
+use px_bytes::{AllocFailed, LIMIT, Memory};
 
 /// A DataSet in its group. The record number is the group's.
 #[derive(Clone, Copy, Debug)]
@@ -63,15 +63,15 @@ fn capacity_to_add(len: usize) -> usize
 
 // Makes capacity for one more item in a full list. An empty list gets capacity for one item only, since many records
 // have one DataSet.
-fn reserve_more<'a>(memory: &mut Memory, list: &mut Vec<Item<'a>>) -> Result<(), Refused>
+fn reserve_more<'a>(memory: &mut Memory, list: &mut Vec<Item<'a>>) -> Result<(), AllocFailed>
     ensures items { list.new.items ≡ list.old.items }
     ensures len { vec_len list.new ≡ vec_len list.old }
-    ensures room { OnOk result (vec_len list.new < vec_capacity list.new) }
+    ensures space { OnOk result (vec_len list.new < vec_capacity list.new) }
     ensures first { vec_len list.old ≡ 0 → vec_capacity list.new ≤ max (vec_capacity list.old) 1 }
     ensures most { vec_capacity list.new ≤ max (vec_capacity list.old) (vec_len list.old + max 3 (vec_len list.old / 2)) }
     ensures long { LONG < vec_len list.old →
         vec_capacity list.new ≤ max (vec_capacity list.old) (vec_len list.old + vec_len list.old / 32) }
-    ensures memory { Lacks result memory.old memory.new }
+    ensures memory { CountsAllocFailure result memory.old memory.new }
     ensures asked { AsksAtMost (put_request (vec_len list.old)) memory.old memory.new }
 {
     if list.len() < list.capacity() {
@@ -89,11 +89,11 @@ pub(crate) fn put_at<'a>(
     list: &mut Vec<Item<'a>>,
     at: usize,
     item: Item<'a>,
-) -> Result<(), Refused>
+) -> Result<(), AllocFailed>
     requires { at ≤ vec_len list.old }
     ensures done { OnOk result (list.new.items ≡ insert list.old.items at item.entry) }
     ensures failed { OnErr result (list.new.items ≡ list.old.items) }
-    ensures memory { Lacks result memory.old memory.new }
+    ensures memory { CountsAllocFailure result memory.old memory.new }
     ensures asked { AsksAtMost (put_request (vec_len list.old)) memory.old memory.new }
 {
     reserve_more(memory, list)?;
@@ -109,13 +109,13 @@ pub(crate) fn reserve_for<'a>(
     memory: &mut Memory,
     list: &mut Vec<Item<'a>>,
     count: usize,
-) -> Result<(), Refused>
+) -> Result<(), AllocFailed>
     requires { 5 * count ≤ limit }
     ensures items { list.new.items ≡ list.old.items }
     ensures len { vec_len list.new ≡ vec_len list.old }
-    ensures room { OnOk result (vec_len list.new + count ≤ vec_capacity list.new) }
+    ensures space { OnOk result (vec_len list.new + count ≤ vec_capacity list.new) }
     ensures most { vec_capacity list.new ≤ max (vec_capacity list.old) (vec_len list.old + count) }
-    ensures memory { Lacks result memory.old memory.new }
+    ensures memory { CountsAllocFailure result memory.old memory.new }
     ensures asked { AsksAtMost (item_bytes * (vec_len list.old + count)) memory.old memory.new }
 {
     memory.reserve_exact(list, count)

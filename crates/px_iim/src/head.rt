@@ -29,7 +29,7 @@ fn four_octets(n: u32) -> [u8; 4]
 // The bytes before the data, and how many there are.
 #[tactic(auto, unfolding(crate::specs::calls::Heads::normal_head))]
 pub(crate) fn head(rec: u8, number: u8, count: u32) -> ([u8; HEAD], usize)
-    ensures spelled { take result.1 result.0 ≡ normal_head rec number count }
+    ensures encoded { take result.1 result.0 ≡ normal_head rec number count }
     ensures bound { result.1 ≤ 9 }
 {
     if count < TOP_BIT {

@@ -1,6 +1,6 @@
 // A record: its DataSets in the order of their groups.
-ghost use Rattle.std.specs.Prelude.{◌≡◌, ◌==◌, ◌<◌, ◌≤◌, ◌+◌, ◌*◌, ℕ, [], length, map, slice_get, Some, IfOk, OnOk, OnErr};
-ghost use Rattle.px_bytes.specs.Lacking.{Lacks, AsksAtMost};
+ghost use Rattle.std.specs.Prelude.{◌≡◌, ◌==◌, ◌<◌, ◌≤◌, ◌+◌, ◌*◌, [], length, map, slice_get, Some, IfOk, OnOk, OnErr};
+ghost use Rattle.px_bytes.specs.Allocations.{CountsAllocFailure, AsksAtMost};
 ghost use Rattle.px_bytes.specs.Parts.{limit};
 ghost use Rattle.px_iim.specs.Asking.{item_bytes, dataset_count, put_request};
 ghost use Rattle.px_iim.specs.Group.{named, put, items_at, AreGroups};
@@ -13,8 +13,7 @@ use crate::group::{All, Item, key_of, put_at, reserve_for};
 use crate::length::longer;
 use crate::places::{count_before, index_after};
 use crate::walk::Groups;
-use px_bytes::{Memory, Refused};
-use std::alloc::{AllocError, Global};
+use px_bytes::{AllocFailed, Memory};
 use std::marker::Model;
 
 /// The meaning of an IIM block: a map from group to a list of DataSets, none of which is empty. Contracts see
@@ -26,7 +25,7 @@ use std::marker::Model;
 #[derive(Drop)]
 pub struct Iim<'a> {
     // In ascending order of their groups; within a group in its order.
-    items: Vec<Item<'a>>,
+    pub(crate) items: Vec<Item<'a>>,
     // The length of the normal form in bytes, or None above twice `LIMIT`.
     form_len: Option<u32>,
 }
@@ -49,13 +48,6 @@ impl<'a> Model for Iim<'a> {
 }
 
 impl<'a> Iim<'a> {
-    /// A record without a DataSet, with memory of its own. It allocates nothing.
-    pub fn new(alloc: Global) -> Iim<'a>
-        ensures { result ≡ [] }
-    {
-        Iim::new_in(&Memory::new(alloc))
-    }
-
     /// A record without a DataSet. Later calls use the allocator of `memory`. It allocates nothing.
     pub fn new_in(memory: &Memory) -> Iim<'a>
         ensures { result ≡ [] }
@@ -67,10 +59,10 @@ impl<'a> Iim<'a> {
     }
 
     // A record without a DataSet, with capacity for so many.
-    pub(crate) fn with_room(memory: &mut Memory, count: usize) -> Result<Iim<'a>, Refused>
+    pub(crate) fn with_capacity(memory: &mut Memory, count: usize) -> Result<Iim<'a>, AllocFailed>
         requires { 5 * count ≤ limit }
         ensures none { IfOk result (λ i. i ≡ []) }
-        ensures memory { Lacks result memory.old memory.new }
+        ensures memory { CountsAllocFailure result memory.old memory.new }
         ensures asked { AsksAtMost (item_bytes * count) memory.old memory.new }
     {
         let mut items = memory.list();
@@ -92,17 +84,6 @@ impl<'a> Iim<'a> {
         Iim { items, form_len }
     }
 
-    /// Like `push_in`, with memory of its own.
-    pub fn push(&mut self, rec: u8, number: u8, octets: &'a [u8]) -> Result<(), AllocError>
-        requires { length octets.now ≤ limit }
-        ensures done { OnOk result (self.new ≡ put (record { rec = rec; number = number; octets = octets.now }) self.old) }
-        ensures failed { OnErr result (self.new ≡ self.old) }
-    {
-        let mut memory = Memory::new(*self.items.allocator());
-        self.push_in(&mut memory, rec, number, octets)?;
-        Ok(())
-    }
-
     /// Appends a DataSet to its group, with any record number, any DataSet number, and at most `LIMIT` bytes
     /// of data. A DataSet that is not the last of the record moves those after it. `Err`: an allocation
     /// failed, and nothing has changed.
@@ -112,11 +93,11 @@ impl<'a> Iim<'a> {
         rec: u8,
         number: u8,
         octets: &'a [u8],
-    ) -> Result<(), Refused>
+    ) -> Result<(), AllocFailed>
         requires { length octets.now ≤ limit }
         ensures done { OnOk result (self.new ≡ put (record { rec = rec; number = number; octets = octets.now }) self.old) }
         ensures failed { OnErr result (self.new ≡ self.old) }
-        ensures memory { Lacks result memory.old memory.new }
+        ensures memory { CountsAllocFailure result memory.old memory.new }
         ensures asked { AsksAtMost (put_request (dataset_count self.old)) memory.old memory.new }
     {
         let at = index_after(&self.items, key_of(rec, number));
@@ -176,8 +157,8 @@ impl<'a> Iim<'a> {
     {
         let key = key_of(rec, number);
         let items = self.items.as_slice();
-        let behind = items.split_at(count_before(items, key)).1;
-        behind.split_at(count_before(behind, key + 1)).0
+        let after = items.split_at(count_before(items, key)).1;
+        after.split_at(count_before(after, key + 1)).0
     }
 
     /// The data of the DataSets with exactly this number, in their group's order. It allocates nothing.

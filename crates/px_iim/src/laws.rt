@@ -1,60 +1,72 @@
 //! The laws of records: what follows from the definitions. Each is the contract of a function that does
 //! nothing. Each is also a lemma in this crate's definitions (`GatherLaws`, `RecordLaws`, `NormalLaws`,
 //! `BoundLaws`, `FaultLaws`), which proofs of other crates cite.
-ghost use Rattle.px_iim.specs.Laws.{OneRecord, Computes, PutAppends, GatherGathers, SaidIsRecord, NormalSays, NormalTells, NormalBound};
-ghost use Rattle.px_iim.specs.Laws.{FaultsTell, FaultsBounded};
+ghost use Rattle.px_iim.specs.Laws.{OneRecord, Computes, PutAppends, GatherGathers, MeaningIsRecord, FormHasMeaning, FormDecides};
+ghost use Rattle.px_iim.specs.Laws.{NormalBound};
+ghost use Rattle.px_iim.specs.Laws.{FaultsDecide, FaultsBounded};
 
-/// A block has at most one record: its bytes can be read as DataSets in only one way, and these are grouped
-/// in only one way.
+/// If a block, any list of numbers, has two records, they are equal. A block has a record (`SaysIim`) if it has at
+/// most `LIMIT` bytes, 16,777,216, and is at least one DataSet, one after another, and then at most three zeros; the
+/// record has these DataSets in groups.
 pub fn one_record()
     ensures { OneRecord }
 {}
 
-/// The meaning of a block can be computed: one pass over its bytes returns a record exactly if the block has
-/// that meaning.
+/// The record of a block can be computed: for any block and record, the block has that record (`SaysIim`) exactly if
+/// `iim_of`, a function of the definitions that reads DataSet after DataSet, returns it. So of a block without a
+/// record, as of one longer than `LIMIT`, it returns none.
 pub fn computes()
     ensures { Computes }
 {}
 
-/// A new DataSet is the last of its group, and no other group changes.
+/// Let the groups of a record ascend by record number and number. After a DataSet is put into it (`put`), they
+/// ascend; the DataSet is the last of the group that it belongs to, after those that were there; and each other group
+/// has the DataSets that it had.
 pub fn put_appends()
     ensures { PutAppends }
 {}
 
-/// A sequence of DataSets is grouped by adding them one after another, and in no other way.
+/// A record has the DataSets of a sequence (`Gathers`: its groups ascend, none is empty, and each has the DataSets
+/// that belong to it, in the order of the sequence) exactly if it results from putting these one after another into
+/// an empty record.
 pub fn gather_gathers()
     ensures { GatherGathers }
 {}
 
-/// The meaning of a block of bytes is a valid record: it has a DataSet, its groups ascend, and each DataSet
-/// is in its group and in the range of its type.
-pub fn said_is_record()
-    ensures { SaidIsRecord }
+/// If a block of bytes, numbers below 256, has a record (`SaysIim`), this is valid (`IsRecord`): it has at least one
+/// group; groups ascend by record number and number; each has a DataSet; and each DataSet belongs to its group, has
+/// numbers and data below 256, and at most `LIMIT` bytes of data, 16,777,216.
+pub fn meaning_is_record()
+    ensures { MeaningIsRecord }
 {}
 
-/// A record's normal form has five bytes or more, and has that record as its meaning, unless it is longer
-/// than `LIMIT`.
-pub fn normal_says()
-    ensures { NormalSays }
+/// If a record is valid (`IsRecord`: at least one group; groups ascend; each has DataSets, which belong to it and
+/// have at most `LIMIT` bytes, 16,777,216; all numbers and bytes are below 256), then its normal form consists of
+/// bytes, five or more. If that has at most `LIMIT` bytes, then as a block it has this record.
+pub fn form_has_meaning()
+    ensures { FormHasMeaning }
 {}
 
-/// Two records have the same normal form exactly if they are the same record.
-pub fn normal_tells()
-    ensures { NormalTells }
+/// If two records are valid (`IsRecord`: at least one group; groups ascend; each has DataSets, which belong to it and
+/// have at most `LIMIT` bytes, 16,777,216; all numbers and bytes are below 256), and their normal forms have at most
+/// `LIMIT` bytes each, then the normal forms are equal exactly if the records are.
+pub fn form_decides()
+    ensures { FormDecides }
 {}
 
-/// A record's normal form is at most twice as long as any block with that record.
+/// If a block, any list of numbers, has a record (`SaysIim`), the record's normal form has at most twice as many
+/// bytes as the block.
 pub fn normal_bound()
     ensures { NormalBound }
 {}
 
-/// A block has at most one first fault. A block with a fault has no record, and each block has a record or a
-/// first fault.
-pub fn faults_tell()
-    ensures { FaultsTell }
+/// The first fault of a block, by the order of the checks, is one of its faults, as each cause is defined
+/// (`IimFault`). A block with a fault has no record. Each block, any list of numbers, has a record or a first fault.
+pub fn faults_decide()
+    ensures { FaultsDecide }
 {}
 
-/// The first fault of a block is at an offset of at most `LIMIT`, however long the block is.
+/// The first fault of a block is at an offset of at most `LIMIT`, 16,777,216, however long the block is.
 pub fn faults_bounded()
     ensures { FaultsBounded }
 {}

@@ -22,6 +22,7 @@
 
 mod dataset;
 mod digits;
+mod global;
 mod group;
 mod head;
 mod iim;
@@ -37,9 +38,10 @@ mod walk;
 mod write;
 
 pub use dataset::MARKER;
+pub use global::{append_iim, read_iim};
 pub use group::{All, Item};
 pub use iim::Iim;
-pub use read::{accepts, judge_iim, read_iim, read_iim_in};
+pub use read::{accepts, judge_iim, read_iim_in};
 pub use same::same_iim;
 pub use walk::Groups;
-pub use write::{append_iim, append_iim_in, normal_len, put_iim, write_iim, write_iim_part};
+pub use write::{append_iim_in, normal_len, put_iim, write_iim, write_iim_part};

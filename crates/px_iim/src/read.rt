@@ -1,8 +1,8 @@
 // Reads a whole block, DataSet by DataSet.
 ghost use Rattle.std.specs.Prelude.{◌≡◌, ◌≤◌, ◌+◌, ◌*◌, ℕ, length, Some, is_some, IfOk, IfErr};
-ghost use Rattle.px_bytes.specs.Checks.{Judges, LacksBlock};
+ghost use Rattle.px_bytes.specs.Checks.{Judges, CountsAllocFailureInBlock};
 ghost use Rattle.px_bytes.specs.declared.Refusal.TheVariants.{OutOfMemory};
-ghost use Rattle.px_bytes.specs.Lacking.{AsksAtMost};
+ghost use Rattle.px_bytes.specs.Allocations.{AsksAtMost};
 ghost use Rattle.px_bytes.specs.Parts.{limit};
 ghost use Rattle.px_iim.specs.Asking.{item_bytes, iim_request, RefusesFirst, dataset_count, put_request};
 ghost use Rattle.px_iim.specs.Group.{Record, IsRecord};
@@ -17,19 +17,18 @@ use crate::ordered::read_ordered;
 use crate::sorting::read_sorted;
 use crate::survey::survey;
 use px_bytes::{Cause, LIMIT, Memory, Refusal};
-use std::alloc::Global;
 
 // Reads the `count` DataSets of a block, and inserts each at its position.
 fn read_put<'a>(memory: &mut Memory, bytes: &'a [u8], count: usize) -> Result<Iim<'a>, Refusal>
     requires bounded { length bytes.now ≤ limit }
     requires few { 5 * count ≤ limit }
-    requires said { (i : Record) × (iim_of bytes.now ≡ Some i) × (dataset_count i ≤ 64) }
+    requires meaning { (i : Record) × (iim_of bytes.now ≡ Some i) × (dataset_count i ≤ 64) }
     ensures judged { Judges result (iim_checks bytes.now) (λ i. iim_of bytes.now ≡ Some i) }
-    ensures memory { LacksBlock result memory.old memory.new }
+    ensures memory { CountsAllocFailureInBlock result memory.old memory.new }
     ensures asked { AsksAtMost (item_bytes * count + 64 * put_request 64) memory.old memory.new }
     ensures read { IfErr result (λ e. e ≡ OutOfMemory) }
 {
-    let mut record = Iim::with_room(memory, count)?;
+    let mut record = Iim::with_capacity(memory, count)?;
     let mut at = 0;
     loop {
         let found = dataset_at(bytes, at)?;
@@ -45,7 +44,7 @@ fn read_put<'a>(memory: &mut Memory, bytes: &'a [u8], count: usize) -> Result<Ii
 fn read_groups<'a>(memory: &mut Memory, bytes: &'a [u8]) -> Result<Iim<'a>, Refusal>
     requires { length bytes.now ≤ limit }
     ensures judged { Judges result (iim_checks bytes.now) (λ i. iim_of bytes.now ≡ Some i) }
-    ensures memory { LacksBlock result memory.old memory.new }
+    ensures memory { CountsAllocFailureInBlock result memory.old memory.new }
     ensures asked { AsksAtMost (iim_request (length bytes.now)) memory.old memory.new }
     ensures refused { RefusesFirst result memory.old memory.new }
 {
@@ -70,25 +69,14 @@ fn read_groups<'a>(memory: &mut Memory, bytes: &'a [u8]) -> Result<Iim<'a>, Refu
 /// each DataSet: `NoMarker`: it doesn't begin with `1C`; `DataSetCut`: fewer than five octets are left;
 /// `LengthForm`: an extended count has no octets or more than four; `DataSetCut`: the octets of the count or
 /// the data pass the end. The block ends after a DataSet if at most three octets are left, all of them zero.
-/// Offsets count from the first octet. `OutOfMemory`: an allocation failed.
-pub fn read_iim<'a>(alloc: Global, bytes: &'a [u8]) -> Result<Iim<'a>, Refusal>
-    ensures judged { Judges result (iim_checks bytes.now) (SaysIim bytes.now) }
-    ensures computed { IfOk result (λ i. iim_of bytes.now ≡ Some i) }
-    ensures whole { IfOk result IsRecord }
-    ensures stands { IfErr result (λ e. (refused : ℕ) × RefusesIim bytes.now refused e) }
-{
-    read_iim_in(&mut Memory::new(alloc), bytes)
-}
-
-/// Like `read_iim`, with the caller's memory: it returns `OutOfMemory` exactly if an allocation failed in this
-/// call. It asks for at most 24 bytes for each five octets of the block, and 262,144 for sorting; for a block
-/// that is refused, for nothing.
+/// Offsets count from the first octet. `OutOfMemory`: an allocation failed. It asks for at most 24
+/// bytes for each five octets of the block, and 262,144 for sorting; for a block that is refused, for nothing.
 pub fn read_iim_in<'a>(memory: &mut Memory, bytes: &'a [u8]) -> Result<Iim<'a>, Refusal>
     ensures judged { Judges result (iim_checks bytes.now) (SaysIim bytes.now) }
     ensures computed { IfOk result (λ i. iim_of bytes.now ≡ Some i) }
     ensures whole { IfOk result IsRecord }
-    ensures stands { IfErr result (RefusesIim bytes.now memory.new.refusals) }
-    ensures memory { LacksBlock result memory.old memory.new }
+    ensures is_fault { IfErr result (RefusesIim bytes.now memory.new.failed_allocations) }
+    ensures memory { CountsAllocFailureInBlock result memory.old memory.new }
     ensures asked { AsksAtMost (iim_request (length bytes.now)) memory.old memory.new }
     ensures refused { RefusesFirst result memory.old memory.new }
 {
@@ -98,10 +86,12 @@ pub fn read_iim_in<'a>(memory: &mut Memory, bytes: &'a [u8]) -> Result<Iim<'a>, 
     read_groups(memory, bytes)
 }
 
-/// Judges a block as `read_iim` does, with the same errors but `OutOfMemory`. Allocates nothing.
+/// Judges a block as `read_iim` does. `Ok`: all checks pass, and the block has a record. `Content`: the first check
+/// that fails, at an offset of at most `LIMIT`; it is a fault of the block, which has no record. `OutOfMemory` never
+/// comes: it allocates nothing.
 pub fn judge_iim(bytes: &[u8]) -> Result<(), Refusal>
     ensures judged { Judges result (iim_checks bytes.now) (λ u. (i : Record) × SaysIim bytes.now i) }
-    ensures stands { (refused : ℕ) → IfErr result (RefusesIim bytes.now refused) }
+    ensures is_fault { (refused : ℕ) → IfErr result (RefusesIim bytes.now refused) }
 {
     if bytes.len() > LIMIT as usize {
         return Err(Cause::TooLong.at(LIMIT));
@@ -110,7 +100,8 @@ pub fn judge_iim(bytes: &[u8]) -> Result<(), Refusal>
     Ok(())
 }
 
-/// Whether the octets mean a record, as `read_iim` judges them. Allocates nothing.
+/// Whether the octets are a block with a record, as `read_iim` judges them: true exactly if they have one. Allocates
+/// nothing.
 pub fn accepts(bytes: &[u8]) -> bool
     ensures { result ≡ is_some (iim_of bytes.now) }
 {

@@ -1,20 +1,19 @@
 // Writes and measures the normal form.
 ghost use Rattle.std.specs.Prelude.{◌≡◌, ◌≤◌, ◌<◌, ◌+◌, ◌++◌, length, map, vec_len, vec_capacity, OnOk, OnErr};
 ghost use Rattle.std.specs.List.{flat_map};
-ghost use Rattle.px_bytes.specs.Devices.{CanFail, IsShort, SendsOnce, WritesOnce, over};
-ghost use Rattle.px_bytes.specs.Lacking.{Lacks, AsksAtMost, enlarged};
+ghost use Rattle.px_bytes.specs.Devices.{CanCountFailure, IsShort, SendsOnce, WritesOnce, device_of};
+ghost use Rattle.px_bytes.specs.Allocations.{CountsAllocFailure, AsksAtMost, enlarged};
 ghost use Rattle.px_bytes.specs.Parts.{limit};
-ghost use Rattle.px_bytes.specs.Waiting.{Waits, Adds, AddsTo};
+ghost use Rattle.px_bytes.specs.Waiting.{Waits, Adds, AddsBuffered};
 ghost use Rattle.px_iim.specs.Record.{normal_dataset, normal_iim};
 ghost use Rattle.px_iim.specs.calls.View.{item_view};
-ghost use Rattle.px_iim.specs.Writing.{WritesIim, WritesPart, most, within};
+ghost use Rattle.px_iim.specs.Writing.{WritesIim, WritesPart, longest_counted, within};
 ghost use Rattle.px_iim.specs.calls.Heads.{Grows, AreShort};
 
 use crate::group::Item;
 use crate::head::head;
 use crate::iim::Iim;
-use px_bytes::{CAPACITY, Failed, LIMIT, Memory, Pending, Refused, Sink, WriteRefusal};
-use std::alloc::AllocError;
+use px_bytes::{AllocFailed, CAPACITY, Failed, LIMIT, Memory, Pending, Sink, WriteRefusal};
 
 fn put_item<W: Sink>(
     pending: &mut Pending<'_>,
@@ -22,9 +21,10 @@ fn put_item<W: Sink>(
     rec: u8,
     item: &Item,
 ) -> Result<(), Failed>
-    requires few { CanFail (W.calls writer.old) }
+    requires few { CanCountFailure (W.calls writer.old) }
     requires short { length item.now.octets.now ≤ limit }
-    ensures { AddsTo W.calls W.bytes_taken result writer.old writer.new pending.old pending.new (normal_dataset rec (item_view item.now)) }
+    ensures { AddsBuffered W.calls W.bytes_taken result writer.old writer.new pending.old pending.new
+        (normal_dataset rec (item_view item.now)) }
 {
     let (octets, len) = head(rec, item.number, item.octets.len() as u32);
     pending.put(writer, &octets[..len])?;
@@ -37,9 +37,9 @@ fn put_group<W: Sink>(
     rec: u8,
     items: &[Item],
 ) -> Result<(), Failed>
-    requires few { CanFail (W.calls writer.old) }
+    requires few { CanCountFailure (W.calls writer.old) }
     requires short { AreShort (map item_view items.now) }
-    ensures { AddsTo W.calls W.bytes_taken result writer.old writer.new pending.old pending.new
+    ensures { AddsBuffered W.calls W.bytes_taken result writer.old writer.new pending.old pending.new
         (flat_map (normal_dataset rec) (map item_view items.now)) }
 {
     for item in items {
@@ -48,13 +48,13 @@ fn put_group<W: Sink>(
     Ok(())
 }
 
-/// Adds the normal form to the output buffer, group by group. If the buffered bytes and the form are at most
-/// 8,192 bytes, all are buffered, and the writer isn't called. It allocates nothing. It ends at the first
-/// call that fails: the writer has then taken a prefix of the buffered bytes and of the form after them. A
+/// Adds the normal form to the output buffer, group by group. If the buffered bytes and the form fit into the buffer,
+/// all wait there, and the writer isn't called; a call fails only if they don't fit. It allocates nothing. It ends at
+/// the first call that fails: the writer has then taken a prefix of the buffered bytes and of the form after them. A
 /// record with a DataSet has a form of at least five bytes.
 pub fn put_iim<W: Sink>(pending: &mut Pending<'_>, writer: &mut W, iim: &Iim) -> Result<(), Failed>
-    requires { CanFail (W.calls writer.old) }
-    ensures bytes { Adds result (over W.calls W.bytes_taken writer.old writer.new) pending.old pending.new (normal_iim iim.now) }
+    requires { CanCountFailure (W.calls writer.old) }
+    ensures bytes { Adds result (device_of W.calls W.bytes_taken writer.old writer.new) pending.old pending.new (normal_iim iim.now) }
     ensures waits { Waits result writer.old writer.new pending.old pending.new (normal_iim iim.now) }
 {
     for (rec, _, items) in iim.iter() {
@@ -71,16 +71,16 @@ pub fn normal_len(iim: &Iim) -> Option<u32>
     iim.form_len()
 }
 
-/// Writes the normal form of a record that isn't empty, and returns its length, at most `LIMIT`: the groups
-/// in ascending order, each list in its order, a standard length up to 32,767 bytes of data, otherwise `80
-/// 04` and four bytes. It doesn't flush.
+/// Writes the normal form of a record that isn't empty, and returns its length: the groups in ascending order, each
+/// list in its order, a standard length up to 32,767 bytes of data, otherwise `80 04` and four bytes. It doesn't
+/// flush.
 ///
-/// It allocates nothing: the output buffer is on the stack. A form of at most 8,192 bytes is written at once;
-/// a longer one in parts of up to 8,192 bytes, and longer data directly. `NormalTooLong`: the form is longer
-/// than `LIMIT`, and nothing was written. `WriteFailed`: a call of the writer failed, and it has taken a
-/// prefix of the form.
+/// `Ok`: the writer took exactly the form, of at most `LIMIT` bytes, 16,777,216. `NormalTooLong`: the form is longer,
+/// and nothing was written. `WriteFailed`: a call of the writer failed, which is counted, and it took a prefix of the
+/// form. `OutOfMemory` never comes. It allocates nothing: the output buffer is on the stack. A form of at most 8,192
+/// bytes is written at once; a longer one in parts of up to 8,192 bytes, and longer data directly.
 pub fn write_iim_part<W: Sink>(iim: &Iim, writer: &mut W) -> Result<u64, WriteRefusal>
-    requires few { CanFail (W.calls writer.old) }
+    requires few { CanCountFailure (W.calls writer.old) }
     requires some { 0 < length iim.now }
     ensures form { WritesPart result (W.bytes_taken writer.old) (W.bytes_taken writer.new) (W.calls writer.old) (W.calls writer.new)
         iim.now }
@@ -97,10 +97,12 @@ pub fn write_iim_part<W: Sink>(iim: &Iim, writer: &mut W) -> Result<u64, WriteRe
     Ok(u64::from(len))
 }
 
-/// Like `write_iim_part`, but flushes once after the last byte. `WriteFailed` also means that the flush
-/// failed.
+/// Writes the normal form of a record that isn't empty as `write_iim_part` does, and then flushes once. `Ok`: the
+/// writer took exactly the form, whose length is returned, at most `LIMIT` bytes, 16,777,216, and then the flush.
+/// `NormalTooLong`: the form is longer, and nothing was written. `WriteFailed`: one call failed, a write or the
+/// flush, and the writer took a prefix of the form. `OutOfMemory` never comes: it allocates nothing.
 pub fn write_iim<W: Sink>(iim: &Iim, writer: &mut W) -> Result<u64, WriteRefusal>
-    requires few { CanFail (W.calls writer.old) }
+    requires few { CanCountFailure (W.calls writer.old) }
     requires some { 0 < length iim.now }
     ensures form { WritesIim result (W.bytes_taken writer.old) (W.bytes_taken writer.new) (W.calls writer.old) (W.calls writer.new)
         iim.now }
@@ -113,13 +115,18 @@ pub fn write_iim<W: Sink>(iim: &Iim, writer: &mut W) -> Result<u64, WriteRefusal
 }
 
 // Appends the normal form of a DataSet to a vector that has capacity for it.
-fn append_item(memory: &mut Memory, rec: u8, item: &Item, out: &mut Vec<u8>) -> Result<(), Refused>
+fn append_item(
+    memory: &mut Memory,
+    rec: u8,
+    item: &Item,
+    out: &mut Vec<u8>,
+) -> Result<(), AllocFailed>
     requires few { length item.now.octets.now ≤ limit }
-    requires room { vec_len out.old + length (normal_dataset rec (item_view item.now)) ≤ vec_capacity out.old }
+    requires space { vec_len out.old + length (normal_dataset rec (item_view item.now)) ≤ vec_capacity out.old }
     ensures grown { Grows result out.old.items out.new.items (normal_dataset rec (item_view item.now)) }
-    ensures memory { Lacks result memory.old memory.new }
+    ensures memory { CountsAllocFailure result memory.old memory.new }
     ensures asked { memory.new.asked ≡ memory.old.asked }
-    ensures room { vec_len out.new + vec_capacity out.old
+    ensures space { vec_len out.new + vec_capacity out.old
         ≤ vec_len out.old + vec_capacity out.new + length (normal_dataset rec (item_view item.now)) }
 {
     let (octets, len) = head(rec, item.number, item.octets.len() as u32);
@@ -133,13 +140,13 @@ fn append_group(
     rec: u8,
     items: &[Item],
     out: &mut Vec<u8>,
-) -> Result<(), Refused>
+) -> Result<(), AllocFailed>
     requires short { AreShort (map item_view items.now) }
-    requires room { vec_len out.old + length (flat_map (normal_dataset rec) (map item_view items.now)) ≤ vec_capacity out.old }
+    requires space { vec_len out.old + length (flat_map (normal_dataset rec) (map item_view items.now)) ≤ vec_capacity out.old }
     ensures grown { Grows result out.old.items out.new.items (flat_map (normal_dataset rec) (map item_view items.now)) }
-    ensures memory { Lacks result memory.old memory.new }
+    ensures memory { CountsAllocFailure result memory.old memory.new }
     ensures asked { memory.new.asked ≡ memory.old.asked }
-    ensures room { vec_len out.new + vec_capacity out.old
+    ensures space { vec_len out.new + vec_capacity out.old
         ≤ vec_len out.old + vec_capacity out.new + length (flat_map (normal_dataset rec) (map item_view items.now)) }
 {
     for item in items {
@@ -149,10 +156,10 @@ fn append_group(
 }
 
 // The same for a record.
-fn append_record(memory: &mut Memory, iim: &Iim, out: &mut Vec<u8>) -> Result<(), Refused>
+fn append_record(memory: &mut Memory, iim: &Iim, out: &mut Vec<u8>) -> Result<(), AllocFailed>
     requires { vec_len out.old + length (normal_iim iim.now) ≤ vec_capacity out.old }
     ensures grown { Grows result out.old.items out.new.items (normal_iim iim.now) }
-    ensures memory { Lacks result memory.old memory.new }
+    ensures memory { CountsAllocFailure result memory.old memory.new }
     ensures asked { memory.new.asked ≡ memory.old.asked }
 {
     for (rec, _, items) in iim.iter() {
@@ -161,24 +168,13 @@ fn append_record(memory: &mut Memory, iim: &Iim, out: &mut Vec<u8>) -> Result<()
     Ok(())
 }
 
-/// Like `append_iim_in`, with memory of its own.
-pub fn append_iim(iim: &Iim, out: &mut Vec<u8>) -> Result<(), AllocError>
-    requires { length (normal_iim iim.now) ≤ most }
-    ensures done { OnOk result (out.new.items ≡ out.old.items ++ normal_iim iim.now) }
-    ensures failed { OnErr result (out.new.items ≡ out.old.items) }
-{
-    let mut memory = Memory::new(*out.allocator());
-    append_iim_in(&mut memory, iim, out)?;
-    Ok(())
-}
-
 /// Appends the normal form, of at most twice `LIMIT` bytes (`normal_len` is Some). `Err`: an allocation
 /// failed, and the vector's items are unchanged.
-pub fn append_iim_in(memory: &mut Memory, iim: &Iim, out: &mut Vec<u8>) -> Result<(), Refused>
-    requires { length (normal_iim iim.now) ≤ most }
+pub fn append_iim_in(memory: &mut Memory, iim: &Iim, out: &mut Vec<u8>) -> Result<(), AllocFailed>
+    requires { length (normal_iim iim.now) ≤ longest_counted }
     ensures done { OnOk result (out.new.items ≡ out.old.items ++ normal_iim iim.now) }
     ensures failed { OnErr result (out.new.items ≡ out.old.items) }
-    ensures memory { Lacks result memory.old memory.new }
+    ensures memory { CountsAllocFailure result memory.old memory.new }
     ensures fits { vec_len out.old + length (normal_iim iim.now) ≤ vec_capacity out.old → memory.new.asked ≡ memory.old.asked }
     ensures asked { AsksAtMost (enlarged (vec_capacity out.old) (vec_len out.old + length (normal_iim iim.now))) memory.old memory.new }
 {

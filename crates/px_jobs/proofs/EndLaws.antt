@@ -8,39 +8,39 @@ use Rattle.px_engine.specs.declared.Fault.TheVariants.{Refused, NormalTooLong, O
 use Rattle.px_engine.specs.declared.Side.{Side}
 use Rattle.px_engine.specs.declared.Side.TheVariants.{First, Second}
 use Rattle.px_engine.specs.Asking.{run_request}
-use Rattle.px_engine.specs.Input.{CountsReads, LacksRun, OnSide, most_read}
+use Rattle.px_engine.specs.Input.{CountsReads, CountsAllocFailureInRun, OnSide, most_read}
 use Rattle.px_engine.specs.Runs.{Checks, CountsWrites, Normalises, Untouched}
-use Rattle.px_bytes.specs.Devices.{Calls, Device, FailsOnce, over}
-use Rattle.px_bytes.specs.Lacking.{AsksAtMost, Taken}
+use Rattle.px_bytes.specs.Devices.{Calls, Device, FailsOnce, device_of}
+use Rattle.px_bytes.specs.Allocations.{AsksAtMost, MemoryCounts}
 use Rattle.px_bytes.specs.Reading.{ConsumesAtMost}
 use Rattle.px_jobs.specs.Lines.{FlushesLast}
 use Rattle.px_jobs.specs.calls.Reporting.{ReportsPrinted}
 use Rattle.px_jobs.proofs.LineLaws.{device, failed_last, idle_last, last_after}
 use Rattle.px_jobs.specs.Endings.{EndsCheck, EndsNormalise, IsIdle, LeavesSecond, ReportsChecked, ReportsWritten}
 
-pub ends_normalise : (r : Result ℕ Fault) (reader out lines : Device) (taken taken_now : Taken) (status : ℕ)
+pub ends_normalise : (r : Result ℕ Fault) (reader out lines : Device) (allocs allocs_now : MemoryCounts) (status : ℕ)
     → Normalises r reader.old out.old out.new
-    → CountsReads r reader.calls reader.calls_now → CountsWrites r out.calls out.calls_now → LacksRun r taken taken_now
-    → AsksAtMost (run_request reader.old) taken taken_now → ConsumesAtMost reader.old reader.new most_read
-    → ReportsWritten r status lines → EndsNormalise reader out lines taken taken_now status
-ends_normalise r reader out lines taken taken_now status done reads writes memory asked lost reported =
+    → CountsReads r reader.calls reader.calls_now → CountsWrites r out.calls out.calls_now → CountsAllocFailureInRun r allocs allocs_now
+    → AsksAtMost (run_request reader.old) allocs allocs_now → ConsumesAtMost reader.old reader.new most_read
+    → ReportsWritten r status lines → EndsNormalise reader out lines allocs allocs_now status
+ends_normalise r reader out lines allocs allocs_now status done reads writes memory asked lost reported =
     (r, done, reads, writes, (memory, asked, lost), reported)
 
-pub ends_check : (r : Result BlockKind Fault) (reader lines : Device) (taken taken_now : Taken) (status : ℕ) → Checks r reader.old
-    → CountsReads r reader.calls reader.calls_now → LacksRun r taken taken_now
-    → AsksAtMost (run_request reader.old) taken taken_now → ConsumesAtMost reader.old reader.new most_read
-    → ReportsChecked r status lines → EndsCheck reader lines taken taken_now status
-ends_check r reader lines taken taken_now status done reads memory asked lost reported =
+pub ends_check : (r : Result BlockKind Fault) (reader lines : Device) (allocs allocs_now : MemoryCounts) (status : ℕ) → Checks r reader.old
+    → CountsReads r reader.calls reader.calls_now → CountsAllocFailureInRun r allocs allocs_now
+    → AsksAtMost (run_request reader.old) allocs allocs_now → ConsumesAtMost reader.old reader.new most_read
+    → ReportsChecked r status lines → EndsCheck reader lines allocs allocs_now status
+ends_check r reader lines allocs allocs_now status done reads memory asked lost reported =
     (r, done, reads, (memory, asked, lost), reported)
 
 -- an unchanged reader is idle
 idle : {R : Type 0} (calls : R → Calls) (bytes : R → Option (List ℕ)) (side : Side) (old new : R)
-    → OnSide side (new ≡ old) ⊤ ⊤ → OnSide side (IsIdle (over calls bytes old new)) ⊤ ⊤
+    → OnSide side (new ≡ old) ⊤ ⊤ → OnSide side (IsIdle (device_of calls bytes old new)) ⊤ ⊤
 idle calls bytes First old new same = (ap calls same, ap bytes same)
 idle calls bytes Second old new same = same
 
 pub leaves_second : {R : Type 0} (calls : R → Calls) (bytes : R → Option (List ℕ)) (r : Result Bool CompareFault) (old new : R)
-    → Untouched r old new → LeavesSecond r (over calls bytes old new)
+    → Untouched r old new → LeavesSecond r (device_of calls bytes old new)
 leaves_second calls bytes (Ok same) old new h = tt
 leaves_second calls bytes (Err e) old new h = idle calls bytes e.side old new h
 

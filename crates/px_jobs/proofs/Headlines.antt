@@ -5,7 +5,7 @@ use Rattle.px_engine.specs.declared.Fault.{Fault}
 use Rattle.px_engine.specs.declared.Fault.TheVariants.{Refused, NormalTooLong, OutOfMemory, ReadFailed, WriteFailed}
 use Rattle.px_engine.specs.declared.Side.{Side}
 use Rattle.px_engine.specs.Runs.{Normalises, Compares}
-use Rattle.px_engine.specs.Headline.{Headline, RunsTell, ComparingTells}
+use Rattle.px_engine.specs.Headline.{Headline, RunsDecide, ComparingDecides}
 use Rattle.px_bytes.specs.Devices.{Device}
 use Rattle.px_jobs.specs.Lines.{Reports, ReportsFault}
 use Rattle.px_jobs.specs.Endings.{ReportsWritten, ReportsCompared}
@@ -31,7 +31,7 @@ written_normalises : (r : Result ℕ Fault) (file old new : Option (List ℕ)) (
 written_normalises (Ok n) file old new lines x t = (n, x)
 written_normalises (Err e) file old new lines x t = absurd (no_fault e _ 0 lines (omega arith) t)
 
-pub forms_decide : RunsTell → FormsDecide
+pub forms_decide : RunsDecide → FormsDecide
 forms_decide law f g reader out lines other_reader other_out other_lines a b c d p q x y =
     let h = written_normalises x.0 (Some f) out.old out.new lines (subst (λ o. Normalises x.0 o out.old out.new) p x.1) x.5 in
     let k = written_normalises y.0 (Some g) other_out.old other_out.new other_lines
@@ -43,7 +43,7 @@ status_apart : {A B : Type 0} (expected status : ℕ) → 1 < expected → statu
 status_apart expected status p e = (λ q. absurd (omega arith), λ q. absurd (omega arith))
 
 -- a comparison that ends with status 0 or 1 has a result
-status_compared : (law : ComparingTells) (r : Result Bool CompareFault) (f g m n : List ℕ) (lines : Device) (status : ℕ) → Headline f g m n
+status_compared : (law : ComparingDecides) (r : Result Bool CompareFault) (f g m n : List ℕ) (lines : Device) (status : ℕ) → Headline f g m n
     → Compares r (Some f) (Some g) → ReportsCompared r status lines → (status ≡ 0 → m ≡ n) × (status ≡ 1 → m ≡ n → ⊥)
 status_compared law (Ok true) f g m n lines status h c (inl t) = (
   λ _. (law f g m n true h c).0 refl,
@@ -58,7 +58,7 @@ status_compared law (Ok false) f g m n lines status h c (inr t) = status_apart 4
 status_compared law (Err x) f g m n lines status h c t =
     (λ e. absurd (no_fault x.fault _ status lines (omega arith) t), λ e. absurd (no_fault x.fault _ status lines (omega arith) t))
 
-pub comparison_decides : ComparingTells → ComparisonDecides
+pub comparison_decides : ComparingDecides → ComparisonDecides
 comparison_decides law f g m n first second lines a b status h p q x =
     status_compared law x.0 f g m n lines status h
     (subst (λ o. Compares x.0 o (Some g)) p (subst (λ o. Compares x.0 first.old o) q x.1)) x.4

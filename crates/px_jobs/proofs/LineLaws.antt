@@ -3,7 +3,7 @@ use Rattle.std.proofs.Common.{◌≡◌, ◌⊎◌, ◌++◌, ◌∙◌, ap, ari
 use Rattle.std.specs.Prelude.{⊤}
 use Rattle.std.specs.Io.KnownBytes.{Appends}
 use Rattle.px_bytes.specs.Devices.{AppendsPrefix, Calls, Device, FailsOnce, one_failed, one_flush}
-use Rattle.px_bytes.specs.Waiting.{Held, ◌⊕◌, Owes, Puts}
+use Rattle.px_bytes.specs.Waiting.{Buffer, ◌⊕◌, Owes, Puts}
 use Rattle.px_bytes.specs.lemmas.WaitingLaws.{puts_both, puts_first}
 use Rattle.px_bytes.specs.lemmas.WriteLaws.{appends_kept, prefix_all}
 use Rattle.px_jobs.specs.Lines.{FlushesLast, Reports}
@@ -14,11 +14,11 @@ abbrev pub device : Calls → Calls → Option (List ℕ) → Option (List ℕ) 
 device calls calls_now old new = record { calls = calls; calls_now = calls_now; old = old; new = new }
 
 -- the first of two parts was added, and a call failed after it
-stops_after : (a b c : Option (List ℕ)) (h i : Held) (xs ys : List ℕ) → Owes a b i (h ⊕ xs) → AppendsPrefix b c (i.bytes ++ ys)
+stops_after : (a b c : Option (List ℕ)) (h i : Buffer) (xs ys : List ℕ) → Owes a b i (h ⊕ xs) → AppendsPrefix b c (i.bytes ++ ys)
     → AppendsPrefix a c (h.bytes ++ (xs ++ ys))
 stops_after a b c h i xs ys p q = puts_both {A = ⊤} {E = ⊤} (Err tt) a b c h i i xs ys p q
 
-module _ (v w x y z : List ℕ) (a b c d e : Option (List ℕ)) (h i j k l : Held) where
+module _ (v w x y z : List ℕ) (a b c d e : Option (List ℕ)) (h i j k l : Buffer) where
   pub stops_first : AppendsPrefix a b (h.bytes ++ v) → AppendsPrefix a b (h.bytes ++ (v ++ (w ++ (x ++ (y ++ z)))))
   stops_first p = puts_first a b h v (w ++ (x ++ (y ++ z))) p
 
@@ -36,7 +36,7 @@ module _ (v w x y z : List ℕ) (a b c d e : Option (List ℕ)) (h i j k l : Hel
         stops_fourth p = stops_after a b e h i v (w ++ (x ++ (y ++ z))) one
             (stops_after b c e i j w (x ++ (y ++ z)) two (stops_after c d e j k x (y ++ z) three (puts_first d e k y z p)))
 
-        pub puts_all : {A E : Type 0} (r : Result A E) (f : Option (List ℕ)) (m : Held) → Owes d e l (k ⊕ y) → Puts r e f l m z
+        pub puts_all : {A E : Type 0} (r : Result A E) (f : Option (List ℕ)) (m : Buffer) → Owes d e l (k ⊕ y) → Puts r e f l m z
             → Puts r a f h m (v ++ (w ++ (x ++ (y ++ z))))
         puts_all r f m four p = puts_both r a b f h i m v (w ++ (x ++ (y ++ z))) one
             (puts_both r b c f i j m w (x ++ (y ++ z)) two (puts_both r c d f j k m x (y ++ z) three (puts_both r d e f k l m y z four p)))

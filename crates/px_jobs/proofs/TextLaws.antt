@@ -2,7 +2,7 @@
 use Rattle.std.proofs.Common.{◌≡◌, ◌≢◌, ◌∙◌, refl, sym, subst, inl, inr, ℕ, List, Option, None, Result, Ok, Err}
 use Rattle.std.specs.Prelude.{⊤}
 use Rattle.std.specs.Io.KnownBytes.{Appends}
-use Rattle.px_bytes.specs.Devices.{AppendsPrefix, Calls, CanFail, FailsOnce}
+use Rattle.px_bytes.specs.Devices.{AppendsPrefix, Calls, CanCountFailure, FailsOnce}
 use Rattle.px_engine.specs.declared.Fault.{Fault}
 use Rattle.px_engine.specs.declared.Fault.TheVariants.{Refused, NormalTooLong, OutOfMemory, ReadFailed, WriteFailed}
 use Rattle.px_engine.specs.Files.{Said}
@@ -59,8 +59,8 @@ counts_before OutOfMemory calls mid other w = w
 counts_before ReadFailed calls mid other w = w
 
 -- so the writer can be called for a line
-pub counts_writes_space : (r : Result ⊤ Fault) (calls mid : Calls) → CountsWrites r calls mid → CanFail calls
-    → (e : Fault) → r ≡ Err e → e ≢ WriteFailed → CanFail mid
+pub counts_writes_space : (r : Result ⊤ Fault) (calls mid : Calls) → CountsWrites r calls mid → CanCountFailure calls
+    → (e : Fault) → r ≡ Err e → e ≢ WriteFailed → CanCountFailure mid
 counts_writes_space r calls mid w few e is other =
     let now : CountsWrites {A = ⊤} (Err e) calls mid = subst (λ (x : Result ⊤ Fault). CountsWrites x calls mid) is w in
-    subst CanFail (sym (counts_before e calls mid other now)) few
+    subst CanCountFailure (sym (counts_before e calls mid other now)) few

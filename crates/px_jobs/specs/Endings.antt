@@ -6,14 +6,14 @@ use Rattle.px_engine.specs.declared.CompareFault.{CompareFault}
 use Rattle.px_engine.specs.declared.Fault.{Fault}
 use Rattle.px_engine.specs.declared.Fault.TheVariants.{WriteFailed}
 use Rattle.px_engine.specs.Files.{Said}
-use Rattle.px_engine.specs.Input.{LacksRun, LacksPair, CountsReads, OnSide, most_read}
+use Rattle.px_engine.specs.Input.{CountsAllocFailureInRun, CountsAllocFailureInPair, CountsReads, OnSide, most_read}
 use Rattle.px_engine.specs.Asking.{run_request}
-use Rattle.px_engine.specs.Runs.{KnownSaid, Stops, Checks, Compares, Normalises, CountsWrites, CountsSides}
+use Rattle.px_engine.specs.Runs.{KnownMeaning, Stops, Checks, Compares, Normalises, CountsWrites, CountsSides}
 use Rattle.px_engine.specs.Prints.{listing, caption_text}
 use Rattle.px_jobs.specs.declared.job.Job.{Job}
 use Rattle.px_jobs.specs.declared.job.Job.TheVariants.{Show, Check, Captions, Normalise}
 use Rattle.px_bytes.specs.Devices.{Device}
-use Rattle.px_bytes.specs.Lacking.{Taken, AsksAtMost}
+use Rattle.px_bytes.specs.Allocations.{MemoryCounts, AsksAtMost}
 use Rattle.px_bytes.specs.Reading.{ConsumesAtMost}
 use Rattle.px_jobs.specs.Lines.{IsFailed, IsFlushed, IsWell, Took, TookNothing, TookPrefix, Reports, ReportsFault}
 
@@ -53,51 +53,52 @@ IsIdle d = (d.calls_now ≡ d.calls) × (d.new ≡ d.old)
 -- a text of the file: all of it, and one flush; or a part of it, before the lines failed; or the status and the line of a fault that comes
 -- before the text
 abbrev pub ReportsText : (Said → List ℕ) → Result ⊤ Fault → Option (List ℕ) → ℕ → Device → Type 0
-ReportsText text (Ok x) file status lines = (s : Said) × KnownSaid file s × (status ≡ 0) × IsFlushed lines × Took lines (text s)
+ReportsText text (Ok x) file status lines = (s : Said) × KnownMeaning file s × (status ≡ 0) × IsFlushed lines × Took lines (text s)
 ReportsText text (Err WriteFailed) file status lines =
-    (s : Said) × KnownSaid file s × (status ≡ 4) × IsFailed lines × TookPrefix lines (text s)
+    (s : Said) × KnownMeaning file s × (status ≡ 4) × IsFailed lines × TookPrefix lines (text s)
 ReportsText text (Err fault) file status lines = Stops fault file × ReportsFault fault None status lines
 
--- ---- whole runs: the engine allows the outcome for the files, and it is reported. `taken` and `taken_now` are the numbers of the
+-- ---- whole runs: the engine allows the outcome for the files, and it is reported. `allocs` and `allocs_now` are the numbers of the
 -- memory before and after the run: out of memory means one failed allocation, any other outcome means none; and no more bytes are
 -- requested than `run_request` allows for what the reader has left. A reader loses no more than its first `most_read` bytes
 
-abbrev pub IsRun : {A : Type 0} → Result A Fault → Device → Taken → Taken → Type 0
-IsRun r reader taken taken_now =
-    LacksRun r taken taken_now × AsksAtMost (run_request reader.old) taken taken_now × ConsumesAtMost reader.old reader.new most_read
+abbrev pub IsRun : {A : Type 0} → Result A Fault → Device → MemoryCounts → MemoryCounts → Type 0
+IsRun r reader allocs allocs_now =
+    CountsAllocFailureInRun r allocs allocs_now × AsksAtMost (run_request reader.old) allocs allocs_now
+    × ConsumesAtMost reader.old reader.new most_read
 
 -- for a fault of the first file, nothing is read of the second
 abbrev pub LeavesSecond : {A : Type 0} → Result A CompareFault → Device → Type 0
 LeavesSecond (Ok x) second = ⊤
 LeavesSecond (Err e) second = OnSide e.side (IsIdle second) ⊤ ⊤
 
-abbrev pub IsPair : {A : Type 0} → Result A CompareFault → Device → Device → Taken → Taken → Type 0
-IsPair r first second taken taken_now =
-    LacksPair r taken taken_now × AsksAtMost (run_request first.old + run_request second.old) taken taken_now
+abbrev pub IsPair : {A : Type 0} → Result A CompareFault → Device → Device → MemoryCounts → MemoryCounts → Type 0
+IsPair r first second allocs allocs_now =
+    CountsAllocFailureInPair r allocs allocs_now × AsksAtMost (run_request first.old + run_request second.old) allocs allocs_now
     × ConsumesAtMost first.old first.new most_read × ConsumesAtMost second.old second.new most_read × LeavesSecond r second
 
-abbrev pub EndsNormalise : Device → Device → Device → Taken → Taken → ℕ → Type 0
-EndsNormalise reader out lines taken taken_now status = (r : Result ℕ Fault) × Normalises r reader.old out.old out.new
+abbrev pub EndsNormalise : Device → Device → Device → MemoryCounts → MemoryCounts → ℕ → Type 0
+EndsNormalise reader out lines allocs allocs_now status = (r : Result ℕ Fault) × Normalises r reader.old out.old out.new
     × CountsReads r reader.calls reader.calls_now × CountsWrites r out.calls out.calls_now
-    × IsRun r reader taken taken_now × ReportsWritten r status lines
+    × IsRun r reader allocs allocs_now × ReportsWritten r status lines
 
-abbrev pub EndsCheck : Device → Device → Taken → Taken → ℕ → Type 0
-EndsCheck reader lines taken taken_now status = (r : Result BlockKind Fault) × Checks r reader.old
-    × CountsReads r reader.calls reader.calls_now × IsRun r reader taken taken_now × ReportsChecked r status lines
+abbrev pub EndsCheck : Device → Device → MemoryCounts → MemoryCounts → ℕ → Type 0
+EndsCheck reader lines allocs allocs_now status = (r : Result BlockKind Fault) × Checks r reader.old
+    × CountsReads r reader.calls reader.calls_now × IsRun r reader allocs allocs_now × ReportsChecked r status lines
 
 -- the text of the file
-abbrev pub EndsText : (Said → List ℕ) → Device → Device → Taken → Taken → ℕ → Type 0
-EndsText text reader lines taken taken_now status = (r : Result ⊤ Fault) × CountsReads r reader.calls reader.calls_now
-    × IsRun r reader taken taken_now × ReportsText text r reader.old status lines
+abbrev pub EndsText : (Said → List ℕ) → Device → Device → MemoryCounts → MemoryCounts → ℕ → Type 0
+EndsText text reader lines allocs allocs_now status = (r : Result ⊤ Fault) × CountsReads r reader.calls reader.calls_now
+    × IsRun r reader allocs allocs_now × ReportsText text r reader.old status lines
 
 -- of the reader, the writer of normal bytes and the writer of lines
-abbrev pub Ends : Job → Device → Device → Device → Taken → Taken → ℕ → Type 0
-Ends Normalise reader out lines taken taken_now status = EndsNormalise reader out lines taken taken_now status
-Ends Check reader out lines taken taken_now status = IsIdle out × EndsCheck reader lines taken taken_now status
-Ends Show reader out lines taken taken_now status = IsIdle out × EndsText listing reader lines taken taken_now status
-Ends Captions reader out lines taken taken_now status = IsIdle out × EndsText caption_text reader lines taken taken_now status
+abbrev pub Ends : Job → Device → Device → Device → MemoryCounts → MemoryCounts → ℕ → Type 0
+Ends Normalise reader out lines allocs allocs_now status = EndsNormalise reader out lines allocs allocs_now status
+Ends Check reader out lines allocs allocs_now status = IsIdle out × EndsCheck reader lines allocs allocs_now status
+Ends Show reader out lines allocs allocs_now status = IsIdle out × EndsText listing reader lines allocs allocs_now status
+Ends Captions reader out lines allocs allocs_now status = IsIdle out × EndsText caption_text reader lines allocs allocs_now status
 
-abbrev pub EndsCompare : Device → Device → Device → Taken → Taken → ℕ → Type 0
-EndsCompare first second lines taken taken_now status = (r : Result Bool CompareFault) × Compares r first.old second.old
+abbrev pub EndsCompare : Device → Device → Device → MemoryCounts → MemoryCounts → ℕ → Type 0
+EndsCompare first second lines allocs allocs_now status = (r : Result Bool CompareFault) × Compares r first.old second.old
     × CountsSides r first.calls first.calls_now second.calls second.calls_now
-    × IsPair r first second taken taken_now × ReportsCompared r status lines
+    × IsPair r first second allocs allocs_now × ReportsCompared r status lines

@@ -7,7 +7,7 @@ ghost use Rattle.px_jobs.specs.Endings.{accepted, compared, compared_status, End
 ghost use Rattle.px_jobs.specs.Endings.{ReportsChecked, ReportsCompared, ReportsWritten};
 ghost use Rattle.px_jobs.specs.Lines.{FlushesLast};
 ghost use Rattle.px_jobs.specs.calls.Reporting.{ReportsPrinted, ReportsAfter};
-ghost use Rattle.px_bytes.specs.Devices.{CanFail, over};
+ghost use Rattle.px_bytes.specs.Devices.{CanCountFailure, device_of};
 
 use crate::lines::{print_bytes, report_fault};
 use px_bytes::{Memory, Sink, Source};
@@ -30,8 +30,8 @@ pub enum Job {
 
 // Reports a failed normal form. A written one needs no line.
 fn report_written<L: Sink>(lines: &mut L, written: Result<u64, Fault>) -> u8
-    requires { CanFail (L.calls lines.old) }
-    ensures reported { ReportsWritten written result (over L.calls L.bytes_taken lines.old lines.new) }
+    requires { CanCountFailure (L.calls lines.old) }
+    ensures reported { ReportsWritten written result (device_of L.calls L.bytes_taken lines.old lines.new) }
     ensures last { FlushesLast (L.calls lines.old) (L.calls lines.new) (L.unflushed lines.new) }
 {
     match written {
@@ -52,8 +52,8 @@ fn accepted(kind: BlockKind) -> &'static [u8]
 
 // Reports the kind of a block.
 fn report_checked<L: Sink>(lines: &mut L, checked: Result<BlockKind, Fault>) -> u8
-    requires { CanFail (L.calls lines.old) }
-    ensures reported { ReportsChecked checked result (over L.calls L.bytes_taken lines.old lines.new) }
+    requires { CanCountFailure (L.calls lines.old) }
+    ensures reported { ReportsChecked checked result (device_of L.calls L.bytes_taken lines.old lines.new) }
     ensures last { FlushesLast (L.calls lines.old) (L.calls lines.new) (L.unflushed lines.new) }
 {
     match checked {
@@ -64,8 +64,8 @@ fn report_checked<L: Sink>(lines: &mut L, checked: Result<BlockKind, Fault>) -> 
 
 // Reports the fault of a text. If the lines failed, it writes no more to them.
 fn report_text_fault<L: Sink>(lines: &mut L, fault: Fault) -> u8
-    requires { fault ≢ WriteFailed → CanFail (L.calls lines.old) }
-    ensures reported { ReportsAfter fault result (over L.calls L.bytes_taken lines.old lines.new) }
+    requires { fault ≢ WriteFailed → CanCountFailure (L.calls lines.old) }
+    ensures reported { ReportsAfter fault result (device_of L.calls L.bytes_taken lines.old lines.new) }
     ensures last { FlushesLast (L.calls lines.old) (L.calls lines.new) (L.unflushed lines.new) }
     ensures still { L.calls lines.new ≡ L.calls lines.old → lines.new ≡ lines.old }
 {
@@ -77,8 +77,8 @@ fn report_text_fault<L: Sink>(lines: &mut L, fault: Fault) -> u8
 
 // Reports a failed text. A written one needs no further line.
 fn report_printed<L: Sink>(lines: &mut L, printed: Result<(), Fault>) -> u8
-    requires { (e : Fault) → printed ≡ Err e → e ≢ WriteFailed → CanFail (L.calls lines.old) }
-    ensures reported { ReportsPrinted printed result (over L.calls L.bytes_taken lines.old lines.new) }
+    requires { (e : Fault) → printed ≡ Err e → e ≢ WriteFailed → CanCountFailure (L.calls lines.old) }
+    ensures reported { ReportsPrinted printed result (device_of L.calls L.bytes_taken lines.old lines.new) }
     ensures last { FlushesLast (L.calls lines.old) (L.calls lines.new) (L.unflushed lines.new) }
     ensures still { L.calls lines.new ≡ L.calls lines.old → lines.new ≡ lines.old }
 {
@@ -110,8 +110,8 @@ fn compared_status(same: bool) -> u8
 
 // Reports whether two blocks mean the same.
 fn report_compared<L: Sink>(lines: &mut L, same: Result<bool, CompareFault>) -> u8
-    requires { CanFail (L.calls lines.old) }
-    ensures reported { ReportsCompared same result (over L.calls L.bytes_taken lines.old lines.new) }
+    requires { CanCountFailure (L.calls lines.old) }
+    ensures reported { ReportsCompared same result (device_of L.calls L.bytes_taken lines.old lines.new) }
     ensures last { FlushesLast (L.calls lines.old) (L.calls lines.new) (L.unflushed lines.new) }
 {
     match same {
@@ -128,12 +128,12 @@ fn run_normalise<R: Source, O: Sink, L: Sink>(
     out: &mut O,
     lines: &mut L,
 ) -> u8
-    requires reading { CanFail (R.calls reader.old) }
-    requires writing { CanFail (O.calls out.old) }
-    requires reporting { CanFail (L.calls lines.old) }
-    ensures ends { EndsNormalise (over R.calls R.bytes_left reader.old reader.new)
-        (over O.calls O.bytes_taken out.old out.new)
-        (over L.calls L.bytes_taken lines.old lines.new)
+    requires reading { CanCountFailure (R.calls reader.old) }
+    requires writing { CanCountFailure (O.calls out.old) }
+    requires reporting { CanCountFailure (L.calls lines.old) }
+    ensures ends { EndsNormalise (device_of R.calls R.bytes_left reader.old reader.new)
+        (device_of O.calls O.bytes_taken out.old out.new)
+        (device_of L.calls L.bytes_taken lines.old lines.new)
         memory.old memory.new result }
     ensures form_last { FlushesLast (O.calls out.old) (O.calls out.new) (O.unflushed out.new) }
     ensures last { FlushesLast (L.calls lines.old) (L.calls lines.new) (L.unflushed lines.new) }
@@ -144,10 +144,10 @@ fn run_normalise<R: Source, O: Sink, L: Sink>(
 // Reports the kind of the block.
 #[tactic(auto, using(crate::proofs::EndLaws::ends_check))]
 fn run_check<R: Source, L: Sink>(memory: &mut Memory, reader: &mut R, lines: &mut L) -> u8
-    requires reading { CanFail (R.calls reader.old) }
-    requires reporting { CanFail (L.calls lines.old) }
-    ensures ends { EndsCheck (over R.calls R.bytes_left reader.old reader.new)
-        (over L.calls L.bytes_taken lines.old lines.new)
+    requires reading { CanCountFailure (R.calls reader.old) }
+    requires reporting { CanCountFailure (L.calls lines.old) }
+    ensures ends { EndsCheck (device_of R.calls R.bytes_left reader.old reader.new)
+        (device_of L.calls L.bytes_taken lines.old lines.new)
         memory.old memory.new result }
     ensures last { FlushesLast (L.calls lines.old) (L.calls lines.new) (L.unflushed lines.new) }
 {
@@ -156,10 +156,10 @@ fn run_check<R: Source, L: Sink>(memory: &mut Memory, reader: &mut R, lines: &mu
 
 // Writes the listing of the block.
 fn run_show<R: Source, L: Sink>(memory: &mut Memory, reader: &mut R, lines: &mut L) -> u8
-    requires reading { CanFail (R.calls reader.old) }
-    requires reporting { CanFail (L.calls lines.old) }
-    ensures ends { EndsText listing (over R.calls R.bytes_left reader.old reader.new)
-        (over L.calls L.bytes_taken lines.old lines.new)
+    requires reading { CanCountFailure (R.calls reader.old) }
+    requires reporting { CanCountFailure (L.calls lines.old) }
+    ensures ends { EndsText listing (device_of R.calls R.bytes_left reader.old reader.new)
+        (device_of L.calls L.bytes_taken lines.old lines.new)
         memory.old memory.new result }
     ensures last { FlushesLast (L.calls lines.old) (L.calls lines.new) (L.unflushed lines.new) }
 {
@@ -169,10 +169,10 @@ fn run_show<R: Source, L: Sink>(memory: &mut Memory, reader: &mut R, lines: &mut
 
 // Writes the captions of the block.
 fn run_captions<R: Source, L: Sink>(memory: &mut Memory, reader: &mut R, lines: &mut L) -> u8
-    requires reading { CanFail (R.calls reader.old) }
-    requires reporting { CanFail (L.calls lines.old) }
-    ensures ends { EndsText caption_text (over R.calls R.bytes_left reader.old reader.new)
-        (over L.calls L.bytes_taken lines.old lines.new)
+    requires reading { CanCountFailure (R.calls reader.old) }
+    requires reporting { CanCountFailure (L.calls lines.old) }
+    ensures ends { EndsText caption_text (device_of R.calls R.bytes_left reader.old reader.new)
+        (device_of L.calls L.bytes_taken lines.old lines.new)
         memory.old memory.new result }
     ensures last { FlushesLast (L.calls lines.old) (L.calls lines.new) (L.unflushed lines.new) }
 {
@@ -180,14 +180,17 @@ fn run_captions<R: Source, L: Sink>(memory: &mut Memory, reader: &mut R, lines: 
     report_printed(lines, printed)
 }
 
-/// Does a job on one file. Returns the exit status: 0 on success, 2 if the block is refused or its normal
-/// form is too long, 4 if a read, a write or an allocation failed.
+/// Does a job on one file, of which it reads at most the first `LIMIT` + 7 bytes, 16,777,223. Returns the exit
+/// status: 0 on success, 2 if the block is refused or its normal form is too long, 4 if a read, a write or an
+/// allocation failed.
 ///
-/// The normal form goes to `out`, and all text to `lines`: the output of `Show` and `Captions`, the line of
-/// `Check`, and the line of a fault (`refused: CAUSE at PLACE`, `refused: NormalTooLong`, `failed:
-/// OutOfMemory`, `failed: ReadFailed` or `failed: WriteFailed`). It flushes after the line or text. If
-/// writing to `lines` fails, the status is 4 and it writes no more to them. A line allocates nothing.
-/// `failed: OutOfMemory` means that an allocation of this run failed.
+/// Only `Normalise` calls `out`: on success it took exactly the normal form of the file's meaning, and one flush; if
+/// a write or the flush failed, a prefix of the form; after any other fault nothing. All text goes to `lines`: that
+/// of `Show` and `Captions`, the line of `Check` (`ok exif` or `ok iim`), and the line of a fault
+/// (`refused: CAUSE at PLACE`, `refused: NormalTooLong`, `failed: OutOfMemory`, `failed: ReadFailed` or
+/// `failed: WriteFailed`). It flushes once after the line or text. If writing to `lines` fails, the status is 4, they
+/// took a prefix, and it writes no more to them. A line allocates nothing. `failed: OutOfMemory` means that one
+/// allocation of this run failed; after any other outcome none did.
 pub fn run_one_in<R: Source, O: Sink, L: Sink>(
     memory: &mut Memory,
     job: Job,
@@ -195,12 +198,12 @@ pub fn run_one_in<R: Source, O: Sink, L: Sink>(
     out: &mut O,
     lines: &mut L,
 ) -> u8
-    requires reading { CanFail (R.calls reader.old) }
-    requires writing { CanFail (O.calls out.old) }
-    requires reporting { CanFail (L.calls lines.old) }
-    ensures ends { Ends job (over R.calls R.bytes_left reader.old reader.new)
-        (over O.calls O.bytes_taken out.old out.new)
-        (over L.calls L.bytes_taken lines.old lines.new)
+    requires reading { CanCountFailure (R.calls reader.old) }
+    requires writing { CanCountFailure (O.calls out.old) }
+    requires reporting { CanCountFailure (L.calls lines.old) }
+    ensures ends { Ends job (device_of R.calls R.bytes_left reader.old reader.new)
+        (device_of O.calls O.bytes_taken out.old out.new)
+        (device_of L.calls L.bytes_taken lines.old lines.new)
         memory.old memory.new result }
     ensures form_last { FlushesLast (O.calls out.old) (O.calls out.new) (O.unflushed out.new) }
     ensures last { FlushesLast (L.calls lines.old) (L.calls lines.new) (L.unflushed lines.new) }
@@ -213,22 +216,24 @@ pub fn run_one_in<R: Source, O: Sink, L: Sink>(
     }
 }
 
-/// Compares two files. Returns the exit status: 0 with the line `same`, 1 with the line `different`, 2 if a
-/// block is refused, 4 if a read, a write or an allocation failed. The line of a fault ends in ` in file 1`
-/// or ` in file 2`. It judges the first file before it reads the second. A line allocates nothing. `failed:
-/// OutOfMemory` means that an allocation of this run failed.
+/// Compares two files, of each of which it reads at most the first `LIMIT` + 7 bytes, 16,777,223. Returns the exit
+/// status: 0 with the line `same` if both have the same meaning, 1 with the line `different` if they have different
+/// ones, 2 if a block is refused, 4 if a read, a write or an allocation failed. The line of a fault ends in
+/// ` in file 1` or ` in file 2`. It judges the first file before it reads the second: after a fault of the first, no
+/// call of the second was made. It flushes once after the line; if writing it fails, the status is 4, and `lines`
+/// took a prefix. A line allocates nothing. `failed: OutOfMemory` means that one allocation of this run failed.
 pub fn run_compare_in<R: Source, S: Source, L: Sink>(
     memory: &mut Memory,
     first: &mut R,
     second: &mut S,
     lines: &mut L,
 ) -> u8
-    requires first { CanFail (R.calls first.old) }
-    requires second { CanFail (S.calls second.old) }
-    requires reporting { CanFail (L.calls lines.old) }
-    ensures ends { EndsCompare (over R.calls R.bytes_left first.old first.new)
-        (over S.calls S.bytes_left second.old second.new)
-        (over L.calls L.bytes_taken lines.old lines.new)
+    requires first { CanCountFailure (R.calls first.old) }
+    requires second { CanCountFailure (S.calls second.old) }
+    requires reporting { CanCountFailure (L.calls lines.old) }
+    ensures ends { EndsCompare (device_of R.calls R.bytes_left first.old first.new)
+        (device_of S.calls S.bytes_left second.old second.new)
+        (device_of L.calls L.bytes_taken lines.old lines.new)
         memory.old memory.new result }
     ensures last { FlushesLast (L.calls lines.old) (L.calls lines.new) (L.unflushed lines.new) }
 {

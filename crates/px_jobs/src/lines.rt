@@ -1,6 +1,6 @@
 // Output lines and exit statuses.
 ghost use Rattle.std.specs.Prelude.{◌≡◌, ◌++◌, None};
-ghost use Rattle.px_bytes.specs.Devices.{CanFail, over, Sends};
+ghost use Rattle.px_bytes.specs.Devices.{CanCountFailure, device_of, Sends};
 ghost use Rattle.px_bytes.specs.Waiting.{Adds};
 ghost use Rattle.px_engine.specs.declared.Fault.TheVariants.{Refused};
 ghost use Rattle.px_jobs.specs.Lines.{FlushesLast, end_of, line_of, status_of, Reports, ReportsFault, ReportsWords, is_ended};
@@ -29,8 +29,8 @@ fn put_refusal<L: Sink>(
     place: u32,
     file: Option<Side>,
 ) -> Result<(), Failed>
-    requires { CanFail (L.calls lines.old) }
-    ensures { Adds result (over L.calls L.bytes_taken lines.old lines.new) pending.old pending.new
+    requires { CanCountFailure (L.calls lines.old) }
+    ensures { Adds result (device_of L.calls L.bytes_taken lines.old lines.new) pending.old pending.new
         (line_of (Refused cause place) file) }
 {
     let mut digits = Buffer::new();
@@ -48,8 +48,8 @@ fn put_ended<L: Sink>(
     text: &[u8],
     file: Option<Side>,
 ) -> Result<(), Failed>
-    requires { CanFail (L.calls lines.old) }
-    ensures { Adds result (over L.calls L.bytes_taken lines.old lines.new) pending.old pending.new (text.now ++ end_of file) }
+    requires { CanCountFailure (L.calls lines.old) }
+    ensures { Adds result (device_of L.calls L.bytes_taken lines.old lines.new) pending.old pending.new (text.now ++ end_of file) }
 {
     pending.put(lines, text)?;
     pending.put(lines, ending(file))
@@ -62,8 +62,8 @@ fn put_line<L: Sink>(
     fault: Fault,
     file: Option<Side>,
 ) -> Result<(), Failed>
-    requires { CanFail (L.calls lines.old) }
-    ensures { Adds result (over L.calls L.bytes_taken lines.old lines.new) pending.old pending.new (line_of fault file) }
+    requires { CanCountFailure (L.calls lines.old) }
+    ensures { Adds result (device_of L.calls L.bytes_taken lines.old lines.new) pending.old pending.new (line_of fault file) }
 {
     match fault {
         Fault::Refused { cause, place } => put_refusal(pending, lines, cause, place, file),
@@ -76,8 +76,8 @@ fn put_line<L: Sink>(
 
 // Writes the line of a fault, in one write if the writer takes it.
 fn write_line<L: Sink>(lines: &mut L, fault: Fault, file: Option<Side>) -> Result<(), Failed>
-    requires { CanFail (L.calls lines.old) }
-    ensures { Sends result (over L.calls L.bytes_taken lines.old lines.new) (line_of fault file) }
+    requires { CanCountFailure (L.calls lines.old) }
+    ensures { Sends result (device_of L.calls L.bytes_taken lines.old lines.new) (line_of fault file) }
 {
     let mut space = [0; CAPACITY];
     let mut pending = Pending::new(&mut space);
@@ -87,8 +87,8 @@ fn write_line<L: Sink>(lines: &mut L, fault: Fault, file: Option<Side>) -> Resul
 
 // Writes a text and the end of its line, in one write if both are short and the writer takes it.
 fn write_ended<L: Sink>(lines: &mut L, text: &[u8], file: Option<Side>) -> Result<(), Failed>
-    requires { CanFail (L.calls lines.old) }
-    ensures { Sends result (over L.calls L.bytes_taken lines.old lines.new) (text.now ++ end_of file) }
+    requires { CanCountFailure (L.calls lines.old) }
+    ensures { Sends result (device_of L.calls L.bytes_taken lines.old lines.new) (text.now ++ end_of file) }
 {
     let mut space = [0; CAPACITY];
     let mut pending = Pending::new(&mut space);
@@ -108,8 +108,8 @@ fn status(fault: Fault) -> u8
 
 // Flushes. Returns the exit status: `expected`, or 4 if the flush fails.
 fn flushed<L: Sink>(lines: &mut L, expected: u8) -> u8
-    requires { CanFail (L.calls lines.old) }
-    ensures reported { Flushes expected result (over L.calls L.bytes_taken lines.old lines.new) }
+    requires { CanCountFailure (L.calls lines.old) }
+    ensures reported { Flushes expected result (device_of L.calls L.bytes_taken lines.old lines.new) }
     ensures last { FlushesLast (L.calls lines.old) (L.calls lines.new) (L.unflushed lines.new) }
 {
     match lines.flush_all() {
@@ -118,11 +118,12 @@ fn flushed<L: Sink>(lines: &mut L, expected: u8) -> u8
     }
 }
 
-/// Writes the line of a fault and flushes. Returns the exit status: the fault's, or 4 if a write or the flush
-/// fails. In a comparison, `file` is the side with the fault. It allocates nothing.
+/// Writes the line of a fault and flushes once. Returns the exit status: the fault's, which is 2 for a refusal or too
+/// long a form and 4 for the others; or 4 if a write or the flush fails, and then `lines` took a prefix of the line.
+/// In a comparison, `file` is the side with the fault. No byte comes after the flush. It allocates nothing.
 pub fn report_fault<L: Sink>(lines: &mut L, fault: Fault, file: Option<Side>) -> u8
-    requires { CanFail (L.calls lines.old) }
-    ensures reported { ReportsFault fault file result (over L.calls L.bytes_taken lines.old lines.new) }
+    requires { CanCountFailure (L.calls lines.old) }
+    ensures reported { ReportsFault fault file result (device_of L.calls L.bytes_taken lines.old lines.new) }
     ensures last { FlushesLast (L.calls lines.old) (L.calls lines.new) (L.unflushed lines.new) }
 {
     match write_line(lines, fault, file) {
@@ -131,11 +132,11 @@ pub fn report_fault<L: Sink>(lines: &mut L, fault: Fault, file: Option<Side>) ->
     }
 }
 
-/// Writes a line and flushes. Returns the exit status: `expected`, or 4 if a write or the flush fails. It
-/// allocates nothing.
+/// Writes a line and flushes once. Returns the exit status: `expected`; or 4 if a write or the flush fails, and then
+/// `lines` took a prefix of the line. It allocates nothing.
 pub fn print_bytes<L: Sink>(lines: &mut L, line: &[u8], expected: u8) -> u8
-    requires { CanFail (L.calls lines.old) }
-    ensures reported { Reports expected line.now result (over L.calls L.bytes_taken lines.old lines.new) }
+    requires { CanCountFailure (L.calls lines.old) }
+    ensures reported { Reports expected line.now result (device_of L.calls L.bytes_taken lines.old lines.new) }
     ensures last { FlushesLast (L.calls lines.old) (L.calls lines.new) (L.unflushed lines.new) }
 {
     match write_whole(lines, line) {
@@ -156,8 +157,8 @@ fn is_ended(text: &[u8]) -> bool
 
 // Writes a text and a line feed, and flushes. Returns the exit status.
 fn print_line<L: Sink>(lines: &mut L, text: &str, expected: u8) -> u8
-    requires { CanFail (L.calls lines.old) }
-    ensures reported { Reports expected (text.now ++ end_of None) result (over L.calls L.bytes_taken lines.old lines.new) }
+    requires { CanCountFailure (L.calls lines.old) }
+    ensures reported { Reports expected (text.now ++ end_of None) result (device_of L.calls L.bytes_taken lines.old lines.new) }
     ensures last { FlushesLast (L.calls lines.old) (L.calls lines.new) (L.unflushed lines.new) }
 {
     match write_ended(lines, text.as_bytes(), None) {
@@ -166,11 +167,11 @@ fn print_line<L: Sink>(lines: &mut L, text: &str, expected: u8) -> u8
     }
 }
 
-/// Writes a text, adds a line feed if the text doesn't end in one, and flushes. Returns the exit status:
-/// `expected`, or 4 if a write or the flush fails. It allocates nothing.
+/// Writes a text, adds a line feed if the text doesn't end in one, and flushes once. Returns the exit status:
+/// `expected`; or 4 if a write or the flush fails, and then `lines` took a prefix of all that. It allocates nothing.
 pub fn print_text<L: Sink>(lines: &mut L, text: &str, expected: u8) -> u8
-    requires { CanFail (L.calls lines.old) }
-    ensures reported { ReportsWords expected text.now result (over L.calls L.bytes_taken lines.old lines.new) }
+    requires { CanCountFailure (L.calls lines.old) }
+    ensures reported { ReportsWords expected text.now result (device_of L.calls L.bytes_taken lines.old lines.new) }
     ensures last { FlushesLast (L.calls lines.old) (L.calls lines.new) (L.unflushed lines.new) }
 {
     if is_ended(text.as_bytes()) {

@@ -4,11 +4,11 @@ use Rattle.std.proofs.Common.{append_assoc}
 use Rattle.std.specs.Prelude.{flat_map}
 use Rattle.std.proofs.lemmas.Bool.{cond-true, cond-false, cases_Bool}
 use Rattle.px_jpeg.specs.declared.parts.Part.{Part}
-use Rattle.px_jpeg.specs.declared.pieces.Kind.{Kind}
-use Rattle.px_jpeg.specs.declared.pieces.Kind.TheVariants.{Exif, Photoshop, Xmp, ExtendedXmp}
+use Rattle.px_jpeg.specs.declared.pieces.SegmentKind.{SegmentKind}
+use Rattle.px_jpeg.specs.declared.pieces.SegmentKind.TheVariants.{Exif, Photoshop, Xmp, ExtendedXmp}
 use Rattle.px_jpeg.specs.declared.pieces.Piece.{Piece}
-use Rattle.px_jpeg.specs.Pieces.{range, kind_of, begins, piece_of, piece_in, pieces}
-use Rattle.px_jpeg.specs.Blocks.{Block, piece_octets, joined}
+use Rattle.px_jpeg.specs.Pieces.{range, segment_kind, begins, piece_of, piece_in, pieces}
+use Rattle.px_jpeg.specs.Blocks.{JoinedBlock, piece_octets, joined}
 use Rattle.px_jpeg.specs.Laws.{BlocksJoin}
 
 pub joined_first : (b : List ℕ) (p : Piece) (ps : List Piece) → p.begins ≡ true
@@ -21,8 +21,8 @@ pub joined_later : (b : List ℕ) (p : Piece) (ps : List Piece) → p.begins ≡
 unfolding joined
 joined_later b p ps h = cond-false p.begins _ _ h
 
-abbrev all_octets : List ℕ × List Block → List ℕ
-all_octets j = j.0 ++ flat_map (λ (k : Block). k.octets) j.1
+abbrev all_octets : List ℕ × List JoinedBlock → List ℕ
+all_octets j = j.0 ++ flat_map (λ (k : JoinedBlock). k.octets) j.1
 
 joined_all : (b : List ℕ) (ps : List Piece) → all_octets (joined b ps) ≡ flat_map (piece_octets b) ps
 unfolding joined
@@ -30,15 +30,15 @@ joined_all b [] = refl
 joined_all b (p ∷ ps) = elim (cases_Bool p.begins) [
   | inl t ↦
       ap all_octets (joined_first b p ps t)
-      ∙ append_assoc (piece_octets b p) (joined b ps).0 (flat_map (λ (k : Block). k.octets) (joined b ps).1)
+      ∙ append_assoc (piece_octets b p) (joined b ps).0 (flat_map (λ (k : JoinedBlock). k.octets) (joined b ps).1)
       ∙ ap (λ (x : List ℕ). piece_octets b p ++ x) (joined_all b ps)
   | inr f ↦
       ap all_octets (joined_later b p ps f)
-      ∙ append_assoc (piece_octets b p) (joined b ps).0 (flat_map (λ (k : Block). k.octets) (joined b ps).1)
+      ∙ append_assoc (piece_octets b p) (joined b ps).0 (flat_map (λ (k : JoinedBlock). k.octets) (joined b ps).1)
       ∙ ap (λ (x : List ℕ). piece_octets b p ++ x) (joined_all b ps)
 ]
 
-first_begins : (k : Kind) (x : List ℕ) → begins k None x ≡ true
+first_begins : (k : SegmentKind) (x : List ℕ) → begins k None x ≡ true
 first_begins Exif x = refl
 first_begins Photoshop x = refl
 first_begins Xmp x = refl
@@ -48,18 +48,18 @@ first_begins ExtendedXmp x = refl
 pub none_before : (b : List ℕ) (qs : List Part) → (joined b (pieces b None qs)).0 ≡ []
 unfolding joined
 none_before b [] = refl
-none_before b (q ∷ qs) = of (none_before b qs) (kind_of q.code (range b q.start q.size)) refl
+none_before b (q ∷ qs) = of (none_before b qs) (segment_kind q.code (range b q.start q.size)) refl
   where
-    of : (joined b (pieces b None qs)).0 ≡ [] → (o : Option Kind) → kind_of q.code (range b q.start q.size) ≡ o →
+    of : (joined b (pieces b None qs)).0 ≡ [] → (o : Option SegmentKind) → segment_kind q.code (range b q.start q.size) ≡ o →
         (joined b (pieces b None (q ∷ qs))).0 ≡ []
     of h None e =
-        ap (λ (o : Option Kind). (joined b (piece_in b q None o ++ pieces b o qs)).0) e ∙ h
+        ap (λ (o : Option SegmentKind). (joined b (piece_in b q None o ++ pieces b o qs)).0) e ∙ h
     of h (Some k) e =
-        ap (λ (o : Option Kind). (joined b (piece_in b q None o ++ pieces b o qs)).0) e
-        ∙ ap (λ (j : List ℕ × List Block). j.0) (joined_first b (piece_of b q k None) (pieces b (Some k) qs)
+        ap (λ (o : Option SegmentKind). (joined b (piece_in b q None o ++ pieces b o qs)).0) e
+        ∙ ap (λ (j : List ℕ × List JoinedBlock). j.0) (joined_first b (piece_of b q k None) (pieces b (Some k) qs)
         (first_begins k (range b (piece_of b q k None).start (piece_of b q k None).size)))
 
 pub blocks_join : BlocksJoin
 blocks_join b parts =
-    ap (λ (x : List ℕ). x ++ flat_map (λ (k : Block). k.octets) (joined b (pieces b None parts)).1) (sym (none_before b parts))
+    ap (λ (x : List ℕ). x ++ flat_map (λ (k : JoinedBlock). k.octets) (joined b (pieces b None parts)).1) (sym (none_before b parts))
     ∙ joined_all b (pieces b None parts)

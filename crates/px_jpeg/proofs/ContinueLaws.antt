@@ -8,15 +8,15 @@ use Rattle.std.proofs.lemmas.Bool.{cond-true, cond-false, cases_Bool, cases_lt, 
 use Rattle.std.proofs.lemmas.List.{drop-drop, length-replicate}
 use Rattle.std.specs.List.{AllByRecursion}
 use Rattle.px_jpeg.specs.declared.parts.Part.{Part}
-use Rattle.px_jpeg.specs.declared.pieces.Kind.{Kind}
-use Rattle.px_jpeg.specs.declared.pieces.Kind.TheVariants.{Exif, Photoshop, Xmp, ExtendedXmp}
+use Rattle.px_jpeg.specs.declared.pieces.SegmentKind.{SegmentKind}
+use Rattle.px_jpeg.specs.declared.pieces.SegmentKind.TheVariants.{Exif, Photoshop, Xmp, ExtendedXmp}
 use Rattle.px_jpeg.specs.declared.pieces.Piece.{Piece}
 use Rattle.px_jpeg.specs.Head.{AreFill, stands_alone, IsPart}
 use Rattle.px_jpeg.specs.Front.{MayContinue}
 use Rattle.px_jpeg.specs.Reading.{marks, code_of, count, is_part}
-use Rattle.px_jpeg.specs.Pieces.{exif_mark, is_exif, is_photoshop, is_xmp, is_extended, kind_of, is_header, range, piece_of, piece_in, pieces}
+use Rattle.px_jpeg.specs.Pieces.{exif_mark, is_exif, is_photoshop, is_xmp, is_extended, segment_kind, is_header, range, piece_of, piece_in, pieces}
 use Rattle.px_jpeg.specs.calls.Later.{MayBeLater}
-use Rattle.px_jpeg.proofs.HeadLaws.{behind_open}
+use Rattle.px_jpeg.proofs.HeadLaws.{after_open}
 use Rattle.px_jpeg.proofs.LaterLaws.{exif_front, exif_back, header_ones, ones_bytes, all_append, mark_bytes}
 use Rattle.px_jpeg.proofs.Marks.{marks_other}
 use Rattle.px_jpeg.proofs.OnePart.{found_nothing, found_other, found_segment, fill_coded, coded_whole, coded_other, opened_marks}
@@ -41,18 +41,18 @@ other_kinds false true r e = cc
 other_kinds false false true e = cc
 other_kinds false false false e = cc
 
-pub kind_exif : (c : ℕ) (x : List ℕ) → kind_of c x ≡ Some Exif → is_exif c x ≡ true
-unfolding kind_of
+pub kind_exif : (c : ℕ) (x : List ℕ) → segment_kind c x ≡ Some Exif → is_exif c x ≡ true
+unfolding segment_kind
 kind_exif c x h = elim (cases_Bool (is_exif c x)) [
   | inl t ↦ t
   | inr f ↦ absurd (other_kinds (is_photoshop c x) (is_xmp c x) (is_extended c x) (sym (cond-false (is_exif c x) _ _ f) ∙ h))
 ]
 
-exif_kind : (c : ℕ) (x : List ℕ) → is_exif c x ≡ true → kind_of c x ≡ Some Exif
-unfolding kind_of
+exif_kind : (c : ℕ) (x : List ℕ) → is_exif c x ≡ true → segment_kind c x ≡ Some Exif
+unfolding segment_kind
 exif_kind c x h = cond-true (is_exif c x) _ _ h
 
-continuing : (b : List ℕ) (q : Part) (o : Option Kind) (p : Piece) → piece_in b q (Some Exif) o ++ [] ≡ p ∷ [] → p.begins ≡ false
+continuing : (b : List ℕ) (q : Part) (o : Option SegmentKind) (p : Piece) → piece_in b q (Some Exif) o ++ [] ≡ p ∷ [] → p.begins ≡ false
     → (o ≡ Some Exif) × (is_header (range b (q.start + 6) (q.size - 6)) ≡ false)
 continuing b q None p e f = let clash : ◌≡◌ {A = List Piece} [] (p ∷ []) = e in absurd (cc)
 continuing b q (Some Exif) p e f =
@@ -85,11 +85,11 @@ module _ (z fill : List ℕ) (c h l : ℕ) (octets : List ℕ) (w : z ≡ fill +
 continues_if : (z : List ℕ) (q : Part) (p : Piece) → IsPart 0 q z → pieces z (Some Exif) (q ∷ []) ≡ p ∷ [] → p.begins ≡ false
     → Continues z
 continues_if z q p (inl a) e f =
-    let k = continuing z q (kind_of q.code (range z q.start q.size)) p e f in
+    let k = continuing z q (segment_kind q.code (range z q.start q.size)) p e f in
     let code = (exif_front q.code (range z q.start q.size) (kind_exif q.code (range z q.start q.size) k.0)).0 in
     let clash : false ≡ true = ap stands_alone (sym code) ∙ a.alone in absurd (cc)
 continues_if z q p (inr s) e f =
-    let k = continuing z q (kind_of q.code (range z q.start q.size)) p e f in
+    let k = continuing z q (segment_kind q.code (range z q.start q.size)) p e f in
     let exif = kind_exif q.code (range z q.start q.size) k.0 in
     let code = (exif_front q.code (range z q.start q.size) exif).0 in
     let start : q.start ≡ length s.fill + 4 = omega (arith, s.start) in
@@ -135,7 +135,7 @@ continues_by x more bytes r =
         start = omega arith;
         size = refl;
       });
-      contains = ap (λ (o : Option Kind). piece_in z q (Some Exif) o ++ [])
+      contains = ap (λ (o : Option SegmentKind). piece_in z q (Some Exif) o ++ [])
           (exif_kind 225 (range z q.start q.size) (ap (is_exif 225) all ∙ r.exif));
       continues = ap is_header (mark_range z r.fill 225 r.high r.low r.octets r.whole q.size refl) ∙ r.later;
     }
@@ -175,16 +175,16 @@ module _ (x : List ℕ) (k c : ℕ) (w : List ℕ) (m : marks x ≡ suc k) (e : 
       ap (λ (y : List ℕ). y ++ more) (coded_whole x k c w m e)
       ∙ append_assoc (fill_coded x k c w m e).fill (255 ∷ c ∷ w) more
 
-  code_behind : (more : List ℕ) (r : Continues (x ++ more)) → c ∷ (w ++ more) ≡ 225 ∷ r.high ∷ r.low ∷ r.octets
-  code_behind more r =
-      sym (behind_open (x ++ more) (fill_coded x k c w m e).fill c (w ++ more) (fill_coded x k c w m e).filled
+  code_after : (more : List ℕ) (r : Continues (x ++ more)) → c ∷ (w ++ more) ≡ 225 ∷ r.high ∷ r.low ∷ r.octets
+  code_after more r =
+      sym (after_open (x ++ more) (fill_coded x k c w m e).fill c (w ++ more) (fill_coded x k c w m e).filled
       (coded_other x k c w m e) (coded more))
-      ∙ behind_open (x ++ more) r.fill 225 (r.high ∷ r.low ∷ r.octets) r.filled (λ h. absurd (omega arith)) r.whole
+      ∙ after_open (x ++ more) r.fill 225 (r.high ∷ r.low ∷ r.octets) r.filled (λ h. absurd (omega arith)) r.whole
 
   code_stops : c ≢ 225 → MayContinue x → ⊥
   code_stops n d =
       let r = continues_of x d in
-      let same = code_behind d.more r in
+      let same = code_after d.more r in
       n (cc)
 
   -- with these bytes more
@@ -226,7 +226,7 @@ at_later : (x : List ℕ) (k c h l : ℕ) (w : List ℕ) → marks x ≡ suc k �
     → (2 ≤ 256 * h + l) × MayBeLater (256 * h + l - 2) w
 at_later x k c h l w m e d =
     let r = continues_of x d in
-    let same : c ∷ h ∷ l ∷ (w ++ d.more) ≡ 225 ∷ r.high ∷ r.low ∷ r.octets = code_behind x k c (h ∷ l ∷ w) m e d.more r in
+    let same : c ∷ h ∷ l ∷ (w ++ d.more) ≡ 225 ∷ r.high ∷ r.low ∷ r.octets = code_after x k c (h ∷ l ∷ w) m e d.more r in
     let high : h ≡ r.high = cc in
     let low : l ≡ r.low = cc in
     let octets : w ++ d.more ≡ r.octets = cc in

@@ -7,21 +7,21 @@ use Rattle.std.proofs.lemmas.Bool.{cases_Bool, cases_lt}
 use Rattle.std.proofs.lemmas.List.{drop-drop, take-append-drop, take-append-le, drop-append-le}
 use Rattle.std.specs.List.{AllByRecursion}
 use Rattle.px_jpeg.specs.declared.parts.Part.{Part}
-use Rattle.px_jpeg.specs.declared.faults.Cause.{Cause}
-use Rattle.px_jpeg.specs.declared.faults.Cause.TheVariants.{NoStart, NoMarker, LengthForm, HeadCut}
-use Rattle.px_jpeg.specs.declared.pieces.Kind.{Kind}
-use Rattle.px_jpeg.specs.declared.pieces.Kind.TheVariants.{Exif, Photoshop, Xmp, ExtendedXmp}
+use Rattle.px_jpeg.specs.declared.faults.HeadCause.{HeadCause}
+use Rattle.px_jpeg.specs.declared.faults.HeadCause.TheVariants.{NoStart, NoMarker, LengthForm, HeadCut}
+use Rattle.px_jpeg.specs.declared.pieces.SegmentKind.{SegmentKind}
+use Rattle.px_jpeg.specs.declared.pieces.SegmentKind.TheVariants.{Exif, Photoshop, Xmp, ExtendedXmp}
 use Rattle.px_jpeg.specs.declared.pieces.Piece.{Piece}
 use Rattle.px_jpeg.specs.Head.{stands_alone, is_last, IsPart}
-use Rattle.px_jpeg.specs.Fault.{FaultAt, Behind}
+use Rattle.px_jpeg.specs.Fault.{FaultAt, SplitAt}
 use Rattle.px_jpeg.specs.Front.{last_kind, MayContinue, WithoutLast, AreOpen, AreEnded}
-use Rattle.px_jpeg.specs.Pieces.{AllInside, exif_mark, is_exif, kind_of, mark_len, is_header, begins, range, piece_of, piece_in, pieces}
-use Rattle.px_jpeg.specs.Blocks.{Block, piece_octets, joined, blocks}
+use Rattle.px_jpeg.specs.Pieces.{AllInside, exif_mark, is_exif, segment_kind, mark_len, is_header, begins, range, piece_of, piece_in, pieces}
+use Rattle.px_jpeg.specs.Blocks.{JoinedBlock, piece_octets, joined, blocks}
 use Rattle.px_jpeg.specs.Laws.{AreFirst, AreParts, EndedServe}
 use Rattle.px_jpeg.specs.Reading.{is_part, part, size, front_left, front}
 use Rattle.px_jpeg.proofs.HeadLaws.{fault_no_part}
 use Rattle.px_jpeg.proofs.OnePart.{Reads, part_reads, part_begins}
-use Rattle.px_jpeg.proofs.FirstParts.{front_none, front_is_last, front_goes_on, front_spelled, front_after, head_front, behind_front, front_inside}
+use Rattle.px_jpeg.proofs.FirstParts.{front_none, front_is_last, front_goes_on, front_encoded, front_after, head_front, after_front, front_inside}
 use Rattle.px_jpeg.proofs.BlockLaws.{joined_first, joined_later, none_before}
 use Rattle.px_jpeg.proofs.EndLaws.{pieces_append, later_exif}
 use Rattle.px_jpeg.proofs.LaterLaws.{exif_front}
@@ -51,16 +51,16 @@ within_left : (b : List ℕ) (ps qs : List Piece) → AllWithin b (ps ++ qs) →
 within_left b [] qs h = tt
 within_left b (p ∷ ps) qs h = (h.0, within_left b ps qs h.1)
 
-pieces_within : (b : List ℕ) (last : Option Kind) (qs : List Part) → AllInside b qs → AllWithin b (pieces b last qs)
+pieces_within : (b : List ℕ) (last : Option SegmentKind) (qs : List Part) → AllInside b qs → AllWithin b (pieces b last qs)
 pieces_within b last [] h = tt
-pieces_within b last (q ∷ qs) h = of (kind_of q.code (range b q.start q.size)) (pieces_within b (kind_of q.code (range b q.start q.size)) qs h.1)
+pieces_within b last (q ∷ qs) h = of (segment_kind q.code (range b q.start q.size)) (pieces_within b (segment_kind q.code (range b q.start q.size)) qs h.1)
   where
-    of : (o : Option Kind) → AllWithin b (pieces b o qs) → AllWithin b (piece_in b q last o ++ pieces b o qs)
+    of : (o : Option SegmentKind) → AllWithin b (pieces b o qs) → AllWithin b (piece_in b q last o ++ pieces b o qs)
     of None k = k
     of (Some n) k = (within_part (length b) q.start q.size (mark_len n) h.0, k)
 
 module _ (b more : List ℕ) where
-  piece_more : (q : Part) (last o : Option Kind) → q.start + q.size ≤ length b → piece_in (b ++ more) q last o ≡ piece_in b q last o
+  piece_more : (q : Part) (last o : Option SegmentKind) → q.start + q.size ≤ length b → piece_in (b ++ more) q last o ≡ piece_in b q last o
   piece_more q last None l = refl
   piece_more q last (Some k) l =
       ap (λ (x : List ℕ). let p : Piece = record {
@@ -70,33 +70,33 @@ module _ (b more : List ℕ) where
         size = q.size - mark_len k;
       } in p ∷ []) (range_more b more (q.start + mark_len k) (q.size - mark_len k) (within_part (length b) q.start q.size (mark_len k) l))
 
-  pieces_more : (last : Option Kind) (qs : List Part) → AllInside b qs → pieces (b ++ more) last qs ≡ pieces b last qs
+  pieces_more : (last : Option SegmentKind) (qs : List Part) → AllInside b qs → pieces (b ++ more) last qs ≡ pieces b last qs
   pieces_more last [] h = refl
   pieces_more last (q ∷ qs) h =
-      ap (λ (x : List ℕ). piece_in (b ++ more) q last (kind_of q.code x) ++ pieces (b ++ more) (kind_of q.code x) qs)
+      ap (λ (x : List ℕ). piece_in (b ++ more) q last (segment_kind q.code x) ++ pieces (b ++ more) (segment_kind q.code x) qs)
       (range_more b more q.start q.size (inl h.0))
-      ∙ ap₂ (λ (xs ys : List Piece). xs ++ ys) (piece_more q last (kind_of q.code (range b q.start q.size)) h.0)
-      (pieces_more (kind_of q.code (range b q.start q.size)) qs h.1)
+      ∙ ap₂ (λ (xs ys : List Piece). xs ++ ys) (piece_more q last (segment_kind q.code (range b q.start q.size)) h.0)
+      (pieces_more (segment_kind q.code (range b q.start q.size)) qs h.1)
 
-  last_more : (last : Option Kind) (qs : List Part) → AllInside b qs → last_kind (b ++ more) last qs ≡ last_kind b last qs
+  last_more : (last : Option SegmentKind) (qs : List Part) → AllInside b qs → last_kind (b ++ more) last qs ≡ last_kind b last qs
   last_more last [] h = refl
   last_more last (q ∷ qs) h =
-      ap (λ (x : List ℕ). last_kind (b ++ more) (kind_of q.code x) qs) (range_more b more q.start q.size (inl h.0))
-      ∙ last_more (kind_of q.code (range b q.start q.size)) qs h.1
+      ap (λ (x : List ℕ). last_kind (b ++ more) (segment_kind q.code x) qs) (range_more b more q.start q.size (inl h.0))
+      ∙ last_more (segment_kind q.code (range b q.start q.size)) qs h.1
 
   joined_more : (ps : List Piece) → AllWithin b ps → joined (b ++ more) ps ≡ joined b ps
   unfolding joined
   joined_more [] h = refl
   joined_more (p ∷ ps) h =
-      ap₂ (λ (x : List ℕ) (j : List ℕ × List Block). let k : Block = record { kind = p.kind; octets = x ++ j.0 } in
+      ap₂ (λ (x : List ℕ) (j : List ℕ × List JoinedBlock). let k : JoinedBlock = record { kind = p.kind; octets = x ++ j.0 } in
       if p.begins then ([], k ∷ j.1) else (x ++ j.0, j.1)) (range_more b more p.start p.size h.0) (joined_more ps h.1)
 
 -- ---- the blocks of more pieces
 
 abbrev Joined : Type 0
-Joined = List ℕ × List Block
+Joined = List ℕ × List JoinedBlock
 
-first_append : (ks ls : List Block) → AreFirst ks (ks ++ ls)
+first_append : (ks ls : List JoinedBlock) → AreFirst ks (ks ++ ls)
 first_append [] ls = tt
 first_append (k ∷ []) ls = inl refl
 first_append (k ∷ j ∷ ks) ls = (refl, first_append (j ∷ ks) ls)
@@ -130,12 +130,12 @@ unfolding joined
 no_pieces b = refl
 
 -- j has the blocks i, and m more bytes behind the last, which is of Photoshop's resources
-record Extends (m : List ℕ) (last : Option Kind) (i j : Joined) : Type 0 where
+record Extends (m : List ℕ) (last : Option SegmentKind) (i j : Joined) : Type 0 where
   first : AreFirst i.1 j.1
   bare : i.1 ≡ [] → (j.0 ≡ i.0 ++ m) × (last ≡ Some Photoshop)
-  closed : (k : Block) (ks : List Block) → i.1 ≡ k ∷ ks → j.0 ≡ i.0
+  closed : (k : JoinedBlock) (ks : List JoinedBlock) → i.1 ≡ k ∷ ks → j.0 ≡ i.0
 
-begun : (b : List ℕ) (p : Piece) (m : List ℕ) (last : Option Kind) (i j : Joined) → Extends m (Some p.kind) i j
+begun : (b : List ℕ) (p : Piece) (m : List ℕ) (last : Option SegmentKind) (i j : Joined) → Extends m (Some p.kind) i j
     → Extends m last (one_joined b p i) (one_joined b p j)
 begun b p m last (o, []) j x =
     let (e, f) = x.bare refl in
@@ -147,14 +147,14 @@ begun b p m last (o, []) j x =
     }
 begun b p m last (o, k ∷ ks) j x = record {
   first = (
-    ap (λ (y : List ℕ). let l : Block = record { kind = p.kind; octets = piece_octets b p ++ y } in l) (sym (x.closed k ks refl)),
+    ap (λ (y : List ℕ). let l : JoinedBlock = record { kind = p.kind; octets = piece_octets b p ++ y } in l) (sym (x.closed k ks refl)),
     x.first,
   );
   bare = λ n. absurd (cc);
   closed = λ _ _ _. refl;
 }
 
-gone_on : (b : List ℕ) (p : Piece) (m : List ℕ) (last : Option Kind) (i j : Joined) → (p.kind ≡ Photoshop → last ≡ Some Photoshop)
+gone_on : (b : List ℕ) (p : Piece) (m : List ℕ) (last : Option SegmentKind) (i j : Joined) → (p.kind ≡ Photoshop → last ≡ Some Photoshop)
     → Extends m (Some p.kind) i j → Extends m last (one_later b p i) (one_later b p j)
 gone_on b p m last i j l x = record {
   first = x.first;
@@ -167,29 +167,29 @@ gone_on b p m last i j l x = record {
   closed = λ k ks n. ap (λ (y : List ℕ). piece_octets b p ++ y) (x.closed k ks n);
 }
 
-later_photoshop : (b : List ℕ) (q : Part) (last : Option Kind) → (piece_of b q Photoshop last).begins ≡ false → last ≡ Some Photoshop
+later_photoshop : (b : List ℕ) (q : Part) (last : Option SegmentKind) → (piece_of b q Photoshop last).begins ≡ false → last ≡ Some Photoshop
 later_photoshop b q None e = let clash : true ≡ false = e in absurd (cc)
 later_photoshop b q (Some Exif) e = let clash : true ≡ false = e in absurd (cc)
 later_photoshop b q (Some Photoshop) e = refl
 later_photoshop b q (Some Xmp) e = let clash : true ≡ false = e in absurd (cc)
 later_photoshop b q (Some ExtendedXmp) e = let clash : true ≡ false = e in absurd (cc)
 
-extends : (b : List ℕ) (qs : List Piece) (last : Option Kind) (ps : List Part) → last_kind b last ps ≡ Some Photoshop
+extends : (b : List ℕ) (qs : List Piece) (last : Option SegmentKind) (ps : List Part) → last_kind b last ps ≡ Some Photoshop
     → Extends (joined b qs).0 last (joined b (pieces b last ps)) (joined b (pieces b last ps ++ qs))
 unfolding joined
 extends b qs last [] h = record { first = tt; bare = λ _. (refl, h); closed = λ k ks n. absurd (cc) }
-extends b qs last (q ∷ ps) h = of (kind_of q.code (range b q.start q.size)) (extends b qs (kind_of q.code (range b q.start q.size)) ps h)
+extends b qs last (q ∷ ps) h = of (segment_kind q.code (range b q.start q.size)) (extends b qs (segment_kind q.code (range b q.start q.size)) ps h)
   where
     m : List ℕ
     m = (joined b qs).0
 
-    same : (k : Kind) → (piece_of b q k last).begins ≡ false → k ≡ Photoshop → last ≡ Some Photoshop
+    same : (k : SegmentKind) → (piece_of b q k last).begins ≡ false → k ≡ Photoshop → last ≡ Some Photoshop
     same Photoshop f e = later_photoshop b q last f
     same Exif f e = absurd (cc)
     same Xmp f e = absurd (cc)
     same ExtendedXmp f e = absurd (cc)
 
-    of : (o : Option Kind) → Extends m o (joined b (pieces b o ps)) (joined b (pieces b o ps ++ qs))
+    of : (o : Option SegmentKind) → Extends m o (joined b (pieces b o ps)) (joined b (pieces b o ps ++ qs))
         → Extends m last (joined b (piece_in b q last o ++ pieces b o ps)) (joined b ((piece_in b q last o ++ pieces b o ps) ++ qs))
     of None x = record {
       first = x.first;
@@ -213,7 +213,7 @@ extends b qs last (q ∷ ps) h = of (kind_of q.code (range b q.start q.size)) (e
 -- ---- a segment of Exif at some offset of a picture
 
 continues_at : (b before a after : List ℕ) (p : ℕ) (q : Part) → b ≡ before ++ (a ++ after) → length before ≡ p → IsPart p q a
-    → kind_of q.code (range b q.start q.size) ≡ Some Exif → is_header (range b (q.start + 6) (q.size - 6)) ≡ false → Continues a
+    → segment_kind q.code (range b q.start q.size) ≡ Some Exif → is_header (range b (q.start + 6) (q.size - 6)) ≡ false → Continues a
 continues_at b before a after p q w l (inl s) k h =
     let code = (exif_front q.code (range b q.start q.size) (kind_exif q.code (range b q.start q.size) k)).0 in
     let clash : false ≡ true = ap stands_alone (sym code) ∙ s.alone in absurd (cc)
@@ -255,7 +255,7 @@ bytes_left (o ∷ x) y h = (h.0, bytes_left x y h.1)
 
 -- ---- a picture that begins with these bytes
 
-module _ (b more rest : List ℕ) (all : List Part) (c : Cause) (p : ℕ) (r : Behind b all rest p) (f : FaultAt c rest) where
+module _ (b more rest : List ℕ) (all : List Part) (c : HeadCause) (p : ℕ) (r : SplitAt b all rest p) (f : FaultAt c rest) where
   abbrev place : ℕ
   place = 2 + length r.front
 
@@ -268,10 +268,10 @@ module _ (b more rest : List ℕ) (all : List Part) (c : Cause) (p : ℕ) (r : B
 
   front_longer : front (b ++ more) ≡ all ++ tail
   front_longer =
-      ap front longer ∙ front_after (r.front ++ (rest ++ more)) ∙ front_spelled all 2 r.front (rest ++ more) r.spells r.before
+      ap front longer ∙ front_after (r.front ++ (rest ++ more)) ∙ front_encoded all 2 r.front (rest ++ more) r.encodes r.before
 
   inside : AllInside b all
-  inside = subst (AllInside b) (behind_front b c p all rest r f) (front_inside b)
+  inside = subst (AllInside b) (after_front b c p all rest r f) (front_inside b)
 
   rest_is : drop p b ≡ rest
   rest_is = ap (drop p) r.whole ∙ drop_at (255 ∷ 216 ∷ r.front) rest p (omega (arith, r.place))
@@ -279,9 +279,9 @@ module _ (b more rest : List ℕ) (all : List Part) (c : Cause) (p : ℕ) (r : B
   front_is : (whole : List Part) → AreParts (b ++ more) whole → whole ≡ front (b ++ more)
   front_is whole (inl s) = sym (head_front (b ++ more) whole s)
   front_is whole (inr (NoStart, d, g)) = absurd (g.1.1 (r.front ++ (rest ++ more)) longer)
-  front_is whole (inr (NoMarker, d, (left, s, g))) = sym (behind_front (b ++ more) NoMarker d whole left s g)
-  front_is whole (inr (LengthForm, d, (left, s, g))) = sym (behind_front (b ++ more) LengthForm d whole left s g)
-  front_is whole (inr (HeadCut, d, (left, s, g))) = sym (behind_front (b ++ more) HeadCut d whole left s g)
+  front_is whole (inr (NoMarker, d, (left, s, g))) = sym (after_front (b ++ more) NoMarker d whole left s g)
+  front_is whole (inr (LengthForm, d, (left, s, g))) = sym (after_front (b ++ more) LengthForm d whole left s g)
+  front_is whole (inr (HeadCut, d, (left, s, g))) = sym (after_front (b ++ more) HeadCut d whole left s g)
 
   -- the first part behind `all`
   module _ (q : Part) (qs : List Part) (e : tail ≡ q ∷ qs) where
@@ -302,7 +302,7 @@ module _ (b more rest : List ℕ) (all : List Part) (c : Cause) (p : ℕ) (r : B
           let g = sym (front_goes_on place (part place (rest ++ more)) (size (rest ++ more)) (rest ++ more) reads n) ∙ e in cc
     ]
 
-    may_continue : AllByRecursion (λ o. o < 256) more → kind_of q.code (range (b ++ more) q.start q.size) ≡ Some Exif
+    may_continue : AllByRecursion (λ o. o < 256) more → segment_kind q.code (range (b ++ more) q.start q.size) ≡ Some Exif
         → is_header (range (b ++ more) (q.start + 6) (q.size - 6)) ≡ false → MayContinue rest
     may_continue bytes k h =
         let g = part_begins place (rest ++ more) there in
@@ -347,7 +347,7 @@ module _ (b more rest : List ℕ) (all : List Part) (c : Cause) (p : ℕ) (r : B
         → AreFirst (joined (b ++ more) xs).1 (joined (b ++ more) (xs ++ ys)).1
         → AreFirst (joined b xs).1 (blocks (b ++ more) whole)
     first_of xs ys e i h =
-        subst (λ (ks : List Block). AreFirst ks (blocks (b ++ more) whole)) (ap (λ (j : Joined). j.1) (joined_more b more xs i))
+        subst (λ (ks : List JoinedBlock). AreFirst ks (blocks (b ++ more) whole)) (ap (λ (j : Joined). j.1) (joined_more b more xs i))
         (subst (λ (ps : List Piece). AreFirst (joined (b ++ more) xs).1 (joined (b ++ more) ps).1) (sym (whole_pieces ∙ e)) h)
 
     all_within : AllWithin b (pieces b None all)
@@ -365,7 +365,7 @@ module _ (b more rest : List ℕ) (all : List Part) (c : Cause) (p : ℕ) (r : B
     closed : AllByRecursion (λ o. o < 256) more → (AreOpen b all rest → ⊥) → AreFirst (blocks b all) (blocks (b ++ more) whole)
     closed bytes n = first_of (pieces b None all) others refl all_within (of tail refl)
       where
-        last : Option Kind
+        last : Option SegmentKind
         last = last_kind (b ++ more) None all
 
         xs : List Piece
@@ -375,12 +375,12 @@ module _ (b more rest : List ℕ) (all : List Part) (c : Cause) (p : ℕ) (r : B
             → AreFirst (joined (b ++ more) xs).1 (joined (b ++ more) (xs ++ others)).1
         nothing ys e h = appended_first (b ++ more) xs others (ap (λ (ps : List Piece). (joined (b ++ more) ps).0) e ∙ h)
 
-        goes_on : (q : Part) (qs : List Part) → tail ≡ q ∷ qs → (k : Kind) → kind_of q.code (range (b ++ more) q.start q.size) ≡ Some k
+        goes_on : (q : Part) (qs : List Part) → tail ≡ q ∷ qs → (k : SegmentKind) → segment_kind q.code (range (b ++ more) q.start q.size) ≡ Some k
             → (piece_of (b ++ more) q k last).begins ≡ false → AreFirst (joined (b ++ more) xs).1 (joined (b ++ more) (xs ++ others)).1
         goes_on q qs e Exif g h =
             let same : last ≡ Some Exif = later_exif (b ++ more) q last h in
             let later : is_header (range (b ++ more) (q.start + 6) (q.size - 6)) ≡ false =
-            subst (λ (o : Option Kind). (piece_of (b ++ more) q Exif o).begins ≡ false) same h in
+            subst (λ (o : Option SegmentKind). (piece_of (b ++ more) q Exif o).begins ≡ false) same h in
             absurd (n (sym (last_more b more None all inside) ∙ same, may_continue q qs e bytes g later))
         goes_on q qs e Photoshop g h =
             subst (λ (ps : List Piece). AreFirst (joined (b ++ more) ps).1 (joined (b ++ more) (ps ++ others)).1)
@@ -389,24 +389,24 @@ module _ (b more rest : List ℕ) (all : List Part) (c : Cause) (p : ℕ) (r : B
         goes_on q qs e Xmp g h = let clash : true ≡ false = h in absurd (cc)
         goes_on q qs e ExtendedXmp g h = let clash : true ≡ false = h in absurd (cc)
 
-        one : (q : Part) (qs : List Part) → tail ≡ q ∷ qs → (o : Option Kind) → kind_of q.code (range (b ++ more) q.start q.size) ≡ o
+        one : (q : Part) (qs : List Part) → tail ≡ q ∷ qs → (o : Option SegmentKind) → segment_kind q.code (range (b ++ more) q.start q.size) ≡ o
             → AreFirst (joined (b ++ more) xs).1 (joined (b ++ more) (xs ++ others)).1
         one q qs e None g =
             nothing (pieces (b ++ more) None qs)
             (ap (pieces (b ++ more) last) e
-            ∙ ap (λ (o : Option Kind). piece_in (b ++ more) q last o ++ pieces (b ++ more) o qs) g) (none_before (b ++ more) qs)
+            ∙ ap (λ (o : Option SegmentKind). piece_in (b ++ more) q last o ++ pieces (b ++ more) o qs) g) (none_before (b ++ more) qs)
         one q qs e (Some k) g = elim (cases_Bool (piece_of (b ++ more) q k last).begins) [
           | inl t ↦
               nothing (piece_of (b ++ more) q k last ∷ pieces (b ++ more) (Some k) qs)
               (ap (pieces (b ++ more) last) e
-              ∙ ap (λ (o : Option Kind). piece_in (b ++ more) q last o ++ pieces (b ++ more) o qs) g)
+              ∙ ap (λ (o : Option SegmentKind). piece_in (b ++ more) q last o ++ pieces (b ++ more) o qs) g)
               (ap (λ (j : Joined). j.0) (joined_first (b ++ more) (piece_of (b ++ more) q k last) (pieces (b ++ more) (Some k) qs) t))
           | inr h ↦ goes_on q qs e k g h
         ]
 
         of : (ps : List Part) → tail ≡ ps → AreFirst (joined (b ++ more) xs).1 (joined (b ++ more) (xs ++ others)).1
         of [] e = nothing [] (ap (pieces (b ++ more) last) e) (no_pieces (b ++ more))
-        of (q ∷ qs) e = one q qs e (kind_of q.code (range (b ++ more) q.start q.size)) refl
+        of (q ∷ qs) e = one q qs e (segment_kind q.code (range (b ++ more) q.start q.size)) refl
 
     served : (parts : List Part) → AllByRecursion (λ o. o < 256) more → AreEnded b all (drop p b) parts
         → AreFirst (blocks b parts) (blocks (b ++ more) whole)

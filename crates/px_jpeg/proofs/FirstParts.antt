@@ -5,15 +5,15 @@ use Rattle.std.proofs.Common.{List, [], ◌∷◌, ◌++◌, length, drop, refl,
 use Rattle.std.proofs.lemmas.Bool.{cond-true, cond-false, cases_Bool, false_from_ne_true}
 use Rattle.std.specs.List.{AllByRecursion}
 use Rattle.px_jpeg.specs.declared.parts.Part.{Part}
-use Rattle.px_jpeg.specs.declared.faults.Cause.{Cause}
-use Rattle.px_jpeg.specs.declared.faults.Cause.TheVariants.{NoStart, NoMarker, LengthForm, HeadCut}
-use Rattle.px_jpeg.specs.Head.{is_last, Spells, NoneLast, Ends, HasHead}
-use Rattle.px_jpeg.specs.Fault.{FaultAt, Behind, Fault, FaultAfter}
+use Rattle.px_jpeg.specs.declared.faults.HeadCause.{HeadCause}
+use Rattle.px_jpeg.specs.declared.faults.HeadCause.TheVariants.{NoStart, NoMarker, LengthForm, HeadCut}
+use Rattle.px_jpeg.specs.Head.{is_last, Encodes, NoneLast, EndsAtLast, HasHead}
+use Rattle.px_jpeg.specs.Fault.{FaultAt, SplitAt, HasHeadFault, FaultAfter}
 use Rattle.px_jpeg.specs.Pieces.{AllInside}
 use Rattle.px_jpeg.specs.Reading.{is_part, part, size, starts, head_of, front_of, front_left, left_of, front}
 use Rattle.px_jpeg.proofs.OnePart.{Reads, part_begins}
 use Rattle.px_jpeg.proofs.ManyParts.{size_ge, first_reads, first_left}
-use Rattle.px_jpeg.proofs.HeadLaws.{start_holds, start_off, fault_no_part, computed_said}
+use Rattle.px_jpeg.proofs.HeadLaws.{start_holds, start_off, fault_no_part, computed_is_meaning}
 use Rattle.px_jpeg.proofs.Walking.{part_end, part_read, end_is, rest_after, start_long}
 
 -- ---- how far a walk has to go makes no difference
@@ -82,19 +82,19 @@ module _ (p : ℕ) (q : Part) (n : ℕ) (x : List ℕ) (r : Reads p q n x) where
 
 -- ---- from the grammar
 
-pub front_spelled : (qs : List Part) (p : ℕ) (x rest : List ℕ) → Spells p qs x → NoneLast qs
+pub front_encoded : (qs : List Part) (p : ℕ) (x rest : List ℕ) → Encodes p qs x → NoneLast qs
     → front_left p (x ++ rest) ≡ qs ++ front_left (p + length x) rest
-front_spelled [] p x rest s h =
+front_encoded [] p x rest s h =
     let n : p + length x ≡ p = let e = ap length s in omega arith in
     ap (λ (y : List ℕ). front_left p (y ++ rest)) s ∙ ap (λ (k : ℕ). front_left k rest) (sym n)
-front_spelled (q ∷ qs) p x rest (a, b, w, i, s) h =
+front_encoded (q ∷ qs) p x rest (a, b, w, i, s) h =
     let n : p + length a + length b ≡ p + length x = let e = ap length w in let l = length-append a b in omega arith in
     front_goes_on p q (length a) (x ++ rest) (first_reads p q x a b rest w i) h.0
     ∙ ap (λ (y : List ℕ). q ∷ front_left (p + length a) y) (first_left p q x a b rest w i)
-    ∙ ap (λ (ps : List Part). q ∷ ps) (front_spelled qs (p + length a) b rest s h.1)
+    ∙ ap (λ (ps : List Part). q ∷ ps) (front_encoded qs (p + length a) b rest s h.1)
     ∙ ap (λ (k : ℕ). (q ∷ qs) ++ front_left k rest) n
 
-pub front_ends : (qs : List Part) (p : ℕ) (x rest : List ℕ) → Spells p qs x → Ends qs → front_left p (x ++ rest) ≡ qs
+pub front_ends : (qs : List Part) (p : ℕ) (x rest : List ℕ) → Encodes p qs x → EndsAtLast qs → front_left p (x ++ rest) ≡ qs
 front_ends [] p x rest s h = absurd h
 front_ends (q ∷ []) p x rest (a, b, w, i, s) h =
     front_is_last p q (length a) (x ++ rest) (first_reads p q x a b rest w i) h
@@ -107,24 +107,24 @@ pub front_after : (x : List ℕ) → front (255 ∷ 216 ∷ x) ≡ front_left 2 
 front_after x = cond-false (not (starts (255 ∷ 216 ∷ x))) [] (front_left 2 x) (ap not (start_holds x))
 
 pub head_front : (b : List ℕ) (qs : List Part) → HasHead b qs → front b ≡ qs
-head_front b qs s = ap front s.whole ∙ front_after (s.spelled ++ s.rest) ∙ front_ends qs 2 s.spelled s.rest s.spells s.ends
+head_front b qs s = ap front s.whole ∙ front_after (s.encoded ++ s.rest) ∙ front_ends qs 2 s.encoded s.rest s.encodes s.ends
 
-pub behind_front : (b : List ℕ) (c : Cause) (p : ℕ) (qs : List Part) (rest : List ℕ) → Behind b qs rest p → FaultAt c rest → front b ≡ qs
-behind_front b c p qs rest r f =
-    ap front r.whole ∙ front_after (r.front ++ rest) ∙ front_spelled qs 2 r.front rest r.spells r.before
+pub after_front : (b : List ℕ) (c : HeadCause) (p : ℕ) (qs : List Part) (rest : List ℕ) → SplitAt b qs rest p → FaultAt c rest → front b ≡ qs
+after_front b c p qs rest r f =
+    ap front r.whole ∙ front_after (r.front ++ rest) ∙ front_encoded qs 2 r.front rest r.encodes r.before
     ∙ ap (λ (ps : List Part). qs ++ ps) (front_none (2 + length r.front) rest (fault_no_part c rest f)) ∙ append-nil qs
 
 no_start : (b : List ℕ) → ((rest : List ℕ) → b ≡ 255 ∷ 216 ∷ rest → ⊥) → starts b ≡ false
 no_start b n = false_from_ne_true (starts b) (λ h. n (drop 2 b) (start_off b h))
 
-pub fault_front : (b : List ℕ) (c : Cause) (p : ℕ) → Fault b c p → FaultAfter b (front b) c p
+pub fault_front : (b : List ℕ) (c : HeadCause) (p : ℕ) → HasHeadFault b c p → FaultAfter b (front b) c p
 fault_front b NoStart p f = (cond-true (not (starts b)) [] (front_left 2 (drop 2 b)) (ap not (no_start b f.1)), f)
 fault_front b NoMarker p (qs, rest, r, f) =
-    (rest, subst (λ (ps : List Part). Behind b ps rest p) (sym (behind_front b NoMarker p qs rest r f)) r, f)
+    (rest, subst (λ (ps : List Part). SplitAt b ps rest p) (sym (after_front b NoMarker p qs rest r f)) r, f)
 fault_front b LengthForm p (qs, rest, r, f) =
-    (rest, subst (λ (ps : List Part). Behind b ps rest p) (sym (behind_front b LengthForm p qs rest r f)) r, f)
+    (rest, subst (λ (ps : List Part). SplitAt b ps rest p) (sym (after_front b LengthForm p qs rest r f)) r, f)
 fault_front b HeadCut p (qs, rest, r, f) =
-    (rest, subst (λ (ps : List Part). Behind b ps rest p) (sym (behind_front b HeadCut p qs rest r f)) r, f)
+    (rest, subst (λ (ps : List Part). SplitAt b ps rest p) (sym (after_front b HeadCut p qs rest r f)) r, f)
 
 -- ---- one part on, as an iterator reads it
 
@@ -142,19 +142,19 @@ module _ (b : List ℕ) (at : ℕ) (y : List ℕ) (q : Part) (e : y ≡ drop at 
 -- ---- a head that was read
 
 head_starts : (b : List ℕ) (qs : List Part) → HasHead b qs → starts b ≡ true
-head_starts b qs s = ap starts s.whole ∙ start_holds (s.spelled ++ s.rest)
+head_starts b qs s = ap starts s.whole ∙ start_holds (s.encoded ++ s.rest)
 
-pub some_said : (b : List ℕ) → is_some (head_of b) ≡ true → HasHead b (unwrap_or (head_of b) [])
-some_said b h = of (head_of b) refl h
+pub some_has_meaning : (b : List ℕ) → is_some (head_of b) ≡ true → HasHead b (unwrap_or (head_of b) [])
+some_has_meaning b h = of (head_of b) refl h
   where
     of : (o : Option (List Part)) → head_of b ≡ o → is_some o ≡ true → HasHead b (unwrap_or o [])
     of None e k = let clash : false ≡ true = k in absurd (cc)
-    of (Some qs) e k = computed_said b qs e
+    of (Some qs) e k = computed_is_meaning b qs e
 
 pub whole_front : (b : List ℕ) → is_some (head_of b) ≡ true
     → (2 ≤ length b) × (front_left 2 (drop 2 b) ≡ unwrap_or (head_of b) [])
 whole_front b h =
-    let s = some_said b h in
+    let s = some_has_meaning b h in
     let t = head_starts b (unwrap_or (head_of b) []) s in (
       start_long b t,
       sym (cond-false (not (starts b)) [] (front_left 2 (drop 2 b)) (ap not t)) ∙ head_front b (unwrap_or (head_of b) []) s,

@@ -1,29 +1,29 @@
 -- A head in a file's first bytes is the file's.
 use Rattle.std.proofs.Common.{◌≡◌, ◌≤◌, ℕ, inl, inr, List, [], ◌∷◌, ◌++◌, length, ap, ◌∙◌, arith, append_assoc, length-append, refl}
 use Rattle.px_jpeg.specs.declared.parts.Part.{Part}
-use Rattle.px_jpeg.specs.declared.faults.Cause.TheVariants.{NoMarker, LengthForm}
+use Rattle.px_jpeg.specs.declared.faults.HeadCause.TheVariants.{NoMarker, LengthForm}
 use Rattle.px_jpeg.specs.Head.{HasHead}
-use Rattle.px_jpeg.specs.Fault.{Opens, pair, FaultAt, Behind}
+use Rattle.px_jpeg.specs.Fault.{Opens, pair, FaultAt, SplitAt}
 use Rattle.px_jpeg.specs.Laws.{FrontServes, end_mark, FaultServes}
 use Rattle.std.proofs.Common.{◌+◌, take, take_at, append-nil, sym}
-use Rattle.px_jpeg.specs.declared.faults.Cause.TheVariants.{NoStart, HeadCut}
+use Rattle.px_jpeg.specs.declared.faults.HeadCause.TheVariants.{NoStart, HeadCut}
 use Rattle.px_jpeg.specs.Head.{IsPart}
-use Rattle.px_jpeg.proofs.ManyParts.{spells_more, ends_behind}
+use Rattle.px_jpeg.proofs.ManyParts.{encodes_more, ends_after}
 
 head_more : (b more : List ℕ) (parts : List Part) → HasHead b parts → HasHead (b ++ more) parts
 head_more b more parts s = record {
-  spelled = s.spelled;
+  encoded = s.encoded;
   rest = s.rest ++ more;
-  whole = ap (λ (x : List ℕ). x ++ more) s.whole ∙ ap (λ (x : List ℕ). 255 ∷ 216 ∷ x) (append_assoc s.spelled s.rest more);
-  spells = s.spells;
+  whole = ap (λ (x : List ℕ). x ++ more) s.whole ∙ ap (λ (x : List ℕ). 255 ∷ 216 ∷ x) (append_assoc s.encoded s.rest more);
+  encodes = s.encodes;
   ends = s.ends;
 }
 
-behind_more : (b more rest : List ℕ) (parts : List Part) (p : ℕ) → Behind b parts rest p → Behind (b ++ more) parts (rest ++ more) p
-behind_more b more rest parts p r = record {
+after_more : (b more rest : List ℕ) (parts : List Part) (p : ℕ) → SplitAt b parts rest p → SplitAt (b ++ more) parts (rest ++ more) p
+after_more b more rest parts p r = record {
   front = r.front;
   whole = ap (λ (x : List ℕ). x ++ more) r.whole ∙ ap (λ (x : List ℕ). 255 ∷ 216 ∷ x) (append_assoc r.front rest more);
-  spells = r.spells;
+  encodes = r.encodes;
   before = r.before;
   place = r.place;
 }
@@ -55,8 +55,8 @@ length_more x more (y, o, l, p) =
 pub front_serves : FrontServes
 front_serves = (
   head_more,
-  (λ b more p f. let (parts, rest, r, k) = f in (parts, rest ++ more, behind_more b more rest parts p r, marker_more rest more k)),
-  (λ b more p f. let (parts, rest, r, k) = f in (parts, rest ++ more, behind_more b more rest parts p r, length_more rest more k)),
+  (λ b more p f. let (parts, rest, r, k) = f in (parts, rest ++ more, after_more b more rest parts p r, marker_more rest more k)),
+  (λ b more p f. let (parts, rest, r, k) = f in (parts, rest ++ more, after_more b more rest parts p r, length_more rest more k)),
 )
 
 -- ---- what stands before a fault
@@ -72,18 +72,18 @@ end_part p n e = inl (record {
   empty = refl;
 })
 
-cut_head : (b rest : List ℕ) (parts : List Part) (p : ℕ) → Behind b parts rest p
+cut_head : (b rest : List ℕ) (parts : List Part) (p : ℕ) → SplitAt b parts rest p
     → HasHead (take p b ++ 255 ∷ 217 ∷ []) (parts ++ end_mark p ∷ [])
 cut_head b rest parts p r =
     let l : length (255 ∷ 216 ∷ r.front) ≡ p = omega (arith, r.place) in
     let t : take p b ≡ 255 ∷ 216 ∷ r.front = ap (take p) r.whole ∙ take_at (255 ∷ 216 ∷ r.front) rest p l in
     record {
-      spelled = r.front ++ 255 ∷ 217 ∷ [];
+      encoded = r.front ++ 255 ∷ 217 ∷ [];
       rest = [];
       whole = ap (λ (x : List ℕ). x ++ 255 ∷ 217 ∷ []) t
           ∙ ap (λ (x : List ℕ). 255 ∷ 216 ∷ x) (sym (append-nil (r.front ++ 255 ∷ 217 ∷ [])));
-      spells = spells_more parts 2 r.front (end_mark p) (255 ∷ 217 ∷ []) r.spells (end_part p (2 + length r.front) r.place);
-      ends = ends_behind parts (end_mark p) r.before refl;
+      encodes = encodes_more parts 2 r.front (end_mark p) (255 ∷ 217 ∷ []) r.encodes (end_part p (2 + length r.front) r.place);
+      ends = ends_after parts (end_mark p) r.before refl;
     }
 
 pub fault_serves : FaultServes

@@ -6,15 +6,15 @@ use Rattle.std.proofs.Common.{lt-ltb, if◌then◌else◌, not, nat_lt, length-a
 use Rattle.std.proofs.lemmas.Bool.{cond-true, cond-false, cases_Bool, and_from, and_parts, false_from_ne_true, both_ways, lt-leb, le-ltb}
 use Rattle.std.proofs.lemmas.Bool.{and_left, and_right, not_from_true, not_from_false, ne_eqb}
 use Rattle.px_jpeg.specs.declared.parts.Part.{Part}
-use Rattle.px_jpeg.specs.declared.faults.Cause.{Cause}
-use Rattle.px_jpeg.specs.declared.faults.Cause.TheVariants.{NoStart, NoMarker, LengthForm, HeadCut}
-use Rattle.px_jpeg.specs.Head.{AreFill, stands_alone, Spells, HasHead}
-use Rattle.px_jpeg.specs.Fault.{Opens, pair, FaultAt, Behind, Fault}
-use Rattle.px_jpeg.specs.Reading.{marks, behind, code_of, count, is_part, size, parts_left, starts, head_of}
-use Rattle.px_jpeg.specs.Laws.{Computes, OneHead, FaultsTell}
+use Rattle.px_jpeg.specs.declared.faults.HeadCause.{HeadCause}
+use Rattle.px_jpeg.specs.declared.faults.HeadCause.TheVariants.{NoStart, NoMarker, LengthForm, HeadCut}
+use Rattle.px_jpeg.specs.Head.{AreFill, stands_alone, Encodes, HasHead}
+use Rattle.px_jpeg.specs.Fault.{Opens, pair, FaultAt, SplitAt, HasHeadFault}
+use Rattle.px_jpeg.specs.Reading.{marks, after, code_of, count, is_part, size, parts_left, starts, head_of}
+use Rattle.px_jpeg.specs.Laws.{Computes, OneHead, FaultsDecide}
 use Rattle.px_jpeg.proofs.Marks.{marks_other, fill_all}
-use Rattle.px_jpeg.proofs.OnePart.{is_part_is, opened_marks, opened_behind, Holds, part_holds}
-use Rattle.px_jpeg.proofs.ManyParts.{first_reads, first_left, left_none, spelled_left, spelled_all, left_heads}
+use Rattle.px_jpeg.proofs.OnePart.{is_part_is, opened_marks, opened_after, IsClaimed, part_holds}
+use Rattle.px_jpeg.proofs.ManyParts.{first_reads, first_left, left_none, encoded_left, encoded_all, left_heads}
 
 -- ---- the start mark
 
@@ -39,44 +39,44 @@ head_after x = cond-true (starts (255 ∷ 216 ∷ x)) _ _ (start_holds x)
 
 -- ---- computed
 
-pub said_computed : (b : List ℕ) (qs : List Part) → HasHead b qs → head_of b ≡ Some qs
-said_computed b qs s = ap head_of s.whole ∙ head_after (s.spelled ++ s.rest) ∙ spelled_all qs 2 s.spelled s.rest s.spells s.ends
+pub meaning_is_computed : (b : List ℕ) (qs : List Part) → HasHead b qs → head_of b ≡ Some qs
+meaning_is_computed b qs s = ap head_of s.whole ∙ head_after (s.encoded ++ s.rest) ∙ encoded_all qs 2 s.encoded s.rest s.encodes s.ends
 
-pub computed_said : (b : List ℕ) (qs : List Part) → head_of b ≡ Some qs → HasHead b qs
+pub computed_is_meaning : (b : List ℕ) (qs : List Part) → head_of b ≡ Some qs → HasHead b qs
 unfolding head_of
-computed_said b qs e = elim (cases_Bool (starts b)) [
+computed_is_meaning b qs e = elim (cases_Bool (starts b)) [
   | inl t ↦
       let h = left_heads 2 (drop 2 b) qs (sym (cond-true (starts b) (parts_left 2 (drop 2 b)) None t) ∙ e) in record {
-        spelled = h.spelled;
+        encoded = h.encoded;
         rest = h.rest;
         whole = start_off b t ∙ ap (λ (y : List ℕ). 255 ∷ 216 ∷ y) h.whole;
-        spells = h.spells;
+        encodes = h.encodes;
         ends = h.ends;
       }
   | inr f ↦ let clash : ◌≡◌ {A = Option (List Part)} None (Some qs) = sym (cond-false (starts b) _ _ f) ∙ e in absurd (cc)
 ]
 
 pub head_computes : Computes
-head_computes b qs = (said_computed b qs, computed_said b qs)
+head_computes b qs = (meaning_is_computed b qs, computed_is_meaning b qs)
 
 pub one_head : OneHead
-one_head b ps qs s t = let e : ◌≡◌ {A = Option (List Part)} (Some ps) (Some qs) = sym (said_computed b ps s) ∙ said_computed b qs t in cc
+one_head b ps qs s t = let e : ◌≡◌ {A = Option (List Part)} (Some ps) (Some qs) = sym (meaning_is_computed b ps s) ∙ meaning_is_computed b qs t in cc
 
 -- ---- faults
 
-holds_of : (x : List ℕ) → is_part x ≡ true → Holds (marks x) (behind x)
-holds_of x h = part_holds (marks x) (behind x) (is_part_is x (behind x) (marks x) refl refl ∙ h)
+holds_of : (x : List ℕ) → is_part x ≡ true → IsClaimed (marks x) (after x)
+holds_of x h = part_holds (marks x) (after x) (is_part_is x (after x) (marks x) refl refl ∙ h)
 
 -- behind the bytes FF and a code
-pub behind_open : (x fill : List ℕ) (c : ℕ) (more : List ℕ) → AreFill fill → c ≢ 255 → x ≡ fill ++ 255 ∷ c ∷ more → behind x ≡ c ∷ more
-behind_open x fill c more f o w =
-    ap behind w ∙ ap (λ (n : ℕ). drop n (fill ++ 255 ∷ c ∷ more)) (opened_marks fill c more f o) ∙ opened_behind fill c more f o
+pub after_open : (x fill : List ℕ) (c : ℕ) (more : List ℕ) → AreFill fill → c ≢ 255 → x ≡ fill ++ 255 ∷ c ∷ more → after x ≡ c ∷ more
+after_open x fill c more f o w =
+    ap after w ∙ ap (λ (n : ℕ). drop n (fill ++ 255 ∷ c ∷ more)) (opened_marks fill c more f o) ∙ opened_after fill c more f o
 
 opens_no_part : (x more : List ℕ) (o : Opens x more) → (length more < 2) ⊎ ((pair more < 2) ⊎ (length more < pair more))
     → is_part x ≡ true → ⊥
 opens_no_part x more o k h =
     let t = holds_of x h in
-    let e = behind_open x o.fill o.code more o.filled o.marker.1 o.whole in
+    let e = after_open x o.fill o.code more o.filled o.marker.1 o.whole in
     let w = subst (λ (y : List ℕ). (stands_alone (code_of y) ≡ true) ⊎
     ((3 ≤ length y) × (2 ≤ count y) × (1 + count y ≤ length y))) e t.whole in
     elim w [
@@ -87,40 +87,40 @@ opens_no_part x more o k h =
       ]
     ]
 
-fault_means : (c : Cause) (x : List ℕ) → FaultAt c x → is_part x ≡ true → ⊥
+fault_means : (c : HeadCause) (x : List ℕ) → FaultAt c x → is_part x ≡ true → ⊥
 fault_means NoStart x f h = f
 fault_means NoMarker x (inl (o, more, e, k)) h =
     let t = holds_of x h in
     let m = ap marks e ∙ marks_other o more k in
     let s = t.some in omega arith
 fault_means NoMarker x (inr (fill, more, f, e)) h =
-    let t = holds_of x h in t.nonzero (ap code_of (behind_open x fill 0 more f (λ q. omega arith) e))
+    let t = holds_of x h in t.nonzero (ap code_of (after_open x fill 0 more f (λ q. omega arith) e))
 fault_means LengthForm x (more, o, l, p) h = opens_no_part x more o (inr (inl p)) h
 fault_means HeadCut x (inl f) h =
     let t = holds_of x h in let s = t.there in let l = fill_all x f in omega (arith, length-drop (marks x) x)
 fault_means HeadCut x (inr (more, o, inl l)) h = opens_no_part x more o (inl l) h
 fault_means HeadCut x (inr (more, o, inr l)) h = opens_no_part x more o (inr (inr l.1)) h
 
-pub fault_no_part : (c : Cause) (x : List ℕ) → FaultAt c x → is_part x ≡ false
+pub fault_no_part : (c : HeadCause) (x : List ℕ) → FaultAt c x → is_part x ≡ false
 fault_no_part c x f = false_from_ne_true (is_part x) (fault_means c x f)
 
-pub behind_none : (b : List ℕ) (qs : List Part) (rest : List ℕ) (p : ℕ) → Behind b qs rest p → is_part rest ≡ false → head_of b ≡ None
-behind_none b qs rest p r f =
-    ap head_of r.whole ∙ head_after (r.front ++ rest) ∙ spelled_left qs 2 r.front rest r.spells r.before
+pub after_none : (b : List ℕ) (qs : List Part) (rest : List ℕ) (p : ℕ) → SplitAt b qs rest p → is_part rest ≡ false → head_of b ≡ None
+after_none b qs rest p r f =
+    ap head_of r.whole ∙ head_after (r.front ++ rest) ∙ encoded_left qs 2 r.front rest r.encodes r.before
     ∙ ap (option_map (λ (rs : List Part). qs ++ rs)) (left_none (2 + length r.front) rest f)
 
 no_head : (b : List ℕ) (qs : List Part) → head_of b ≡ None → HasHead b qs → ⊥
-no_head b qs e s = let clash : ◌≡◌ {A = Option (List Part)} None (Some qs) = sym e ∙ said_computed b qs s in cc
+no_head b qs e s = let clash : ◌≡◌ {A = Option (List Part)} None (Some qs) = sym e ∙ meaning_is_computed b qs s in cc
 
-pub fault_excludes : (b : List ℕ) (c : Cause) (p : ℕ) (qs : List Part) → Fault b c p → HasHead b qs → ⊥
-fault_excludes b NoStart p qs f s = f.1 (s.spelled ++ s.rest) s.whole
-fault_excludes b NoMarker p qs (ps, rest, r, f) s = no_head b qs (behind_none b ps rest p r (fault_no_part NoMarker rest f)) s
-fault_excludes b LengthForm p qs (ps, rest, r, f) s = no_head b qs (behind_none b ps rest p r (fault_no_part LengthForm rest f)) s
-fault_excludes b HeadCut p qs (ps, rest, r, f) s = no_head b qs (behind_none b ps rest p r (fault_no_part HeadCut rest f)) s
+pub fault_excludes : (b : List ℕ) (c : HeadCause) (p : ℕ) (qs : List Part) → HasHeadFault b c p → HasHead b qs → ⊥
+fault_excludes b NoStart p qs f s = f.1 (s.encoded ++ s.rest) s.whole
+fault_excludes b NoMarker p qs (ps, rest, r, f) s = no_head b qs (after_none b ps rest p r (fault_no_part NoMarker rest f)) s
+fault_excludes b LengthForm p qs (ps, rest, r, f) s = no_head b qs (after_none b ps rest p r (fault_no_part LengthForm rest f)) s
+fault_excludes b HeadCut p qs (ps, rest, r, f) s = no_head b qs (after_none b ps rest p r (fault_no_part HeadCut rest f)) s
 
 -- ---- one fault
 
-aligned : (ps qs : List Part) (p : ℕ) (x y rest more : List ℕ) → Spells p ps x → Spells p qs y → is_part rest ≡ false → is_part more ≡ false
+aligned : (ps qs : List Part) (p : ℕ) (x y rest more : List ℕ) → Encodes p ps x → Encodes p qs y → is_part rest ≡ false → is_part more ≡ false
     → x ++ rest ≡ y ++ more → (length x ≡ length y) × (rest ≡ more)
 aligned [] [] p x y rest more s t f g e =
     (ap length s ∙ sym (ap length t), sym (ap (λ (z : List ℕ). z ++ rest) s) ∙ e ∙ ap (λ (z : List ℕ). z ++ more) t)
@@ -137,11 +137,11 @@ aligned (q ∷ ps) (r ∷ qs) p x y rest more (a, b, w, i, s) (c, d, v, j, t) f 
     let k : b ++ rest ≡ d ++ more =
     sym (first_left p q x a b rest w i) ∙ ap (λ (z : ℕ). drop z (x ++ rest)) (sym l) ∙ ap (drop (length c)) e
     ∙ first_left p r y c d more v j in
-    let h = aligned ps qs (p + length a) b d rest more s (subst (λ (z : ℕ). Spells (p + z) qs d) l t) f g k in
+    let h = aligned ps qs (p + length a) b d rest more s (subst (λ (z : ℕ). Encodes (p + z) qs d) l t) f g k in
     (ap length w ∙ length-append a b ∙ omega (arith, h.0) ∙ sym (ap length v ∙ length-append c d), h.1)
 
 -- the cause, computed from the number of bytes FF and what follows them
-abbrev cause_at : ℕ → List ℕ → Cause
+abbrev cause_at : ℕ → List ℕ → HeadCause
 cause_at n y =
     if nat_le 1 (length y)
     then (if nat_le 1 n && not (code_of y == 0) then (if nat_le 3 (length y) && nat_lt (count y) 2 then LengthForm else HeadCut)
@@ -166,53 +166,53 @@ cause_later n y l k c =
     ∙ cond-true _ _ _ (and_from (nat_le 1 n) _ (le-leb 1 n k) (not_from_false (code_of y == 0) (ne_eqb (code_of y) 0 c)))
 
 cause_open : (x more : List ℕ) (o : Opens x more)
-    → cause_at (marks x) (behind x) ≡ (if nat_le 3 (1 + length more) && nat_lt (pair more) 2 then LengthForm else HeadCut)
+    → cause_at (marks x) (after x) ≡ (if nat_le 3 (1 + length more) && nat_lt (pair more) 2 then LengthForm else HeadCut)
 cause_open x more o =
-    let e = behind_open x o.fill o.code more o.filled o.marker.1 o.whole in
+    let e = after_open x o.fill o.code more o.filled o.marker.1 o.whole in
     let m = ap marks o.whole ∙ opened_marks o.fill o.code more o.filled o.marker.1 in
     let n : length (o.code ∷ more) ≡ 1 + length more = omega arith in
     ap (cause_at (marks x)) e ∙ cause_later (marks x) (o.code ∷ more) (omega arith) (omega arith) o.marker.0
     ∙ ap (λ (l : ℕ). if nat_le 3 l && nat_lt (pair more) 2 then LengthForm else HeadCut) n
 
-fault_cause : (c : Cause) (x : List ℕ) → FaultAt c x → cause_at (marks x) (behind x) ≡ c
+fault_cause : (c : HeadCause) (x : List ℕ) → FaultAt c x → cause_at (marks x) (after x) ≡ c
 fault_cause NoStart x f = absurd f
 fault_cause NoMarker x (inl (o, more, e, k)) =
     let m = ap marks e ∙ marks_other o more k in
     let l = ap length e in
-    cause_first (marks x) (behind x) (omega (arith, length-drop (marks x) x)) (inl m)
+    cause_first (marks x) (after x) (omega (arith, length-drop (marks x) x)) (inl m)
 fault_cause NoMarker x (inr (fill, more, f, e)) =
-    let b = behind_open x fill 0 more f (λ q. omega arith) e in
+    let b = after_open x fill 0 more f (λ q. omega arith) e in
     let l = ap length b in
-    cause_first (marks x) (behind x) (omega arith) (inr (ap code_of b))
+    cause_first (marks x) (after x) (omega arith) (inr (ap code_of b))
 fault_cause LengthForm x (more, o, l, p) =
     cause_open x more o ∙ cond-true _ _ _ (and_from (nat_le 3 (1 + length more)) _ (le-leb 3 (1 + length more) (omega arith))
     (lt-ltb (pair more) 2 p))
 fault_cause HeadCut x (inl f) =
-    let l = fill_all x f in cause_nothing (marks x) (behind x) (omega (arith, length-drop (marks x) x))
+    let l = fill_all x f in cause_nothing (marks x) (after x) (omega (arith, length-drop (marks x) x))
 fault_cause HeadCut x (inr (more, o, inl l)) =
     cause_open x more o ∙ cond-false _ _ _ (and_left (nat_le 3 (1 + length more)) _ (lt-leb 3 (1 + length more) (omega arith)))
 fault_cause HeadCut x (inr (more, o, inr l)) =
     cause_open x more o ∙ cond-false _ _ _ (and_right (nat_le 3 (1 + length more)) _ (le-ltb (pair more) 2 l.0))
 
-located : (b : List ℕ) (c : Cause) (p : ℕ) → Fault b c p
+located : (b : List ℕ) (c : HeadCause) (p : ℕ) → HasHeadFault b c p
     → ((c ≡ NoStart) × (p ≡ 0) × ((rest : List ℕ) → b ≢ 255 ∷ 216 ∷ rest))
-    ⊎ ((ps : List Part) × (rest : List ℕ) × Behind b ps rest p × FaultAt c rest)
+    ⊎ ((ps : List Part) × (rest : List ℕ) × SplitAt b ps rest p × FaultAt c rest)
 located b NoStart p f = inl (refl, f.0, f.1)
 located b NoMarker p f = inr f
 located b LengthForm p f = inr f
 located b HeadCut p f = inr f
 
-one_place : (b : List ℕ) (c d : Cause) (p r : ℕ) (ps qs : List Part) (rest more : List ℕ) → Behind b ps rest p → FaultAt c rest
-    → Behind b qs more r → FaultAt d more → (c ≡ d) × (p ≡ r)
+one_place : (b : List ℕ) (c d : HeadCause) (p r : ℕ) (ps qs : List Part) (rest more : List ℕ) → SplitAt b ps rest p → FaultAt c rest
+    → SplitAt b qs more r → FaultAt d more → (c ≡ d) × (p ≡ r)
 one_place b c d p r ps qs rest more s f t g =
     let w : ◌≡◌ {A = List ℕ} (255 ∷ 216 ∷ (s.front ++ rest)) (255 ∷ 216 ∷ (t.front ++ more)) = sym s.whole ∙ t.whole in
     let e : s.front ++ rest ≡ t.front ++ more = cc in
-    let a = aligned ps qs 2 s.front t.front rest more s.spells t.spells (fault_no_part c rest f) (fault_no_part d more g) e in (
-      sym (fault_cause c rest f) ∙ ap (λ (x : List ℕ). cause_at (marks x) (behind x)) a.1 ∙ fault_cause d more g,
+    let a = aligned ps qs 2 s.front t.front rest more s.encodes t.encodes (fault_no_part c rest f) (fault_no_part d more g) e in (
+      sym (fault_cause c rest f) ∙ ap (λ (x : List ℕ). cause_at (marks x) (after x)) a.1 ∙ fault_cause d more g,
       omega (arith, a.0, s.place, t.place),
     )
 
-pub one_fault : (b : List ℕ) (c d : Cause) (p r : ℕ) → Fault b c p → Fault b d r → (c ≡ d) × (p ≡ r)
+pub one_fault : (b : List ℕ) (c d : HeadCause) (p r : ℕ) → HasHeadFault b c p → HasHeadFault b d r → (c ≡ d) × (p ≡ r)
 one_fault b c d p r f g = elim (located b c p f) [
   | inl (e, z, n) ↦ elim (located b d r g) [
     | inl (h, y, m) ↦ (e ∙ sym h, z ∙ sym y)
@@ -224,5 +224,5 @@ one_fault b c d p r f g = elim (located b c p f) [
   ]
 ]
 
-pub faults_tell : FaultsTell
-faults_tell = (fault_excludes, one_fault)
+pub faults_decide : FaultsDecide
+faults_decide = (fault_excludes, one_fault)

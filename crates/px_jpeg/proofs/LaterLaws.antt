@@ -114,8 +114,8 @@ few_later n x k m =
 
 -- the mark, and maybe more
 module _ (n : ℕ) (x : List ℕ) (l : 6 ≤ length x) where
-  behind_mark : (y : List ℕ) → drop 6 (x ++ y) ≡ drop 6 x ++ y
-  behind_mark y = drop-append-le 6 x y l
+  after_mark : (y : List ℕ) → drop 6 (x ++ y) ≡ drop 6 x ++ y
+  after_mark y = drop-append-le 6 x y l
 
   pub marked_later : MayBeLater n x → is_exif 225 x ≡ true
   marked_later m =
@@ -132,7 +132,7 @@ module _ (n : ℕ) (x : List ℕ) (l : 6 ≤ length x) where
         counted = omega (arith, length-replicate {A = ℕ} (n - length x) 1);
         exif = exif_back (x ++ more) (drop 6 x ++ more)
             (ap (λ (y : List ℕ). y ++ more) (exif_front 225 x h).1 ∙ append_assoc exif_mark (drop 6 x) more);
-        later = ap is_header (behind_mark more) ∙ j;
+        later = ap is_header (after_mark more) ∙ j;
       }
 
   pub later_short : length x ≤ n → is_exif 225 x ≡ true → length x < 10 → MayBeLater n x
@@ -144,4 +144,4 @@ module _ (n : ℕ) (x : List ℕ) (l : 6 ≤ length x) where
 
   pub long_later : 10 ≤ length x → MayBeLater n x → is_header (drop 6 x) ≡ false
   long_later j m =
-      sym (header_same (drop 6 x) m.more (omega (arith, length-drop 6 x))) ∙ ap is_header (sym (behind_mark m.more)) ∙ m.later
+      sym (header_same (drop 6 x) m.more (omega (arith, length-drop 6 x))) ∙ ap is_header (sym (after_mark m.more)) ∙ m.later

@@ -4,18 +4,18 @@ use Rattle.std.proofs.Common.{List, [], ◌∷◌, ◌++◌, length, drop, refl,
 use Rattle.std.proofs.Common.{append-nil, drop_at}
 use Rattle.std.proofs.lemmas.Bool.{cond-true, cond-false, cases_Bool}
 use Rattle.px_jpeg.specs.declared.parts.Part.{Part}
-use Rattle.px_jpeg.specs.Head.{stands_alone, is_last, IsPart, Spells, NoneLast, Ends}
-use Rattle.px_jpeg.specs.Reading.{behind, code_of, count, size_of, is_part, part, size, parts_of, parts_left}
+use Rattle.px_jpeg.specs.Head.{stands_alone, is_last, IsPart, Encodes, NoneLast, EndsAtLast}
+use Rattle.px_jpeg.specs.Reading.{after, code_of, count, size_of, is_part, part, size, parts_of, parts_left}
 use Rattle.px_jpeg.proofs.OnePart.{Reads, part_reads, part_begins}
 
 -- ---- how far a walk has to go makes no difference
 
 pub size_ge : (x : List ℕ) → 1 ≤ size x
 unfolding size
-size_ge x = elim (cases_Bool (stands_alone (code_of (behind x)))) [
-  | inl t ↦ let e : size_of (behind x) ≡ 1 = cond-true (stands_alone (code_of (behind x))) 1 (1 + count (behind x)) t in omega arith
+size_ge x = elim (cases_Bool (stands_alone (code_of (after x)))) [
+  | inl t ↦ let e : size_of (after x) ≡ 1 = cond-true (stands_alone (code_of (after x))) 1 (1 + count (after x)) t in omega arith
   | inr f ↦
-      let e : size_of (behind x) ≡ 1 + count (behind x) = cond-false (stands_alone (code_of (behind x))) 1 (1 + count (behind x)) f in
+      let e : size_of (after x) ≡ 1 + count (after x) = cond-false (stands_alone (code_of (after x))) 1 (1 + count (after x)) f in
       omega arith
 ]
 
@@ -98,49 +98,49 @@ module _ (p : ℕ) (q : Part) (x a b rest : List ℕ) (w : x ≡ a ++ b) (i : Is
   pub first_left : drop (length a) (x ++ rest) ≡ b ++ rest
   first_left = ap (drop (length a)) cut ∙ drop_at a (b ++ rest) (length a) refl
 
-pub spelled_left : (qs : List Part) (p : ℕ) (x rest : List ℕ) → Spells p qs x → NoneLast qs
+pub encoded_left : (qs : List Part) (p : ℕ) (x rest : List ℕ) → Encodes p qs x → NoneLast qs
     → parts_left p (x ++ rest) ≡ option_map (λ rs. qs ++ rs) (parts_left (p + length x) rest)
-spelled_left [] p x rest s h =
+encoded_left [] p x rest s h =
     let n : p + length x ≡ p = let e = ap length s in omega arith in
     ap (λ (y : List ℕ). parts_left p (y ++ rest)) s ∙ mapped_nil (parts_left p rest)
     ∙ ap (λ (k : ℕ). option_map (λ (rs : List Part). [] ++ rs) (parts_left k rest)) (sym n)
-spelled_left (q ∷ qs) p x rest (a, b, w, i, s) h =
+encoded_left (q ∷ qs) p x rest (a, b, w, i, s) h =
     let n : p + length a + length b ≡ p + length x = let e = ap length w in let l = length-append a b in omega arith in
     reads_more p q (length a) (x ++ rest) (first_reads p q x a b rest w i) h.0
     ∙ ap (λ (y : List ℕ). option_map (λ (rs : List Part). q ∷ rs) (parts_left (p + length a) y)) (first_left p q x a b rest w i)
-    ∙ ap (option_map (λ (rs : List Part). q ∷ rs)) (spelled_left qs (p + length a) b rest s h.1)
+    ∙ ap (option_map (λ (rs : List Part). q ∷ rs)) (encoded_left qs (p + length a) b rest s h.1)
     ∙ mapped_twice q qs (parts_left (p + length a + length b) rest)
     ∙ ap (λ (k : ℕ). option_map (λ (rs : List Part). (q ∷ qs) ++ rs) (parts_left k rest)) n
 
-pub spelled_all : (qs : List Part) (p : ℕ) (x rest : List ℕ) → Spells p qs x → Ends qs → parts_left p (x ++ rest) ≡ Some qs
-spelled_all [] p x rest s h = absurd h
-spelled_all (q ∷ []) p x rest (a, b, w, i, s) h = reads_last p q (length a) (x ++ rest) (first_reads p q x a b rest w i) h
-spelled_all (q ∷ r ∷ qs) p x rest (a, b, w, i, s) h =
+pub encoded_all : (qs : List Part) (p : ℕ) (x rest : List ℕ) → Encodes p qs x → EndsAtLast qs → parts_left p (x ++ rest) ≡ Some qs
+encoded_all [] p x rest s h = absurd h
+encoded_all (q ∷ []) p x rest (a, b, w, i, s) h = reads_last p q (length a) (x ++ rest) (first_reads p q x a b rest w i) h
+encoded_all (q ∷ r ∷ qs) p x rest (a, b, w, i, s) h =
     reads_more p q (length a) (x ++ rest) (first_reads p q x a b rest w i) h.0
     ∙ ap (λ (y : List ℕ). option_map (λ (rs : List Part). q ∷ rs) (parts_left (p + length a) y)) (first_left p q x a b rest w i)
-    ∙ ap (option_map (λ (rs : List Part). q ∷ rs)) (spelled_all (r ∷ qs) (p + length a) b rest s h.1)
+    ∙ ap (option_map (λ (rs : List Part). q ∷ rs)) (encoded_all (r ∷ qs) (p + length a) b rest s h.1)
 
 -- ---- to the grammar
 
 -- x begins with the parts qs, the last of which is the last of a head
 pub record Heads (p : ℕ) (qs : List Part) (x : List ℕ) : Type 0 where
-  pub spelled : List ℕ
+  pub encoded : List ℕ
   pub rest : List ℕ
-  pub whole : x ≡ spelled ++ rest
-  pub spells : Spells p qs spelled
-  pub ends : Ends qs
+  pub whole : x ≡ encoded ++ rest
+  pub encodes : Encodes p qs encoded
+  pub ends : EndsAtLast qs
 
-ends_more : (q : Part) (qs : List Part) → is_last q.code ≡ false → Ends qs → Ends (q ∷ qs)
+ends_more : (q : Part) (qs : List Part) → is_last q.code ≡ false → EndsAtLast qs → EndsAtLast (q ∷ qs)
 ends_more q [] l e = absurd e
 ends_more q (r ∷ qs) l e = (l, e)
 
 heads_last : (p : ℕ) (x : List ℕ) → is_part x ≡ true → is_last (part p x).code ≡ true → Heads p (part p x ∷ []) x
 heads_last p x h l =
     let b = part_begins p x h in record {
-      spelled = b.front;
+      encoded = b.front;
       rest = drop (size x) x;
       whole = b.whole;
-      spells = (b.front, [], sym (append-nil b.front), b.is, refl);
+      encodes = (b.front, [], sym (append-nil b.front), b.is, refl);
       ends = l;
     }
 
@@ -148,10 +148,10 @@ heads_more : (p : ℕ) (x : List ℕ) (qs : List Part) → is_part x ≡ true �
     → Heads (p + size x) qs (drop (size x) x) → Heads p (part p x ∷ qs) x
 heads_more p x qs h l t =
     let b = part_begins p x h in record {
-      spelled = b.front ++ t.spelled;
+      encoded = b.front ++ t.encoded;
       rest = t.rest;
-      whole = b.whole ∙ ap (λ (y : List ℕ). b.front ++ y) t.whole ∙ sym (append_assoc b.front t.spelled t.rest);
-      spells = (b.front, t.spelled, refl, b.is, subst (λ (n : ℕ). Spells (p + n) qs t.spelled) (sym b.long) t.spells);
+      whole = b.whole ∙ ap (λ (y : List ℕ). b.front ++ y) t.whole ∙ sym (append_assoc b.front t.encoded t.rest);
+      encodes = (b.front, t.encoded, refl, b.is, subst (λ (n : ℕ). Encodes (p + n) qs t.encoded) (sym b.long) t.encodes);
       ends = ends_more (part p x) qs l t.ends;
     }
 
@@ -184,24 +184,24 @@ left_heads p x qs e = parts_heads (length x) p x qs e
 
 -- ---- one more part behind some
 
-pub spells_more : (qs : List Part) (p : ℕ) (x : List ℕ) (q : Part) (a : List ℕ) → Spells p qs x → IsPart (p + length x) q a
-    → Spells p (qs ++ q ∷ []) (x ++ a)
-spells_more [] p x q a s i =
+pub encodes_more : (qs : List Part) (p : ℕ) (x : List ℕ) (q : Part) (a : List ℕ) → Encodes p qs x → IsPart (p + length x) q a
+    → Encodes p (qs ++ q ∷ []) (x ++ a)
+encodes_more [] p x q a s i =
     let n : p + length x ≡ p = let e = ap length s in omega arith in
     (a, [], ap (λ (y : List ℕ). y ++ a) s ∙ sym (append-nil a), subst (λ (k : ℕ). IsPart k q a) n i, refl)
-spells_more (r ∷ qs) p x q a (b, c, w, j, s) i =
+encodes_more (r ∷ qs) p x q a (b, c, w, j, s) i =
     let n : p + length x ≡ p + length b + length c = let e = ap length w in let l = length-append b c in omega arith in (
       b,
       c ++ a,
       ap (λ (y : List ℕ). y ++ a) w ∙ append_assoc b c a,
       j,
-      spells_more qs (p + length b) c q a s (subst (λ (k : ℕ). IsPart k q a) n i),
+      encodes_more qs (p + length b) c q a s (subst (λ (k : ℕ). IsPart k q a) n i),
     )
 
 pub none_more : (qs : List Part) (q : Part) → NoneLast qs → is_last q.code ≡ false → NoneLast (qs ++ q ∷ [])
 none_more [] q h l = (l, tt)
 none_more (r ∷ qs) q h l = (h.0, none_more qs q h.1 l)
 
-pub ends_behind : (qs : List Part) (q : Part) → NoneLast qs → is_last q.code ≡ true → Ends (qs ++ q ∷ [])
-ends_behind [] q h l = l
-ends_behind (r ∷ qs) q h l = ends_more r (qs ++ q ∷ []) h.0 (ends_behind qs q h.1 l)
+pub ends_after : (qs : List Part) (q : Part) → NoneLast qs → is_last q.code ≡ true → EndsAtLast (qs ++ q ∷ [])
+ends_after [] q h l = l
+ends_after (r ∷ qs) q h l = ends_more r (qs ++ q ∷ []) h.0 (ends_after qs q h.1 l)

@@ -3,7 +3,7 @@ use Rattle.std.proofs.Common.{◌≡◌, ◌≢◌, ◌≤◌, ◌+◌, ◌==◌
 use Rattle.std.proofs.Common.{refl, sym, ap, ◌∙◌, arith, eqb-true, eq-eqb}
 use Rattle.std.proofs.lemmas.Bool.{cond-true, cond-false, cases_Bool, eqb-false, ne_eqb}
 use Rattle.px_jpeg.specs.Head.{AreFill}
-use Rattle.px_jpeg.specs.Reading.{marks, behind}
+use Rattle.px_jpeg.specs.Reading.{marks, after}
 
 pub marks_other : (o : ℕ) (x : List ℕ) → o ≢ 255 → marks (o ∷ x) ≡ 0
 marks_other o x h = cond-false (o == 255) (suc (marks x)) 0 (ne_eqb o 255 h)
@@ -51,10 +51,10 @@ fill_all [] h = omega arith
 fill_all (o ∷ x) h = let m = cond-true (o == 255) (suc (marks x)) 0 (eq-eqb o 255 h.0) in let r = fill_all x h.1 in omega arith
 
 -- what follows them is no FF
-pub behind_other : (x y : List ℕ) (c : ℕ) → behind x ≡ c ∷ y → c ≢ 255
-behind_other [] y c h = absurd (cc)
-behind_other (o ∷ x) y c h = elim (cases_Bool (o == 255)) [
-  | inl t ↦ behind_other x y c (sym (ap (λ (n : ℕ). drop n (o ∷ x)) (cond-true (o == 255) (suc (marks x)) 0 t)) ∙ h)
+pub after_other : (x y : List ℕ) (c : ℕ) → after x ≡ c ∷ y → c ≢ 255
+after_other [] y c h = absurd (cc)
+after_other (o ∷ x) y c h = elim (cases_Bool (o == 255)) [
+  | inl t ↦ after_other x y c (sym (ap (λ (n : ℕ). drop n (o ∷ x)) (cond-true (o == 255) (suc (marks x)) 0 t)) ∙ h)
   | inr f ↦
       let e : ◌≡◌ {A = List ℕ} (o ∷ x) (c ∷ y) = sym (ap (λ (n : ℕ). drop n (o ∷ x)) (cond-false (o == 255) (suc (marks x)) 0 f)) ∙ h in
       let same : o ≡ c = cc in

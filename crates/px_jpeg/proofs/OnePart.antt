@@ -8,22 +8,22 @@ use Rattle.std.proofs.lemmas.List.{take-append-drop}
 use Rattle.px_jpeg.specs.declared.parts.Part.{Part}
 use Rattle.px_jpeg.specs.Head.{AreFill, stands_alone, IsAlone, IsSegment, IsPart}
 use Rattle.px_jpeg.specs.Fault.{Opens}
-use Rattle.px_jpeg.specs.Reading.{marks, behind, code_of, count, is_whole, is_part_of, size_of, part_of, is_part, part, size}
-use Rattle.px_jpeg.proofs.Marks.{marks_fill, marks_other, Filled, filled_from_marks, all_fill, behind_other}
+use Rattle.px_jpeg.specs.Reading.{marks, after, code_of, count, is_whole, is_part_of, size_of, part_of, is_part, part, size}
+use Rattle.px_jpeg.proofs.Marks.{marks_fill, marks_other, Filled, filled_from_marks, all_fill, after_other}
 
 -- ---- the definitions, at what the code finds
 
 pub is_part_is : (x y : List ℕ) (n : ℕ) → n ≡ marks x → y ≡ drop n x → is_part_of n y ≡ is_part x
 unfolding is_part
-is_part_is x y n m e = ap (is_part_of n) (e ∙ ap (λ (k : ℕ). drop k x) m) ∙ ap (λ (k : ℕ). is_part_of k (behind x)) m
+is_part_is x y n m e = ap (is_part_of n) (e ∙ ap (λ (k : ℕ). drop k x) m) ∙ ap (λ (k : ℕ). is_part_of k (after x)) m
 
 pub part_is : (p : ℕ) (x y : List ℕ) (n : ℕ) → n ≡ marks x → y ≡ drop n x → part_of (p + n) y ≡ part p x
 unfolding part
-part_is p x y n m e = ap (part_of (p + n)) (e ∙ ap (λ (k : ℕ). drop k x) m) ∙ ap (λ (k : ℕ). part_of (p + k) (behind x)) m
+part_is p x y n m e = ap (part_of (p + n)) (e ∙ ap (λ (k : ℕ). drop k x) m) ∙ ap (λ (k : ℕ). part_of (p + k) (after x)) m
 
 pub size_is : (x y : List ℕ) (n : ℕ) → n ≡ marks x → y ≡ drop n x → n + size_of y ≡ size x
 unfolding size
-size_is x y n m e = ap (λ (z : List ℕ). n + size_of z) (e ∙ ap (λ (k : ℕ). drop k x) m) ∙ ap (λ (k : ℕ). k + size_of (behind x)) m
+size_is x y n m e = ap (λ (z : List ℕ). n + size_of z) (e ∙ ap (λ (k : ℕ). drop k x) m) ∙ ap (λ (k : ℕ). k + size_of (after x)) m
 
 part_alone : (p : ℕ) (y : List ℕ) → stands_alone (code_of y) ≡ true
     → ◌≡◌ {A = Part} (record { code = code_of y; start = p + 1; size = 0 }) (part_of p y)
@@ -93,7 +93,7 @@ module _ (x : List ℕ) (k c : ℕ) (z : List ℕ) (m : marks x ≡ suc k) (e : 
   coded_whole = fill_coded.whole ∙ ap (λ (y : List ℕ). fill_coded.fill ++ 255 ∷ y) e
 
   pub coded_other : c ≢ 255
-  coded_other = behind_other x z c (ap (λ (n : ℕ). drop n x) m ∙ e)
+  coded_other = after_other x z c (ap (λ (n : ℕ). drop n x) m ∙ e)
 
 pub found_zero : (x y : List ℕ) (n : ℕ) → n ≡ marks x → y ≡ drop n x → 1 ≤ n → 1 ≤ length y → code_of y ≡ 0
     → (fill : List ℕ) × (more : List ℕ) × AreFill fill × (x ≡ fill ++ 255 ∷ 0 ∷ more)
@@ -130,8 +130,8 @@ module _ (fill : List ℕ) (c : ℕ) (w : List ℕ) (f : AreFill fill) (o : c �
   pub opened_marks : marks (fill ++ 255 ∷ c ∷ w) ≡ length fill + 1
   opened_marks = marks_fill fill (255 ∷ c ∷ w) f ∙ ap (λ (n : ℕ). length fill + suc n) (marks_other c w o)
 
-  pub opened_behind : drop (length fill + 1) (fill ++ 255 ∷ c ∷ w) ≡ c ∷ w
-  opened_behind =
+  pub opened_after : drop (length fill + 1) (fill ++ 255 ∷ c ∷ w) ≡ c ∷ w
+  opened_after =
       ap (drop (length fill + 1)) (sym (append_assoc fill (255 ∷ []) (c ∷ w)))
       ∙ drop_at (fill ++ 255 ∷ []) (c ∷ w) (length fill + 1) (length-append fill (255 ∷ []))
 
@@ -148,7 +148,7 @@ reads_alone p q a rest r =
     let n = length r.fill + 1 in
     let whole : a ++ rest ≡ x = ap (λ (z : List ℕ). z ++ rest) r.whole ∙ append_assoc r.fill (255 ∷ q.code ∷ []) rest in
     let m : n ≡ marks x = sym (opened_marks r.fill q.code rest r.filled r.marker.1) in
-    let e : y ≡ drop n x = sym (opened_behind r.fill q.code rest r.filled r.marker.1) in
+    let e : y ≡ drop n x = sym (opened_after r.fill q.code rest r.filled r.marker.1) in
     let f = found_alone p x y n m e (omega arith) (omega arith) r.marker.0 r.alone in
     let s : q.start ≡ p + n + 1 = omega (arith, r.start) in
     let same : ◌≡◌ {A = Part} q (record { code = q.code; start = p + n + 1; size = 0 }) =
@@ -169,7 +169,7 @@ reads_segment p q a rest r =
     let whole : a ++ rest ≡ x = ap (λ (z : List ℕ). z ++ rest) r.whole ∙ append_assoc r.fill
     (255 ∷ q.code ∷ r.high ∷ r.low ∷ r.octets) rest in
     let m : n ≡ marks x = sym (opened_marks r.fill q.code (r.high ∷ r.low ∷ (r.octets ++ rest)) r.filled r.marker.1) in
-    let e : y ≡ drop n x = sym (opened_behind r.fill q.code (r.high ∷ r.low ∷ (r.octets ++ rest)) r.filled r.marker.1) in
+    let e : y ≡ drop n x = sym (opened_after r.fill q.code (r.high ∷ r.low ∷ (r.octets ++ rest)) r.filled r.marker.1) in
     let c : count y ≡ 2 + length r.octets = r.counted in
     let l = length-append r.octets rest in
     let f = found_segment p x y n m e (omega arith) r.marker.0 r.segment (omega arith) (omega arith) (omega arith) in
@@ -199,13 +199,13 @@ pub record Begins (p : ℕ) (q : Part) (n : ℕ) (x : List ℕ) : Type 0 where
   pub long : length front ≡ n
 
 -- what the test of a part means
-pub record Holds (n : ℕ) (y : List ℕ) : Type 0 where
+pub record IsClaimed (n : ℕ) (y : List ℕ) : Type 0 where
   pub some : 1 ≤ n
   pub there : 1 ≤ length y
   pub nonzero : code_of y ≢ 0
   pub whole : (stands_alone (code_of y) ≡ true) ⊎ ((3 ≤ length y) × (2 ≤ count y) × (1 + count y ≤ length y))
 
-pub part_holds : (n : ℕ) (y : List ℕ) → is_part_of n y ≡ true → Holds n y
+pub part_holds : (n : ℕ) (y : List ℕ) → is_part_of n y ≡ true → IsClaimed n y
 part_holds n y h =
     let a = and_parts _ (is_whole y) h in
     let b = and_parts _ (not (code_of y == 0)) a.0 in
@@ -252,7 +252,7 @@ begins_alone p k c x z m e o s =
 begins_segment : (p k c h l : ℕ) (x z : List ℕ) → marks x ≡ suc k → drop (suc k) x ≡ c ∷ h ∷ l ∷ z → c ≢ 0 → stands_alone c ≡ false
     → 2 ≤ 256 * h + l → 256 * h + l ≤ 2 + length z
     → Begins p (part_of (p + suc k) (c ∷ h ∷ l ∷ z)) (suc k + size_of (c ∷ h ∷ l ∷ z)) x
-begins_segment p k c h l x z m e o s two room =
+begins_segment p k c h l x z m e o s two space =
     let y = c ∷ h ∷ l ∷ z in
     let f = fill_coded x k c (h ∷ l ∷ z) m e in
     let octets = take (256 * h + l - 2) z in
@@ -284,7 +284,7 @@ begins_segment p k c h l x z m e o s two room =
       long = long;
     }
 
-begins_of : (p k : ℕ) (x y : List ℕ) → marks x ≡ suc k → drop (suc k) x ≡ y → Holds (suc k) y
+begins_of : (p k : ℕ) (x y : List ℕ) → marks x ≡ suc k → drop (suc k) x ≡ y → IsClaimed (suc k) y
     → Begins p (part_of (p + suc k) y) (suc k + size_of y) x
 begins_of p k x [] m e holds = let t = holds.there in absurd (omega arith)
 begins_of p k x (c ∷ z) m e holds = elim (cases_Bool (stands_alone c)) [
@@ -303,13 +303,13 @@ begins_of p k x (c ∷ z) m e holds = elim (cases_Bool (stands_alone c)) [
 
 pub part_begins : (p : ℕ) (x : List ℕ) → is_part x ≡ true → Begins p (part p x) (size x) x
 part_begins p x h =
-    let e : is_part_of (marks x) (behind x) ≡ true = is_part_is x (behind x) (marks x) refl refl ∙ h in
-    of (marks x) refl (part_holds (marks x) (behind x) e)
+    let e : is_part_of (marks x) (after x) ≡ true = is_part_is x (after x) (marks x) refl refl ∙ h in
+    of (marks x) refl (part_holds (marks x) (after x) e)
   where
-    of : (n : ℕ) → n ≡ marks x → Holds (marks x) (behind x) → Begins p (part p x) (size x) x
+    of : (n : ℕ) → n ≡ marks x → IsClaimed (marks x) (after x) → Begins p (part p x) (size x) x
     of zero m h = let s = h.some in absurd (omega arith)
     of (suc k) m h =
-        let e : behind x ≡ drop (suc k) x = ap (λ (n : ℕ). drop n x) (sym m) in
-        let b = begins_of p k x (behind x) (sym m) (sym e) (subst (λ (n : ℕ). Holds n (behind x)) (sym m) h) in
-        subst (λ (n : ℕ). Begins p (part p x) n x) (size_is x (behind x) (suc k) m e)
-        (subst (λ (q : Part). Begins p q (suc k + size_of (behind x)) x) (part_is p x (behind x) (suc k) m e) b)
+        let e : after x ≡ drop (suc k) x = ap (λ (n : ℕ). drop n x) (sym m) in
+        let b = begins_of p k x (after x) (sym m) (sym e) (subst (λ (n : ℕ). IsClaimed n (after x)) (sym m) h) in
+        subst (λ (n : ℕ). Begins p (part p x) n x) (size_is x (after x) (suc k) m e)
+        (subst (λ (q : Part). Begins p q (suc k + size_of (after x)) x) (part_is p x (after x) (suc k) m e) b)

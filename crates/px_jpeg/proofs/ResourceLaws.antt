@@ -17,13 +17,13 @@ use Rattle.px_jpeg.specs.ResourceReading.{resources_of, rest_of}
 
 -- ---- what the test means
 
-pub record Holds (x : List ℕ) : Type 0 where
+pub record IsClaimed (x : List ℕ) : Type 0 where
   pub twelve : 12 ≤ length x
   pub signed : is_signature (take 4 x) ≡ true
   pub named : place x + 4 ≤ length x
   pub whole : place x + 4 + count_at x ≤ length x
 
-pub resource_holds : (x : List ℕ) → is_resource x ≡ true → Holds x
+pub resource_holds : (x : List ℕ) → is_resource x ≡ true → IsClaimed x
 unfolding is_resource
 resource_holds x h =
     let a = and_parts _ (nat_le (place x + 4 + count_at x) (length x)) h in
@@ -35,7 +35,7 @@ resource_holds x h =
       whole = leb-true (place x + 4 + count_at x) (length x) a.1;
     }
 
-pub holds_resource : (x : List ℕ) → Holds x → is_resource x ≡ true
+pub holds_resource : (x : List ℕ) → IsClaimed x → is_resource x ≡ true
 unfolding is_resource
 holds_resource x h =
     and_from _ (nat_le (place x + 4 + count_at x) (length x))
@@ -77,8 +77,8 @@ module _ (s1 s2 s3 s4 h l : ℕ) (name fill count octets rest : List ℕ) (f : l
   front_long : length front ≡ place block
   front_long = omega (arith, length-append name fill, place_is)
 
-  behind_is : drop (place block) block ≡ count ++ (octets ++ rest)
-  behind_is = ap (drop (place block)) regrouped ∙ drop_at front (count ++ (octets ++ rest)) (place block) front_long
+  after_is : drop (place block) block ≡ count ++ (octets ++ rest)
+  after_is = ap (drop (place block)) regrouped ∙ drop_at front (count ++ (octets ++ rest)) (place block) front_long
 
   long : length block ≡ 7 + length name + length fill + length count + length octets + length rest
   long =
@@ -91,7 +91,7 @@ module _ (s1 s2 s3 s4 h l : ℕ) (name fill count octets rest : List ℕ) (f : l
       )
 
   count_is : count_at block ≡ number4 count
-  count_is = ap number4 behind_is ∙ number4_front count (octets ++ rest) k
+  count_is = ap number4 after_is ∙ number4_front count (octets ++ rest) k
 
   pub block_reads : (p : ℕ) (r : Resource) → is_signature (s1 ∷ s2 ∷ s3 ∷ s4 ∷ []) ≡ true → number4 count ≡ length octets
       → r.number ≡ 256 * h + l → r.start ≡ p + 11 + length name + length fill → r.size ≡ length octets
@@ -166,59 +166,59 @@ module _ (p s1 s2 s3 s4 h l n : ℕ) (z : List ℕ) where
   abbrev fill : List ℕ
   fill = take odd (drop n z)
 
-  abbrev behind : List ℕ
-  behind = drop odd (drop n z)
+  abbrev after : List ℕ
+  after = drop odd (drop n z)
 
-  behind_place : drop (place x) x ≡ behind
-  behind_place =
+  after_place : drop (place x) x ≡ after
+  after_place =
       let e : place x ≡ suc (suc (suc (suc (suc (suc (suc (n + odd))))))) = omega arith in
       ap (λ (k : ℕ). drop k x) e ∙ sym (drop-drop odd n z)
 
-  module _ (t : Holds x) where
+  module _ (t : IsClaimed x) where
     abbrev count : List ℕ
-    count = take 4 behind
+    count = take 4 after
 
     abbrev octets : List ℕ
-    octets = take (count_at x) (drop 4 behind)
+    octets = take (count_at x) (drop 4 after)
 
     abbrev rest : List ℕ
-    rest = drop (count_at x) (drop 4 behind)
+    rest = drop (count_at x) (drop 4 after)
 
-    room : n + odd + 4 + count_at x ≤ length z
-    room = omega (arith, t.whole)
+    space : n + odd + 4 + count_at x ≤ length z
+    space = omega (arith, t.whole)
 
     name_long : length name ≡ n
-    name_long = length-take-le n z (omega (arith, room))
+    name_long = length-take-le n z (omega (arith, space))
 
     fill_long : length fill ≡ odd
-    fill_long = length-take-le odd (drop n z) (omega (arith, room, length-drop n z))
+    fill_long = length-take-le odd (drop n z) (omega (arith, space, length-drop n z))
 
-    behind_long : 4 + count_at x ≤ length behind
-    behind_long = omega (arith, room, length-drop odd (drop n z), length-drop n z)
+    after_long : 4 + count_at x ≤ length after
+    after_long = omega (arith, space, length-drop odd (drop n z), length-drop n z)
 
     count_long : length count ≡ 4
-    count_long = length-take-le 4 behind (omega (arith, behind_long))
+    count_long = length-take-le 4 after (omega (arith, after_long))
 
     octets_long : length octets ≡ count_at x
-    octets_long = length-take-le (count_at x) (drop 4 behind) (omega (arith, behind_long, length-drop 4 behind))
+    octets_long = length-take-le (count_at x) (drop 4 after) (omega (arith, after_long, length-drop 4 after))
 
     counted : number4 count ≡ length octets
     counted =
-        sym (number4_front count (drop 4 behind) count_long) ∙ ap number4 (take-append-drop 4 behind) ∙ ap number4 (sym behind_place)
+        sym (number4_front count (drop 4 after) count_long) ∙ ap number4 (take-append-drop 4 after) ∙ ap number4 (sym after_place)
         ∙ sym octets_long
 
-    spelled : z ≡ name ++ (fill ++ (count ++ (octets ++ rest)))
-    spelled =
+    encoded : z ≡ name ++ (fill ++ (count ++ (octets ++ rest)))
+    encoded =
         sym (take-append-drop n z)
         ∙ ap (λ (w : List ℕ). name ++ w) (sym (take-append-drop odd (drop n z))
-        ∙ ap (λ (w : List ℕ). fill ++ w) (sym (take-append-drop 4 behind)
-        ∙ ap (λ (w : List ℕ). count ++ w) (sym (take-append-drop (count_at x) (drop 4 behind)))))
+        ∙ ap (λ (w : List ℕ). fill ++ w) (sym (take-append-drop 4 after)
+        ∙ ap (λ (w : List ℕ). count ++ w) (sym (take-append-drop (count_at x) (drop 4 after)))))
 
     abbrev cut : List ℕ
     cut = s1 ∷ s2 ∷ s3 ∷ s4 ∷ h ∷ l ∷ n ∷ (name ++ (fill ++ (count ++ octets)))
 
     whole : x ≡ cut ++ rest
-    whole = ap (λ (w : List ℕ). s1 ∷ s2 ∷ s3 ∷ s4 ∷ h ∷ l ∷ n ∷ w) (spelled ∙ simp append_assoc)
+    whole = ap (λ (w : List ℕ). s1 ∷ s2 ∷ s3 ∷ s4 ∷ h ∷ l ∷ n ∷ w) (encoded ∙ simp append_assoc)
 
     cut_long : length cut ≡ place x + 4 + count_at x
     cut_long =
@@ -315,9 +315,9 @@ from_sequence (suc n) p x l = elim (cases_Bool (is_resource x)) [
   )
 ]
 
-pub says_resources : (x : List ℕ) → HasResources x (resources_of 0 x) (rest_of x)
+pub means_resources : (x : List ℕ) → HasResources x (resources_of 0 x) (rest_of x)
 unfolding resources_of rest_of
-says_resources x =
+means_resources x =
     let (s, e) = from_sequence (length x) 0 x (omega arith) in record {
       sequence = s;
       over = λ p r a b w i. both_ways (is_resource (rest_of x)) e (ap is_resource w ∙ (resource_reads p r a b i).there);
@@ -436,7 +436,7 @@ sequence_inside (r ∷ rs) p q x rest (a, b, w, i, s) (inr l) =
         inr (omega (arith, length-drop (r.size % 2) b))
 
 pub resources_inside : (x : List ℕ) → ResourcesInside x (resources_of 0 x)
-resources_inside x = sequence_inside (resources_of 0 x) 0 (length x) x (rest_of x) (says_resources x).sequence (inr (omega arith))
+resources_inside x = sequence_inside (resources_of 0 x) 0 (length x) x (rest_of x) (means_resources x).sequence (inr (omega arith))
 
 -- ---- one step of a walk
 

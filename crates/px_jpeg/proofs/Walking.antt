@@ -7,11 +7,11 @@ use Rattle.std.proofs.lemmas.Bool.{and_parts}
 use Rattle.std.proofs.lemmas.List.{drop-drop}
 use Rattle.px_jpeg.specs.declared.parts.Part.{Part}
 use Rattle.px_jpeg.specs.Head.{is_last, IsPart, HasHead}
-use Rattle.px_jpeg.specs.Fault.{Behind}
+use Rattle.px_jpeg.specs.Fault.{SplitAt}
 use Rattle.px_jpeg.specs.Reading.{is_part, part, size, starts, head_of}
 use Rattle.px_jpeg.proofs.OnePart.{Reads, Begins, part_begins}
-use Rattle.px_jpeg.proofs.ManyParts.{size_ge, spells_more, none_more, ends_behind}
-use Rattle.px_jpeg.proofs.HeadLaws.{said_computed}
+use Rattle.px_jpeg.proofs.ManyParts.{size_ge, encodes_more, none_more, ends_after}
+use Rattle.px_jpeg.proofs.HeadLaws.{meaning_is_computed}
 
 -- where a part ends
 pub part_end : (p : ℕ) (q : Part) (a : List ℕ) → IsPart p q a → q.start + q.size ≡ p + length a
@@ -40,29 +40,29 @@ module _ (b : List ℕ) (at : ℕ) (y : List ℕ) (q : Part) (e : y ≡ drop at 
   pub rest_after : drop (size y) y ≡ drop (q.start + q.size) b
   rest_after = ap (drop (size y)) e ∙ drop-drop (size y) at b ∙ ap (λ (n : ℕ). drop n b) (sym end_is)
 
-  module _ (ps : List Part) (r : Behind b ps (drop at b) at) where
+  module _ (ps : List Part) (r : SplitAt b ps (drop at b) at) where
     whole_is : b ≡ 255 ∷ 216 ∷ ((r.front ++ begun.front) ++ drop (q.start + q.size) b)
     whole_is =
         r.whole
         ∙ ap (λ (z : List ℕ). 255 ∷ 216 ∷ (r.front ++ z)) (sym e ∙ begun.whole ∙ ap (λ (z : List ℕ). begun.front ++ z) rest_after)
         ∙ ap (λ (z : List ℕ). 255 ∷ 216 ∷ z) (sym (append_assoc r.front begun.front (drop (q.start + q.size) b)))
 
-    pub next_behind : is_last q.code ≡ false → Behind b (ps ++ q ∷ []) (drop (q.start + q.size) b) (q.start + q.size)
-    next_behind l = record {
+    pub next_after : is_last q.code ≡ false → SplitAt b (ps ++ q ∷ []) (drop (q.start + q.size) b) (q.start + q.size)
+    next_after l = record {
       front = r.front ++ begun.front;
       whole = whole_is;
-      spells = spells_more ps 2 r.front q begun.front r.spells (subst (λ (k : ℕ). IsPart k q begun.front) r.place begun.is);
+      encodes = encodes_more ps 2 r.front q begun.front r.encodes (subst (λ (k : ℕ). IsPart k q begun.front) r.place begun.is);
       before = none_more ps q r.before l;
       place = omega (arith, end_is, begun.long, r.place, length-append r.front begun.front);
     }
 
-    pub says_head : is_last q.code ≡ true → HasHead b (ps ++ q ∷ [])
-    says_head l = record {
-      spelled = r.front ++ begun.front;
+    pub means_head : is_last q.code ≡ true → HasHead b (ps ++ q ∷ [])
+    means_head l = record {
+      encoded = r.front ++ begun.front;
       rest = drop (q.start + q.size) b;
       whole = whole_is;
-      spells = spells_more ps 2 r.front q begun.front r.spells (subst (λ (k : ℕ). IsPart k q begun.front) r.place begun.is);
-      ends = ends_behind ps q r.before l;
+      encodes = encodes_more ps 2 r.front q begun.front r.encodes (subst (λ (k : ℕ). IsPart k q begun.front) r.place begun.is);
+      ends = ends_after ps q r.before l;
     }
 
 -- the start mark was read
@@ -73,8 +73,8 @@ start_long b s =
 
 -- a head that was read is the one that is computed
 pub some_head : (b : List ℕ) (qs : List Part) → HasHead b qs → is_some (head_of b) ≡ true
-some_head b qs s = ap is_some (said_computed b qs s)
+some_head b qs s = ap is_some (meaning_is_computed b qs s)
 
 pub whole_head : (b : List ℕ) (qs : List Part) → HasHead b qs → HasHead b (unwrap_or (head_of b) [])
 whole_head b qs s =
-    subst (HasHead b) (sym (ap (λ (o : Option (List Part)). unwrap_or o []) (said_computed b qs s))) s
+    subst (HasHead b) (sym (ap (λ (o : Option (List Part)). unwrap_or o []) (meaning_is_computed b qs s))) s

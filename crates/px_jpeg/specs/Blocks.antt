@@ -1,35 +1,35 @@
 -- The blocks of Exif and of IPTC in a picture with this head.
 use Rattle.std.specs.Prelude.{◌==◌, ℕ, if◌then◌else◌, Option, Some, None, List, [], ◌∷◌, ◌++◌, filter_map, flat_map}
 use Rattle.px_jpeg.specs.declared.parts.Part.{Part}
-use Rattle.px_jpeg.specs.declared.pieces.Kind.{Kind}
-use Rattle.px_jpeg.specs.declared.pieces.Kind.TheVariants.{Exif, Photoshop}
+use Rattle.px_jpeg.specs.declared.pieces.SegmentKind.{SegmentKind}
+use Rattle.px_jpeg.specs.declared.pieces.SegmentKind.TheVariants.{Exif, Photoshop}
 use Rattle.px_jpeg.specs.declared.pieces.Piece.{Piece}
 use Rattle.px_jpeg.specs.Pieces.{range, pieces}
 use Rattle.px_jpeg.specs.ResourceReading.{resources_of}
 
 -- one or more pieces, joined
-pub record Block : Type 0 where
-  pub kind : Kind
+pub record JoinedBlock : Type 0 where
+  pub kind : SegmentKind
   pub octets : List ℕ
 
 abbrev pub piece_octets : List ℕ → Piece → List ℕ
 piece_octets b p = range b p.start p.size
 
 -- the bytes of the pieces that continue a block before them, and the blocks that begin in them
-unfoldable pub joined : List ℕ → List Piece → List ℕ × List Block
+unfoldable pub joined : List ℕ → List Piece → List ℕ × List JoinedBlock
 joined b [] = ([], [])
 joined b (p ∷ ps) =
     if p.begins
     then ([], record { kind = p.kind; octets = piece_octets b p ++ (joined b ps).0 } ∷ (joined b ps).1)
     else (piece_octets b p ++ (joined b ps).0, (joined b ps).1)
 
-abbrev pub blocks : List ℕ → List Part → List Block
+abbrev pub blocks : List ℕ → List Part → List JoinedBlock
 blocks b parts = (joined b (pieces b None parts)).1
 
-abbrev pub exif_in : Block → Option (List ℕ)
+abbrev pub exif_in : JoinedBlock → Option (List ℕ)
 exif_in k = exif_of k.kind
   where
-    exif_of : Kind → Option (List ℕ)
+    exif_of : SegmentKind → Option (List ℕ)
     exif_of Exif = Some k.octets
     exif_of other = None
 
@@ -38,10 +38,10 @@ abbrev pub exif_blocks : List ℕ → List Part → List (List ℕ)
 exif_blocks b parts = filter_map exif_in (blocks b parts)
 
 -- the data of the resources of number 0x0404
-abbrev pub iptc_in : Block → List (List ℕ)
+abbrev pub iptc_in : JoinedBlock → List (List ℕ)
 iptc_in k = iptc_of k.kind
   where
-    iptc_of : Kind → List (List ℕ)
+    iptc_of : SegmentKind → List (List ℕ)
     iptc_of Photoshop = filter_map (λ r. if r.number == 1028 then Some (range k.octets r.start r.size) else None) (resources_of 0 k.octets)
     iptc_of other = []
 

@@ -2,20 +2,20 @@
 use Rattle.std.specs.Prelude.{◌≡◌, ◌⊎◌, ◌<◌, ℕ, false, true, Option, Some, None, List, [], ◌∷◌, ◌++◌, drop}
 use Rattle.std.specs.List.{AllByRecursion}
 use Rattle.px_jpeg.specs.declared.parts.Part.{Part}
-use Rattle.px_jpeg.specs.declared.pieces.Kind.{Kind}
-use Rattle.px_jpeg.specs.declared.pieces.Kind.TheVariants.{Exif}
+use Rattle.px_jpeg.specs.declared.pieces.SegmentKind.{SegmentKind}
+use Rattle.px_jpeg.specs.declared.pieces.SegmentKind.TheVariants.{Exif}
 use Rattle.px_jpeg.specs.declared.pieces.Piece.{Piece}
-use Rattle.px_jpeg.specs.declared.faults.Cause.{Cause}
-use Rattle.px_jpeg.specs.Head.{IsPart, Spells, HasHead}
-use Rattle.px_jpeg.specs.Fault.{Fault, FaultAfter}
-use Rattle.px_jpeg.specs.Pieces.{range, kind_of, pieces}
+use Rattle.px_jpeg.specs.declared.faults.HeadCause.{HeadCause}
+use Rattle.px_jpeg.specs.Head.{IsPart, Encodes, HasHead}
+use Rattle.px_jpeg.specs.Fault.{HasHeadFault, FaultAfter}
+use Rattle.px_jpeg.specs.Pieces.{range, segment_kind, pieces}
 
 -- the picture b begins with these parts: after SOI, FF D8, they come one after another
 pub record BeginsWith (b : List ℕ) (parts : List Part) : Type 0 where
-  pub spelled : List ℕ
+  pub encoded : List ℕ
   pub rest : List ℕ
-  pub whole : b ≡ 255 ∷ 216 ∷ (spelled ++ rest)
-  pub spells : Spells 2 parts spelled
+  pub whole : b ≡ 255 ∷ 216 ∷ (encoded ++ rest)
+  pub encodes : Encodes 2 parts encoded
 
 -- or there are none
 abbrev pub HasFront : List ℕ → List Part → Type 0
@@ -24,9 +24,9 @@ HasFront b parts = (parts ≡ []) ⊎ BeginsWith b parts
 -- ---- a block of Exif that may go on
 
 -- what the last of some parts contains
-abbrev pub last_kind : List ℕ → Option Kind → List Part → Option Kind
+abbrev pub last_kind : List ℕ → Option SegmentKind → List Part → Option SegmentKind
 last_kind b last [] = last
-last_kind b last (q ∷ qs) = last_kind b (kind_of q.code (range b q.start q.size)) qs
+last_kind b last (q ∷ qs) = last_kind b (segment_kind q.code (range b q.start q.size)) qs
 
 -- with some more bytes, x is a part (T.81, B.1.1.4) that continues the Exif of the part before it (CIPA DC-008, 4.7.2)
 pub record MayContinue (x : List ℕ) : Type 0 where
@@ -57,10 +57,10 @@ abbrev pub AreEnded : List ℕ → List Part → List ℕ → List Part → Type
 AreEnded b all x parts = ((AreOpen b all x → ⊥) × (parts ≡ all)) ⊎ (AreOpen b all x × WithoutLast b all parts)
 
 -- the head has its first fault at offset p, and these are the parts whose blocks end before it
-abbrev pub EndedBefore : List ℕ → List Part → Cause → ℕ → Type 0
+abbrev pub EndedBefore : List ℕ → List Part → HeadCause → ℕ → Type 0
 EndedBefore b parts cause p = (all : List Part) × FaultAfter b all cause p × AreEnded b all (drop p b) parts
 
 -- the parts of the head or, if it has a fault, those whose blocks end before it
 pub record IsEnded (b : List ℕ) (parts : List Part) : Type 0 where
   pub head : (whole : List Part) → HasHead b whole → parts ≡ whole
-  pub fault : (cause : Cause) (p : ℕ) → Fault b cause p → EndedBefore b parts cause p
+  pub fault : (cause : HeadCause) (p : ℕ) → HasHeadFault b cause p → EndedBefore b parts cause p

@@ -48,27 +48,27 @@ abbrev pub IsPart : ℕ → Part → List ℕ → Type 0
 IsPart p q x = IsAlone p q x ⊎ IsSegment p q x
 
 -- the bytes x at offset p are these parts, one after another
-abbrev pub Spells : ℕ → List Part → List ℕ → Type 0
-Spells p [] x = x ≡ []
-Spells p (q ∷ qs) x = (a : List ℕ) × (b : List ℕ) × (x ≡ a ++ b) × IsPart p q a × Spells (p + length a) qs b
+abbrev pub Encodes : ℕ → List Part → List ℕ → Type 0
+Encodes p [] x = x ≡ []
+Encodes p (q ∷ qs) x = (a : List ℕ) × (b : List ℕ) × (x ≡ a ++ b) × IsPart p q a × Encodes (p + length a) qs b
 
 -- none of them is the last of a head
 abbrev pub NoneLast : List Part → Type 0
 NoneLast qs = AllByRecursion (λ q. is_last q.code ≡ false) qs
 
 -- the last of them, and no other, is the last of a head
-abbrev pub Ends : List Part → Type 0
-Ends [] = ⊥
-Ends (q ∷ []) = is_last q.code ≡ true
-Ends (q ∷ r ∷ qs) = (is_last q.code ≡ false) × Ends (r ∷ qs)
+abbrev pub EndsAtLast : List Part → Type 0
+EndsAtLast [] = ⊥
+EndsAtLast (q ∷ []) = is_last q.code ≡ true
+EndsAtLast (q ∷ r ∷ qs) = (is_last q.code ≡ false) × EndsAtLast (r ∷ qs)
 
 -- the picture b has these parts before its first scan: after SOI, FF D8, they are all parts up to the first that is SOS or EOI
 pub record HasHead (b : List ℕ) (parts : List Part) : Type 0 where
-  pub spelled : List ℕ
+  pub encoded : List ℕ
   pub rest : List ℕ
-  pub whole : b ≡ 255 ∷ 216 ∷ (spelled ++ rest)
-  pub spells : Spells 2 parts spelled
-  pub ends : Ends parts
+  pub whole : b ≡ 255 ∷ 216 ∷ (encoded ++ rest)
+  pub encodes : Encodes 2 parts encoded
+  pub ends : EndsAtLast parts
 
 -- a picture with a head, and the parts of the head
 pub record Picture : Type 0 where

@@ -8,4 +8,5 @@ pub mod Resources
 pub mod Blocks
 pub mod Extended
 pub mod Front
+pub mod Xmp
 pub mod calls

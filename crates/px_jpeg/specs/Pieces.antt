@@ -4,8 +4,8 @@ use Rattle.std.specs.Prelude.{Option, Some, None, List, [], ◌∷◌}
 use Rattle.std.specs.Prelude.{◌++◌, codes, length, take, drop}
 use Rattle.std.specs.List.{AllByRecursion, starts_with}
 use Rattle.px_jpeg.specs.declared.parts.Part.{Part}
-use Rattle.px_jpeg.specs.declared.pieces.Kind.{Kind}
-use Rattle.px_jpeg.specs.declared.pieces.Kind.TheVariants.{Exif, Photoshop, Xmp, ExtendedXmp}
+use Rattle.px_jpeg.specs.declared.pieces.SegmentKind.{SegmentKind}
+use Rattle.px_jpeg.specs.declared.pieces.SegmentKind.TheVariants.{Exif, Photoshop, Xmp, ExtendedXmp}
 use Rattle.px_jpeg.specs.declared.pieces.Piece.{Piece}
 use Rattle.px_jpeg.specs.declared.contents.HeadPart.{HeadPart}
 
@@ -47,15 +47,15 @@ unfoldable pub is_extended : ℕ → List ℕ → Bool
 is_extended = is_marked 225 extended_mark
 
 -- what a segment with this marker and these data contains
-unfoldable pub kind_of : ℕ → List ℕ → Option Kind
-kind_of code octets =
+unfoldable pub segment_kind : ℕ → List ℕ → Option SegmentKind
+segment_kind code octets =
     if is_exif code octets then Some Exif
     else if is_photoshop code octets then Some Photoshop
     else if is_xmp code octets then Some Xmp
     else if is_extended code octets then Some ExtendedXmp
     else None
 
-abbrev pub mark_len : Kind → ℕ
+abbrev pub mark_len : SegmentKind → ℕ
 mark_len Exif = 6
 mark_len Photoshop = 14
 mark_len Xmp = 29
@@ -66,7 +66,7 @@ unfoldable pub is_header : List ℕ → Bool
 is_header octets = starts_with nat_eq octets (73 ∷ 73 ∷ 42 ∷ 0 ∷ []) || starts_with nat_eq octets (77 ∷ 77 ∷ 0 ∷ 42 ∷ [])
 
 -- Exif without a header continues the Exif of the part before, and Photoshop's resources those of the part before; all else begins a block
-abbrev pub begins : Kind → Option Kind → List ℕ → Bool
+abbrev pub begins : SegmentKind → Option SegmentKind → List ℕ → Bool
 begins Exif (Some Exif) octets = is_header octets
 begins Photoshop (Some Photoshop) octets = false
 begins kind last octets = true
@@ -74,7 +74,7 @@ begins kind last octets = true
 abbrev pub range : List ℕ → ℕ → ℕ → List ℕ
 range b start size = take size (drop start b)
 
-abbrev pub piece_of : List ℕ → Part → Kind → Option Kind → Piece
+abbrev pub piece_of : List ℕ → Part → SegmentKind → Option SegmentKind → Piece
 piece_of b q k last = record {
   kind = k;
   begins = begins k last (range b (q.start + mark_len k) (q.size - mark_len k));
@@ -83,23 +83,23 @@ piece_of b q k last = record {
 }
 
 -- a part's piece, if it has a kind, after a part of the kind `last`
-abbrev pub piece_in : List ℕ → Part → Option Kind → Option Kind → List Piece
+abbrev pub piece_in : List ℕ → Part → Option SegmentKind → Option SegmentKind → List Piece
 piece_in b q last None = []
 piece_in b q last (Some k) = piece_of b q k last ∷ []
 
 -- the pieces of some parts, in order
-abbrev pub pieces : List ℕ → Option Kind → List Part → List Piece
+abbrev pub pieces : List ℕ → Option SegmentKind → List Part → List Piece
 pieces b last [] = []
 pieces b last (q ∷ qs) =
-    piece_in b q last (kind_of q.code (range b q.start q.size)) ++ pieces b (kind_of q.code (range b q.start q.size)) qs
+    piece_in b q last (segment_kind q.code (range b q.start q.size)) ++ pieces b (segment_kind q.code (range b q.start q.size)) qs
 
 -- a part with its piece, if it has a kind
-abbrev pub head_part : List ℕ → Part → Option Kind → Option Kind → HeadPart
+abbrev pub head_part : List ℕ → Part → Option SegmentKind → Option SegmentKind → HeadPart
 head_part b q last None = record { part = q; piece = None }
 head_part b q last (Some k) = record { part = q; piece = Some (piece_of b q k last) }
 
 -- some parts, in order, each with its piece
-abbrev pub with_pieces : List ℕ → Option Kind → List Part → List HeadPart
+abbrev pub with_pieces : List ℕ → Option SegmentKind → List Part → List HeadPart
 with_pieces b last [] = []
 with_pieces b last (q ∷ qs) =
-    head_part b q last (kind_of q.code (range b q.start q.size)) ∷ with_pieces b (kind_of q.code (range b q.start q.size)) qs
+    head_part b q last (segment_kind q.code (range b q.start q.size)) ∷ with_pieces b (segment_kind q.code (range b q.start q.size)) qs

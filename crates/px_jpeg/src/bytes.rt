@@ -11,7 +11,7 @@ pub(crate) fn rest(bytes: &[u8], at: usize) -> &[u8]
 }
 
 // The bytes of a range.
-pub(crate) fn range(bytes: &[u8], start: usize, size: usize) -> &[u8]
+pub(crate) fn bytes_at(bytes: &[u8], start: usize, size: usize) -> &[u8]
     requires { start + size ≤ length bytes.now }
     ensures { result.now ≡ take size (drop start bytes.now) }
 {

@@ -2,10 +2,10 @@
 ghost use Rattle.std.specs.Prelude.{◌≡◌, ◌≤◌, ◌+◌, None, length, IfSome};
 ghost use Rattle.px_jpeg.specs.Pieces.{mark_len, head_part, with_pieces, AllInside};
 
-use crate::bytes::range;
+use crate::bytes::bytes_at;
 use crate::head::Parts;
 use crate::parts::Part;
-use crate::pieces::{Kind, Piece, kind_of, piece_of};
+use crate::pieces::{Piece, SegmentKind, piece_of, segment_kind};
 use std::marker::Model;
 
 /// A part of a head, and the piece in it.
@@ -18,7 +18,12 @@ pub struct HeadPart {
 }
 
 // A part of this kind, after one of the kind `last`, with its piece.
-fn head_part(bytes: &[u8], part: Part, kind: Option<Kind>, last: Option<Kind>) -> HeadPart
+fn head_part(
+    bytes: &[u8],
+    part: Part,
+    kind: Option<SegmentKind>,
+    last: Option<SegmentKind>,
+) -> HeadPart
     requires inside { part.start + part.size ≤ length bytes.now }
     requires marked { IfSome kind (λ k. mark_len k ≤ part.size) }
     ensures { result ≡ head_part bytes.now part last kind }
@@ -51,7 +56,7 @@ pub struct WithPieces<'a> {
     bytes: &'a [u8],
     parts: Parts<'a>,
     // The kind of the part before.
-    last: Option<Kind>,
+    last: Option<SegmentKind>,
 }
 
 impl<'a> Model for WithPieces<'a> {
@@ -88,7 +93,7 @@ impl<'a> Iterator for WithPieces<'a> {
         let Some(part) = self.parts.next() else {
             return None;
         };
-        let kind = kind_of(part.code, range(self.bytes, part.start, part.size));
+        let kind = segment_kind(part.code, bytes_at(self.bytes, part.start, part.size));
         let found = head_part(self.bytes, part, kind, self.last);
         self.last = kind;
         Some(found)

@@ -18,9 +18,10 @@ pub struct Extended {
 }
 
 /// Reads where a piece of extended XMP belongs, from the bytes of a `Piece` of the kind `ExtendedXmp`. The first 32
-/// bytes are the identifier of the text, which the packet of XMP names too; the text begins at `EXTENDED_HEAD`.
-/// `None`: there are fewer bytes. It doesn't look at the identifier, nor whether the piece fits in the text.
-/// Allocates nothing.
+/// bytes are the identifier of the text, which the packet of XMP names too; then come two numbers of four bytes, most
+/// significant first: the length of the whole text (`total`), and the offset of the piece in it; the text begins at
+/// `EXTENDED_HEAD`, 40. `None`: there are fewer bytes than that. It doesn't look at the identifier, nor whether the
+/// piece fits in the text. Allocates nothing.
 pub fn read_extended(octets: &[u8]) -> Option<Extended>
     ensures { MatchOption result (length octets.now < head_len) (λ x. IsExtended octets.now x) }
 {

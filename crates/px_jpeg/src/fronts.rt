@@ -1,15 +1,17 @@
 // The first parts of a picture: those whose blocks end before the head's fault.
 ghost use Rattle.std.specs.Prelude.{◌≡◌, ◌≤◌, ◌+◌, ◌↔◌, true, false, None, Some, IsTrue, IfSome, MatchOption, length, take};
-ghost use Rattle.px_jpeg.specs.declared.pieces.Kind.TheVariants.{Exif};
+ghost use Rattle.px_jpeg.specs.declared.pieces.SegmentKind.TheVariants.{Exif};
 ghost use Rattle.px_jpeg.specs.Front.{HasFront, IsEnded, MayContinue};
 ghost use Rattle.px_jpeg.specs.Pieces.{mark_len, piece_of, pieces, AllInside};
 ghost use Rattle.px_jpeg.specs.Reading.{is_part, starts, front};
 ghost use Rattle.px_jpeg.specs.calls.Later.{MayBeLater};
 
-use crate::bytes::{range, rest};
+use crate::bytes::{bytes_at, rest};
 use crate::head::{Parts, find_parts, starts};
 use crate::parts::{Part, is_last, marks, read_part};
-use crate::pieces::{APP1, Kind, Pieces, is_exif, is_header, kind_of, piece_of, pieces_in};
+use crate::pieces::{
+    APP1, Pieces, SegmentKind, is_exif, is_header, piece_of, pieces_in, segment_kind,
+};
 use std::marker::Model;
 
 /// The first parts of a picture: those of its head or, if the head has a fault, those whose blocks end before it. It
@@ -89,18 +91,23 @@ fn may_continue(octets: &[u8]) -> bool
 }
 
 // Whether the bytes after a part of the kind `last` may continue its block of Exif.
-fn is_open(last: Option<Kind>, octets: &[u8]) -> bool
+fn is_open(last: Option<SegmentKind>, octets: &[u8]) -> bool
     requires { is_part octets.now ≡ false }
     ensures { IsTrue result ↔ ((last ≡ Some Exif) × MayContinue octets.now) }
 {
     match last {
-        Some(Kind::Exif) => may_continue(octets),
+        Some(SegmentKind::Exif) => may_continue(octets),
         _ => false,
     }
 }
 
 // Whether a block begins in a part of this kind, after one of the kind `last`. Of a part of no kind, true.
-fn begins_block(bytes: &[u8], part: &Part, kind: Option<Kind>, last: Option<Kind>) -> bool
+fn begins_block(
+    bytes: &[u8],
+    part: &Part,
+    kind: Option<SegmentKind>,
+    last: Option<SegmentKind>,
+) -> bool
     requires inside { part.now.start + part.now.size ≤ length bytes.now }
     requires marked { IfSome kind (λ k. mark_len k ≤ part.now.size) }
     ensures { MatchOption kind (result ≡ true) (λ k. result ≡ (piece_of bytes.now part.now k last).begins) }
@@ -129,7 +136,7 @@ fn end_of_front(bytes: &[u8]) -> usize
             }
             return at;
         };
-        let kind = kind_of(part.code, range(bytes, part.start, part.size));
+        let kind = segment_kind(part.code, bytes_at(bytes, part.start, part.size));
         if begins_block(bytes, &part, kind, last) {
             begun = at;
         }
@@ -141,9 +148,10 @@ fn end_of_front(bytes: &[u8]) -> usize
     }
 }
 
-/// The first parts of the picture that begins with these bytes: those of its head or, if the head has a fault, those
-/// before it whose blocks end there. `read_head` tells which. If the bytes end before the head does, a block of Exif may
-/// go on in what follows: where that is so, its parts are left out. Allocates nothing.
+/// The first parts of the picture that begins with these bytes. There are none, or the bytes begin with FF D8 and these
+/// parts, one after another (`HasFront`). They are all parts of the head or, if it has a fault, all before the fault; but
+/// if the last is Exif, and what follows may become a segment that continues its block, then those before that block
+/// (`IsEnded`). Allocates nothing.
 pub fn find_front<'a>(bytes: &'a [u8]) -> Front<'a>
     ensures bytes { result.octets ≡ bytes.now }
     ensures ended { IsEnded bytes.now result.parts }

@@ -2,12 +2,12 @@
 ghost use Rattle.std.specs.Prelude.{◌≡◌, length, MatchResult};
 ghost use Rattle.px_jpeg.specs.Head.{HasHead};
 ghost use Rattle.px_jpeg.specs.Pieces.{AllInside};
-ghost use Rattle.px_jpeg.specs.Fault.{Fault, IsFront};
+ghost use Rattle.px_jpeg.specs.Fault.{HasHeadFault, IsFront};
 ghost use Rattle.px_jpeg.specs.Front.{HasFront};
 ghost use Rattle.px_jpeg.specs.Reading.{starts, front};
 
 use crate::bytes::rest;
-use crate::faults::{Cause, HeadFault};
+use crate::faults::{HeadCause, HeadFault};
 use crate::fronts::{Front, front_in};
 use crate::parts::{Part, is_last, read_part};
 use std::marker::Model;
@@ -46,11 +46,11 @@ pub(crate) fn starts(bytes: &[u8]) -> bool
 /// `HeadCut`: the bytes end before the part, or before the head, does.
 pub fn read_head<'a>(bytes: &'a [u8]) -> Result<Head<'a>, HeadFault>
     ensures { MatchResult result (λ head. (head.octets ≡ bytes.now) × HasHead bytes.now head.parts)
-        (λ fault. Fault bytes.now fault.cause fault.place) }
+        (λ fault. HasHeadFault bytes.now fault.cause fault.place) }
 {
     if !starts(bytes) {
         return Err(HeadFault {
-            cause: Cause::NoStart,
+            cause: HeadCause::NoStart,
             place: 0,
         });
     }

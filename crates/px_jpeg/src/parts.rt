@@ -5,7 +5,7 @@ ghost use Rattle.px_jpeg.specs.Fault.{FaultAt};
 ghost use Rattle.px_jpeg.specs.Reading.{marks, is_part, part, size};
 
 use crate::bytes::rest;
-use crate::faults::Cause;
+use crate::faults::HeadCause;
 
 /// A part of a head: a marker, and the data of its segment. A marker that stands alone has no data.
 #[derive(Clone, Copy, Debug, PartialEq, Eq)]
@@ -46,21 +46,21 @@ pub(crate) fn marks(octets: &[u8]) -> usize
 }
 
 // The part at the start of some bytes, which are at offset `at`; or its fault.
-pub(crate) fn read_part(octets: &[u8], at: usize) -> Result<Part, Cause>
+pub(crate) fn read_part(octets: &[u8], at: usize) -> Result<Part, HeadCause>
     requires { at + length octets.now < 2 ^ 63 }
     ensures { MatchResult result (λ q. (is_part octets.now ≡ true) × (q ≡ part at octets.now)) (λ cause. FaultAt cause octets.now) }
 {
     let n = marks(octets);
     let body = rest(octets, n);
     if body.is_empty() {
-        return Err(Cause::HeadCut);
+        return Err(HeadCause::HeadCut);
     }
     if n == 0 {
-        return Err(Cause::NoMarker);
+        return Err(HeadCause::NoMarker);
     }
     let code = body[0];
     if code == 0 {
-        return Err(Cause::NoMarker);
+        return Err(HeadCause::NoMarker);
     }
     if stands_alone(code) {
         return Ok(Part {
@@ -70,14 +70,14 @@ pub(crate) fn read_part(octets: &[u8], at: usize) -> Result<Part, Cause>
         });
     }
     if body.len() < 3 {
-        return Err(Cause::HeadCut);
+        return Err(HeadCause::HeadCut);
     }
     let count = 256 * usize::from(body[1]) + usize::from(body[2]);
     if count < 2 {
-        return Err(Cause::LengthForm);
+        return Err(HeadCause::LengthForm);
     }
     if body.len() - 1 < count {
-        return Err(Cause::HeadCut);
+        return Err(HeadCause::HeadCut);
     }
     Ok(Part {
         code,

@@ -1,9 +1,9 @@
 // The segments of a head that contain Exif, Photoshop's image resources or XMP. CIPA DC-008, 4.7.2; Adobe Photoshop File Formats.
 ghost use Rattle.std.specs.Prelude.{◌≡◌, ◌≤◌, ◌<◌, ◌+◌, ◌∷◌, [], true, Some, None, length, take, drop, IfSome, MatchOption};
-ghost use Rattle.px_jpeg.specs.Pieces.{is_exif, is_photoshop, is_xmp, is_extended, kind_of, is_header, begins};
+ghost use Rattle.px_jpeg.specs.Pieces.{is_exif, is_photoshop, is_xmp, is_extended, segment_kind, is_header, begins};
 ghost use Rattle.px_jpeg.specs.Pieces.{mark_len, piece_of, pieces, AllInside};
 
-use crate::bytes::range;
+use crate::bytes::bytes_at;
 use crate::head::Parts;
 use crate::parts::Part;
 use std::marker::Model;
@@ -15,7 +15,7 @@ const APP13: u8 = 0xED;
 
 /// What a segment contains.
 #[derive(Clone, Copy, Debug, PartialEq, Eq)]
-pub enum Kind {
+pub enum SegmentKind {
     /// A block of Exif, or a part of one: an APP1 segment whose data begin with `Exif` and two zeros.
     Exif,
     /// Photoshop's image resources, or a part of them: an APP13 segment whose data begin with `Photoshop 3.0` and
@@ -32,7 +32,7 @@ pub enum Kind {
 #[derive(Clone, Copy, Debug, PartialEq, Eq)]
 pub struct Piece {
     /// What it contains.
-    pub kind: Kind,
+    pub kind: SegmentKind,
     /// Whether a block begins here. Otherwise it continues the block of the piece before.
     pub begins: bool,
     /// The offset of the bytes.
@@ -78,30 +78,30 @@ fn is_extended(code: u8, octets: &[u8]) -> bool
 }
 
 // What a segment of APP1 or APP13 with this marker and these data contains.
-#[tactic(auto, unfolding(crate::specs::Pieces::kind_of))]
-fn kind_in(code: u8, octets: &[u8]) -> Option<Kind>
-    ensures value { result ≡ kind_of code octets.now }
+#[tactic(auto, unfolding(crate::specs::Pieces::segment_kind))]
+fn kind_in(code: u8, octets: &[u8]) -> Option<SegmentKind>
+    ensures value { result ≡ segment_kind code octets.now }
     ensures few { IfSome result (λ kind. mark_len kind ≤ length octets.now) }
 {
     if is_exif(code, octets) {
-        return Some(Kind::Exif);
+        return Some(SegmentKind::Exif);
     }
     if is_photoshop(code, octets) {
-        return Some(Kind::Photoshop);
+        return Some(SegmentKind::Photoshop);
     }
     if is_xmp(code, octets) {
-        return Some(Kind::Xmp);
+        return Some(SegmentKind::Xmp);
     }
     if is_extended(code, octets) {
-        return Some(Kind::ExtendedXmp);
+        return Some(SegmentKind::ExtendedXmp);
     }
     None
 }
 
 // What a segment with this marker and these data contains. Most have another marker.
 #[inline(always)]
-pub(crate) fn kind_of(code: u8, octets: &[u8]) -> Option<Kind>
-    ensures value { result ≡ kind_of code octets.now }
+pub(crate) fn segment_kind(code: u8, octets: &[u8]) -> Option<SegmentKind>
+    ensures value { result ≡ segment_kind code octets.now }
     ensures few { IfSome result (λ kind. mark_len kind ≤ length octets.now) }
 {
     if code == APP1 || code == APP13 {
@@ -119,37 +119,42 @@ pub(crate) fn is_header(octets: &[u8]) -> bool
 }
 
 // Whether a block begins with these bytes, after a segment of the kind `last`.
-fn begins(kind: Kind, last: Option<Kind>, octets: &[u8]) -> bool
+fn begins(kind: SegmentKind, last: Option<SegmentKind>, octets: &[u8]) -> bool
     ensures { result ≡ begins kind last octets.now }
 {
     match kind {
-        Kind::Exif => match last {
-            Some(Kind::Exif) => is_header(octets),
+        SegmentKind::Exif => match last {
+            Some(SegmentKind::Exif) => is_header(octets),
             _ => true,
         },
-        Kind::Photoshop => match last {
-            Some(Kind::Photoshop) => false,
+        SegmentKind::Photoshop => match last {
+            Some(SegmentKind::Photoshop) => false,
             _ => true,
         },
-        Kind::Xmp | Kind::ExtendedXmp => true,
+        SegmentKind::Xmp | SegmentKind::ExtendedXmp => true,
     }
 }
 
 // The number of bytes that name the kind.
-fn mark_len(kind: Kind) -> usize
+fn mark_len(kind: SegmentKind) -> usize
     ensures value { result ≡ mark_len kind }
     ensures few { result ≤ 35 }
 {
     match kind {
-        Kind::Exif => 6,
-        Kind::Photoshop => 14,
-        Kind::Xmp => 29,
-        Kind::ExtendedXmp => 35,
+        SegmentKind::Exif => 6,
+        SegmentKind::Photoshop => 14,
+        SegmentKind::Xmp => 29,
+        SegmentKind::ExtendedXmp => 35,
     }
 }
 
 // The piece in a segment of this kind, after one of the kind `last`.
-pub(crate) fn piece_of(bytes: &[u8], part: &Part, kind: Kind, last: Option<Kind>) -> Piece
+pub(crate) fn piece_of(
+    bytes: &[u8],
+    part: &Part,
+    kind: SegmentKind,
+    last: Option<SegmentKind>,
+) -> Piece
     requires inside { part.now.start + part.now.size ≤ length bytes.now }
     requires marked { mark_len kind ≤ part.now.size }
     ensures { result ≡ piece_of bytes.now part.now kind last }
@@ -159,14 +164,14 @@ pub(crate) fn piece_of(bytes: &[u8], part: &Part, kind: Kind, last: Option<Kind>
     let size = part.size - mark;
     Piece {
         kind,
-        begins: begins(kind, last, range(bytes, start, size)),
+        begins: begins(kind, last, bytes_at(bytes, start, size)),
         start,
         size,
     }
 }
 
 // The next piece of the parts that are left.
-fn next_piece<'a>(bytes: &[u8], parts: &mut Parts<'a>, last: Option<Kind>) -> Option<Piece>
+fn next_piece<'a>(bytes: &[u8], parts: &mut Parts<'a>, last: Option<SegmentKind>) -> Option<Piece>
     requires { AllInside bytes.now parts.old }
     ensures inside { AllInside bytes.now parts.new }
     ensures steps { MatchOption result ((pieces bytes.now last parts.old ≡ []) × (parts.new ≡ []))
@@ -177,7 +182,7 @@ fn next_piece<'a>(bytes: &[u8], parts: &mut Parts<'a>, last: Option<Kind>) -> Op
         let Some(part) = parts.next() else {
             return None;
         };
-        match kind_of(part.code, range(bytes, part.start, part.size)) {
+        match segment_kind(part.code, bytes_at(bytes, part.start, part.size)) {
             Some(kind) => return Some(piece_of(bytes, &part, kind, before)),
             None => before = None,
         }
@@ -191,7 +196,7 @@ pub struct Pieces<'a> {
     bytes: &'a [u8],
     parts: Parts<'a>,
     // The kind of the part before.
-    last: Option<Kind>,
+    last: Option<SegmentKind>,
 }
 
 impl<'a> Model for Pieces<'a> {

@@ -69,7 +69,7 @@ fn after(found: &Resource, len: usize) -> usize
 /// Photoshop's image resources at the start of some bytes, in order. They end where no resource is: Photoshop
 /// writes nothing after the last, other programs write zeros. Allocates nothing.
 pub fn find_resources<'a>(bytes: &'a [u8]) -> Resources<'a>
-    ensures said { HasResources bytes.now result (rest_of bytes.now) }
+    ensures meaning { HasResources bytes.now result (rest_of bytes.now) }
     ensures computed { result ≡ resources_of 0 bytes.now }
     ensures inside { ResourcesInside bytes.now result }
 {

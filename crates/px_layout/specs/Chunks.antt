@@ -7,7 +7,7 @@ use Rattle.px_meaning.specs.Tree.{Thumbnail, Meaning}
 use Rattle.px_meaning.specs.Entry.{table_size}
 use Rattle.px_meaning.specs.Directory.{dirs}
 use Rattle.px_meaning.specs.Roles.{dir_number}
-use Rattle.px_meaning.specs.Fits.{Item, item_size, items}
+use Rattle.px_meaning.specs.Writable.{Item, item_size, items}
 use Rattle.px_layout.specs.declared.chunks.Chunk.{Chunk}
 use Rattle.px_layout.specs.declared.chunks.Chunk.TheVariants.{Table, Placed, Jpeg, Strip}
 

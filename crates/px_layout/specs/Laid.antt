@@ -6,13 +6,14 @@ use Rattle.std.specs.List.{range_with_len}
 use Rattle.px_bytes.specs.declared.Order.{Order}
 use Rattle.px_bytes.specs.Numbers.{spelling}
 use Rattle.px_field.specs.Forms.{code}
-use Rattle.px_field.specs.Values.{spelled}
+use Rattle.px_field.specs.Values.{encoded}
 use Rattle.px_meaning.specs.Iim.{normal_iim}
 use Rattle.px_meaning.specs.declared.Dir.{Dir}
 use Rattle.px_meaning.specs.declared.Dir.TheVariants.{Main, Thumb}
 use Rattle.px_meaning.specs.Tree.{Meaning, Thumbnail}
 use Rattle.px_meaning.specs.Directory.{magic, dirs}
-use Rattle.px_meaning.specs.Fits.{Item, Field, Iptc, Link, AtJpeg, JpegSize, AtStrips, StripSizes, item_form, item_count, item_size, items}
+use Rattle.px_meaning.specs.Writable.{Item, Field, Iptc, Link, AtJpeg, JpegSize, AtStrips, StripSizes, item_form, item_count, item_size}
+use Rattle.px_meaning.specs.Writable.{items}
 use Rattle.px_layout.specs.declared.chunks.Chunk.{Chunk}
 use Rattle.px_layout.specs.declared.chunks.Chunk.TheVariants.{Table, Placed, Jpeg, Strip}
 use Rattle.px_layout.specs.Plans.{Plan, place}
@@ -42,7 +43,7 @@ thumb_contents (Some t) = jpeg_contents t.jpeg ++ all_strip_contents t.strips
 module _ (plan : Plan) (o : Order) (filler : ℕ) where
   -- the value of an entry
   unfoldable pub item_bytes : Item → List ℕ
-  item_bytes (Field v) = spelled o v
+  item_bytes (Field v) = encoded o v
   item_bytes (Iptc i) = normal_iim i
   item_bytes (Link d) = long_bytes o (place plan (Table d))
   item_bytes AtJpeg = long_bytes o (place plan Jpeg)

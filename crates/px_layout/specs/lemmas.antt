@@ -1,5 +1,5 @@
 -- Lemmas. Readers of the promises don't need them.
-pub mod StandLaws
+pub mod PlacementLaws
 pub mod ItemLaws
 pub mod ReadLaws
 pub mod EntryLaws

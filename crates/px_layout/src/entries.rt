@@ -6,12 +6,12 @@ ghost use Rattle.std.specs.List.{AllByRecursion};
 ghost use Rattle.px_layout.specs.declared.entries.Extra.{Extra as CodeExtra};
 ghost use Rattle.px_bytes.specs.Parts.{limit};
 ghost use Rattle.px_meaning.specs.Iim.{normal_iim};
-ghost use Rattle.px_meaning.specs.Fits as spec;
-ghost use Rattle.px_meaning.specs.Fits.{Fits, FitsThumb, IsBytes, AtJpeg, JpegSize, AtStrips, StripSizes, Iptc, items, link, put_some};
-ghost use Rattle.px_meaning.specs.Fits.{main_items, exif_items, thumb_items, field_items};
+ghost use Rattle.px_meaning.specs.Writable as spec;
+ghost use Rattle.px_meaning.specs.Writable.{IsWritable, IsWritableThumb, IsBytes, AtJpeg, JpegSize, AtStrips, StripSizes, Iptc, items};
+ghost use Rattle.px_meaning.specs.Writable.{link, put_some, main_items, exif_items, thumb_items, field_items};
 ghost use Rattle.px_meaning.specs.calls.Seen.{exif_of, thumb_of, meaning_of};
-ghost use Rattle.px_layout.specs.calls.Items.{item_of, entry_of, IsCounted, rank};
-ghost use Rattle.px_layout.specs.calls.Layers.{IsAtRank, IsEntryAt, FindsEntryAt, over, IsClear};
+ghost use Rattle.px_layout.specs.calls.Items.{item_of, entry_of, CountsFit, rank};
+ghost use Rattle.px_layout.specs.calls.Layers.{IsAtRank, IsEntryAt, FindsEntryAt, with_extra, NoneBefore};
 
 use crate::items::{Entry, Item};
 use px_iim::Iim;
@@ -47,7 +47,7 @@ pub struct Entries<'m, 'a> {
 
 impl<'m, 'a> Model for Entries<'m, 'a> {
     ghost use Rattle.std.specs.Prelude.{List, ℕ};
-    ghost use Rattle.px_meaning.specs.Fits as spec;
+    ghost use Rattle.px_meaning.specs.Writable as spec;
     ghost use Rattle.px_layout.specs.calls.Layers.{entries_of, AreLayers};
 
     ghost Value = { List (ℕ × spec.Item) };
@@ -59,7 +59,7 @@ impl<'m, 'a> Model for Entries<'m, 'a> {
 
 // Looks up an index where one further entry may be.
 fn pass<'m, 'a>(extra: &Option<Extra<'m, 'a>>, i: usize) -> Step<'m, 'a>
-    ensures { (xs : List (ℕ × spec.Item)) → IsAtRank extra.now xs → i < length (over extra.now xs) → IsEntryAt result extra.now xs i }
+    ensures { (xs : List (ℕ × spec.Item)) → IsAtRank extra.now xs → i < length (with_extra extra.now xs) → IsEntryAt result extra.now xs i }
 {
     let Some(extra) = extra else {
         return Step::Under(i);
@@ -79,8 +79,9 @@ fn pass_both<'m, 'a>(
     lower: &Option<Extra<'m, 'a>>,
     i: usize,
 ) -> Step<'m, 'a>
-    ensures { (xs : List (ℕ × spec.Item)) → IsAtRank lower.now xs → IsAtRank upper.now (over lower.now xs)
-        → i < length (over upper.now (over lower.now xs)) → FindsEntryAt result (over upper.now (over lower.now xs)) xs i }
+    ensures { (xs : List (ℕ × spec.Item)) → IsAtRank lower.now xs → IsAtRank upper.now (with_extra lower.now xs)
+        → i < length (with_extra upper.now (with_extra lower.now xs))
+        → FindsEntryAt result (with_extra upper.now (with_extra lower.now xs)) xs i }
 {
     match pass(upper, i) {
         Step::Here(tag, item) => Step::Here(tag, item),
@@ -91,7 +92,7 @@ fn pass_both<'m, 'a>(
 // How many entries a further entry adds: one, or none if there is no such entry.
 #[tactic(auto, using(crate::proofs::plans::EntryLists::length_over))]
 fn number(extra: &Option<Extra>) -> usize
-    ensures added { (xs : List (ℕ × spec.Item)) → length (over extra.now xs) ≡ length xs + result }
+    ensures added { (xs : List (ℕ × spec.Item)) → length (with_extra extra.now xs) ≡ length xs + result }
     ensures bound { result ≤ 1 }
 {
     match extra {
@@ -102,7 +103,7 @@ fn number(extra: &Option<Extra>) -> usize
 
 // How many entries it adds before the first entry with a greater tag.
 fn adds(extra: &Option<Extra>, tag: u16) -> usize
-    ensures added { (xs : List (ℕ × spec.Item)) → rank tag (over extra.now xs) ≡ rank tag xs + result }
+    ensures added { (xs : List (ℕ × spec.Item)) → rank tag (with_extra extra.now xs) ≡ rank tag xs + result }
     ensures bound { result ≤ 1 }
 {
     let Some(extra) = extra else {
@@ -135,8 +136,8 @@ fn fields_before(fields: &Fields, tag: u16) -> usize
 
 // The smaller of an index and the index of a further entry.
 fn clear_of(extra: &Option<Extra>, most: usize) -> usize
-    ensures clear { IsClear result extra.now }
-    ensures others { (e : Option CodeExtra) → IsClear most e → IsClear result e }
+    ensures clear { NoneBefore result extra.now }
+    ensures others { (e : Option CodeExtra) → NoneBefore most e → NoneBefore result e }
 {
     match extra {
         Some(extra) => extra.place.min(most),
@@ -155,10 +156,11 @@ impl<'m, 'a> Entries<'m, 'a> {
     ) -> Entries<'m, 'a>
         requires few { length fields.now < 2 ^ 16 }
         requires first { IsAtRank first (field_items fields.now) }
-        requires second { IsAtRank second (over first (field_items fields.now)) }
-        requires third { IsAtRank third (over second (over first (field_items fields.now))) }
-        requires fourth { IsAtRank fourth (over third (over second (over first (field_items fields.now)))) }
-        ensures { result ≡ over fourth.entry (over third.entry (over second.entry (over first.entry (field_items fields.now)))) }
+        requires second { IsAtRank second (with_extra first (field_items fields.now)) }
+        requires third { IsAtRank third (with_extra second (with_extra first (field_items fields.now))) }
+        requires fourth { IsAtRank fourth (with_extra third (with_extra second (with_extra first (field_items fields.now)))) }
+        ensures { result ≡ with_extra fourth.entry (with_extra third.entry (with_extra second.entry (with_extra first.entry (field_items
+            fields.now)))) }
     {
         let clear = clear_of(&first, fields.len());
         let clear = clear_of(&second, clear);
@@ -185,11 +187,11 @@ impl<'m, 'a> Entries<'m, 'a> {
             + number(&self.fourth)
     }
 
-    /// The entry at index `i`, counted from 0.
+    /// The entry at index `i`, counted from 0, with its tag. Its counts and lengths fit into four bytes.
     pub fn at(&self, i: usize) -> Entry<'m, 'a>
         requires { i < length self.now }
         ensures entry { slice_get self.now i ≡ Some (entry_of result) }
-        ensures counted { IsCounted (item_of result.item) }
+        ensures counted { CountsFit (item_of result.item) }
     {
         if i < self.clear {
             let (tag, value) = self.fields.at(i);
@@ -205,7 +207,7 @@ impl<'m, 'a> Entries<'m, 'a> {
     fn at_between(&self, i: usize) -> Entry<'m, 'a>
         requires { i < length self.now }
         ensures entry { slice_get self.now i ≡ Some (entry_of result) }
-        ensures counted { IsCounted (item_of result.item) }
+        ensures counted { CountsFit (item_of result.item) }
     {
         let i = match pass_both(&self.fourth, &self.third, i) {
             Step::Here(tag, item) => return Entry { tag, item },
@@ -230,9 +232,10 @@ fn first_extra<'m, 'a>(
     tag: u16,
     item: Option<Item<'m, 'a>>,
 ) -> Option<Extra<'m, 'a>>
-    requires { IfSome (option_map item_of item) IsCounted }
+    requires { IfSome (option_map item_of item) CountsFit }
     ensures at_rank { IsAtRank result (field_items fields.now) }
-    ensures over { over result (field_items fields.now) ≡ put_some tag (option_map item_of item.entry) (field_items fields.now) }
+    ensures with_extra { with_extra result (field_items fields.now)
+        ≡ put_some tag (option_map item_of item.entry) (field_items fields.now) }
 {
     match item {
         Some(item) => Some(Extra {
@@ -251,10 +254,10 @@ fn second_extra<'m, 'a>(
     item: Option<Item<'m, 'a>>,
 ) -> Option<Extra<'m, 'a>>
     requires few { length fields.now < 2 ^ 16 }
-    requires counted { IfSome (option_map item_of item) IsCounted }
-    ensures at_rank { IsAtRank result (over first.now (field_items fields.now)) }
-    ensures over { over result (over first.now (field_items fields.now))
-        ≡ put_some tag (option_map item_of item.entry) (over first.now (field_items fields.now)) }
+    requires counted { IfSome (option_map item_of item) CountsFit }
+    ensures at_rank { IsAtRank result (with_extra first.now (field_items fields.now)) }
+    ensures with_extra { with_extra result (with_extra first.now (field_items fields.now))
+        ≡ put_some tag (option_map item_of item.entry) (with_extra first.now (field_items fields.now)) }
 {
     match item {
         Some(item) => Some(Extra {
@@ -274,10 +277,10 @@ fn third_extra<'m, 'a>(
     item: Option<Item<'m, 'a>>,
 ) -> Option<Extra<'m, 'a>>
     requires few { length fields.now < 2 ^ 16 }
-    requires counted { IfSome (option_map item_of item) IsCounted }
-    ensures at_rank { IsAtRank result (over second.now (over first.now (field_items fields.now))) }
-    ensures over { over result (over second.now (over first.now (field_items fields.now)))
-        ≡ put_some tag (option_map item_of item.entry) (over second.now (over first.now (field_items fields.now))) }
+    requires counted { IfSome (option_map item_of item) CountsFit }
+    ensures at_rank { IsAtRank result (with_extra second.now (with_extra first.now (field_items fields.now))) }
+    ensures with_extra { with_extra result (with_extra second.now (with_extra first.now (field_items fields.now)))
+        ≡ put_some tag (option_map item_of item.entry) (with_extra second.now (with_extra first.now (field_items fields.now))) }
 {
     match item {
         Some(item) => Some(Extra {
@@ -298,10 +301,10 @@ fn jpeg_extra<'m, 'a>(
     jpeg: Option<&[u8]>,
 ) -> Option<Extra<'m, 'a>>
     requires { length fields.now < 2 ^ 16 }
-    ensures at_rank { IsAtRank result (over third.now (over second.now (over first.now (field_items fields.now)))) }
-    ensures over { over result (over third.now (over second.now (over first.now (field_items fields.now))))
+    ensures at_rank { IsAtRank result (with_extra third.now (with_extra second.now (with_extra first.now (field_items fields.now)))) }
+    ensures with_extra { with_extra result (with_extra third.now (with_extra second.now (with_extra first.now (field_items fields.now))))
         ≡ put_some 0x0201 (option_map (λ _. AtJpeg) (option_map (λ x. x.now) jpeg.entry))
-        (over third.now (over second.now (over first.now (field_items fields.now)))) }
+        (with_extra third.now (with_extra second.now (with_extra first.now (field_items fields.now)))) }
 {
     let tag = 0x0201;
     match jpeg {
@@ -323,7 +326,7 @@ fn jpeg_extra<'m, 'a>(
 fn record_item<'m, 'a>(iim: &'m Option<Iim<'a>>) -> Option<Item<'m, 'a>>
     requires { IfSome iim.now (λ i. length (normal_iim i) ≤ 2 * limit) }
     ensures item { option_map item_of result ≡ option_map Iptc iim.now }
-    ensures counted { IfSome (option_map item_of result) IsCounted }
+    ensures counted { IfSome (option_map item_of result) CountsFit }
 {
     match iim {
         Some(iim) => Some(Item::Record(iim)),
@@ -353,7 +356,7 @@ fn fields_link<'m, 'a>(dir: Dir, fields: &Option<Fields>) -> Option<Item<'m, 'a>
 fn jpeg_length<'m, 'a>(jpeg: Option<&[u8]>) -> Option<Item<'m, 'a>>
     requires { IfSome (option_map (λ x. x.now) jpeg) IsBytes }
     ensures item { option_map item_of result ≡ option_map (λ x. JpegSize (length x)) (option_map (λ x. x.now) jpeg.entry) }
-    ensures counted { IfSome (option_map item_of result) IsCounted }
+    ensures counted { IfSome (option_map item_of result) CountsFit }
 {
     match jpeg {
         Some(jpeg) => Some(Item::JpegLength(jpeg.len() as u32)),
@@ -364,7 +367,7 @@ fn jpeg_length<'m, 'a>(jpeg: Option<&[u8]>) -> Option<Item<'m, 'a>>
 fn strip_offsets<'m, 'a>(strips: &'m Option<Strips<'a>>) -> Option<Item<'m, 'a>>
     requires { IfSome strips.now (λ s. length s ≤ limit) }
     ensures item { option_map item_of result ≡ option_map (λ s. AtStrips (length s)) strips.now }
-    ensures counted { IfSome (option_map item_of result) IsCounted }
+    ensures counted { IfSome (option_map item_of result) CountsFit }
 {
     match strips {
         Some(strips) => Some(Item::StripOffsets(strips)),
@@ -376,7 +379,7 @@ fn strip_offsets<'m, 'a>(strips: &'m Option<Strips<'a>>) -> Option<Item<'m, 'a>>
 fn strip_lengths<'m, 'a>(strips: &'m Option<Strips<'a>>) -> Option<Item<'m, 'a>>
     requires { IfSome strips.now (λ s. (length s ≤ limit) × AllByRecursion IsBytes s) }
     ensures item { option_map item_of result ≡ option_map (λ s. StripSizes (map (λ x. length x) s)) strips.now }
-    ensures counted { IfSome (option_map item_of result) IsCounted }
+    ensures counted { IfSome (option_map item_of result) CountsFit }
 {
     match strips {
         Some(strips) => Some(Item::StripLengths(strips)),
@@ -410,7 +413,7 @@ fn exif_part_entries<'m, 'a>(part: &'m ExifPart<'a>) -> Entries<'m, 'a>
 
 fn thumb_part_entries<'m, 'a>(thumb: &'m Thumb<'a>) -> Entries<'m, 'a>
     requires few { length thumb.now.fields < 2 ^ 16 }
-    requires fits { FitsThumb (thumb_of thumb.now) }
+    requires fits { IsWritableThumb (thumb_of thumb.now) }
     ensures { result ≡ thumb_items (thumb_of thumb.now) }
 {
     let fields = &thumb.fields;
@@ -454,7 +457,7 @@ fn interop_entries<'m, 'a>(part: &'m Option<ExifPart<'a>>) -> Option<Entries<'m,
 
 fn thumb_entries<'m, 'a>(thumb: &'m Option<Thumb<'a>>) -> Option<Entries<'m, 'a>>
     requires few { IfSome (option_map thumb_of thumb.now) (λ t. length t.fields < 2 ^ 16) }
-    requires fits { IfSome (option_map thumb_of thumb.now) FitsThumb }
+    requires fits { IfSome (option_map thumb_of thumb.now) IsWritableThumb }
     ensures { result ≡ option_map thumb_items (option_map thumb_of thumb.now) }
 {
     match thumb {
@@ -491,7 +494,7 @@ pub(crate) fn is_there(m: &Meaning, dir: Dir) -> bool
 #[inline(never)]
 #[tactic(auto, using(crate::proofs::plans::EntryLists::items_are))]
 fn any_entries<'m, 'a>(m: &'m Meaning<'a>, dir: Dir) -> Option<Entries<'m, 'a>>
-    requires { Fits (meaning_of m.now) }
+    requires { IsWritable (meaning_of m.now) }
     ensures { result ≡ items (meaning_of m.now) dir }
 {
     match dir {
@@ -520,7 +523,7 @@ fn is_plain_main(m: &Meaning, dir: Dir) -> bool
 /// nothing.
 #[inline(always)]
 pub fn entries_in<'m, 'a>(m: &'m Meaning<'a>, dir: Dir) -> Option<Entries<'m, 'a>>
-    requires { Fits (meaning_of m.now) }
+    requires { IsWritable (meaning_of m.now) }
     ensures { result ≡ items (meaning_of m.now) dir }
 {
     if !is_there(m, dir) {

@@ -1,8 +1,8 @@
 // What the entries of a directory mean.
 ghost use Rattle.std.specs.Prelude.{◌≡◌};
 ghost use Rattle.px_field.specs.Values.{form_in};
-ghost use Rattle.px_meaning.specs.Fits.{item_form, item_count, item_size};
-ghost use Rattle.px_layout.specs.calls.Items.{item_of, IsCounted};
+ghost use Rattle.px_meaning.specs.Writable.{item_form, item_count, item_size};
+ghost use Rattle.px_layout.specs.calls.Items.{item_of, CountsFit};
 
 use px_bytes::LIMIT;
 use px_field::{Form, Kind, Value};
@@ -62,7 +62,7 @@ impl Item<'_, '_> {
 
     /// The entry's count of elements.
     pub fn count(self) -> u32
-        requires { IsCounted (item_of self) }
+        requires { CountsFit (item_of self) }
         ensures { result ≡ item_count (item_of self.entry) }
     {
         match self {
@@ -76,7 +76,7 @@ impl Item<'_, '_> {
 
     /// The length of the entry's value in bytes.
     pub fn size(self) -> u64
-        requires { IsCounted (item_of self) }
+        requires { CountsFit (item_of self) }
         ensures { result ≡ item_size (item_of self.entry) }
     {
         match self {

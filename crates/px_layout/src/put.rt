@@ -1,59 +1,65 @@
 // Puts numbers, values and filler into the output buffer.
 ghost use Rattle.std.specs.Prelude.{◌≡◌, ◌≤◌, ◌%◌, length, replicate, flat_map};
-ghost use Rattle.px_bytes.specs.Devices.{CanFail};
+ghost use Rattle.px_bytes.specs.Devices.{CanCountFailure};
 ghost use Rattle.px_bytes.specs.Numbers.{spelling};
-ghost use Rattle.px_bytes.specs.Waiting.{AddsTo, Fits};
-ghost use Rattle.px_field.specs.Values.{spell, spelled};
-ghost use Rattle.px_meaning.specs.Fits.{Field};
+ghost use Rattle.px_bytes.specs.Waiting.{AddsBuffered, FitsBuffer};
+ghost use Rattle.px_field.specs.Values.{encode, encoded};
+ghost use Rattle.px_meaning.specs.Writable.{Field};
 ghost use Rattle.px_layout.specs.Laid.{long_bytes};
 ghost use Rattle.px_layout.specs.calls.Given.{head_bytes};
-ghost use Rattle.px_layout.specs.calls.Items.{item_of, entry_of, IsCounted};
+ghost use Rattle.px_layout.specs.calls.Items.{item_of, entry_of, CountsFit};
 
 use crate::items::{Entry, Item};
-use px_bytes::{Failed, Order, Pending, Sink, Spell};
+use px_bytes::{Encode, Failed, Order, Pending, Sink};
 use px_field::Value;
 
-/// Puts a number of two bytes into the output buffer. Allocates nothing. `Err`: a call of the writer failed.
+/// Puts a number of two bytes, in a byte order, into the output buffer, after the bytes that wait there. If they fit,
+/// they wait, and the writer is unchanged; otherwise each waits or is written. Allocates nothing. `Err`: they don't
+/// fit, and a call of the writer failed, which is counted; it has taken a prefix of the waiting bytes and these.
 pub fn put_short<W: Sink>(
     pending: &mut Pending<'_>,
     writer: &mut W,
     order: Order,
     n: u16,
 ) -> Result<(), Failed>
-    requires { CanFail (W.calls writer.old) }
-    ensures { AddsTo W.calls W.bytes_taken result writer.old writer.new pending.old pending.new (spelling order 2 n) }
+    requires { CanCountFailure (W.calls writer.old) }
+    ensures { AddsBuffered W.calls W.bytes_taken result writer.old writer.new pending.old pending.new (spelling order 2 n) }
 {
     let mut bytes = [0; 2];
     order.put16(n, &mut bytes);
     pending.put(writer, &bytes)
 }
 
-/// Puts a number of four bytes into the output buffer. Allocates nothing. `Err`: a call of the writer failed.
+/// Puts a number of four bytes, in a byte order, into the output buffer, after the bytes that wait there. If they
+/// fit, they wait, and the writer is unchanged; otherwise each waits or is written. Allocates nothing. `Err`: they
+/// don't fit, and a call of the writer failed, which is counted; it has taken a prefix of the waiting bytes and
+/// these.
 pub fn put_long<W: Sink>(
     pending: &mut Pending<'_>,
     writer: &mut W,
     order: Order,
     n: u32,
 ) -> Result<(), Failed>
-    requires { CanFail (W.calls writer.old) }
-    ensures { AddsTo W.calls W.bytes_taken result writer.old writer.new pending.old pending.new (long_bytes order n) }
+    requires { CanCountFailure (W.calls writer.old) }
+    ensures { AddsBuffered W.calls W.bytes_taken result writer.old writer.new pending.old pending.new (long_bytes order n) }
 {
     let mut bytes = [0; 4];
     order.put32(n, &mut bytes);
     pending.put(writer, &bytes)
 }
 
-/// Puts `count` bytes of filler, at most four, into the output buffer. Allocates nothing. `Err`: a call of the
-/// writer failed.
+/// Puts `count` bytes of filler, at most four, into the output buffer, after the bytes that wait there. If they fit,
+/// they wait, and the writer is unchanged; otherwise each waits or is written. Allocates nothing. `Err`: they don't
+/// fit, and a call of the writer failed, which is counted; it has taken a prefix of the waiting bytes and these.
 pub fn put_filler<W: Sink>(
     pending: &mut Pending<'_>,
     writer: &mut W,
     filler: u8,
     count: usize,
 ) -> Result<(), Failed>
-    requires few { CanFail (W.calls writer.old) }
+    requires few { CanCountFailure (W.calls writer.old) }
     requires most { count ≤ 4 }
-    ensures { AddsTo W.calls W.bytes_taken result writer.old writer.new pending.old pending.new (replicate count filler) }
+    ensures { AddsBuffered W.calls W.bytes_taken result writer.old writer.new pending.old pending.new (replicate count filler) }
 {
     if count == 0 {
         return Ok(());
@@ -67,8 +73,8 @@ pub(crate) fn put_padding<W: Sink>(
     writer: &mut W,
     len: u64,
 ) -> Result<(), Failed>
-    requires { CanFail (W.calls writer.old) }
-    ensures { AddsTo W.calls W.bytes_taken result writer.old writer.new pending.old pending.new (replicate (len % 2) 0) }
+    requires { CanCountFailure (W.calls writer.old) }
+    ensures { AddsBuffered W.calls W.bytes_taken result writer.old writer.new pending.old pending.new (replicate (len % 2) 0) }
 {
     if len % 2 == 0 {
         return Ok(());
@@ -84,15 +90,15 @@ fn put_by_pieces<W: Sink>(
     value: &Value,
     piece: &mut [u8],
 ) -> Result<(), Failed>
-    requires few { CanFail (W.calls writer.old) }
-    requires room { 8 ≤ length piece.old }
-    ensures { AddsTo W.calls W.bytes_taken result writer.old writer.new pending.old pending.new
-        (flat_map (spell order) value.now.elements) }
+    requires few { CanCountFailure (W.calls writer.old) }
+    requires space { 8 ≤ length piece.old }
+    ensures { AddsBuffered W.calls W.bytes_taken result writer.old writer.new pending.old pending.new
+        (flat_map (encode order) value.now.elements) }
 {
     let width = value.width();
     let mut i = 0;
     while i < value.count() {
-        let count = value.spell_many(order, i, piece);
+        let count = value.encode_many(order, i, piece);
         pending.put(writer, &piece[..count as usize * width as usize])?;
         i += count;
     }
@@ -107,11 +113,11 @@ pub(crate) fn put_eight<W: Sink>(
     order: Order,
     value: &Value,
 ) -> Result<(), Failed>
-    requires few { CanFail (W.calls writer.old) }
-    requires spelled { length (spelled order value.now) ≡ 8 }
-    ensures { AddsTo W.calls W.bytes_taken result writer.old writer.new pending.old pending.new (spelled order value.now) }
+    requires few { CanCountFailure (W.calls writer.old) }
+    requires encoded { length (encoded order value.now) ≡ 8 }
+    ensures { AddsBuffered W.calls W.bytes_taken result writer.old writer.new pending.old pending.new (encoded order value.now) }
 {
-    pending.put(writer, &value.spell_eight(order))
+    pending.put(writer, &value.encode_eight(order))
 }
 
 // A value in a byte order.
@@ -121,13 +127,13 @@ struct Ordered<'v, 'a> {
     value: &'v Value<'a>,
 }
 
-impl<'v, 'a> Spell for Ordered<'v, 'a> {
-    ghost use Rattle.px_field.specs.Values.{spelled};
+impl<'v, 'a> Encode for Ordered<'v, 'a> {
+    ghost use Rattle.px_field.specs.Values.{encoded};
 
-    ghost bytes = { λ o. spelled o.order o.value.now };
+    ghost bytes = { λ o. encoded o.order o.value.now };
 
-    fn spell(&self, out: &mut [u8]) {
-        self.value.spell_all(self.order, out);
+    fn encode(&self, out: &mut [u8]) {
+        self.value.encode_all(self.order, out);
     }
 }
 
@@ -150,13 +156,13 @@ fn put_large<W: Sink>(
     order: Order,
     value: &Value,
 ) -> Result<(), Failed>
-    requires few { CanFail (W.calls writer.old) }
-    requires long { ¬ Fits pending.old (spelled order value.now) }
-    ensures { AddsTo W.calls W.bytes_taken result writer.old writer.new pending.old pending.new
-        (flat_map (spell order) value.now.elements) }
+    requires few { CanCountFailure (W.calls writer.old) }
+    requires long { ¬ FitsBuffer pending.old (encoded order value.now) }
+    ensures { AddsBuffered W.calls W.bytes_taken result writer.old writer.new pending.old pending.new
+        (flat_map (encode order) value.now.elements) }
 {
     pending.send(writer)?;
-    if writer.write_spelled(&Ordered { order, value }, value.size() as usize) {
+    if writer.write_encoded(&Ordered { order, value }, value.size() as usize) {
         return Ok(());
     }
     put_by_pieces(pending, writer, order, value, &mut [0; DIRECT])
@@ -169,13 +175,13 @@ fn put_elements<W: Sink>(
     order: Order,
     value: &Value,
 ) -> Result<(), Failed>
-    requires { CanFail (W.calls writer.old) }
-    ensures { AddsTo W.calls W.bytes_taken result writer.old writer.new pending.old pending.new
-        (flat_map (spell order) value.now.elements) }
+    requires { CanCountFailure (W.calls writer.old) }
+    ensures { AddsBuffered W.calls W.bytes_taken result writer.old writer.new pending.old pending.new
+        (flat_map (encode order) value.now.elements) }
 {
     let size = value.size();
     if size <= pending.free() as u64 {
-        pending.put_spelled(&Ordered { order, value }, size as usize);
+        pending.put_encoded(&Ordered { order, value }, size as usize);
         return Ok(());
     }
     if size >= LONG {
@@ -184,16 +190,18 @@ fn put_elements<W: Sink>(
     put_by_pieces(pending, writer, order, value, &mut [0; MANY])
 }
 
-/// Puts a value into the output buffer. If its bytes were read in that byte order, they are put as they are.
-/// Allocates nothing. `Err`: a call of the writer failed, which ends the call.
+/// Puts the encoding of a value in a byte order into the output buffer, after the bytes that wait there. If its bytes
+/// were read in that order, they are put as they are. If they fit, they wait, and the writer is unchanged; otherwise
+/// each waits or is written. Allocates nothing. `Err`: they don't fit, and a call of the writer failed, which is
+/// counted and ends the call; it has taken a prefix of the waiting bytes and these.
 pub fn put_value<W: Sink>(
     pending: &mut Pending<'_>,
     writer: &mut W,
     order: Order,
     value: &Value,
 ) -> Result<(), Failed>
-    requires { CanFail (W.calls writer.old) }
-    ensures { AddsTo W.calls W.bytes_taken result writer.old writer.new pending.old pending.new (spelled order value.now) }
+    requires { CanCountFailure (W.calls writer.old) }
+    ensures { AddsBuffered W.calls W.bytes_taken result writer.old writer.new pending.old pending.new (encoded order value.now) }
 {
     if let Some(bytes) = value.in_order(order) {
         return pending.put(writer, bytes);
@@ -215,7 +223,7 @@ pub(crate) fn field_head(order: Order, tag: u16, value: &Value) -> [u8; 8]
 
 /// The first eight bytes of an entry: tag, type and count. TIFF 6.0 section 2, "IFD Entry".
 pub fn entry_head(order: Order, entry: &Entry) -> [u8; 8]
-    requires { IsCounted (item_of entry.now.item) }
+    requires { CountsFit (item_of entry.now.item) }
     ensures { result ≡ head_bytes order (entry_of entry.now) }
 {
     let Entry { tag, item } = *entry;

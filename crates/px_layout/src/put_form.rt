@@ -1,20 +1,20 @@
 // Puts the parts of a normal form into the output buffer. Each is padded to an even number of bytes. TIFF 6.0
 // section 2, "IFD Entry".
 ghost use Rattle.std.specs.Prelude.{◌≡◌, Some, flat_map};
-ghost use Rattle.px_bytes.specs.Devices.{CanFail, over};
-ghost use Rattle.px_bytes.specs.Waiting.{Waits, Adds, AddsTo};
+ghost use Rattle.px_bytes.specs.Devices.{CanCountFailure, device_of};
+ghost use Rattle.px_bytes.specs.Waiting.{Waits, Adds, AddsBuffered};
 ghost use Rattle.px_meaning.specs.Roles.{role};
 ghost use Rattle.px_meaning.specs.Directory.{dirs};
-ghost use Rattle.px_meaning.specs.Fits.{items};
+ghost use Rattle.px_meaning.specs.Writable.{items};
 ghost use Rattle.px_layout.specs.lemmas.EntryLaws.{Good};
 ghost use Rattle.px_layout.specs.lemmas.ItemLaws.{Suits};
-ghost use Rattle.px_layout.specs.calls.Items.{item_of, entry_of, IsCounted};
+ghost use Rattle.px_layout.specs.calls.Items.{item_of, entry_of, CountsFit};
 ghost use Rattle.px_layout.specs.Laid.{item_bytes, contents_of_dir, contents};
 ghost use Rattle.px_layout.specs.Normal.{normal_exif, padded};
 ghost use Rattle.px_layout.specs.calls.Given.{CountsAllStrips, field_bytes};
-ghost use Rattle.px_layout.specs.calls.Forms.{said_in, plan_in, IsForm};
+ghost use Rattle.px_layout.specs.calls.Forms.{meaning_in, plan_in, IsWritableForm};
 ghost use Rattle.px_layout.specs.calls.Placed.{placed_bytes};
-ghost use Rattle.px_field.specs.Values.{spelled};
+ghost use Rattle.px_field.specs.Values.{encoded};
 
 use crate::entries::{Entries, entries_in, is_there};
 use crate::form::NormalForm;
@@ -34,12 +34,12 @@ fn put_padded_item<W: Sink>(
     dir: Dir,
     entry: &Entry,
 ) -> Result<(), Failed>
-    requires few { CanFail (W.calls writer.old) }
-    requires form { IsForm form.now }
-    requires counted { IsCounted (item_of entry.now.item) }
+    requires few { CanCountFailure (W.calls writer.old) }
+    requires form { IsWritableForm form.now }
+    requires counted { CountsFit (item_of entry.now.item) }
     requires suits { Suits (role dir entry.now.tag) (item_of entry.now.item) }
-    requires tells { CountsAllStrips (said_in form.now) (item_of entry.now.item) }
-    ensures { AddsTo W.calls W.bytes_taken result writer.old writer.new pending.old pending.new
+    requires counts_all { CountsAllStrips (meaning_in form.now) (item_of entry.now.item) }
+    ensures { AddsBuffered W.calls W.bytes_taken result writer.old writer.new pending.old pending.new
         (padded (item_bytes (plan_in form.now) Order.Most 0 (item_of entry.now.item))) }
 {
     let item = entry.item;
@@ -53,8 +53,9 @@ fn put_padded_field<W: Sink>(
     writer: &mut W,
     value: &Value,
 ) -> Result<(), Failed>
-    requires few { CanFail (W.calls writer.old) }
-    ensures { AddsTo W.calls W.bytes_taken result writer.old writer.new pending.old pending.new (padded (spelled Order.Most value.now)) }
+    requires few { CanCountFailure (W.calls writer.old) }
+    ensures { AddsBuffered W.calls W.bytes_taken result writer.old writer.new pending.old pending.new
+        (padded (encoded Order.Most value.now)) }
 {
     put_value(pending, writer, Order::Most, value)?;
     put_padding(pending, writer, value.size())
@@ -66,8 +67,8 @@ fn put_placed_field<W: Sink>(
     writer: &mut W,
     value: &Value,
 ) -> Result<(), Failed>
-    requires few { CanFail (W.calls writer.old) }
-    ensures { AddsTo W.calls W.bytes_taken result writer.old writer.new pending.old pending.new (field_bytes value.now) }
+    requires few { CanCountFailure (W.calls writer.old) }
+    ensures { AddsBuffered W.calls W.bytes_taken result writer.old writer.new pending.old pending.new (field_bytes value.now) }
 {
     let size = value.size();
     if size == 8 {
@@ -87,12 +88,12 @@ fn put_any_placed<W: Sink>(
     dir: Dir,
     entry: &Entry,
 ) -> Result<(), Failed>
-    requires few { CanFail (W.calls writer.old) }
-    requires form { IsForm form.now }
-    requires counted { IsCounted (item_of entry.now.item) }
+    requires few { CanCountFailure (W.calls writer.old) }
+    requires form { IsWritableForm form.now }
+    requires counted { CountsFit (item_of entry.now.item) }
     requires suits { Suits (role dir entry.now.tag) (item_of entry.now.item) }
-    requires tells { CountsAllStrips (said_in form.now) (item_of entry.now.item) }
-    ensures { AddsTo W.calls W.bytes_taken result writer.old writer.new pending.old pending.new
+    requires counts_all { CountsAllStrips (meaning_in form.now) (item_of entry.now.item) }
+    ensures { AddsBuffered W.calls W.bytes_taken result writer.old writer.new pending.old pending.new
         (placed_bytes (plan_in form.now) (entry_of entry.now)) }
 {
     if needs_place(entry.item.size()) {
@@ -109,12 +110,12 @@ fn put_placed<W: Sink>(
     dir: Dir,
     entry: &Entry,
 ) -> Result<(), Failed>
-    requires few { CanFail (W.calls writer.old) }
-    requires form { IsForm form.now }
-    requires counted { IsCounted (item_of entry.now.item) }
+    requires few { CanCountFailure (W.calls writer.old) }
+    requires form { IsWritableForm form.now }
+    requires counted { CountsFit (item_of entry.now.item) }
     requires suits { Suits (role dir entry.now.tag) (item_of entry.now.item) }
-    requires tells { CountsAllStrips (said_in form.now) (item_of entry.now.item) }
-    ensures { AddsTo W.calls W.bytes_taken result writer.old writer.new pending.old pending.new
+    requires counts_all { CountsAllStrips (meaning_in form.now) (item_of entry.now.item) }
+    ensures { AddsBuffered W.calls W.bytes_taken result writer.old writer.new pending.old pending.new
         (placed_bytes (plan_in form.now) (entry_of entry.now)) }
 {
     match entry.item {
@@ -131,11 +132,11 @@ fn put_values<W: Sink>(
     dir: Dir,
     entries: &Entries,
 ) -> Result<(), Failed>
-    requires few { CanFail (W.calls writer.old) }
-    requires form { IsForm form.now }
+    requires few { CanCountFailure (W.calls writer.old) }
+    requires form { IsWritableForm form.now }
     requires good { Good dir entries.now }
-    requires there { items (said_in form.now) dir ≡ Some entries.now }
-    ensures { AddsTo W.calls W.bytes_taken result writer.old writer.new pending.old pending.new (flat_map
+    requires there { items (meaning_in form.now) dir ≡ Some entries.now }
+    ensures { AddsBuffered W.calls W.bytes_taken result writer.old writer.new pending.old pending.new (flat_map
         (placed_bytes (plan_in form.now)) entries.now) }
 {
     for i in 0..entries.len() {
@@ -153,13 +154,13 @@ fn put_dir<W: Sink>(
     dir: Dir,
     entries: &Entries,
 ) -> Result<(), Failed>
-    requires few { CanFail (W.calls writer.old) }
-    requires form { IsForm form.now }
+    requires few { CanCountFailure (W.calls writer.old) }
+    requires form { IsWritableForm form.now }
     requires good { Good dir entries.now }
-    requires there { items (said_in form.now) dir ≡ Some entries.now }
-    ensures { AddsTo W.calls W.bytes_taken result writer.old writer.new pending.old pending.new (flat_map
+    requires there { items (meaning_in form.now) dir ≡ Some entries.now }
+    ensures { AddsBuffered W.calls W.bytes_taken result writer.old writer.new pending.old pending.new (flat_map
         (λ c. padded c.1) (contents_of_dir
-        (plan_in form.now) Order.Most 0 (said_in form.now) dir (Some entries.now))) }
+        (plan_in form.now) Order.Most 0 (meaning_in form.now) dir (Some entries.now))) }
 {
     put_running_table(pending, writer, form, dir, entries)?;
     put_values(pending, writer, form, dir, entries)
@@ -173,11 +174,11 @@ fn put_any_dir<W: Sink>(
     form: &NormalForm,
     dir: Dir,
 ) -> Result<(), Failed>
-    requires few { CanFail (W.calls writer.old) }
-    requires form { IsForm form.now }
-    ensures { AddsTo W.calls W.bytes_taken result writer.old writer.new pending.old pending.new (flat_map
-        (λ c. padded c.1) (contents_of_dir (plan_in form.now) Order.Most 0 (said_in form.now) dir
-        (items (said_in form.now) dir))) }
+    requires few { CanCountFailure (W.calls writer.old) }
+    requires form { IsWritableForm form.now }
+    ensures { AddsBuffered W.calls W.bytes_taken result writer.old writer.new pending.old pending.new (flat_map
+        (λ c. padded c.1) (contents_of_dir (plan_in form.now) Order.Most 0 (meaning_in form.now) dir
+        (items (meaning_in form.now) dir))) }
 {
     if !is_there(form.m, dir) {
         return Ok(());
@@ -194,11 +195,11 @@ fn put_entries<W: Sink>(
     form: &NormalForm,
     dir: Dir,
 ) -> Result<(), Failed>
-    requires few { CanFail (W.calls writer.old) }
-    requires form { IsForm form.now }
-    ensures { AddsTo W.calls W.bytes_taken result writer.old writer.new pending.old pending.new (flat_map
-        (λ c. padded c.1) (contents_of_dir (plan_in form.now) Order.Most 0 (said_in form.now) dir
-        (items (said_in form.now) dir))) }
+    requires few { CanCountFailure (W.calls writer.old) }
+    requires form { IsWritableForm form.now }
+    ensures { AddsBuffered W.calls W.bytes_taken result writer.old writer.new pending.old pending.new (flat_map
+        (λ c. padded c.1) (contents_of_dir (plan_in form.now) Order.Most 0 (meaning_in form.now) dir
+        (items (meaning_in form.now) dir))) }
 {
     match entries_in(form.m, dir) {
         Some(entries) => put_dir(pending, writer, form, dir, &entries),
@@ -212,12 +213,12 @@ fn put_dirs<W: Sink>(
     writer: &mut W,
     form: &NormalForm,
 ) -> Result<(), Failed>
-    requires few { CanFail (W.calls writer.old) }
-    requires form { IsForm form.now }
-    ensures { AddsTo W.calls W.bytes_taken result writer.old writer.new pending.old pending.new (flat_map
+    requires few { CanCountFailure (W.calls writer.old) }
+    requires form { IsWritableForm form.now }
+    ensures { AddsBuffered W.calls W.bytes_taken result writer.old writer.new pending.old pending.new (flat_map
         (λ c. padded c.1) (flat_map
-        (λ d. contents_of_dir (plan_in form.now) Order.Most 0 (said_in form.now) d
-        (items (said_in form.now) d)) dirs)) }
+        (λ d. contents_of_dir (plan_in form.now) Order.Most 0 (meaning_in form.now) d
+        (items (meaning_in form.now) d)) dirs)) }
 {
     for dir in Dir::ALL {
         put_any_dir(pending, writer, form, dir)?;
@@ -231,10 +232,10 @@ fn put_contents<W: Sink>(
     writer: &mut W,
     form: &NormalForm,
 ) -> Result<(), Failed>
-    requires few { CanFail (W.calls writer.old) }
-    requires form { IsForm form.now }
-    ensures { AddsTo W.calls W.bytes_taken result writer.old writer.new pending.old pending.new (flat_map
-        (λ c. padded c.1) (contents (plan_in form.now) Order.Most 0 (said_in form.now))) }
+    requires few { CanCountFailure (W.calls writer.old) }
+    requires form { IsWritableForm form.now }
+    ensures { AddsBuffered W.calls W.bytes_taken result writer.old writer.new pending.old pending.new (flat_map
+        (λ c. padded c.1) (contents (plan_in form.now) Order.Most 0 (meaning_in form.now))) }
 {
     put_dirs(pending, writer, form)?;
     put_thumb(pending, writer, &form.m.thumb)
@@ -247,27 +248,27 @@ fn put_block<W: Sink>(
     writer: &mut W,
     form: &NormalForm,
 ) -> Result<(), Failed>
-    requires few { CanFail (W.calls writer.old) }
-    requires form { IsForm form.now }
-    ensures { AddsTo W.calls W.bytes_taken result writer.old writer.new pending.old pending.new (normal_exif (said_in form.now)) }
+    requires few { CanCountFailure (W.calls writer.old) }
+    requires form { IsWritableForm form.now }
+    ensures { AddsBuffered W.calls W.bytes_taken result writer.old writer.new pending.old pending.new (normal_exif (meaning_in form.now)) }
 {
     put_running_header(pending, writer)?;
     put_contents(pending, writer, form)
 }
 
-/// Puts a normal form into the output buffer, after the bytes that are in it. If these are at most 8,192 bytes
-/// together, all of them stay in the buffer, and the writer isn't called. Allocates nothing. `Err`: a call of
-/// the writer failed, which ends the call; the writer has taken a prefix of the buffered bytes and the form.
+/// Puts a normal form into the output buffer, after the bytes that are in it. If all of them fit into the buffer, they
+/// wait there, and the writer isn't called. Allocates nothing. `Err`: they don't fit, and a call of the writer failed,
+/// which ends the call; the writer has taken a prefix of the buffered bytes and the form.
 pub fn put_normal<W: Sink>(
     pending: &mut Pending<'_>,
     writer: &mut W,
     form: &NormalForm,
 ) -> Result<(), Failed>
-    requires few { CanFail (W.calls writer.old) }
-    requires form { IsForm form.now }
-    ensures bytes { Adds result (over W.calls W.bytes_taken writer.old writer.new) pending.old pending.new
-        (normal_exif (said_in form.now)) }
-    ensures waits { Waits result writer.old writer.new pending.old pending.new (normal_exif (said_in form.now)) }
+    requires few { CanCountFailure (W.calls writer.old) }
+    requires form { IsWritableForm form.now }
+    ensures bytes { Adds result (device_of W.calls W.bytes_taken writer.old writer.new) pending.old pending.new
+        (normal_exif (meaning_in form.now)) }
+    ensures waits { Waits result writer.old writer.new pending.old pending.new (normal_exif (meaning_in form.now)) }
 {
     put_block(pending, writer, form)
 }

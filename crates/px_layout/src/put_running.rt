@@ -2,20 +2,20 @@
 ghost use Rattle.std.specs.Prelude.{◌≡◌, ◌<◌, ◌≤◌, ◌+◌, ◌-◌, ◌*◌, ◌++◌, ◌^◌, ℕ, Some, None, length, take, drop, flat_map, unwrap_or, []};
 ghost use Rattle.std.specs.Prelude.{replicate, map};
 ghost use Rattle.std.specs.List.{AllByRecursion};
-ghost use Rattle.px_bytes.specs.Devices.{CanFail, Counts};
+ghost use Rattle.px_bytes.specs.Devices.{CanCountFailure, Counts};
 ghost use Rattle.px_bytes.specs.Parts.{limit};
-ghost use Rattle.px_bytes.specs.Waiting.{PutsTo, AddsTo};
+ghost use Rattle.px_bytes.specs.Waiting.{PutsBuffered, AddsBuffered};
 ghost use Rattle.px_meaning.specs.Tree as spec;
-ghost use Rattle.px_field.specs.Values.{spelled};
-ghost use Rattle.px_meaning.specs.Fits.{items, item_size, Field};
-ghost use Rattle.px_layout.specs.calls.Items.{item_of, entry_of, IsCounted};
+ghost use Rattle.px_field.specs.Values.{encoded};
+ghost use Rattle.px_meaning.specs.Writable.{items, item_size, Field};
+ghost use Rattle.px_layout.specs.calls.Items.{item_of, entry_of, CountsFit};
 ghost use Rattle.px_layout.specs.Laid.{long_bytes, item_bytes, entry_bytes, next_bytes, table_bytes, header};
 ghost use Rattle.px_layout.specs.Normal.{normal_plan};
 ghost use Rattle.px_layout.specs.Plans.{place};
 ghost use Rattle.px_layout.specs.lemmas.RunLaws.{start, strips_start, value_size};
 ghost use Rattle.px_layout.specs.calls.Given.{head_bytes, entry_given, field_given, near_given};
 ghost use Rattle.px_layout.specs.calls.Given.{strip_list, CountsAllStrips, strips_size, strip_places};
-ghost use Rattle.px_layout.specs.calls.Forms.{said_in, plan_in, IsForm};
+ghost use Rattle.px_layout.specs.calls.Forms.{meaning_in, plan_in, IsWritableForm};
 
 use crate::chunks::Chunk;
 use crate::entries::{Entries, is_there};
@@ -31,8 +31,8 @@ use px_meaning::{Dir, Strips, needs_place};
 
 // The byte offset of a directory.
 fn start_of(form: &NormalForm, dir: Dir) -> u32
-    requires { IsForm form.now }
-    ensures { result ≡ start (said_in form.now) dir }
+    requires { IsWritableForm form.now }
+    ensures { result ≡ start (meaning_in form.now) dir }
 {
     match dir {
         Dir::Main => 8,
@@ -45,7 +45,7 @@ fn start_of(form: &NormalForm, dir: Dir) -> u32
 
 // The byte offset of a directory's table; 0 if the meaning doesn't have the directory.
 fn table_at(form: &NormalForm, dir: Dir) -> u32
-    requires { IsForm form.now }
+    requires { IsWritableForm form.now }
     ensures { result ≡ place (plan_in form.now) (Chunk.Table dir) }
 {
     if is_there(form.m, dir) {
@@ -56,7 +56,7 @@ fn table_at(form: &NormalForm, dir: Dir) -> u32
 
 // The byte offset of the JPEG; 0 if there is none.
 fn jpeg_at(form: &NormalForm) -> u32
-    requires { IsForm form.now }
+    requires { IsWritableForm form.now }
     ensures { result ≡ place (plan_in form.now) Chunk.Jpeg }
 {
     match &form.m.thumb {
@@ -75,9 +75,9 @@ fn encode_offsets(at: u32, strips: &Strips, start: usize, end: usize, into: &mut
     requires inside { end ≤ length strips.now }
     requires most { at + strips_size (drop start strips.now) ≤ limit }
     requires short { AllByRecursion (λ n. n ≤ limit) (map (λ x. length x) strips.now) }
-    requires room { length into.old ≡ 4 * (end - start) }
+    requires space { length into.old ≡ 4 * (end - start) }
     ensures next { result + strips_size (drop end strips.now) ≡ at + strips_size (drop start strips.now) }
-    ensures spelled { (first : ℕ) → at + strips_size (drop start strips.now) ≡ first + strips_size strips.now
+    ensures encoded { (first : ℕ) → at + strips_size (drop start strips.now) ≡ first + strips_size strips.now
         → flat_map (long_bytes Order.Most) (take end (strip_places first strips.now))
         ≡ flat_map (long_bytes Order.Most) (take start (strip_places first strips.now)) ++ into.new }
 {
@@ -99,9 +99,9 @@ fn put_strip_offsets<W: Sink>(
     at: u32,
     strips: &Strips,
 ) -> Result<(), Failed>
-    requires few { CanFail (W.calls writer.old) }
+    requires few { CanCountFailure (W.calls writer.old) }
     requires most { at + strips_size strips.now ≤ limit }
-    ensures { AddsTo W.calls W.bytes_taken result writer.old writer.new pending.old pending.new (flat_map
+    ensures { AddsBuffered W.calls W.bytes_taken result writer.old writer.new pending.old pending.new (flat_map
         (long_bytes Order.Most) (strip_places at strips.now)) }
 {
     let mut piece = [0; 4 * AT_ONCE];
@@ -123,9 +123,9 @@ fn put_any_offsets<W: Sink>(
     at: u32,
     strips: &Option<Strips>,
 ) -> Result<(), Failed>
-    requires few { CanFail (W.calls writer.old) }
+    requires few { CanCountFailure (W.calls writer.old) }
     requires most { at + strips_size (unwrap_or strips.now []) ≤ limit }
-    ensures { AddsTo W.calls W.bytes_taken result writer.old writer.new pending.old pending.new (flat_map
+    ensures { AddsBuffered W.calls W.bytes_taken result writer.old writer.new pending.old pending.new (flat_map
         (long_bytes Order.Most) (strip_places at (unwrap_or strips.now []))) }
 {
     match strips {
@@ -140,10 +140,10 @@ fn put_thumbnail_offsets<W: Sink>(
     writer: &mut W,
     form: &NormalForm,
 ) -> Result<(), Failed>
-    requires few { CanFail (W.calls writer.old) }
-    requires form { IsForm form.now }
-    ensures { AddsTo W.calls W.bytes_taken result writer.old writer.new pending.old pending.new (flat_map
-        (long_bytes Order.Most) (strip_places (strips_start (said_in form.now)) (strip_list (said_in form.now).thumb))) }
+    requires few { CanCountFailure (W.calls writer.old) }
+    requires form { IsWritableForm form.now }
+    ensures { AddsBuffered W.calls W.bytes_taken result writer.old writer.new pending.old pending.new (flat_map
+        (long_bytes Order.Most) (strip_places (strips_start (meaning_in form.now)) (strip_list (meaning_in form.now).thumb))) }
 {
     match &form.m.thumb {
         Some(thumb) => put_any_offsets(pending, writer, form.starts.strips, &thumb.strips),
@@ -159,11 +159,11 @@ pub(crate) fn put_item_value<W: Sink>(
     form: &NormalForm,
     item: Item,
 ) -> Result<(), Failed>
-    requires few { CanFail (W.calls writer.old) }
-    requires form { IsForm form.now }
-    requires counted { IsCounted (item_of item) }
-    requires tells { CountsAllStrips (said_in form.now) (item_of item) }
-    ensures { AddsTo W.calls W.bytes_taken result writer.old writer.new pending.old pending.new
+    requires few { CanCountFailure (W.calls writer.old) }
+    requires form { IsWritableForm form.now }
+    requires counted { CountsFit (item_of item) }
+    requires counts_all { CountsAllStrips (meaning_in form.now) (item_of item) }
+    ensures { AddsBuffered W.calls W.bytes_taken result writer.old writer.new pending.old pending.new
         (item_bytes (plan_in form.now) Order.Most 0 (item_of item.entry)) }
 {
     match item {
@@ -179,7 +179,7 @@ pub(crate) fn put_item_value<W: Sink>(
 
 // An entry whose value is at the byte offset `at`: its twelve bytes, so that one call puts them.
 fn entry_to(at: u32, entry: &Entry) -> [u8; 12]
-    requires { IsCounted (item_of entry.now.item) }
+    requires { CountsFit (item_of entry.now.item) }
     ensures { result ≡ head_bytes Order.Most (entry_of entry.now) ++ long_bytes Order.Most at }
 {
     let mut bytes = [0; 12];
@@ -200,13 +200,13 @@ fn field_to(at: u32, tag: u16, value: &Value) -> [u8; 12]
 
 // The entry of a field whose value is in the entry: its last four bytes are the value, then zeros.
 fn field_with(tag: u16, value: &Value) -> [u8; 12]
-    requires { length (spelled Order.Most value.now) ≤ 4 }
+    requires { length (encoded Order.Most value.now) ≤ 4 }
     ensures { result ≡ head_bytes Order.Most (tag, Field value.now)
-        ++ (spelled Order.Most value.now ++ replicate (4 - length (spelled Order.Most value.now)) 0) }
+        ++ (encoded Order.Most value.now ++ replicate (4 - length (encoded Order.Most value.now)) 0) }
 {
     let mut bytes = [0; 12];
     bytes[..8].copy_from_slice(&field_head(Order::Most, tag, value));
-    bytes[8..].copy_from_slice(&value.spell_four(Order::Most));
+    bytes[8..].copy_from_slice(&value.encode_four(Order::Most));
     bytes
 }
 
@@ -218,8 +218,8 @@ fn put_field_entry<W: Sink>(
     tag: u16,
     value: &Value,
 ) -> Result<(), Failed>
-    requires few { CanFail (W.calls writer.old) }
-    ensures { AddsTo W.calls W.bytes_taken result writer.old writer.new pending.old pending.new (field_given at tag value.now) }
+    requires few { CanCountFailure (W.calls writer.old) }
+    ensures { AddsBuffered W.calls W.bytes_taken result writer.old writer.new pending.old pending.new (field_given at tag value.now) }
 {
     if needs_place(value.size()) {
         return pending.put(writer, &field_to(at, tag, value));
@@ -234,12 +234,12 @@ fn put_near_entry<W: Sink>(
     form: &NormalForm,
     entry: &Entry,
 ) -> Result<(), Failed>
-    requires few { CanFail (W.calls writer.old) }
-    requires form { IsForm form.now }
-    requires counted { IsCounted (item_of entry.now.item) }
-    requires tells { CountsAllStrips (said_in form.now) (item_of entry.now.item) }
+    requires few { CanCountFailure (W.calls writer.old) }
+    requires form { IsWritableForm form.now }
+    requires counted { CountsFit (item_of entry.now.item) }
+    requires counts_all { CountsAllStrips (meaning_in form.now) (item_of entry.now.item) }
     requires near { item_size (item_of entry.now.item) ≤ 4 }
-    ensures { AddsTo W.calls W.bytes_taken result writer.old writer.new pending.old pending.new
+    ensures { AddsBuffered W.calls W.bytes_taken result writer.old writer.new pending.old pending.new
         (near_given (plan_in form.now) (entry_of entry.now)) }
 {
     let size = entry.item.size();
@@ -256,11 +256,11 @@ fn put_any_entry<W: Sink>(
     at: u32,
     entry: Entry,
 ) -> Result<(), Failed>
-    requires few { CanFail (W.calls writer.old) }
-    requires form { IsForm form.now }
-    requires counted { IsCounted (item_of entry.item) }
-    requires tells { CountsAllStrips (said_in form.now) (item_of entry.item) }
-    ensures { AddsTo W.calls W.bytes_taken result writer.old writer.new pending.old pending.new
+    requires few { CanCountFailure (W.calls writer.old) }
+    requires form { IsWritableForm form.now }
+    requires counted { CountsFit (item_of entry.item) }
+    requires counts_all { CountsAllStrips (meaning_in form.now) (item_of entry.item) }
+    ensures { AddsBuffered W.calls W.bytes_taken result writer.old writer.new pending.old pending.new
         (entry_given (plan_in form.now) at (entry_of entry.entry)) }
 {
     if needs_place(entry.item.size()) {
@@ -277,11 +277,11 @@ fn put_given_entry<W: Sink>(
     at: u32,
     entry: &Entry,
 ) -> Result<(), Failed>
-    requires few { CanFail (W.calls writer.old) }
-    requires form { IsForm form.now }
-    requires counted { IsCounted (item_of entry.now.item) }
-    requires tells { CountsAllStrips (said_in form.now) (item_of entry.now.item) }
-    ensures { AddsTo W.calls W.bytes_taken result writer.old writer.new pending.old pending.new
+    requires few { CanCountFailure (W.calls writer.old) }
+    requires form { IsWritableForm form.now }
+    requires counted { CountsFit (item_of entry.now.item) }
+    requires counts_all { CountsAllStrips (meaning_in form.now) (item_of entry.now.item) }
+    ensures { AddsBuffered W.calls W.bytes_taken result writer.old writer.new pending.old pending.new
         (entry_given (plan_in form.now) at (entry_of entry.now)) }
 {
     match entry.item {
@@ -292,7 +292,7 @@ fn put_given_entry<W: Sink>(
 
 // The byte offset of the next placed value, after this entry's.
 fn next_at(at: u32, entry: &Entry) -> u32
-    requires counted { IsCounted (item_of entry.now.item) }
+    requires counted { CountsFit (item_of entry.now.item) }
     requires most { at + value_size (item_of entry.now.item) ≤ limit }
     ensures { result ≡ at + value_size (item_of entry.now.item) }
 {
@@ -311,10 +311,10 @@ fn put_running_entries<W: Sink>(
     dir: Dir,
     entries: &Entries,
 ) -> Result<(), Failed>
-    requires few { CanFail (W.calls writer.old) }
-    requires form { IsForm form.now }
-    requires there { items (said_in form.now) dir ≡ Some entries.now }
-    ensures { AddsTo W.calls W.bytes_taken result writer.old writer.new pending.old pending.new (flat_map
+    requires few { CanCountFailure (W.calls writer.old) }
+    requires form { IsWritableForm form.now }
+    requires there { items (meaning_in form.now) dir ≡ Some entries.now }
+    ensures { AddsBuffered W.calls W.bytes_taken result writer.old writer.new pending.old pending.new (flat_map
         (entry_bytes (plan_in form.now) Order.Most 0 dir) entries.now) }
 {
     let mut at = start_of(form, dir) + table_len(entries.len()) as u32;
@@ -333,10 +333,10 @@ fn put_running_next<W: Sink>(
     form: &NormalForm,
     dir: Dir,
 ) -> Result<(), Failed>
-    requires few { CanFail (W.calls writer.old) }
-    requires form { IsForm form.now }
-    ensures { AddsTo W.calls W.bytes_taken result writer.old writer.new pending.old pending.new
-        (next_bytes (plan_in form.now) Order.Most 0 (said_in form.now) dir) }
+    requires few { CanCountFailure (W.calls writer.old) }
+    requires form { IsWritableForm form.now }
+    ensures { AddsBuffered W.calls W.bytes_taken result writer.old writer.new pending.old pending.new
+        (next_bytes (plan_in form.now) Order.Most 0 (meaning_in form.now) dir) }
 {
     match dir {
         Dir::Main => put_next_of_main(pending, writer, form),
@@ -351,10 +351,10 @@ fn put_next_of_main<W: Sink>(
     writer: &mut W,
     form: &NormalForm,
 ) -> Result<(), Failed>
-    requires few { CanFail (W.calls writer.old) }
-    requires form { IsForm form.now }
-    ensures { AddsTo W.calls W.bytes_taken result writer.old writer.new pending.old pending.new
-        (next_bytes (plan_in form.now) Order.Most 0 (said_in form.now) Dir.Main) }
+    requires few { CanCountFailure (W.calls writer.old) }
+    requires form { IsWritableForm form.now }
+    ensures { AddsBuffered W.calls W.bytes_taken result writer.old writer.new pending.old pending.new
+        (next_bytes (plan_in form.now) Order.Most 0 (meaning_in form.now) Dir.Main) }
 {
     match &form.m.thumb {
         Some(_) => {
@@ -373,12 +373,12 @@ pub(crate) fn put_running_table<W: Sink>(
     dir: Dir,
     entries: &Entries,
 ) -> Result<(), Failed>
-    requires few { CanFail (W.calls writer.old) }
-    requires form { IsForm form.now }
+    requires few { CanCountFailure (W.calls writer.old) }
+    requires form { IsWritableForm form.now }
     requires counted { length entries.now < 2 ^ 16 }
-    requires there { items (said_in form.now) dir ≡ Some entries.now }
-    ensures { AddsTo W.calls W.bytes_taken result writer.old writer.new pending.old pending.new
-        (table_bytes (plan_in form.now) Order.Most 0 (said_in form.now) dir entries.now) }
+    requires there { items (meaning_in form.now) dir ≡ Some entries.now }
+    ensures { AddsBuffered W.calls W.bytes_taken result writer.old writer.new pending.old pending.new
+        (table_bytes (plan_in form.now) Order.Most 0 (meaning_in form.now) dir entries.now) }
 {
     put_short(pending, writer, Order::Most, entries.len() as u16)?;
     put_running_entries(pending, writer, form, dir, entries)?;
@@ -390,8 +390,8 @@ pub(crate) fn put_running_header<W: Sink>(
     pending: &mut Pending<'_>,
     writer: &mut W,
 ) -> Result<(), Failed>
-    requires few { CanFail (W.calls writer.old) }
-    ensures bytes { (m : spec.Meaning) → PutsTo W.bytes_taken result writer.old writer.new pending.old pending.new
+    requires few { CanCountFailure (W.calls writer.old) }
+    ensures bytes { (m : spec.Meaning) → PutsBuffered W.bytes_taken result writer.old writer.new pending.old pending.new
         (header (normal_plan m) Order.Most 0) }
     ensures count { Counts result (W.calls writer.old) (W.calls writer.new) }
 {

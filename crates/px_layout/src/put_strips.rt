@@ -1,11 +1,11 @@
 // Puts the lengths of strips into the output buffer. TIFF 6.0 section 8, "StripByteCounts".
 ghost use Rattle.std.specs.Prelude.{◌≡◌, ◌≤◌, ◌-◌, ◌*◌, ◌++◌, length, take, map, flat_map};
 ghost use Rattle.std.specs.List.{AllByRecursion};
-ghost use Rattle.px_bytes.specs.Devices.{CanFail};
+ghost use Rattle.px_bytes.specs.Devices.{CanCountFailure};
 ghost use Rattle.px_bytes.specs.Parts.{limit};
-ghost use Rattle.px_bytes.specs.Waiting.{AddsTo};
+ghost use Rattle.px_bytes.specs.Waiting.{AddsBuffered};
 ghost use Rattle.px_field.specs.Forms.{size};
-ghost use Rattle.px_field.specs.Values.{form_in, spell};
+ghost use Rattle.px_field.specs.Values.{form_in, encode};
 ghost use Rattle.px_layout.specs.Laid.{long_bytes};
 
 use crate::put::put_value;
@@ -21,7 +21,7 @@ fn encode_each(order: Order, strips: &Strips, start: usize, end: usize, into: &m
     requires rising { start ≤ end }
     requires inside { end ≤ length strips.now }
     requires short { AllByRecursion (λ n. n ≤ limit) (map (λ x. length x) strips.now) }
-    requires room { length into.old ≡ 4 * (end - start) }
+    requires space { length into.old ≡ 4 * (end - start) }
     ensures { flat_map (long_bytes order) (take end (map (λ x. length x) strips.now))
         ≡ flat_map (long_bytes order) (take start (map (λ x. length x) strips.now)) ++ into.new }
 {
@@ -36,13 +36,13 @@ fn encode_longs(order: Order, longs: &Value, start: usize, end: usize, into: &mu
     requires width { size (form_in longs.now.kind) ≡ 4 }
     requires rising { start ≤ end }
     requires inside { end ≤ length longs.now.elements }
-    requires room { length into.old ≡ 4 * (end - start) }
-    ensures { flat_map (spell order) (take end longs.now.elements)
-        ≡ flat_map (spell order) (take start longs.now.elements) ++ into.new }
+    requires space { length into.old ≡ 4 * (end - start) }
+    ensures { flat_map (encode order) (take end longs.now.elements)
+        ≡ flat_map (encode order) (take start longs.now.elements) ++ into.new }
 {
     // Shows that an index is a `u32`.
     let _ = longs.count();
-    longs.spell_many(order, start as u32, into);
+    longs.encode_many(order, start as u32, into);
 }
 
 // Encodes the lengths of the strips from `start` up to `end`. LONGs of a block are swapped many at a time.
@@ -56,7 +56,7 @@ pub(crate) fn encode_lengths(
     requires rising { start ≤ end }
     requires inside { end ≤ length strips.now }
     requires short { AllByRecursion (λ n. n ≤ limit) (map (λ x. length x) strips.now) }
-    requires room { length into.old ≡ 4 * (end - start) }
+    requires space { length into.old ≡ 4 * (end - start) }
     ensures { flat_map (long_bytes order) (take end (map (λ x. length x) strips.now))
         ≡ flat_map (long_bytes order) (take start (map (λ x. length x) strips.now)) ++ into.new }
 {
@@ -73,9 +73,9 @@ fn put_each_length<W: Sink>(
     order: Order,
     strips: &Strips,
 ) -> Result<(), Failed>
-    requires few { CanFail (W.calls writer.old) }
+    requires few { CanCountFailure (W.calls writer.old) }
     requires short { AllByRecursion (λ n. n ≤ limit) (map (λ x. length x) strips.now) }
-    ensures { AddsTo W.calls W.bytes_taken result writer.old writer.new pending.old pending.new (flat_map
+    ensures { AddsBuffered W.calls W.bytes_taken result writer.old writer.new pending.old pending.new (flat_map
         (long_bytes order) (map (λ x. length x) strips.now)) }
 {
     let mut piece = [0; 4 * AT_ONCE];
@@ -90,17 +90,20 @@ fn put_each_length<W: Sink>(
     Ok(())
 }
 
-/// Puts the lengths of strips in bytes, each a LONG, into the output buffer. If a block has them all as LONGs, they
-/// are put as one value. Allocates nothing. `Err`: a call of the writer failed, which ends the call.
+/// Puts the lengths of strips in bytes, each at most `LIMIT` and a LONG in a byte order, into the output buffer,
+/// after the bytes that wait there. If they fit, they wait, and the writer is unchanged; otherwise each waits or is
+/// written. If a block has them all as LONGs, they are put as one value. Allocates nothing. `Err`: they don't fit,
+/// and a call of the writer failed, which is counted and ends the call; it has taken a prefix of the waiting bytes
+/// and these.
 pub fn put_strip_lengths<W: Sink>(
     pending: &mut Pending<'_>,
     writer: &mut W,
     order: Order,
     strips: &Strips,
 ) -> Result<(), Failed>
-    requires few { CanFail (W.calls writer.old) }
+    requires few { CanCountFailure (W.calls writer.old) }
     requires short { AllByRecursion (λ n. n ≤ limit) (map (λ x. length x) strips.now) }
-    ensures { AddsTo W.calls W.bytes_taken result writer.old writer.new pending.old pending.new (flat_map
+    ensures { AddsBuffered W.calls W.bytes_taken result writer.old writer.new pending.old pending.new (flat_map
         (long_bytes order) (map (λ x. length x) strips.now)) }
 {
     match strips.long_lengths() {

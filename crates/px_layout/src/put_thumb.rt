@@ -1,8 +1,8 @@
 // Puts the thumbnail's bytes, after all directories: the JPEG, then the strips, each padded to an even number
 // of bytes. CIPA DC-008 4.5.5; TIFF 6.0 section 8.
 ghost use Rattle.std.specs.Prelude.{Some, option_map, flat_map};
-ghost use Rattle.px_bytes.specs.Devices.{CanFail};
-ghost use Rattle.px_bytes.specs.Waiting.{AddsTo};
+ghost use Rattle.px_bytes.specs.Devices.{CanCountFailure};
+ghost use Rattle.px_bytes.specs.Waiting.{AddsBuffered};
 ghost use Rattle.px_meaning.specs.calls.Seen.{thumb_of};
 ghost use Rattle.px_layout.specs.Laid.{jpeg_contents, strip_contents, all_strip_contents, thumb_contents};
 ghost use Rattle.px_layout.specs.Normal.{padded};
@@ -16,8 +16,8 @@ fn put_padded<W: Sink>(
     writer: &mut W,
     bytes: &[u8],
 ) -> Result<(), Failed>
-    requires { CanFail (W.calls writer.old) }
-    ensures { AddsTo W.calls W.bytes_taken result writer.old writer.new pending.old pending.new (padded bytes.now) }
+    requires { CanCountFailure (W.calls writer.old) }
+    ensures { AddsBuffered W.calls W.bytes_taken result writer.old writer.new pending.old pending.new (padded bytes.now) }
 {
     pending.put(writer, bytes)?;
     put_padding(pending, writer, bytes.len() as u64)
@@ -28,8 +28,8 @@ fn put_strips<W: Sink>(
     writer: &mut W,
     strips: &Strips,
 ) -> Result<(), Failed>
-    requires { CanFail (W.calls writer.old) }
-    ensures { AddsTo W.calls W.bytes_taken result writer.old writer.new pending.old pending.new (flat_map
+    requires { CanCountFailure (W.calls writer.old) }
+    ensures { AddsBuffered W.calls W.bytes_taken result writer.old writer.new pending.old pending.new (flat_map
         (λ c. padded c.1) (strip_contents 0 strips.now)) }
 {
     let count = strips.len();
@@ -47,8 +47,8 @@ fn put_all_strips<W: Sink>(
     writer: &mut W,
     strips: &Option<Strips>,
 ) -> Result<(), Failed>
-    requires { CanFail (W.calls writer.old) }
-    ensures { AddsTo W.calls W.bytes_taken result writer.old writer.new pending.old pending.new (flat_map
+    requires { CanCountFailure (W.calls writer.old) }
+    ensures { AddsBuffered W.calls W.bytes_taken result writer.old writer.new pending.old pending.new (flat_map
         (λ c. padded c.1) (all_strip_contents strips.now)) }
 {
     match strips {
@@ -62,8 +62,8 @@ fn put_jpeg<W: Sink>(
     writer: &mut W,
     jpeg: Option<&[u8]>,
 ) -> Result<(), Failed>
-    requires { CanFail (W.calls writer.old) }
-    ensures { AddsTo W.calls W.bytes_taken result writer.old writer.new pending.old pending.new (flat_map
+    requires { CanCountFailure (W.calls writer.old) }
+    ensures { AddsBuffered W.calls W.bytes_taken result writer.old writer.new pending.old pending.new (flat_map
         (λ c. padded c.1) (jpeg_contents (option_map (λ x. x.now) jpeg.entry))) }
 {
     match jpeg {
@@ -77,8 +77,8 @@ fn put_parts<W: Sink>(
     writer: &mut W,
     thumb: &Thumb,
 ) -> Result<(), Failed>
-    requires { CanFail (W.calls writer.old) }
-    ensures { AddsTo W.calls W.bytes_taken result writer.old writer.new pending.old pending.new (flat_map
+    requires { CanCountFailure (W.calls writer.old) }
+    ensures { AddsBuffered W.calls W.bytes_taken result writer.old writer.new pending.old pending.new (flat_map
         (λ c. padded c.1) (thumb_contents (Some (thumb_of thumb.now)))) }
 {
     put_jpeg(pending, writer, thumb.jpeg)?;
@@ -92,8 +92,8 @@ pub(crate) fn put_thumb<W: Sink>(
     writer: &mut W,
     thumb: &Option<Thumb>,
 ) -> Result<(), Failed>
-    requires { CanFail (W.calls writer.old) }
-    ensures { AddsTo W.calls W.bytes_taken result writer.old writer.new pending.old pending.new (flat_map
+    requires { CanCountFailure (W.calls writer.old) }
+    ensures { AddsBuffered W.calls W.bytes_taken result writer.old writer.new pending.old pending.new (flat_map
         (λ c. padded c.1) (thumb_contents (option_map thumb_of thumb.now))) }
 {
     match thumb {

@@ -2,7 +2,7 @@
 use Rattle.std.proofs.Common.{◌≡◌, ◌≤◌, ◌<◌, ◌+◌, ◌*◌, ℕ, max, inl, inr, arith}
 use Rattle.std.proofs.lemmas.Bool.{cases_lt}
 use Rattle.std.proofs.Math.Nat.{mul-le-mul_right}
-use Rattle.px_bytes.specs.Lacking.{enlarged}
+use Rattle.px_bytes.specs.Allocations.{enlarged}
 
 pub one_more : {A B : Type 0} (size len capacity n asked asked_now : ℕ) → len ≤ n → len ≤ capacity
     → (len + 1 ≤ capacity → A × B × (asked_now ≡ asked)) → (capacity < len + 1 → asked_now ≡ asked + enlarged capacity (len + 1) * size)

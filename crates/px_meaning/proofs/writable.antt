@@ -2,4 +2,4 @@
 pub mod FieldPairs
 pub mod FieldLemmas
 pub mod ItemCounts
-pub mod FitLemmas
+pub mod WritableLemmas

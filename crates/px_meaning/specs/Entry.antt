@@ -149,14 +149,14 @@ unless_record None v = Some v
 unless_record (Some i) v = None
 
 -- the value of a field; pointers, thumbnail parts and a record are no fields
-abbrev pub value_in : List ℕ → Order → Entry → Role → Form → Option Value
-value_in b o e Plain f = Some (record { kind = Of f; elements = entry_elements b o e f })
-value_in b o e Widened f = Some (widened_value f (entry_elements b o e f))
-value_in b o e Record f = unless_record (record_in f (raw b o e)) (record { kind = Of f; elements = entry_elements b o e f })
-value_in b o e _ f = None
+abbrev pub field_value_in : List ℕ → Order → Entry → Role → Form → Option Value
+field_value_in b o e Plain f = Some (record { kind = Of f; elements = entry_elements b o e f })
+field_value_in b o e Widened f = Some (widened_value f (entry_elements b o e f))
+field_value_in b o e Record f = unless_record (record_in f (raw b o e)) (record { kind = Of f; elements = entry_elements b o e f })
+field_value_in b o e _ f = None
 
 unfoldable pub field : List ℕ → Order → Dir → Entry → Option (ℕ × Value)
-field b o d e = option_map (λ v. (e.tag, v)) (option_and_then (value_in b o e (role d e.tag)) (form_of e.code))
+field b o d e = option_map (λ v. (e.tag, v)) (option_and_then (field_value_in b o e (role d e.tag)) (form_of e.code))
 
 -- the fields of a directory: the pairs of tag and value
 unfoldable pub fields : List ℕ → Order → Dir → ℕ → Fields

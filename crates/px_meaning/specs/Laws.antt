@@ -8,7 +8,7 @@ use Rattle.px_field.specs.declared.Form.TheVariants.{Short, Long}
 use Rattle.px_field.specs.declared.Element.{Element}
 use Rattle.px_field.specs.declared.Kind.TheVariants.{Of, Whole}
 use Rattle.px_field.specs.Forms.{form_of}
-use Rattle.px_field.specs.Values.{Value, IsOf, spell, widened}
+use Rattle.px_field.specs.Values.{Value, IsOf, encode, widened}
 use Rattle.px_meaning.specs.declared.roles.Dir.{Dir}
 use Rattle.px_meaning.specs.declared.roles.Role.{Role}
 use Rattle.px_meaning.specs.declared.roles.Role.TheVariants.{Plain, Widened, Record}
@@ -17,15 +17,15 @@ use Rattle.px_meaning.specs.Tree.{Fields, Meaning}
 use Rattle.px_meaning.specs.Entry.{Entry, raw, record_in, IsDirectory, fields}
 use Rattle.px_meaning.specs.Directory.{entries_at}
 use Rattle.px_meaning.specs.Says.{SaysExif}
-use Rattle.px_meaning.specs.Fits.{Fits, put}
+use Rattle.px_meaning.specs.Writable.{IsWritable, put}
 
 -- A block has at most one meaning.
 abbrev pub OneMeaning : Type 0
 OneMeaning = (b : List ℕ) (s t : Meaning) → SaysExif b s → SaysExif b t → s ≡ t
 
--- The meaning of a block of bytes fits.
-abbrev pub SaidFits : Type 0
-SaidFits = (b : List ℕ) (m : Meaning) → AreBytes b → SaysExif b m → Fits m
+-- The meaning of a block of bytes can be written.
+abbrev pub MeaningIsWritable : Type 0
+MeaningIsWritable = (b : List ℕ) (m : Meaning) → AreBytes b → SaysExif b m → IsWritable m
 
 -- After a field is added it is found at its tag, and nothing else has changed.
 abbrev pub GetAfterPut : Type 0
@@ -35,20 +35,20 @@ GetAfterPut = (fields : Fields) (t u : ℕ) (v : Value) → at_tag t fields ≡ 
 -- ---- fields, by definitions of their own
 
 -- the elements of a type that encode to the bytes, in their order
-pub record Spell (o : Order) (f : Form) (xs : List Element) (bytes : List ℕ) : Type 0 where
+pub record Encodes (o : Order) (f : Form) (xs : List Element) (bytes : List ℕ) : Type 0 where
   pub each : AllByRecursion (IsOf f) xs
-  pub spelled_is : flat_map (spell o) xs ≡ bytes
+  pub encoded_is : flat_map (encode o) xs ≡ bytes
 
 -- v is of that type, and its elements are those that the raw bytes of e encode
 pub record IsTyped (b : List ℕ) (o : Order) (e : Entry) (f : Form) (v : Value) : Type 0 where
   pub kind : v.kind ≡ Of f
-  pub spell : Spell o f v.elements (raw b o e)
+  pub encode : Encodes o f v.elements (raw b o e)
 
 -- v is a list of whole numbers, those of SHORT or LONG that the raw bytes of e encode
 pub record IsWhole (b : List ℕ) (o : Order) (e : Entry) (f : Form) (v : Value) : Type 0 where
   pub kind : v.kind ≡ Whole
   pub numbers : List Element
-  pub spell : Spell o f numbers (raw b o e)
+  pub encode : Encodes o f numbers (raw b o e)
   pub widened_is : v.elements ≡ map widened numbers
 
 -- the value of a widened entry: types other than SHORT and LONG are unchanged

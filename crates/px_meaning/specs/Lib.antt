@@ -7,7 +7,7 @@ pub mod Directory
 pub mod Thumbnail
 pub mod Footprint
 pub mod Says
-pub mod Fits
+pub mod Writable
 pub mod Laws
 pub mod calls
 pub mod lemmas

@@ -56,4 +56,4 @@ pub record IsExif (b : List ℕ) (o : Order) : Type 0 where
 pub record SaysExif (b : List ℕ) (m : Meaning) : Type 0 where
   pub order : Order
   pub is_block : IsExif b order
-  pub says : m ≡ meaning b order
+  pub means : m ≡ meaning b order

@@ -1,16 +1,15 @@
 // The fields of a directory, by their tags.
-ghost use Rattle.std.specs.Prelude.{◌≡◌, ◌<◌, [], ◌∷◌, ◌++◌, OnOk, IfOk, IfErr, OnErr, Some, None, length, slice_get, option_copied};
-ghost use Rattle.std.specs.Prelude.{is_some, true, false, IsTrue, ◌↔◌, ◌+◌, ◌*◌, if◌then◌else◌};
-ghost use Rattle.px_bytes.specs.Lacking.{Lacks, AsksAtMost};
+ghost use Rattle.std.specs.Prelude.{◌≡◌, ◌<◌, [], IfOk, IfErr, OnErr, Some, None, length, slice_get, option_copied, is_some, true, false};
+ghost use Rattle.std.specs.Prelude.{IsTrue, ◌↔◌, ◌+◌, ◌*◌, if◌then◌else◌};
+ghost use Rattle.px_bytes.specs.Allocations.{CountsAllocFailure, AsksAtMost};
 ghost use Rattle.px_meaning.specs.Asking.{field_request};
 ghost use Rattle.px_meaning.specs.Roles.{at_tag};
-ghost use Rattle.px_meaning.specs.Fits.{put};
+ghost use Rattle.px_meaning.specs.Writable.{put};
 ghost use Rattle.px_meaning.specs.Entry.{Rising};
 ghost use Rattle.px_meaning.specs.calls.Places.{tags, IsInOrder, IsAt, IsGapFor};
 
-use px_bytes::{Memory, Refused};
+use px_bytes::{AllocFailed, Memory};
 use px_field::Value;
-use std::alloc::{AllocError, Global};
 use std::marker::Model;
 
 /// The fields of a directory: a finite map from tag to value. TIFF 6.0 section 2, "Image File Directory" and
@@ -20,7 +19,7 @@ use std::marker::Model;
 /// tag so far, as when a block is read, is appended; any other moves the fields after it.
 #[derive(Drop)]
 pub struct Fields<'a> {
-    list: Vec<(u16, Value<'a>)>,
+    pub(crate) list: Vec<(u16, Value<'a>)>,
 }
 
 impl<'a> Model for Fields<'a> {
@@ -35,13 +34,6 @@ impl<'a> Model for Fields<'a> {
 }
 
 impl<'a> Fields<'a> {
-    /// No fields, with memory of its own. It allocates nothing.
-    pub fn new(alloc: Global) -> Fields<'a>
-        ensures { result ≡ [] }
-    {
-        Fields::new_in(&Memory::new(alloc))
-    }
-
     /// No fields. Later calls use the allocator of `memory`. It allocates nothing.
     pub fn new_in(memory: &Memory) -> Fields<'a>
         ensures { result ≡ [] }
@@ -85,17 +77,6 @@ impl<'a> Fields<'a> {
         }
     }
 
-    /// Like `put_in`, with memory of its own.
-    pub fn put(&mut self, tag: u16, value: Value<'a>) -> Result<bool, AllocError>
-        ensures fresh { IfOk result (λ fresh. fresh ≡ true → (at_tag tag self.old ≡ None) × (self.new ≡ put tag value.entry self.old)) }
-        ensures there { IfOk result (λ fresh. fresh ≡ false → (is_some (at_tag tag self.old) ≡ true) × (self.new ≡ self.old)) }
-        ensures absent { OnErr result (at_tag tag self.old ≡ None) }
-        ensures err { OnErr result (self.new ≡ self.old) }
-    {
-        let mut memory = Memory::new(*self.list.allocator());
-        Ok(self.put_in(&mut memory, tag, value)?)
-    }
-
     /// Adds a field and returns true, or returns false if the tag has a value already. On false and on an
     /// error the new value is dropped and nothing has changed. `Err`: an allocation failed.
     pub fn put_in(
@@ -103,12 +84,12 @@ impl<'a> Fields<'a> {
         memory: &mut Memory,
         tag: u16,
         value: Value<'a>,
-    ) -> Result<bool, Refused>
+    ) -> Result<bool, AllocFailed>
         ensures fresh { IfOk result (λ fresh. fresh ≡ true → (at_tag tag self.old ≡ None) × (self.new ≡ put tag value.entry self.old)) }
         ensures there { IfOk result (λ fresh. fresh ≡ false → (is_some (at_tag tag self.old) ≡ true) × (self.new ≡ self.old)) }
         ensures absent { OnErr result (at_tag tag self.old ≡ None) }
         ensures err { OnErr result (self.new ≡ self.old) }
-        ensures memory { Lacks result memory.old memory.new }
+        ensures memory { CountsAllocFailure result memory.old memory.new }
         ensures asked { AsksAtMost (if is_some (at_tag tag self.old) then 0 else field_request (length self.old)) memory.old memory.new }
     {
         match position_of(self.list.as_slice(), tag) {

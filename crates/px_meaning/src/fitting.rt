@@ -3,14 +3,14 @@ ghost use Rattle.std.specs.Prelude.{◌≡◌, ◌<◌, ◌≤◌, ◌*◌, ◌^
 ghost use Rattle.std.specs.List.{AllByRecursion};
 ghost use Rattle.px_bytes.specs.Parts.{limit};
 ghost use Rattle.px_bytes.specs.declared.Order.TheVariants.{Least};
-ghost use Rattle.px_field.specs.Values.{form_in, spelled, IsValue};
+ghost use Rattle.px_field.specs.Values.{form_in, encoded, IsValue};
 ghost use Rattle.px_iim.specs.Group.{IsRecord};
 ghost use Rattle.px_iim.specs.Record.{normal_iim};
 ghost use Rattle.px_meaning.specs.Roles.{role, record_tag};
 ghost use Rattle.px_meaning.specs.Entry.{record_in};
 ghost use Rattle.px_meaning.specs.Directory.{dirs};
-ghost use Rattle.px_meaning.specs.Fits.{Allows, FitsFields, FitsExif, FitsThumb, Fits, IsBytes, items, field_items, main_items, exif_items};
-ghost use Rattle.px_meaning.specs.Fits.{thumb_items};
+ghost use Rattle.px_meaning.specs.Writable.{Allows, AreWritableFields, IsWritableExif, IsWritableThumb, IsWritable, IsBytes, items};
+ghost use Rattle.px_meaning.specs.Writable.{field_items, main_items, exif_items, thumb_items};
 ghost use Rattle.px_meaning.specs.calls.Seen.{exif_of, thumb_of, meaning_of};
 
 use crate::fields::Fields;
@@ -27,8 +27,8 @@ use px_iim::{Iim, accepts, normal_len};
 /// directory has the bytes of a record; a record has no field at its tag, isn't empty, and has a normal form
 /// of at most `2 * LIMIT` bytes; every directory has an entry; the JPEG, each strip and the number of strips
 /// are at most `LIMIT`. It allocates nothing.
-pub fn fits(m: &Meaning) -> bool
-    ensures { IsTrue result ↔ Fits (meaning_of m.now) }
+pub fn is_writable(m: &Meaning) -> bool
+    ensures { IsTrue result ↔ IsWritable (meaning_of m.now) }
 {
     fits_fields(Dir::Main, &m.main)
         && fits_record(&m.iptc)
@@ -40,7 +40,7 @@ pub fn fits(m: &Meaning) -> bool
 }
 
 /// Whether bytes of a type are a record.
-pub fn says_record(form: Form, raw: &[u8]) -> bool
+pub fn is_record_in(form: Form, raw: &[u8]) -> bool
     ensures { result ≡ is_some (record_in form raw.now) }
 {
     match form {
@@ -51,13 +51,13 @@ pub fn says_record(form: Form, raw: &[u8]) -> bool
 
 // Whether a value at the record's tag has the bytes of a record.
 fn is_record(value: &Value) -> bool
-    ensures { IsTrue result ↔ (record_in (form_in value.now.kind) (spelled Least value.now) ≡ None → ⊥) }
+    ensures { IsTrue result ↔ (record_in (form_in value.now.kind) (encoded Least value.now) ≡ None → ⊥) }
 {
     let Some(bytes) = value.bytes() else {
         return false;
     };
     match value.kind() {
-        Kind::Of(form) => says_record(form, bytes),
+        Kind::Of(form) => is_record_in(form, bytes),
         Kind::Whole => false,
     }
 }
@@ -79,7 +79,7 @@ fn is_allowed(dir: Dir, tag: u16, value: &Value) -> bool
 
 // Whether a directory may have these fields.
 fn fits_fields(dir: Dir, fields: &Fields) -> bool
-    ensures { IsTrue result ↔ FitsFields dir fields.now }
+    ensures { IsTrue result ↔ AreWritableFields dir fields.now }
 {
     for i in 0..fields.len() {
         let (tag, value) = fields.at(i);
@@ -91,7 +91,7 @@ fn fits_fields(dir: Dir, fields: &Fields) -> bool
 }
 
 fn fits_optional(dir: Dir, fields: &Option<Fields>) -> bool
-    ensures { IsTrue result ↔ IfSome fields.now (FitsFields dir) }
+    ensures { IsTrue result ↔ IfSome fields.now (AreWritableFields dir) }
 {
     match fields {
         Some(fields) => fits_fields(dir, fields),
@@ -119,7 +119,7 @@ fn is_alone(m: &Meaning) -> bool
 }
 
 fn fits_exif(part: &Option<ExifPart>) -> bool
-    ensures { IsTrue result ↔ IfSome (option_map exif_of part.now) FitsExif }
+    ensures { IsTrue result ↔ IfSome (option_map exif_of part.now) IsWritableExif }
 {
     match part {
         Some(part) => {
@@ -168,7 +168,7 @@ fn fits_optional_strips(strips: &Option<Strips>) -> bool
 }
 
 fn fits_thumb(thumb: &Option<Thumb>) -> bool
-    ensures { IsTrue result ↔ IfSome (option_map thumb_of thumb.now) FitsThumb }
+    ensures { IsTrue result ↔ IfSome (option_map thumb_of thumb.now) IsWritableThumb }
 {
     match thumb {
         Some(thumb) => {
@@ -254,7 +254,7 @@ fn is_thumb_filled(thumb: &Option<Thumb>) -> bool
 }
 
 // Whether each directory has an entry.
-#[tactic(auto, unfolding(crate::specs::Fits::items))]
+#[tactic(auto, unfolding(crate::specs::Writable::items))]
 fn are_filled(m: &Meaning) -> bool
     ensures { IsTrue result ↔ AllByRecursion (λ d. IfSome (items (meaning_of m.now) d) (λ xs. 1 ≤ length xs)) dirs }
 {

@@ -8,6 +8,7 @@
 
 mod fields;
 mod fitting;
+mod global;
 pub mod laws;
 mod meanings;
 mod parts;
@@ -19,7 +20,7 @@ mod strips;
 pub mod tags;
 
 pub use fields::Fields;
-pub use fitting::{fits, says_record};
+pub use fitting::{is_record_in, is_writable};
 pub use meanings::{ExifPart, Meaning, Thumb};
 pub use parts::{magic_of, needs_place, number16, number32, part_of, table_len};
 pub use roles::{Dir, Role, has_no_use, role_where};

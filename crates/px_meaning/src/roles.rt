@@ -103,7 +103,8 @@ fn is_between(low: u16, tag: u16, high: u16) -> bool
     low < tag && tag < high
 }
 
-/// Whether no directory uses or refuses a tag. For most tags one comparison is enough.
+/// True only if no directory has a special use for the tag or refuses it: it is none of 19 tags. That a tag with no
+/// use gives true is not stated. For most tags one comparison is enough.
 #[tactic(auto, using(crate::proofs::tables::NoUse::between_tables))]
 pub fn has_no_use(tag: u16) -> bool
     ensures { result ≡ true → HasNoUse tag }
@@ -135,7 +136,8 @@ pub fn has_no_use(tag: u16) -> bool
     }
 }
 
-/// The role of a tag in a directory, given whether no directory uses it.
+/// The role of a tag in a directory, as `role_of` returns it, given a flag that is true only if no directory has a
+/// special use for the tag or refuses it.
 #[tactic(auto, using(crate::proofs::tables::NoUse::no_use_plain))]
 pub fn role_where(is_common: bool, dir: Dir, tag: u16) -> Role
     requires { is_common ≡ true → HasNoUse tag }
@@ -147,7 +149,8 @@ pub fn role_where(is_common: bool, dir: Dir, tag: u16) -> Role
     any_role(dir, tag)
 }
 
-/// The role of a tag in a directory.
+/// The role of a tag in a directory: a plain field, one whose SHORT and LONG mean the same, a pointer, a part of the
+/// thumbnail, the record, or forbidden.
 pub fn role_of(dir: Dir, tag: u16) -> Role
     ensures { result ≡ role dir tag }
 {

@@ -53,7 +53,8 @@ pub fn strip_at<'a>(lists: &StripLists<'a>, i: u32) -> &'a [u8]
     part_of(lists.block, start, len)
 }
 
-// The length of the strip at `i`, counted from 0.
+// The length of the strip at `i`, counted from 0. Required: the two lists have the same count, and each strip lies inside
+// the block (`AreNamed`).
 #[inline(always)]
 pub fn strip_len(lists: &StripLists, i: u32) -> u32
     requires named { AreNamed lists.now }
@@ -63,7 +64,8 @@ pub fn strip_len(lists: &StripLists, i: u32) -> u32
     number_in(&lists.sizes, i)
 }
 
-// The list of the lengths, if they are LONGs.
+// If there is a result, it is a value of LONGs: the lengths of all strips, in order. When there is one is not stated:
+// it is there if the block's list has LONGs.
 pub fn long_sizes<'l, 'a>(lists: &'l StripLists<'a>) -> Option<&'l Value<'a>>
     requires { AreNamed lists.now }
     ensures { IfSome result (λ v. v.now ≡ longs (map (λ x. length x) (named_strips (Some lists.now)))) }

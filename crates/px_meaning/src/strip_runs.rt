@@ -47,8 +47,10 @@ fn longer_run<'a>(lists: &StripLists<'a>, i: u32, start: usize, end: usize) -> S
     }
 }
 
-// The strip at `i`, counted from 0. If its length is even, also the next strips of an even length that follow it
-// directly in the block.
+// The strip at `i`, counted from 0, and perhaps some after it: `count` strips, at least one and no more than are
+// left. Padding `bytes` once to an even length gives the same as padding each of these strips, one after another. How
+// many they are is not stated: if its length is even, also the next strips of an even length that follow it directly
+// in the block.
 pub fn run_in<'a>(lists: &StripLists<'a>, i: u32) -> StripRun<'a>
     requires named { AreNamed lists.now }
     requires there { i < length lists.now.starts.elements }

@@ -1,15 +1,13 @@
 // The strips of a thumbnail.
-ghost use Rattle.std.specs.Prelude.{◌≡◌, ◌<◌, ◌≤◌, ◌+◌, [], ◌∷◌, ◌++◌, length, map, slice_get, Some, OnOk, OnErr, IsTrue, ◌↔◌};
-ghost use Rattle.std.specs.Prelude.{IfSome};
-ghost use Rattle.px_bytes.specs.Lacking.{Lacks, AsksAtMost};
+ghost use Rattle.std.specs.Prelude.{◌≡◌, ◌<◌, ◌≤◌, ◌+◌, [], ◌∷◌, ◌++◌, length, map, slice_get, Some, OnOk, OnErr, IsTrue, ◌↔◌, IfSome};
+ghost use Rattle.px_bytes.specs.Allocations.{CountsAllocFailure, AsksAtMost};
 ghost use Rattle.px_meaning.specs.Asking.{strip_request};
 ghost use Rattle.px_meaning.specs.calls.Strips.{AreNamed, AreJoined, named_strips, longs};
 
 use crate::strip_lists::{StripLists, long_sizes, strip_at, strip_len};
 use crate::strip_runs::{StripRun, run_in};
-use px_bytes::{Memory, Refused};
+use px_bytes::{AllocFailed, Memory};
 use px_field::Value;
-use std::alloc::{AllocError, Global};
 use std::marker::Model;
 
 /// The strips of an uncompressed thumbnail, in the order of the lists that name them: slices of the block
@@ -19,7 +17,7 @@ use std::marker::Model;
 pub struct Strips<'a> {
     // The strips that a block names, followed by those that were pushed.
     named: Option<StripLists<'a>>,
-    list: Vec<&'a [u8]>,
+    pub(crate) list: Vec<&'a [u8]>,
 }
 
 impl<'a> Model for Strips<'a> {
@@ -34,13 +32,6 @@ impl<'a> Model for Strips<'a> {
 }
 
 impl<'a> Strips<'a> {
-    /// No strips. Allocates nothing.
-    pub fn new(alloc: Global) -> Strips<'a>
-        ensures { result ≡ [] }
-    {
-        Strips::new_in(&Memory::new(alloc))
-    }
-
     /// No strips. Later calls allocate in that memory. Allocates nothing.
     pub fn new_in(memory: &Memory) -> Strips<'a>
         ensures { result ≡ [] }
@@ -64,19 +55,10 @@ impl<'a> Strips<'a> {
 
     /// Appends a strip. Allocates if the list has no capacity for it. `Err`: an allocation failed; the strips
     /// are as they were.
-    pub fn push(&mut self, strip: &'a [u8]) -> Result<(), AllocError>
+    pub fn push_in(&mut self, memory: &mut Memory, strip: &'a [u8]) -> Result<(), AllocFailed>
         ensures ok { OnOk result (self.new ≡ self.old ++ strip.now ∷ []) }
         ensures err { OnErr result (self.new ≡ self.old) }
-    {
-        let mut memory = Memory::new(*self.list.allocator());
-        Ok(self.push_in(&mut memory, strip)?)
-    }
-
-    /// Like `push`, with the caller's memory: it returns `Err` exactly if an allocation failed in this call.
-    pub fn push_in(&mut self, memory: &mut Memory, strip: &'a [u8]) -> Result<(), Refused>
-        ensures ok { OnOk result (self.new ≡ self.old ++ strip.now ∷ []) }
-        ensures err { OnErr result (self.new ≡ self.old) }
-        ensures memory { Lacks result memory.old memory.new }
+        ensures memory { CountsAllocFailure result memory.old memory.new }
         ensures asked { AsksAtMost (strip_request (length self.old)) memory.old memory.new }
     {
         memory.push(&mut self.list, strip)?;
@@ -129,8 +111,9 @@ impl<'a> Strips<'a> {
         self.at(i).len()
     }
 
-    /// The lengths in bytes of all strips, in one value: the LONGs of the block's StripByteCounts. `None` if they are
-    /// SHORTs, if no block names the strips, and if strips were pushed. Allocates nothing.
+    /// If there is a result, it is a value of LONGs: the lengths in bytes of all strips, in order. When there is one
+    /// is not stated: `None` comes if the block's StripByteCounts are SHORTs, if no block names the strips, and if
+    /// strips were pushed. Allocates nothing.
     pub fn long_lengths(&self) -> Option<&Value<'a>>
         ensures { IfSome result (λ v. v.now ≡ longs (map (λ x. length x) self.now)) }
     {
@@ -143,8 +126,10 @@ impl<'a> Strips<'a> {
         }
     }
 
-    /// The strip at `i`, and the strips after it that can be written together with it: in the block they follow it
-    /// directly, and the normal form has no padding between them. `i` is less than `len`. Allocates nothing.
+    /// The strip at `i`, and perhaps some after it that can be written together with it: `count` strips, at least one
+    /// and no more than are left. Padding `bytes` once to an even length gives the same as padding each of these
+    /// strips, one after another. How many they are is not stated: strips of an even length that follow one another
+    /// directly in the block. `i` is less than `len`. Allocates nothing.
     pub fn run_at(&self, i: usize) -> StripRun<'a>
         requires { i < length self.now }
         ensures some { 0 < result.count }

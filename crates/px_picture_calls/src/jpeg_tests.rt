@@ -1,6 +1,6 @@
 // px_jpeg: what the C library doesn't call: the parts of a head, its pieces, and where a piece of extended XMP belongs.
 use crate::pictures::{APP1, APP13, CAPTION, EXIF, RESOURCE, picture};
-use px_jpeg::{Extended, Kind, Part, Piece, read_extended, read_head};
+use px_jpeg::{Extended, Part, Piece, SegmentKind, read_extended, read_head};
 use std::test::Fail;
 
 // A packet of XMP, of four bytes. XMP part 3, 1.1.3.
@@ -11,7 +11,7 @@ const XMP: &[u8] = b"\xff\xe1\x00\x23http://ns.adobe.com/xap/1.0/\x00<x/>";
 const EXTENDED: &[u8] = b"0123456789ABCDEF0123456789ABCDEF\x00\x01\x00\x00\x00\x00\xff\xdc<x/>";
 
 // A piece, with its kind, whether it begins a block, its offset and its size.
-fn piece(kind: Kind, begins: bool, start: usize, size: usize) -> Piece {
+fn piece(kind: SegmentKind, begins: bool, start: usize, size: usize) -> Piece {
     Piece {
         kind,
         begins,
@@ -27,12 +27,12 @@ fn the_pieces_of_a_head_are_returned(rt: HostRuntime) -> Result<(), Fail> {
     ];
     let file = picture(rt.alloc(), &segments)?;
     let head = read_head(&file)?;
-    let first = piece(Kind::Exif, true, 12, 26);
+    let first = piece(SegmentKind::Exif, true, 12, 26);
     let expected = [
         first,
-        piece(Kind::Photoshop, true, 56, 20),
-        piece(Kind::Photoshop, false, 94, 20),
-        piece(Kind::Xmp, true, 147, 4),
+        piece(SegmentKind::Photoshop, true, 56, 20),
+        piece(SegmentKind::Photoshop, false, 94, 20),
+        piece(SegmentKind::Xmp, true, 147, 4),
     ];
     let mut pieces = head.front().pieces();
     for piece in &expected {

@@ -1,8 +1,10 @@
 // px_pictures: the blocks of a picture, whether two pictures have the same, and the first fault of two.
 use crate::pictures::{APP1, APP13, CAPTION, EXIF, RESOURCE, picture};
 use px_bytes::{Cause, Memory};
-use px_jpeg::{Cause as HeadCause, HeadFault};
-use px_pictures::{BlockKind, Fault, PictureFault, Side, metadata_of_in, same_metadata};
+use px_jpeg::{HeadCause, HeadFault};
+use px_pictures::{
+    MetadataFault, MetadataKind, PictureFault, PictureSide, metadata_of_in, same_metadata,
+};
 use std::alloc::{AllocError, Global};
 use std::process::Abort;
 use std::test::Fail;
@@ -101,14 +103,14 @@ fn check_fault(
     rt: &impl Abort,
     alloc: Global,
     segments: &[&[u8]],
-    fault: Fault,
+    fault: MetadataFault,
 ) -> Result<(), Fail> {
     let first = Err(PictureFault {
-        side: Side::First,
+        side: PictureSide::First,
         fault,
     });
     let second = Err(PictureFault {
-        side: Side::Second,
+        side: PictureSide::Second,
         fault,
     });
     assert_eq!(rt; compared(alloc, segments, &[APP1, EXIF])?, first);
@@ -118,7 +120,7 @@ fn check_fault(
 
 #[test]
 fn a_segment_has_a_length(rt: HostRuntime) -> Result<(), Fail> {
-    let fault = Fault::Head(HeadFault {
+    let fault = MetadataFault::Head(HeadFault {
         cause: HeadCause::LengthForm,
         place: 38,
     });
@@ -128,8 +130,8 @@ fn a_segment_has_a_length(rt: HostRuntime) -> Result<(), Fail> {
 
 #[test]
 fn the_second_exif_block_is_refused(rt: HostRuntime) -> Result<(), Fail> {
-    let fault = Fault::Block {
-        kind: BlockKind::Exif,
+    let fault = MetadataFault::Block {
+        kind: MetadataKind::Exif,
         number: 1,
         cause: Cause::ValueOutside,
         place: 10,
@@ -140,8 +142,8 @@ fn the_second_exif_block_is_refused(rt: HostRuntime) -> Result<(), Fail> {
 
 #[test]
 fn the_second_iptc_block_is_refused(rt: HostRuntime) -> Result<(), Fail> {
-    let fault = Fault::Block {
-        kind: BlockKind::Iptc,
+    let fault = MetadataFault::Block {
+        kind: MetadataKind::Iptc,
         number: 1,
         cause: Cause::DataSetCut,
         place: 5,

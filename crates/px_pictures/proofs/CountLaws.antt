@@ -6,13 +6,13 @@ use Rattle.std.specs.List.{cons_option}
 use Rattle.std.specs.Prelude.{filter, filter_map, flat_map}
 use Rattle.std.proofs.lemmas.Bool.{cond-true, cond-false, cases_Bool}
 use Rattle.px_jpeg.specs.declared.Part.{Part}
-use Rattle.px_jpeg.specs.declared.Kind.{Kind}
-use Rattle.px_jpeg.specs.declared.Kind.TheVariants.{Exif, Photoshop, Xmp, ExtendedXmp}
+use Rattle.px_jpeg.specs.declared.SegmentKind.{SegmentKind}
+use Rattle.px_jpeg.specs.declared.SegmentKind.TheVariants.{Exif, Photoshop, Xmp, ExtendedXmp}
 use Rattle.px_jpeg.specs.declared.Piece.{Piece}
 use Rattle.px_jpeg.specs.Front.{HasFront}
-use Rattle.px_jpeg.specs.Head.{Spells}
-use Rattle.px_jpeg.specs.Pieces.{range, kind_of, piece_in, pieces}
-use Rattle.px_jpeg.specs.Blocks.{Block, piece_octets, joined, exif_in, exif_blocks, iptc_blocks, blocks}
+use Rattle.px_jpeg.specs.Head.{Encodes}
+use Rattle.px_jpeg.specs.Pieces.{range, segment_kind, piece_in, pieces}
+use Rattle.px_jpeg.specs.Blocks.{JoinedBlock, piece_octets, joined, exif_in, exif_blocks, iptc_blocks, blocks}
 use Rattle.px_jpeg.specs.ResourceReading.{is_resource, resource, step, resources_of, resources_from}
 use Rattle.px_pictures.specs.Metadata.{Blocks, HasBlocks, has_octets}
 use Rattle.px_pictures.specs.calls.Judging.{IsFew}
@@ -45,21 +45,21 @@ joined_fewer : (b : List ℕ) (ps : List Piece) → length (joined b ps).1 ≤ l
 unfolding joined
 joined_fewer b [] = omega arith
 joined_fewer b (p ∷ ps) = elim (cases_Bool p.begins) [
-  | inl t ↦ omega (arith, joined_fewer b ps, ap (λ (j : List ℕ × List Block). length j.1) (joined_begins b p ps t))
-  | inr f ↦ omega (arith, joined_fewer b ps, ap (λ (j : List ℕ × List Block). length j.1) (joined_continues b p ps f))
+  | inl t ↦ omega (arith, joined_fewer b ps, ap (λ (j : List ℕ × List JoinedBlock). length j.1) (joined_begins b p ps t))
+  | inr f ↦ omega (arith, joined_fewer b ps, ap (λ (j : List ℕ × List JoinedBlock). length j.1) (joined_continues b p ps f))
 ]
 
-piece_fewer : (b : List ℕ) (q : Part) (last o : Option Kind) → length (piece_in b q last o) ≤ 1
+piece_fewer : (b : List ℕ) (q : Part) (last o : Option SegmentKind) → length (piece_in b q last o) ≤ 1
 piece_fewer b q last None = omega arith
 piece_fewer b q last (Some k) = omega arith
 
-pieces_fewer : (b : List ℕ) (last : Option Kind) (qs : List Part) → length (pieces b last qs) ≤ length qs
+pieces_fewer : (b : List ℕ) (last : Option SegmentKind) (qs : List Part) → length (pieces b last qs) ≤ length qs
 pieces_fewer b last [] = omega arith
 pieces_fewer b last (q ∷ qs) =
-    let o : Option Kind = kind_of q.code (range b q.start q.size) in
+    let o : Option SegmentKind = segment_kind q.code (range b q.start q.size) in
     omega (arith, piece_fewer b q last o, pieces_fewer b o qs, length-append (piece_in b q last o) (pieces b o qs))
 
-parts_fewer : (p : ℕ) (qs : List Part) (x : List ℕ) → Spells p qs x → length qs ≤ length x
+parts_fewer : (p : ℕ) (qs : List Part) (x : List ℕ) → Encodes p qs x → length qs ≤ length x
 parts_fewer p [] x s = omega arith
 parts_fewer p (q ∷ qs) x (a, b, w, inl i, s) =
     omega (
@@ -88,9 +88,9 @@ blocks_few b parts (inr h) =
       arith,
       joined_fewer b (pieces b None parts),
       pieces_fewer b None parts,
-      parts_fewer 2 parts h.spelled h.spells,
+      parts_fewer 2 parts h.encoded h.encodes,
       ap length h.whole,
-      length-append h.spelled h.rest,
+      length-append h.encoded h.rest,
     )
 
 exif_few : (b : List ℕ) (parts : List Part) → HasFront b parts → length (exif_blocks b parts) ≤ length b
@@ -109,7 +109,7 @@ resources_fewer (suc n) p x = elim (cases_Bool (is_resource x)) [
   | inr f ↦ rw (cond-false (is_resource x) (resource p x ∷ resources_from n (p + step x) (drop (step x) x)) [] f) (omega arith)
 ]
 
-records_fewer : (k : Kind) (x : List ℕ) → length (records_in (record { kind = k; octets = x })) ≤ length x
+records_fewer : (k : SegmentKind) (x : List ℕ) → length (records_in (record { kind = k; octets = x })) ≤ length x
 unfolding resources_of
 records_fewer Exif x = omega arith
 records_fewer Photoshop x =
@@ -122,7 +122,7 @@ records_fewer Photoshop x =
 records_fewer Xmp x = omega arith
 records_fewer ExtendedXmp x = omega arith
 
-all_fewer : (ks : List Block) → length (flat_map records_in ks) ≤ length (flat_map (λ (k : Block). k.octets) ks)
+all_fewer : (ks : List JoinedBlock) → length (flat_map records_in ks) ≤ length (flat_map (λ (k : JoinedBlock). k.octets) ks)
 all_fewer [] = omega arith
 all_fewer (k ∷ ks) =
     omega (
@@ -130,11 +130,11 @@ all_fewer (k ∷ ks) =
       records_fewer k.kind k.octets,
       all_fewer ks,
       length-append (records_in k) (flat_map records_in ks),
-      length-append k.octets (flat_map (λ (k : Block). k.octets) ks),
+      length-append k.octets (flat_map (λ (k : JoinedBlock). k.octets) ks),
     )
 
 joined_octets : (b : List ℕ) (ps : List Piece)
-    → length (joined b ps).0 + length (flat_map (λ (k : Block). k.octets) (joined b ps).1) ≡ length (flat_map (piece_octets b) ps)
+    → length (joined b ps).0 + length (flat_map (λ (k : JoinedBlock). k.octets) (joined b ps).1) ≡ length (flat_map (piece_octets b) ps)
 unfolding joined
 joined_octets b [] = refl
 joined_octets b (p ∷ ps) = elim (cases_Bool p.begins) [
@@ -142,16 +142,16 @@ joined_octets b (p ∷ ps) = elim (cases_Bool p.begins) [
       omega (
         arith,
         joined_octets b ps,
-        ap (λ (j : List ℕ × List Block). length j.0 + length (flat_map (λ (k : Block). k.octets) j.1)) (joined_begins b p ps t),
+        ap (λ (j : List ℕ × List JoinedBlock). length j.0 + length (flat_map (λ (k : JoinedBlock). k.octets) j.1)) (joined_begins b p ps t),
         length-append (piece_octets b p) (joined b ps).0,
         length-append (piece_octets b p) (flat_map (piece_octets b) ps),
-        length-append (piece_octets b p ++ (joined b ps).0) (flat_map (λ (k : Block). k.octets) (joined b ps).1),
+        length-append (piece_octets b p ++ (joined b ps).0) (flat_map (λ (k : JoinedBlock). k.octets) (joined b ps).1),
       )
   | inr f ↦
       omega (
         arith,
         joined_octets b ps,
-        ap (λ (j : List ℕ × List Block). length j.0 + length (flat_map (λ (k : Block). k.octets) j.1)) (joined_continues b p ps f),
+        ap (λ (j : List ℕ × List JoinedBlock). length j.0 + length (flat_map (λ (k : JoinedBlock). k.octets) j.1)) (joined_continues b p ps f),
         length-append (piece_octets b p) (joined b ps).0,
         length-append (piece_octets b p) (flat_map (piece_octets b) ps),
       )

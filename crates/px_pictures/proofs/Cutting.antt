@@ -6,11 +6,11 @@ use Rattle.std.specs.Prelude.{flat_map}
 use Rattle.std.proofs.lemmas.Bool.{cond-true, cond-false, cases_Bool}
 use Rattle.std.proofs.Math.Seq.{take-append_seam, drop-append_seam}
 use Rattle.px_jpeg.specs.declared.Part.{Part}
-use Rattle.px_jpeg.specs.declared.Kind.{Kind}
-use Rattle.px_jpeg.specs.declared.Kind.TheVariants.{Exif, Photoshop, Xmp, ExtendedXmp}
+use Rattle.px_jpeg.specs.declared.SegmentKind.{SegmentKind}
+use Rattle.px_jpeg.specs.declared.SegmentKind.TheVariants.{Exif, Photoshop, Xmp, ExtendedXmp}
 use Rattle.px_jpeg.specs.declared.Piece.{Piece}
-use Rattle.px_jpeg.specs.Pieces.{AllInside, range, kind_of, begins, mark_len, piece_in, pieces}
-use Rattle.px_jpeg.specs.Blocks.{Block, piece_octets, joined}
+use Rattle.px_jpeg.specs.Pieces.{AllInside, range, segment_kind, begins, mark_len, piece_in, pieces}
+use Rattle.px_jpeg.specs.Blocks.{JoinedBlock, piece_octets, joined}
 use Rattle.px_pictures.specs.Metadata.{sizes, next_begins, joined_pieces}
 use Rattle.px_pictures.specs.calls.Runs.{AreSized, CanCut, joined_octets, run_size, run_rest}
 
@@ -19,11 +19,11 @@ use Rattle.px_pictures.specs.calls.Runs.{AreSized, CanCut, joined_octets, run_si
 ranged : (b : List ℕ) (start size mark : ℕ) → start + size ≤ length b → length (range b (start + mark) (size - mark)) ≡ size - mark
 ranged b start size mark h = omega (arith, length-take (size - mark) (drop (start + mark) b), length-drop (start + mark) b)
 
-sized : (b : List ℕ) (last : Option Kind) (qs : List Part) → AllInside b qs → AreSized b (pieces b last qs)
+sized : (b : List ℕ) (last : Option SegmentKind) (qs : List Part) → AllInside b qs → AreSized b (pieces b last qs)
 sized b last [] h = tt
-sized b last (q ∷ qs) h = of (kind_of q.code (range b q.start q.size)) (λ l. sized b l qs h.1)
+sized b last (q ∷ qs) h = of (segment_kind q.code (range b q.start q.size)) (λ l. sized b l qs h.1)
   where
-    of : (o : Option Kind) → ((l : Option Kind) → AreSized b (pieces b l qs)) → AreSized b (piece_in b q last o ++ pieces b o qs)
+    of : (o : Option SegmentKind) → ((l : Option SegmentKind) → AreSized b (pieces b l qs)) → AreSized b (piece_in b q last o ++ pieces b o qs)
     of None more = more None
     of (Some k) more = (ranged b q.start q.size (mark_len k) h.0, more (Some k))
 
@@ -38,7 +38,7 @@ pub sizes_of : (b : List ℕ) (parts : List Part) → AllInside b parts
     → sizes (pieces b None parts) ≡ length (flat_map (piece_octets b) (pieces b None parts))
 sizes_of b parts h = sizes_joined b (pieces b None parts) (sized b None parts h)
 
-kind_begins : (k : Kind) (x : List ℕ) → begins k None x ≡ true
+kind_begins : (k : SegmentKind) (x : List ℕ) → begins k None x ≡ true
 kind_begins Exif x = refl
 kind_begins Photoshop x = refl
 kind_begins Xmp x = refl
@@ -47,9 +47,9 @@ kind_begins ExtendedXmp x = refl
 -- the first piece of a head begins a block
 pub first_begins : (b : List ℕ) (qs : List Part) → next_begins (pieces b None qs) ≡ true
 first_begins b [] = refl
-first_begins b (q ∷ qs) = of (kind_of q.code (range b q.start q.size)) (first_begins b qs)
+first_begins b (q ∷ qs) = of (segment_kind q.code (range b q.start q.size)) (first_begins b qs)
   where
-    of : (o : Option Kind) → next_begins (pieces b None qs) ≡ true → next_begins (piece_in b q None o ++ pieces b o qs) ≡ true
+    of : (o : Option SegmentKind) → next_begins (pieces b None qs) ≡ true → next_begins (piece_in b q None o ++ pieces b o qs) ≡ true
     of None more = more
     of (Some k) more = kind_begins k (range b (q.start + mark_len k) (q.size - mark_len k))
 
@@ -90,7 +90,7 @@ joined_continues b p ps h = cond-false p.begins _ _ h
 none_continue : (b : List ℕ) (ps : List Piece) → next_begins ps ≡ true → (joined b ps).0 ≡ []
 unfolding joined
 none_continue b [] t = refl
-none_continue b (p ∷ ps) t = ap (λ (j : List ℕ × List Block). j.0) (joined_begins b p ps t)
+none_continue b (p ∷ ps) t = ap (λ (j : List ℕ × List JoinedBlock). j.0) (joined_begins b p ps t)
 
 -- ---- the pieces that are joined
 
@@ -144,7 +144,7 @@ rest b (p ∷ ps) h = elim (cases_Bool p.begins) [
       let goes = run_goes (p ∷ ps) ps p refl f in
       let more = rest b ps h.1 in
       let same = joined_continues b p ps f in
-      let front = ap (λ (j : List ℕ × List Block). j.0) same in
+      let front = ap (λ (j : List ℕ × List JoinedBlock). j.0) same in
       record {
         size = omega (arith, goes.0, more.size, h.0, ap length front, length-append (piece_octets b p) (joined b ps).0);
         octets =
@@ -153,7 +153,7 @@ rest b (p ∷ ps) h = elim (cases_Bool p.begins) [
             ∙ sym (append_assoc (piece_octets b p) (joined b ps).0 (joined_octets b (run_rest ps)))
             ∙ ap₂ (λ (y z : List ℕ). y ++ z) (sym front) (ap (joined_octets b) (sym goes.1));
         blocks =
-            ap (λ (j : List ℕ × List Block). j.1) same ∙ more.blocks ∙ ap (λ (qs : List Piece). (joined b qs).1) (sym goes.1);
+            ap (λ (j : List ℕ × List JoinedBlock). j.1) same ∙ more.blocks ∙ ap (λ (qs : List Piece). (joined b qs).1) (sym goes.1);
         begins = ap next_begins goes.1 ∙ more.begins;
         sized = rw goes.1 more.sized;
       }
@@ -169,7 +169,7 @@ whole_next b x p ps qs e (t, h, j) u =
     let begins : p.begins ≡ true = sym (ap next_begins e) ∙ t in (
       (u, (subst (AreSized b) e h).1, j ∙ ap (flat_map (piece_octets b)) (joined_whole p ps qs e begins u)),
       ap (λ (rs : List Piece). (joined b rs).1) e
-          ∙ ap (λ (k : List ℕ × List Block). k.1) (joined_begins b p ps begins)
+          ∙ ap (λ (k : List ℕ × List JoinedBlock). k.1) (joined_begins b p ps begins)
           ∙ ap (λ (y : List ℕ). record { kind = p.kind; octets = y } ∷ (joined b ps).1)
           (ap (λ (y : List ℕ). piece_octets b p ++ y) (none_continue b ps u) ∙ append-nil (piece_octets b p)),
     )
@@ -196,8 +196,8 @@ joined_next b x p ps qs e (t, h, j) f =
       fits = omega (arith, n, ap (λ (y : List ℕ). length y) whole, length-append front back);
       block =
           ap (λ (rs : List Piece). (joined b rs).1) e
-          ∙ ap (λ (k : List ℕ × List Block). k.1) (joined_begins b p ps begins)
-          ∙ ap₂ (λ (y : List ℕ) (ks : List Block). record { kind = p.kind; octets = y } ∷ ks)
+          ∙ ap (λ (k : List ℕ × List JoinedBlock). k.1) (joined_begins b p ps begins)
+          ∙ ap₂ (λ (y : List ℕ) (ks : List JoinedBlock). record { kind = p.kind; octets = y } ∷ ks)
           (sym (ap₂ (λ (m : ℕ) (y : List ℕ). take m y) n whole ∙ take-append_seam front back)) more.blocks;
       cuts = (more.begins, more.sized, ap₂ (λ (m : ℕ) (y : List ℕ). drop m y) n whole ∙ drop-append_seam front back);
     }

@@ -8,36 +8,36 @@ use Rattle.px_iim.specs.lemmas.FaultLaws as iptc
 use Rattle.px_jpeg.specs.Laws.{IsHeadOrFault}
 use Rattle.px_meaning.specs.Says.{SaysExif}
 use Rattle.px_meaning.specs.Tree.{Meaning}
-use Rattle.px_tree.specs.FaultLaws.{FaultsTell, FaultsBounded}
-use Rattle.px_tree.specs.Refused.{IsFaulty}
-use Rattle.px_pictures.specs.declared.faults.BlockKind.TheVariants as kind
-use Rattle.px_pictures.specs.declared.faults.Fault.{Fault}
-use Rattle.px_pictures.specs.declared.faults.Fault.TheVariants.{Head, TooLong, Block, OutOfMemory}
-use Rattle.px_pictures.specs.declared.faults.Side.TheVariants.{First, Second}
+use Rattle.px_tree.specs.FaultLaws.{FaultsDecide, FaultsBounded}
+use Rattle.px_tree.specs.Refused.{IsFaultyExif}
+use Rattle.px_pictures.specs.declared.faults.MetadataKind.TheVariants as kind
+use Rattle.px_pictures.specs.declared.faults.MetadataFault.{MetadataFault}
+use Rattle.px_pictures.specs.declared.faults.MetadataFault.TheVariants.{Head, TooLong, Block, OutOfMemory}
+use Rattle.px_pictures.specs.declared.faults.PictureSide.TheVariants.{First, Second}
 use Rattle.px_pictures.specs.Faults.{AllExif, AllIptc, AllRead, FaultAt, IsFaultyIptc, IsHeadFault, IsBlockFault}
 use Rattle.px_pictures.specs.Laws.{IsMetadataOrFault}
-use Rattle.px_pictures.specs.Metadata.{Blocks, HasBlocks, SayAll, blocks_in, joined_size, most_joined}
+use Rattle.px_pictures.specs.Metadata.{Blocks, HasBlocks, MeanAll, blocks_in, joined_size, most_joined}
 
 -- a fault that doesn't rest on an allocation
-abbrev Faulty : (Fault → Type 0) → Type 0
-Faulty IsFault = (e : Fault) × (e ≢ OutOfMemory) × IsFault e
+abbrev Faulty : (MetadataFault → Type 0) → Type 0
+Faulty IsFault = (e : MetadataFault) × (e ≢ OutOfMemory) × IsFault e
 
 -- ---- the first faulty block of some blocks
 
 module _ (M : Type 0) (Says : List ℕ → M → Type 0) (IsBad : List ℕ → Cause → ℕ → Type 0)
     (judged : (b : List ℕ) → ((m : M) × Says b m) ⊎ ((c : Cause) × (p : ℕ) × IsBad b c p)) where
-  abbrev AllSaid : List (List ℕ) → Type 0
-  AllSaid bs = (ms : List M) × SayAll Says bs ms
+  abbrev AllHaveMeaning : List (List ℕ) → Type 0
+  AllHaveMeaning bs = (ms : List M) × MeanAll Says bs ms
 
   abbrev OneFaulty : List (List ℕ) → Type 0
-  OneFaulty bs = (n : ℕ) × (c : Cause) × (p : ℕ) × FaultAt AllSaid IsBad bs n c p
+  OneFaulty bs = (n : ℕ) × (c : Cause) × (p : ℕ) × FaultAt AllHaveMeaning IsBad bs n c p
 
-  all_or_one : (bs : List (List ℕ)) → AllSaid bs ⊎ OneFaulty bs
+  all_or_one : (bs : List (List ℕ)) → AllHaveMeaning bs ⊎ OneFaulty bs
   all_or_one [] = inl ([], tt)
   all_or_one (b ∷ bs) = first (judged b) (all_or_one bs)
     where
-      first : ((m : M) × Says b m) ⊎ ((c : Cause) × (p : ℕ) × IsBad b c p) → AllSaid bs ⊎ OneFaulty bs
-          → AllSaid (b ∷ bs) ⊎ OneFaulty (b ∷ bs)
+      first : ((m : M) × Says b m) ⊎ ((c : Cause) × (p : ℕ) × IsBad b c p) → AllHaveMeaning bs ⊎ OneFaulty bs
+          → AllHaveMeaning (b ∷ bs) ⊎ OneFaulty (b ∷ bs)
       first (inr (c, p, h)) others = inr (
         0,
         c,
@@ -48,7 +48,7 @@ module _ (M : Type 0) (Says : List ℕ → M → Type 0) (IsBad : List ℕ → C
           after = bs;
           whole = refl;
           number = refl;
-          said = ([], tt);
+          meaning = ([], tt);
           faulty = h;
         },
       )
@@ -63,41 +63,41 @@ module _ (M : Type 0) (Says : List ℕ → M → Type 0) (IsBad : List ℕ → C
           after = k.after;
           whole = ap (λ (xs : List (List ℕ)). b ∷ xs) k.whole;
           number = ap suc k.number;
-          said = (m ∷ k.said.0, (s, k.said.1));
+          meaning = (m ∷ k.meaning.0, (s, k.meaning.1));
           faulty = k.faulty;
         },
       )
 
-exif_judged : FaultsTell → FaultsBounded → (b : List ℕ) → ((m : Meaning) × SaysExif b m) ⊎ ((c : Cause) × (p : ℕ) × IsFaulty b c p)
-exif_judged tell bounded b = elim (tell.2 b) [
+exif_judged : FaultsDecide → FaultsBounded → (b : List ℕ) → ((m : Meaning) × SaysExif b m) ⊎ ((c : Cause) × (p : ℕ) × IsFaultyExif b c p)
+exif_judged law bounded b = elim (law.2 b) [
   | inl s ↦ inl s
   | inr f ↦
-      let stands = tell.0 b f.0 f.1 f.2 in
+      let is_fault = law.0 b f.0 f.1 f.2 in
       inr (
         f.0,
         f.1,
         record {
           first = f.2;
-          stands = stands;
+          is_fault = is_fault;
           bounded = bounded b f.0 f.1 f.2;
-          unsaid = λ m s. tell.1 b f.0 f.1 m stands s;
+          no_meaning = λ m s. law.1 b f.0 f.1 m is_fault s;
         },
       )
 ]
 
 iptc_judged : (b : List ℕ) → ((i : Record) × SaysIim b i) ⊎ ((c : Cause) × (p : ℕ) × IsFaultyIptc b c p)
-iptc_judged b = elim (iptc.said_or_fault b) [
+iptc_judged b = elim (iptc.meaning_or_fault b) [
   | inl s ↦ inl s
   | inr f ↦
-      let stands = iptc.first_stands b f.0 f.1 f.2 in
+      let is_fault = iptc.first_is_fault b f.0 f.1 f.2 in
       inr (
         f.0,
         f.1,
         record {
           first = f.2;
-          stands = stands;
+          is_fault = is_fault;
           bounded = iptc.faults_bounded b f.0 f.1 f.2;
-          unsaid = λ i s. iptc.stands_unsaid b f.0 f.1 i stands s;
+          no_meaning = λ i s. iptc.fault_excludes_meaning b f.0 f.1 i is_fault s;
         },
       )
 ]
@@ -119,12 +119,12 @@ blocks_or_fault b (inl (parts, h)) = elim (cases_Bool (nat_le (joined_size b par
 ]
 blocks_or_fault b (inr (c, p, h)) = inr (Head (record { cause = c; place = p }), (λ e. cc), h)
 
-module _ (tell : FaultsTell) (bounded : FaultsBounded) where
+module _ (law : FaultsDecide) (bounded : FaultsBounded) where
   read_or_fault : (x : Blocks) → AllRead x ⊎ Faulty (IsBlockFault x 0)
   read_or_fault x =
-      go (all_or_one Meaning SaysExif IsFaulty (exif_judged tell bounded) x.exif) (all_or_one Record SaysIim IsFaultyIptc iptc_judged x.iptc)
+      go (all_or_one Meaning SaysExif IsFaultyExif (exif_judged law bounded) x.exif) (all_or_one Record SaysIim IsFaultyIptc iptc_judged x.iptc)
     where
-      go : AllExif x.exif ⊎ ((n : ℕ) × (c : Cause) × (p : ℕ) × FaultAt AllExif IsFaulty x.exif n c p)
+      go : AllExif x.exif ⊎ ((n : ℕ) × (c : Cause) × (p : ℕ) × FaultAt AllExif IsFaultyExif x.exif n c p)
           → AllIptc x.iptc ⊎ ((n : ℕ) × (c : Cause) × (p : ℕ) × FaultAt AllIptc IsFaultyIptc x.iptc n c p)
           → AllRead x ⊎ Faulty (IsBlockFault x 0)
       go (inr (n, c, p, h)) others = inr (Block kind.Exif n c p, (λ e. cc), h)
@@ -144,8 +144,8 @@ module _ (tell : FaultsTell) (bounded : FaultsBounded) where
           ns,
           is,
           js,
-          record { blocks = x; has = h; exif_said = s; iptc_said = t },
-          record { blocks = y; has = k; exif_said = u; iptc_said = v },
+          record { blocks = x; has = h; exif_means = s; iptc_means = t },
+          record { blocks = y; has = k; exif_means = u; iptc_means = v },
         )
 
     both_found : ((x : Blocks) × HasBlocks f x) ⊎ Faulty (IsHeadFault f 0) → ((y : Blocks) × HasBlocks g y) ⊎ Faulty (IsHeadFault g 0)

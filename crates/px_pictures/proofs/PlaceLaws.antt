@@ -11,7 +11,7 @@ use Rattle.px_jpeg.specs.declared.Part.{Part}
 use Rattle.px_jpeg.specs.declared.Piece.{Piece}
 use Rattle.px_jpeg.specs.Front.{HasFront}
 use Rattle.px_jpeg.specs.Pieces.{range, pieces}
-use Rattle.px_jpeg.specs.Blocks.{Block, piece_octets, joined, blocks}
+use Rattle.px_jpeg.specs.Blocks.{JoinedBlock, piece_octets, joined, blocks}
 use Rattle.px_pictures.specs.declared.places.BlockPlace.{BlockPlace}
 use Rattle.px_pictures.specs.Metadata.{sizes, next_begins, joined_pieces, joined_size}
 use Rattle.px_pictures.specs.Places.{block_at, ArePlaces}
@@ -126,13 +126,13 @@ places_are b all at (p ∷ ps) s e = elim (cases_Bool p.begins) [
   | inl t ↦ elim (cases_Bool (next_begins ps)) [
     | inl u ↦
         ap (map (block_at b all)) (place_whole at p ps (p ∷ ps) refl t u)
-        ∙ ap (λ (ks : List Block). record { kind = p.kind; octets = range b p.start p.size } ∷ ks)
+        ∙ ap (λ (ks : List JoinedBlock). record { kind = p.kind; octets = range b p.start p.size } ∷ ks)
         (places_are b all at ps s.1 (e ∙ ap (flat_map (piece_octets b)) (joined_whole p ps (p ∷ ps) refl t u)))
         ∙ sym (whole_next b (joined_octets b (p ∷ ps)) p ps (p ∷ ps) refl (t, s, refl) u).1
     | inr f ↦
         let cut = joined_next b (drop at all) p ps (p ∷ ps) refl (t, s, e) f in
         ap (map (block_at b all)) (place_joined at p ps (p ∷ ps) refl t f)
-        ∙ ap (λ (ks : List Block). record { kind = p.kind; octets = take (p.size + run_size ps) (drop at all) } ∷ ks)
+        ∙ ap (λ (ks : List JoinedBlock). record { kind = p.kind; octets = take (p.size + run_size ps) (drop at all) } ∷ ks)
         (places_are b all (at + p.size) ps s.1
         (after_piece b all at p (joined_octets b ps) s.0
         (e ∙ ap (flat_map (piece_octets b)) (joined_first p ps (p ∷ ps) refl t f)))
@@ -144,7 +144,7 @@ places_are b all at (p ∷ ps) s e = elim (cases_Bool p.begins) [
       ∙ places_are b all (at + p.size) ps s.1
       (after_piece b all at p (joined_octets b ps) s.0
       (e ∙ ap (flat_map (piece_octets b)) (joined_later p ps (p ∷ ps) refl f)))
-      ∙ sym (ap (λ (j : List ℕ × List Block). j.1) (joined_continues b p ps f))
+      ∙ sym (ap (λ (j : List ℕ × List JoinedBlock). j.1) (joined_continues b p ps f))
 ]
 
 -- what holds of the places of some parts
@@ -171,7 +171,7 @@ front_placed b parts ps h l e =
             arith,
             l,
             blocks_few b parts h,
-            ap (λ (ks : List Block). length ks) places,
+            ap (λ (ks : List JoinedBlock). length ks) places,
             length-map (places_from 0 (pieces b None parts)) (block_at b (joined_octets b (pieces b None parts))),
           );
     }
@@ -179,7 +179,7 @@ front_placed b parts ps h l e =
 pub count_placed : (b : List ℕ) (parts : List Part) (places : List BlockPlace) → ArePlaces b parts places
     → length places ≡ length (blocks b parts)
 count_placed b parts places h =
-    sym (length-map places (block_at b (joined_octets b (pieces b None parts)))) ∙ ap (λ (ks : List Block). length ks) h
+    sym (length-map places (block_at b (joined_octets b (pieces b None parts)))) ∙ ap (λ (ks : List JoinedBlock). length ks) h
 
 -- ---- the joined bytes
 
@@ -195,7 +195,7 @@ length_more b p ps qs e =
 -- the bytes x are written to out at an index
 pub record Put (at : ℕ) (out new x : List ℕ) : Type 0 where
   pub front : take (at + length x) new ≡ take at out ++ x
-  pub behind : drop (at + length x) new ≡ drop (at + length x) out
+  pub after : drop (at + length x) new ≡ drop (at + length x) out
   pub long : length new ≡ length out
 
 pub put_at : (at k : ℕ) (out ys x : List ℕ) → ys ≡ x → k ≡ length x → at + length x ≤ length out → Put at out (put_mid at k out ys) x
@@ -203,10 +203,10 @@ put_at at k out ys x e f l =
     let n = ap (λ (z : List ℕ). length z) e in
     let new = put_mid at k out ys in
     let front = take-put_mid at k out ys (at + length x) (omega (arith, n)) (omega (arith, l)) in
-    let behind = drop-put_mid at k out ys (at + length x) (omega (arith, f)) (omega (arith, l)) (omega (arith, n, f)) in
+    let after = drop-put_mid at k out ys (at + length x) (omega (arith, f)) (omega (arith, l)) (omega (arith, n, f)) in
     record {
       front = front ∙ ap (λ (z : List ℕ). take at out ++ z) e;
-      behind = behind;
+      after = after;
       long =
           omega (
             arith,
@@ -217,7 +217,7 @@ put_at at k out ys x e f l =
             ap (λ (z : List ℕ). length z) front,
             length-append (take at out) ys,
             length-take at out,
-            ap (λ (z : List ℕ). length z) behind,
+            ap (λ (z : List ℕ). length z) after,
             length-drop (at + length x) out,
           );
     }
@@ -232,10 +232,10 @@ put_front b at out new x whole p ps qs put e j w =
     ∙ ap (λ (z : List ℕ). take at out ++ z) (sym (joined_more b p ps qs j))
     ∙ w
 
-pub put_behind : (at : ℕ) (first out new x : List ℕ) → Put at out new x → drop at out ≡ drop at first
+pub put_after : (at : ℕ) (first out new x : List ℕ) → Put at out new x → drop at out ≡ drop at first
     → drop (at + length x) new ≡ drop (at + length x) first
-put_behind at first out new x put e =
-    put.behind ∙ sym (drop-drop (length x) at out) ∙ ap (drop (length x)) e ∙ drop-drop (length x) at first
+put_after at first out new x put e =
+    put.after ∙ sym (drop-drop (length x) at out) ∙ ap (drop (length x)) e ∙ drop-drop (length x) at first
 
 octets_within : (b : List ℕ) (ps : List Piece) → length (flat_map (piece_octets b) ps) ≤ sizes ps
 octets_within b [] = omega arith

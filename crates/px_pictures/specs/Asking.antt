@@ -1,6 +1,6 @@
 -- How many bytes the calls request at most.
 use Rattle.std.specs.Prelude.{◌≤◌, ◌+◌, ◌*◌, ℕ, List, [], ◌∷◌, length}
-use Rattle.px_bytes.specs.Lacking.{Taken, AsksAtMost}
+use Rattle.px_bytes.specs.Allocations.{MemoryCounts, AsksAtMost}
 use Rattle.px_iim.specs.Asking.{iim_request}
 use Rattle.px_jpeg.specs.declared.Part.{Part}
 use Rattle.px_jpeg.specs.Head.{HasHead}
@@ -12,7 +12,7 @@ abbrev pub join_request : ℕ → ℕ
 join_request n = n
 
 -- to join the pieces of this picture: nothing if each block has one piece
-abbrev pub AsksToJoin : List ℕ → Taken → Taken → Type 0
+abbrev pub AsksToJoin : List ℕ → MemoryCounts → MemoryCounts → Type 0
 AsksToJoin b old new = (parts : List Part) → HasHead b parts → AsksAtMost (joined_size b parts) old new
 
 -- to read each of these blocks once
@@ -29,7 +29,7 @@ abbrev pub blocks_request : Blocks → ℕ
 blocks_request x = 2 * exif_requests x.exif + iptc_requests x.iptc
 
 -- to compare two pictures
-abbrev pub AsksForBoth : List ℕ → List ℕ → Taken → Taken → Type 0
+abbrev pub AsksForBoth : List ℕ → List ℕ → MemoryCounts → MemoryCounts → Type 0
 AsksForBoth f g old new = (most other : ℕ) → ((x : Blocks) → HasBlocks f x → blocks_request x ≤ most)
     → ((y : Blocks) → HasBlocks g y → blocks_request y ≤ other)
     → AsksAtMost (join_request (length f) + join_request (length g) + most + other) old new

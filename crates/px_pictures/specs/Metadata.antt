@@ -60,14 +60,14 @@ pub record HasBlocks (b : List ℕ) (x : Blocks) : Type 0 where
   pub blocks : x ≡ blocks_in b parts
 
 -- the blocks have these meanings, one each, in order
-abbrev pub SayAll : {M : Type 0} → (List ℕ → M → Type 0) → List (List ℕ) → List M → Type 0
-SayAll Says [] [] = ⊤
-SayAll Says (b ∷ bs) (m ∷ ms) = Says b m × SayAll Says bs ms
-SayAll Says bs ms = ⊥
+abbrev pub MeanAll : {M : Type 0} → (List ℕ → M → Type 0) → List (List ℕ) → List M → Type 0
+MeanAll Says [] [] = ⊤
+MeanAll Says (b ∷ bs) (m ∷ ms) = Says b m × MeanAll Says bs ms
+MeanAll Says bs ms = ⊥
 
 -- the picture b has Exif blocks with these meanings, and IPTC blocks with these records
-pub record SaysMetadata (b : List ℕ) (exif : List Meaning) (iptc : List Record) : Type 0 where
+pub record HasMetadata (b : List ℕ) (exif : List Meaning) (iptc : List Record) : Type 0 where
   pub blocks : Blocks
   pub has : HasBlocks b blocks
-  pub exif_said : SayAll SaysExif blocks.exif exif
-  pub iptc_said : SayAll SaysIim blocks.iptc iptc
+  pub exif_means : MeanAll SaysExif blocks.exif exif
+  pub iptc_means : MeanAll SaysIim blocks.iptc iptc

@@ -3,8 +3,8 @@ use Rattle.std.specs.Prelude.{◌≡◌, ◌+◌, ◌%◌, ◌==◌, ◌&&◌, �
 use Rattle.std.specs.Prelude.{Option, Some, None, List, [], ◌∷◌, length, drop, nat_eq, slice_index}
 use Rattle.std.specs.List.{starts_with}
 use Rattle.px_jpeg.specs.declared.HeadPart.{HeadPart}
-use Rattle.px_jpeg.specs.declared.Kind.{Kind}
-use Rattle.px_jpeg.specs.declared.Kind.TheVariants.{Photoshop}
+use Rattle.px_jpeg.specs.declared.SegmentKind.{SegmentKind}
+use Rattle.px_jpeg.specs.declared.SegmentKind.TheVariants.{Photoshop}
 use Rattle.px_jpeg.specs.declared.Part.{Part}
 use Rattle.px_jpeg.specs.declared.Piece.{Piece}
 use Rattle.px_jpeg.specs.declared.Resource.{Resource}
@@ -36,14 +36,14 @@ unfoldable pub is_colour_model : List ℕ → Bool
 is_colour_model x = starts_with nat_eq x (65 ∷ 100 ∷ 111 ∷ 98 ∷ 101 ∷ 95 ∷ 67 ∷ 77 ∷ [])
 
 -- APP1, E1, that seems to be Exif, or APP13, ED, with any data but the colour model
-unfoldable pub may_tell : ℕ → List ℕ → Bool
-may_tell code x =
+unfoldable pub may_have_metadata : ℕ → List ℕ → Bool
+may_have_metadata code x =
     ((code == 225) && seems_exif x) || ((code == 237) && nat_lt 0 (length x) && (if is_colour_model x then false else true))
 
 -- a segment in which there is no piece of a block
 abbrev pub is_unread : Option Piece → ℕ → List ℕ → Bool
 is_unread (Some p) code x = false
-is_unread None code x = may_tell code x
+is_unread None code x = may_have_metadata code x
 
 -- the offset of the data of the first such segment
 abbrev pub unread_segment : List ℕ → List HeadPart → Option ℕ
@@ -90,7 +90,7 @@ abbrev pub unread_at : Bool → ℕ → Option ℕ → Option Unread
 unread_at joined start None = None
 unread_at joined start (Some at) = Some (record { joined = joined; start = start + at })
 
-abbrev pub unread_in_block : Kind → List ℕ → BlockPlace → Option Unread
+abbrev pub unread_in_block : SegmentKind → List ℕ → BlockPlace → Option Unread
 unread_in_block Photoshop x p = unread_at p.joined p.start (unread_resources x)
 unread_in_block other x p = None
 

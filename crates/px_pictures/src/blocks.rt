@@ -6,7 +6,7 @@ ghost use Rattle.px_pictures.specs.calls.Runs.{block_of, records, records_in};
 
 use crate::ranges::range;
 use crate::runs::{Run, Runs};
-use px_jpeg::{Kind, Resources, find_resources};
+use px_jpeg::{Resources, SegmentKind, find_resources};
 use std::marker::Model;
 
 // The number of the image resource with IPTC's DataSets.
@@ -17,10 +17,10 @@ fn exif_of<'b>(run: &Run<'b>) -> Option<&'b [u8]>
     ensures { option_map (λ x. x.now) result ≡ exif_in (block_of run.now) }
 {
     match run.kind {
-        Kind::Exif => Some(run.octets),
-        Kind::Photoshop => None,
-        Kind::Xmp => None,
-        Kind::ExtendedXmp => None,
+        SegmentKind::Exif => Some(run.octets),
+        SegmentKind::Photoshop => None,
+        SegmentKind::Xmp => None,
+        SegmentKind::ExtendedXmp => None,
     }
 }
 
@@ -29,10 +29,10 @@ fn resources_in<'b>(run: &Run<'b>) -> &'b [u8]
     ensures { records result.now (resources_of 0 result.now) ≡ records_in (block_of run.now) }
 {
     match run.kind {
-        Kind::Exif => run.octets.split_at(0).0,
-        Kind::Photoshop => run.octets,
-        Kind::Xmp => run.octets.split_at(0).0,
-        Kind::ExtendedXmp => run.octets.split_at(0).0,
+        SegmentKind::Exif => run.octets.split_at(0).0,
+        SegmentKind::Photoshop => run.octets,
+        SegmentKind::Xmp => run.octets.split_at(0).0,
+        SegmentKind::ExtendedXmp => run.octets.split_at(0).0,
     }
 }
 

@@ -1,6 +1,6 @@
 // Compares blocks that have meanings.
 ghost use Rattle.std.specs.Prelude.{◌≡◌, ◌↔◌, ◌+◌, IsTrue, length, IfOk, IfErr};
-ghost use Rattle.px_bytes.specs.Lacking.{AsksAtMost};
+ghost use Rattle.px_bytes.specs.Allocations.{AsksAtMost};
 ghost use Rattle.px_iim.specs.Asking.{iim_request};
 ghost use Rattle.px_iim.specs.Group.{Record};
 ghost use Rattle.px_iim.specs.Record.{SaysIim};
@@ -8,31 +8,31 @@ ghost use Rattle.px_meaning.specs.Says.{SaysExif};
 ghost use Rattle.px_meaning.specs.Tree.{Meaning as Tree};
 ghost use Rattle.px_meaning.specs.calls.Seen.{meaning_of};
 ghost use Rattle.px_tree.specs.Asking.{exif_request};
-ghost use Rattle.px_pictures.specs.declared.faults.Fault.TheVariants as fault;
+ghost use Rattle.px_pictures.specs.declared.faults.MetadataFault.TheVariants as fault;
 ghost use Rattle.px_pictures.specs.Asking.{exif_requests, iptc_requests};
-ghost use Rattle.px_pictures.specs.Faults.{AllExif, AllIptc, AllRead, LacksFound};
+ghost use Rattle.px_pictures.specs.Faults.{AllExif, AllIptc, AllRead, CountsAllocFailureInMetadata};
 ghost use Rattle.px_pictures.specs.Metadata.{blocks_of};
 ghost use Rattle.px_pictures.specs.calls.Judging.{MeanSame};
 
 use crate::blocks::{ExifBlocks, IptcBlocks};
-use crate::faults::Fault;
+use crate::faults::MetadataFault;
 use crate::found::Metadata;
 use px_bytes::{Block, Memory};
 use px_iim::{Iim, read_iim_in, same_iim};
 use px_tree::{Meaning, read_block_in, same_meaning};
 
 // The meaning of an Exif block that has one.
-fn exif_in<'a>(memory: &mut Memory, bytes: &'a [u8]) -> Result<Meaning<'a>, Fault>
+fn exif_in<'a>(memory: &mut Memory, bytes: &'a [u8]) -> Result<Meaning<'a>, MetadataFault>
     requires { (m : Tree) × SaysExif bytes.now m }
-    ensures said { IfOk result (λ m. SaysExif bytes.now (meaning_of m)) }
+    ensures meaning { IfOk result (λ m. SaysExif bytes.now (meaning_of m)) }
     ensures fault { IfErr result (λ e. e ≡ fault.OutOfMemory) }
-    ensures memory { LacksFound result memory.old memory.new }
+    ensures memory { CountsAllocFailureInMetadata result memory.old memory.new }
     ensures asked { AsksAtMost (exif_request (length bytes.now)) memory.old memory.new }
 {
     match Block::new(bytes) {
         Ok(block) => match read_block_in(memory, block) {
             Ok(meaning) => Ok(meaning),
-            Err(_) => Err(Fault::OutOfMemory),
+            Err(_) => Err(MetadataFault::OutOfMemory),
         },
         Err(_) => unreachable!(),
     }
@@ -40,11 +40,11 @@ fn exif_in<'a>(memory: &mut Memory, bytes: &'a [u8]) -> Result<Meaning<'a>, Faul
 
 // Whether an Exif block that has a meaning has this one. Each owner of a meaning passes it to a call that drops it:
 // dropping it at the end of a body would mean a proof about each of its fields.
-fn means(memory: &mut Memory, meaning: &Meaning, bytes: &[u8]) -> Result<bool, Fault>
+fn means(memory: &mut Memory, meaning: &Meaning, bytes: &[u8]) -> Result<bool, MetadataFault>
     requires { (m : Tree) × SaysExif bytes.now m }
     ensures same { IfOk result (λ same. (m : Tree) × SaysExif bytes.now m × (IsTrue same ↔ (meaning_of meaning.now ≡ m))) }
     ensures fault { IfErr result (λ e. e ≡ fault.OutOfMemory) }
-    ensures memory { LacksFound result memory.old memory.new }
+    ensures memory { CountsAllocFailureInMetadata result memory.old memory.new }
     ensures asked { AsksAtMost (exif_request (length bytes.now)) memory.old memory.new }
 {
     let other = exif_in(memory, bytes)?;
@@ -54,12 +54,12 @@ fn means(memory: &mut Memory, meaning: &Meaning, bytes: &[u8]) -> Result<bool, F
 }
 
 // Whether two Exif blocks that have meanings have the same.
-fn same_exif(memory: &mut Memory, first: &[u8], second: &[u8]) -> Result<bool, Fault>
+fn same_exif(memory: &mut Memory, first: &[u8], second: &[u8]) -> Result<bool, MetadataFault>
     requires first { (m : Tree) × SaysExif first.now m }
     requires second { (m : Tree) × SaysExif second.now m }
     ensures same { IfOk result (λ same. (m n : Tree) × SaysExif first.now m × SaysExif second.now n × (IsTrue same ↔ (m ≡ n))) }
     ensures fault { IfErr result (λ e. e ≡ fault.OutOfMemory) }
-    ensures memory { LacksFound result memory.old memory.new }
+    ensures memory { CountsAllocFailureInMetadata result memory.old memory.new }
     ensures asked { AsksAtMost (exif_request (length first.now) + exif_request (length second.now)) memory.old memory.new }
 {
     let meaning = exif_in(memory, first)?;
@@ -73,12 +73,12 @@ fn same_exif_blocks(
     memory: &mut Memory,
     first: ExifBlocks,
     second: ExifBlocks,
-) -> Result<bool, Fault>
+) -> Result<bool, MetadataFault>
     requires first { AllExif first }
     requires second { AllExif second }
     ensures same { IfOk result (λ same. IsTrue same ↔ MeanSame SaysExif first.entry second.entry) }
     ensures fault { IfErr result (λ e. e ≡ fault.OutOfMemory) }
-    ensures memory { LacksFound result memory.old memory.new }
+    ensures memory { CountsAllocFailureInMetadata result memory.old memory.new }
     ensures asked { AsksAtMost (exif_requests first.entry + exif_requests second.entry) memory.old memory.new }
 {
     px_meaning::laws::one_meaning();
@@ -98,25 +98,25 @@ fn same_exif_blocks(
 }
 
 // The record of an IPTC block that has one.
-fn iptc_in<'a>(memory: &mut Memory, bytes: &'a [u8]) -> Result<Iim<'a>, Fault>
+fn iptc_in<'a>(memory: &mut Memory, bytes: &'a [u8]) -> Result<Iim<'a>, MetadataFault>
     requires { (i : Record) × SaysIim bytes.now i }
-    ensures said { IfOk result (λ i. SaysIim bytes.now i) }
+    ensures meaning { IfOk result (λ i. SaysIim bytes.now i) }
     ensures fault { IfErr result (λ e. e ≡ fault.OutOfMemory) }
-    ensures memory { LacksFound result memory.old memory.new }
+    ensures memory { CountsAllocFailureInMetadata result memory.old memory.new }
     ensures asked { AsksAtMost (iim_request (length bytes.now)) memory.old memory.new }
 {
     match read_iim_in(memory, bytes) {
         Ok(iim) => Ok(iim),
-        Err(_) => Err(Fault::OutOfMemory),
+        Err(_) => Err(MetadataFault::OutOfMemory),
     }
 }
 
 // Whether an IPTC block that has a record has this one.
-fn records(memory: &mut Memory, iim: &Iim, bytes: &[u8]) -> Result<bool, Fault>
+fn records(memory: &mut Memory, iim: &Iim, bytes: &[u8]) -> Result<bool, MetadataFault>
     requires { (i : Record) × SaysIim bytes.now i }
     ensures same { IfOk result (λ same. (i : Record) × SaysIim bytes.now i × (IsTrue same ↔ (iim.now ≡ i))) }
     ensures fault { IfErr result (λ e. e ≡ fault.OutOfMemory) }
-    ensures memory { LacksFound result memory.old memory.new }
+    ensures memory { CountsAllocFailureInMetadata result memory.old memory.new }
     ensures asked { AsksAtMost (iim_request (length bytes.now)) memory.old memory.new }
 {
     let other = iptc_in(memory, bytes)?;
@@ -126,12 +126,12 @@ fn records(memory: &mut Memory, iim: &Iim, bytes: &[u8]) -> Result<bool, Fault>
 }
 
 // Whether two IPTC blocks that have records have the same.
-fn same_iptc(memory: &mut Memory, first: &[u8], second: &[u8]) -> Result<bool, Fault>
+fn same_iptc(memory: &mut Memory, first: &[u8], second: &[u8]) -> Result<bool, MetadataFault>
     requires first { (i : Record) × SaysIim first.now i }
     requires second { (i : Record) × SaysIim second.now i }
     ensures same { IfOk result (λ same. (i j : Record) × SaysIim first.now i × SaysIim second.now j × (IsTrue same ↔ (i ≡ j))) }
     ensures fault { IfErr result (λ e. e ≡ fault.OutOfMemory) }
-    ensures memory { LacksFound result memory.old memory.new }
+    ensures memory { CountsAllocFailureInMetadata result memory.old memory.new }
     ensures asked { AsksAtMost (iim_request (length first.now) + iim_request (length second.now)) memory.old memory.new }
 {
     let iim = iptc_in(memory, first)?;
@@ -145,12 +145,12 @@ fn same_iptc_blocks(
     memory: &mut Memory,
     first: IptcBlocks,
     second: IptcBlocks,
-) -> Result<bool, Fault>
+) -> Result<bool, MetadataFault>
     requires first { AllIptc first }
     requires second { AllIptc second }
     ensures same { IfOk result (λ same. IsTrue same ↔ MeanSame SaysIim first.entry second.entry) }
     ensures fault { IfErr result (λ e. e ≡ fault.OutOfMemory) }
-    ensures memory { LacksFound result memory.old memory.new }
+    ensures memory { CountsAllocFailureInMetadata result memory.old memory.new }
     ensures asked { AsksAtMost (iptc_requests first.entry + iptc_requests second.entry) memory.old memory.new }
 {
     let mut left = first;
@@ -174,13 +174,13 @@ pub(crate) fn same_blocks(
     memory: &mut Memory,
     first: &Metadata,
     second: &Metadata,
-) -> Result<bool, Fault>
+) -> Result<bool, MetadataFault>
     requires first { AllRead (blocks_of first.now) }
     requires second { AllRead (blocks_of second.now) }
     ensures same { let x = blocks_of first.now in let y = blocks_of second.now in IfOk result (λ same. IsTrue same
         ↔ (MeanSame SaysExif x.exif y.exif × MeanSame SaysIim x.iptc y.iptc)) }
     ensures fault { IfErr result (λ e. e ≡ fault.OutOfMemory) }
-    ensures memory { LacksFound result memory.old memory.new }
+    ensures memory { CountsAllocFailureInMetadata result memory.old memory.new }
     ensures asked { let x = blocks_of first.now in let y = blocks_of second.now in AsksAtMost (exif_requests x.exif + exif_requests y.exif
         + (iptc_requests x.iptc + iptc_requests y.iptc)) memory.old memory.new }
 {

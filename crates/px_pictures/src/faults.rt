@@ -5,7 +5,7 @@ use px_jpeg::HeadFault;
 
 /// The kind of a block.
 #[derive(Clone, Copy, Debug, PartialEq, Eq)]
-pub enum BlockKind {
+pub enum MetadataKind {
     /// Exif, of an APP1 segment.
     Exif,
     /// IPTC, of Photoshop's resource 0x0404.
@@ -14,7 +14,7 @@ pub enum BlockKind {
 
 /// Why a picture's blocks, or their meanings, are not read.
 #[derive(Clone, Copy, Debug, PartialEq, Eq)]
-pub enum Fault {
+pub enum MetadataFault {
     /// It has no head: the cause and the byte offset of the first fault.
     Head(HeadFault),
     /// The blocks that have more than one piece have more than 16 times `LIMIT` bytes in all.
@@ -22,7 +22,7 @@ pub enum Fault {
     /// A block has no meaning: its first fault.
     Block {
         /// The kind of the block.
-        kind: BlockKind,
+        kind: MetadataKind,
         /// How many blocks of this kind are before it.
         number: usize,
         /// What is wrong.
@@ -36,7 +36,7 @@ pub enum Fault {
 
 /// One of two pictures that are compared.
 #[derive(Clone, Copy, Debug, PartialEq, Eq)]
-pub enum Side {
+pub enum PictureSide {
     /// The first.
     First,
     /// The second.
@@ -52,14 +52,14 @@ pub enum Comparison {
     Different,
     /// The Exif and IPTC that is read is the same, and the picture of this side has this first place that isn't read.
     /// In the second picture only if there is none in the first.
-    NotRead(Side, Unread),
+    NotRead(PictureSide, Unread),
 }
 
 /// Why two pictures are not compared.
 #[derive(Clone, Copy, Debug, PartialEq, Eq)]
 pub struct PictureFault {
     /// The picture with the fault.
-    pub side: Side,
+    pub side: PictureSide,
     /// Its fault.
-    pub fault: Fault,
+    pub fault: MetadataFault,
 }

@@ -1,13 +1,13 @@
 // Joins the pieces of the blocks that have more than one.
 ghost use Rattle.std.specs.Prelude.{◌≡◌, ◌≤◌, ◌<◌, ◌∷◌, [], None, IfOk, MatchOption};
-ghost use Rattle.px_bytes.specs.Lacking.{Lacks, AsksAtMost};
+ghost use Rattle.px_bytes.specs.Allocations.{CountsAllocFailure, AsksAtMost};
 ghost use Rattle.px_jpeg.specs.Pieces.{pieces};
 ghost use Rattle.px_pictures.specs.Metadata.{joined_pieces, joined_size, most_joined};
 ghost use Rattle.px_pictures.specs.calls.Runs.{joined_octets};
 
 use crate::left::{Left, pieces_left};
 use crate::ranges::range;
-use px_bytes::{LIMIT, Memory, Refused};
+use px_bytes::{AllocFailed, LIMIT, Memory};
 use px_jpeg::{Front, Piece};
 
 // The greatest number of bytes that are joined.
@@ -47,12 +47,16 @@ pub(crate) fn joined_size(front: &Front) -> Option<usize>
 }
 
 // The bytes of the pieces of the blocks that have more than one, one after another.
-pub(crate) fn join_in(memory: &mut Memory, front: &Front, size: usize) -> Result<Vec<u8>, Refused>
+pub(crate) fn join_in(
+    memory: &mut Memory,
+    front: &Front,
+    size: usize,
+) -> Result<Vec<u8>, AllocFailed>
     requires all { size ≡ joined_size front.now.octets front.now.parts }
     requires fits { size ≤ most_joined }
     ensures joined { IfOk result (λ v. v.items
         ≡ joined_octets front.now.octets (pieces front.now.octets None front.now.parts)) }
-    ensures memory { Lacks result memory.old memory.new }
+    ensures memory { CountsAllocFailure result memory.old memory.new }
     ensures asked { AsksAtMost size memory.old memory.new }
 {
     let bytes = front.bytes();

@@ -12,14 +12,14 @@ use crate::joining::next_joined;
 use crate::left::{Left, pieces_left};
 use crate::ranges::range;
 use crate::runs::rest_of_run;
-use px_jpeg::{Front, Kind};
+use px_jpeg::{Front, SegmentKind};
 use std::marker::Model;
 
 /// Where the bytes of a block are: a range of the picture if it has one piece, and otherwise of the joined bytes.
 #[derive(Clone, Copy, Debug, PartialEq, Eq)]
 pub struct BlockPlace {
     /// What the block contains.
-    pub kind: Kind,
+    pub kind: SegmentKind,
     /// Whether the range is one of the joined bytes, which `put_joined` writes, and not of the picture.
     pub joined: bool,
     /// The offset of the first byte.
@@ -51,8 +51,9 @@ impl<'a> Model for Places<'a> {
         × (length (places_from s.at s.left) < 2 ^ 63) };
 }
 
-/// The places of the blocks of a picture's first parts, of any kind, in order: of Exif, of Photoshop's resources, of
-/// XMP and of extended XMP. It allocates nothing.
+/// The places of all blocks of a picture's first parts, in order: of Exif, of Photoshop's resources, of XMP and of
+/// extended XMP. The bytes at each place are those of the block, and its kind is the block's. A block of one piece is
+/// a range of the picture; one of several is a range of the joined bytes (`put_joined`). It allocates nothing.
 pub fn places_of<'a>(front: &Front<'a>) -> Places<'a>
     requires { HasFront front.now.octets front.now.parts }
     ensures { ArePlaces front.now.octets front.now.parts result }

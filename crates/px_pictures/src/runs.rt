@@ -6,13 +6,13 @@ ghost use Rattle.px_pictures.specs.calls.Runs.{joined_octets, run_size, run_rest
 
 use crate::left::{Left, pieces_left};
 use crate::ranges::range;
-use px_jpeg::{Front, Kind};
+use px_jpeg::{Front, SegmentKind};
 use std::marker::Model;
 
 // A block.
 #[derive(Clone, Copy)]
 pub(crate) struct Run<'b> {
-    pub kind: Kind,
+    pub kind: SegmentKind,
     pub octets: &'b [u8],
 }
 
@@ -46,10 +46,10 @@ pub(crate) struct Runs<'b, 'a> {
 
 impl<'b, 'a> Model for Runs<'b, 'a> {
     ghost use Rattle.std.specs.Prelude.{List};
-    ghost use Rattle.px_jpeg.specs.Blocks.{Block, joined};
+    ghost use Rattle.px_jpeg.specs.Blocks.{JoinedBlock, joined};
     ghost use Rattle.px_pictures.specs.calls.Runs.{CanCut};
 
-    ghost Value = { List Block };
+    ghost Value = { List JoinedBlock };
 
     ghost view = { λ s. (joined s.picture.now s.left).1 };
 

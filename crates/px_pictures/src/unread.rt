@@ -1,19 +1,19 @@
 // What a picture contains beside its blocks that other programs read as metadata, or may.
 ghost use Rattle.std.specs.Prelude.{◌≡◌, ◌<◌, ◌≤◌, if◌then◌else◌, length, true, None, IfSome, IfOk, IfErr};
-ghost use Rattle.px_bytes.specs.Lacking.{AsksAtMost};
+ghost use Rattle.px_bytes.specs.Allocations.{AsksAtMost};
 ghost use Rattle.px_jpeg.specs.Pieces.{range, with_pieces};
 ghost use Rattle.px_pictures.specs.Asking.{join_request};
-ghost use Rattle.px_pictures.specs.Faults.{IsHeadFault, LacksFound};
-ghost use Rattle.px_pictures.specs.Unread.{is_letter, names_exif, seems_exif, is_colour_model, may_tell, unread_segment};
+ghost use Rattle.px_pictures.specs.Faults.{IsHeadFault, CountsAllocFailureInMetadata};
+ghost use Rattle.px_pictures.specs.Unread.{is_letter, names_exif, seems_exif, is_colour_model, may_have_metadata, unread_segment};
 ghost use Rattle.px_pictures.specs.Unread.{are_zeros, is_adobe, is_doubtful, unread_rest, unread_resources};
 ghost use Rattle.px_pictures.specs.Unread.{IsUnread, unread_in_block, unread_in_blocks};
 
-use crate::faults::Fault;
+use crate::faults::MetadataFault;
 use crate::found::{Metadata, metadata_of_in};
 use crate::places::{BlockPlace, Places, places_of};
 use crate::ranges::range;
 use px_bytes::Memory;
-use px_jpeg::{Front, Kind, Resource, find_resources, with_pieces};
+use px_jpeg::{Front, Resource, SegmentKind, find_resources, with_pieces};
 
 // The number of the image resource with IPTC's DataSets, and that of the one with Exif.
 const IPTC: usize = 0x0404;
@@ -71,9 +71,9 @@ fn is_colour_model(octets: &[u8]) -> bool
 }
 
 // Whether a segment with this marker and these data may have metadata.
-#[tactic(auto, unfolding(crate::specs::Unread::may_tell))]
-fn may_tell(code: u8, octets: &[u8]) -> bool
-    ensures { result ≡ may_tell code octets.now }
+#[tactic(auto, unfolding(crate::specs::Unread::may_have_metadata))]
+fn may_have_metadata(code: u8, octets: &[u8]) -> bool
+    ensures { result ≡ may_have_metadata code octets.now }
 {
     (code == 0xE1 && seems_exif(octets))
         || (code == 0xED && !octets.is_empty() && !is_colour_model(octets))
@@ -90,7 +90,9 @@ fn unread_segment(front: &Front) -> Option<usize>
             return None;
         };
         let part = found.part;
-        if found.piece.is_none() && may_tell(part.code, range(bytes, part.start, part.size)) {
+        if found.piece.is_none()
+            && may_have_metadata(part.code, range(bytes, part.start, part.size))
+        {
             return Some(part.start);
         }
     }
@@ -170,14 +172,14 @@ fn unread_in_block(whole: &[u8], place: &BlockPlace) -> Option<Unread>
     ensures { result ≡ unread_in_block place.now.kind (range whole.now place.now.start place.now.size) place.now }
 {
     match place.kind {
-        Kind::Photoshop => match unread_resources(range(whole, place.start, place.size)) {
+        SegmentKind::Photoshop => match unread_resources(range(whole, place.start, place.size)) {
             Some(at) => Some(Unread {
                 joined: place.joined,
                 start: place.start + at,
             }),
             None => None,
         },
-        Kind::Exif | Kind::Xmp | Kind::ExtendedXmp => None,
+        SegmentKind::Exif | SegmentKind::Xmp | SegmentKind::ExtendedXmp => None,
     }
 }
 
@@ -197,7 +199,8 @@ fn unread_in_blocks(picture: &[u8], all: &[u8], places: Places) -> Option<Unread
 }
 
 impl<'a> Metadata<'a> {
-    /// The first place in the picture that isn't read, as `unread_in` returns it. It allocates nothing.
+    /// The first place in the picture that isn't read, as `unread_in` returns it: in an APP1 or APP13 segment that
+    /// has no piece of a block, or else in Photoshop's resources. `None`: there is none. It allocates nothing.
     pub fn unread(&self) -> Option<Unread>
         ensures { IsUnread self.now.octets result }
     {
@@ -213,15 +216,15 @@ impl<'a> Metadata<'a> {
 }
 
 /// The first place in a picture at which something is that other programs read as metadata, or may, and that
-/// `same_metadata_in` doesn't read. `None`: there is none, so two such pictures are the same exactly if
-/// `same_metadata_in` says so. Such a place is an APP1 segment that seems to be Exif by another mark, an APP13 segment
-/// with another mark than Photoshop's and `Adobe_CM`, Photoshop's resource 0x0422, resource 0x0404 by another signature
-/// than `8BIM`, which is read here and by some other programs alone, or what follows the last resource, unless that is
-/// zeros. The first of the segments comes first. Allocates what `metadata_of_in` does, and has its faults.
-pub fn unread_in(memory: &mut Memory, bytes: &[u8]) -> Result<Option<Unread>, Fault>
+/// `same_metadata_in` doesn't read. `None`: there is no such place. Such a place is an APP1 segment that seems to be
+/// Exif by another mark, an APP13 segment with another mark than Photoshop's and `Adobe_CM`, Photoshop's resource
+/// 0x0422, resource 0x0404 by another signature than `8BIM`, which is read here and by some other programs alone, or
+/// what follows the last resource, unless that is zeros. Segments come before resources. Allocates what
+/// `metadata_of_in` does, and has its faults: `Head`, `TooLong` and `OutOfMemory`; `Block` never comes.
+pub fn unread_in(memory: &mut Memory, bytes: &[u8]) -> Result<Option<Unread>, MetadataFault>
     ensures found { IfOk result (IsUnread bytes.now) }
-    ensures fault { IfErr result (IsHeadFault bytes.now memory.new.refusals) }
-    ensures memory { LacksFound result memory.old memory.new }
+    ensures fault { IfErr result (IsHeadFault bytes.now memory.new.failed_allocations) }
+    ensures memory { CountsAllocFailureInMetadata result memory.old memory.new }
     ensures asked { AsksAtMost (join_request (length bytes.now)) memory.old memory.new }
 {
     let found = metadata_of_in(memory, bytes)?;

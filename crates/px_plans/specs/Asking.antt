@@ -1,6 +1,6 @@
 -- How many bytes the calls ask for at most.
 use Rattle.std.specs.Prelude.{ℕ, ◌+◌, ◌*◌}
-use Rattle.px_bytes.specs.Held.{mark_bytes}
+use Rattle.px_bytes.specs.Claimed.{mark_bytes}
 
 -- to list n chunks with their sizes, 16 bytes each: the list doubles, so that four times as many are asked for, whether all of them
 -- fit or not

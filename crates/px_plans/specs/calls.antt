@@ -7,4 +7,4 @@ pub mod PlanningNormal
 pub mod Judging
 pub mod Layouts
 pub mod Building
-pub mod Spent
+pub mod AskedAndPaid

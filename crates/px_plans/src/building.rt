@@ -2,16 +2,16 @@
 // from the first piece that has it.
 ghost use Rattle.std.specs.Prelude.{◌≡◌, ◌≤◌, ◌<◌, ◌+◌, ◌*◌, ◌^◌, [], ◌∷◌, length, replicate, Some, option_map, flat_map, IfSome, OnOk};
 ghost use Rattle.std.specs.Prelude.{IfOk};
-ghost use Rattle.px_bytes.specs.Devices.{CanFail, Sends, over};
-ghost use Rattle.px_bytes.specs.Lacking.{Lacks, AsksAtMost};
+ghost use Rattle.px_bytes.specs.Devices.{CanCountFailure, Sends, device_of};
+ghost use Rattle.px_bytes.specs.Allocations.{CountsAllocFailure, AsksAtMost};
 ghost use Rattle.px_bytes.specs.Parts.{limit};
-ghost use Rattle.px_bytes.specs.Waiting.{AddsTo};
+ghost use Rattle.px_bytes.specs.Waiting.{AddsBuffered};
 ghost use Rattle.px_meaning.specs.Directory.{dirs};
-ghost use Rattle.px_meaning.specs.Fits.{Fits, items};
+ghost use Rattle.px_meaning.specs.Writable.{IsWritable, items};
 ghost use Rattle.px_meaning.specs.calls.Seen.{thumb_of};
 ghost use Rattle.px_plans.specs.calls.Building.{AreInside, PutsOver, at_places, contents_in, value_pieces, dir_pieces};
 ghost use Rattle.px_plans.specs.calls.Building.{IsPiece, piece_bytes, pieces_size};
-ghost use Rattle.px_layout.specs.calls.Items.{item_of, entry_of, IsCounted};
+ghost use Rattle.px_layout.specs.calls.Items.{item_of, entry_of, CountsFit};
 ghost use Rattle.px_plans.specs.calls.Layouts.{plan_of_layout, meaning_of_layout, header_in, table_in};
 ghost use Rattle.px_layout.specs.Laid.{all_strip_contents, jpeg_contents, strip_contents, thumb_contents, header, laid};
 ghost use Rattle.px_layout.specs.Plans.{Legal, place};
@@ -19,7 +19,7 @@ ghost use Rattle.px_layout.specs.Plans.{Legal, place};
 use crate::layout::Layout;
 use crate::put_item::{place_of, put_item};
 use crate::put_table::{put_header, put_table};
-use px_bytes::{CAPACITY, Failed, Growing, Memory, Pending, Refused, Sink};
+use px_bytes::{AllocFailed, CAPACITY, Failed, Growing, Memory, Pending, Sink};
 use px_layout::{Chunk, Entries, Entry, Item, entries_in};
 use px_tree::{Dir, Strips, Thumb, needs_place};
 
@@ -49,9 +49,9 @@ fn put_piece<W: Sink>(
     layout: &Layout,
     piece: Piece,
 ) -> Result<(), Failed>
-    requires few { CanFail (W.calls writer.old) }
+    requires few { CanCountFailure (W.calls writer.old) }
     requires piece { IsPiece piece }
-    ensures { AddsTo W.calls W.bytes_taken result writer.old writer.new pending.old pending.new (piece_bytes layout.now piece.entry) }
+    ensures { AddsBuffered W.calls W.bytes_taken result writer.old writer.new pending.old pending.new (piece_bytes layout.now piece.entry) }
 {
     match piece {
         Piece::Header => put_header(pending, writer, layout),
@@ -61,9 +61,9 @@ fn put_piece<W: Sink>(
 }
 
 fn write_piece<W: Sink>(writer: &mut W, layout: &Layout, piece: Piece) -> Result<(), Failed>
-    requires few { CanFail (W.calls writer.old) }
+    requires few { CanCountFailure (W.calls writer.old) }
     requires piece { IsPiece piece }
-    ensures { Sends result (over W.calls W.bytes_taken writer.old writer.new) (piece_bytes layout.now piece.entry) }
+    ensures { Sends result (device_of W.calls W.bytes_taken writer.old writer.new) (piece_bytes layout.now piece.entry) }
 {
     let mut space = [0; CAPACITY];
     let mut pending = Pending::new(&mut space);
@@ -72,10 +72,10 @@ fn write_piece<W: Sink>(writer: &mut W, layout: &Layout, piece: Piece) -> Result
 }
 
 // The bytes of a piece.
-fn bytes_of(memory: &mut Memory, layout: &Layout, piece: Piece) -> Result<Vec<u8>, Refused>
+fn bytes_of(memory: &mut Memory, layout: &Layout, piece: Piece) -> Result<Vec<u8>, AllocFailed>
     requires { IsPiece piece }
     ensures bytes { IfOk result (λ v. v.items ≡ piece_bytes layout.now piece.entry) }
-    ensures memory { Lacks result memory.old memory.new }
+    ensures memory { CountsAllocFailure result memory.old memory.new }
     ensures asked { AsksAtMost (6 * length (piece_bytes layout.now piece.entry) + 131072) memory.old memory.new }
     ensures paid { OnOk result (AsksAtMost (6 * length (piece_bytes layout.now piece.entry)) memory.old memory.new) }
 {
@@ -134,7 +134,7 @@ fn lay_parts(block: &mut [u8], layout: &Layout, thumb: &Thumb)
 
 // Writes the thumbnail's bytes.
 fn lay_thumb(block: &mut [u8], layout: &Layout)
-    requires fits { Fits (meaning_of_layout layout.now) }
+    requires fits { IsWritable (meaning_of_layout layout.now) }
     requires legal { Legal (meaning_of_layout layout.now) (plan_of_layout layout.now) }
     requires len { length block.old ≡ (plan_of_layout layout.now).length }
     ensures len { length block.new ≡ length block.old }
@@ -153,10 +153,10 @@ fn lay_value(
     layout: &Layout,
     dir: Dir,
     entry: &Entry,
-) -> Result<(), Refused>
-    requires counted { IsCounted (item_of entry.now.item) }
+) -> Result<(), AllocFailed>
+    requires counted { CountsFit (item_of entry.now.item) }
     requires inside { AreInside (length block.old) (value_pieces layout.now dir (entry_of entry.now ∷ [])) }
-    ensures memory { Lacks result memory.old memory.new }
+    ensures memory { CountsAllocFailure result memory.old memory.new }
     ensures asked { AsksAtMost (6 * pieces_size (value_pieces layout.now dir (entry_of entry.now ∷ [])) + 131072)
         memory.old memory.new }
     ensures paid { OnOk result (AsksAtMost (6 * pieces_size (value_pieces layout.now dir (entry_of entry.now ∷ [])))
@@ -181,9 +181,9 @@ fn lay_values(
     layout: &Layout,
     dir: Dir,
     entries: &Entries,
-) -> Result<(), Refused>
+) -> Result<(), AllocFailed>
     requires { AreInside (length block.old) (value_pieces layout.now dir entries.now) }
-    ensures memory { Lacks result memory.old memory.new }
+    ensures memory { CountsAllocFailure result memory.old memory.new }
     ensures asked { AsksAtMost (6 * pieces_size (value_pieces layout.now dir entries.now) + 131072)
         memory.old memory.new }
     ensures paid { OnOk result (AsksAtMost (6 * pieces_size (value_pieces layout.now dir entries.now))
@@ -204,11 +204,11 @@ fn lay_table(
     layout: &Layout,
     dir: Dir,
     entries: &Entries,
-) -> Result<(), Refused>
+) -> Result<(), AllocFailed>
     requires few { length entries.now < 2 ^ 16 }
     requires inside { place (plan_of_layout layout.now) (Chunk.Table dir) + length (table_in layout.now dir entries.now)
         ≤ length block.old }
-    ensures memory { Lacks result memory.old memory.new }
+    ensures memory { CountsAllocFailure result memory.old memory.new }
     ensures asked { AsksAtMost (6 * length (table_in layout.now dir entries.now) + 131072) memory.old memory.new }
     ensures paid { OnOk result (AsksAtMost (6 * length (table_in layout.now dir entries.now)) memory.old memory.new) }
     ensures len { length block.new ≡ length block.old }
@@ -227,11 +227,11 @@ fn lay_entries(
     layout: &Layout,
     dir: Dir,
     entries: &Entries,
-) -> Result<(), Refused>
+) -> Result<(), AllocFailed>
     requires few { length entries.now < 2 ^ 16 }
     requires values { AreInside (length block.old) (value_pieces layout.now dir entries.now) }
     requires table { place (plan_of_layout layout.now) (Chunk.Table dir) + length (table_in layout.now dir entries.now) ≤ length block.old }
-    ensures memory { Lacks result memory.old memory.new }
+    ensures memory { CountsAllocFailure result memory.old memory.new }
     ensures asked { AsksAtMost
         (6 * (length (table_in layout.now dir entries.now) + pieces_size (value_pieces layout.now dir entries.now)) + 131072)
         memory.old memory.new }
@@ -248,11 +248,16 @@ fn lay_entries(
 }
 
 // Writes a directory if the meaning has it.
-fn lay_dir(memory: &mut Memory, block: &mut [u8], layout: &Layout, dir: Dir) -> Result<(), Refused>
-    requires fits { Fits (meaning_of_layout layout.now) }
+fn lay_dir(
+    memory: &mut Memory,
+    block: &mut [u8],
+    layout: &Layout,
+    dir: Dir,
+) -> Result<(), AllocFailed>
+    requires fits { IsWritable (meaning_of_layout layout.now) }
     requires legal { Legal (meaning_of_layout layout.now) (plan_of_layout layout.now) }
     requires len { length block.old ≡ (plan_of_layout layout.now).length }
-    ensures memory { Lacks result memory.old memory.new }
+    ensures memory { CountsAllocFailure result memory.old memory.new }
     ensures asked { AsksAtMost (6 * pieces_size (dir_pieces layout.now (meaning_of_layout layout.now) dir) + 131072)
         memory.old memory.new }
     ensures paid { OnOk result (AsksAtMost (6 * pieces_size (dir_pieces layout.now (meaning_of_layout layout.now) dir))
@@ -267,11 +272,11 @@ fn lay_dir(memory: &mut Memory, block: &mut [u8], layout: &Layout, dir: Dir) -> 
 }
 
 // Writes all directories, the last first.
-fn lay_dirs(memory: &mut Memory, block: &mut [u8], layout: &Layout) -> Result<(), Refused>
-    requires fits { Fits (meaning_of_layout layout.now) }
+fn lay_dirs(memory: &mut Memory, block: &mut [u8], layout: &Layout) -> Result<(), AllocFailed>
+    requires fits { IsWritable (meaning_of_layout layout.now) }
     requires legal { Legal (meaning_of_layout layout.now) (plan_of_layout layout.now) }
     requires len { length block.old ≡ (plan_of_layout layout.now).length }
-    ensures memory { Lacks result memory.old memory.new }
+    ensures memory { CountsAllocFailure result memory.old memory.new }
     ensures asked { AsksAtMost (6 * pieces_size (at_places layout.now (flat_map (contents_in layout.now) dirs)) + 131072)
         memory.old memory.new }
     ensures paid { OnOk result (AsksAtMost (6 * pieces_size (at_places layout.now (flat_map (contents_in layout.now) dirs)))
@@ -286,9 +291,9 @@ fn lay_dirs(memory: &mut Memory, block: &mut [u8], layout: &Layout) -> Result<()
     lay_dir(memory, block, layout, Dir::Main)
 }
 
-fn lay_header(memory: &mut Memory, block: &mut [u8], layout: &Layout) -> Result<(), Refused>
+fn lay_header(memory: &mut Memory, block: &mut [u8], layout: &Layout) -> Result<(), AllocFailed>
     requires { 8 ≤ length block.old }
-    ensures memory { Lacks result memory.old memory.new }
+    ensures memory { CountsAllocFailure result memory.old memory.new }
     ensures asked { AsksAtMost (6 * length (header_in layout.now) + 131072) memory.old memory.new }
     ensures paid { OnOk result (AsksAtMost (6 * length (header_in layout.now)) memory.old memory.new) }
     ensures len { length block.new ≡ length block.old }
@@ -300,12 +305,16 @@ fn lay_header(memory: &mut Memory, block: &mut [u8], layout: &Layout) -> Result<
 }
 
 // Writes the whole block over filler bytes.
-pub(crate) fn lay_all(memory: &mut Memory, block: &mut [u8], layout: &Layout) -> Result<(), Refused>
-    requires fits { Fits (meaning_of_layout layout.now) }
+pub(crate) fn lay_all(
+    memory: &mut Memory,
+    block: &mut [u8],
+    layout: &Layout,
+) -> Result<(), AllocFailed>
+    requires fits { IsWritable (meaning_of_layout layout.now) }
     requires legal { Legal (meaning_of_layout layout.now) (plan_of_layout layout.now) }
     requires len { length block.old ≡ (plan_of_layout layout.now).length }
     requires bare { block.old ≡ replicate (plan_of_layout layout.now).length layout.now.filler }
-    ensures memory { Lacks result memory.old memory.new }
+    ensures memory { CountsAllocFailure result memory.old memory.new }
     ensures asked { AsksAtMost (6 * (plan_of_layout layout.now).length + 131072) memory.old memory.new }
     ensures len { length block.new ≡ length block.old }
     ensures bytes { OnOk result (block.new ≡ laid (meaning_of_layout layout.now)

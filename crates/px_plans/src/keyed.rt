@@ -1,9 +1,9 @@
 // Offsets by key.
 ghost use Rattle.std.specs.Prelude.{◌≡◌, ◌+◌, ◌-◌, ◌*◌, ◌<◌, ◌≤◌, ◌^◌, OnOk, OnErr, IfOk, IfErr, None, Some, if◌then◌else◌, ◌==◌, ℕ};
-ghost use Rattle.px_bytes.specs.Lacking.{Lacks};
+ghost use Rattle.px_bytes.specs.Allocations.{CountsAllocFailure};
 ghost use Rattle.px_plans.specs.calls.Keyed.{IsInOrder, IsAt, IsGapFor};
 
-use px_bytes::{Memory, Refused};
+use px_bytes::{AllocFailed, Memory};
 use std::alloc::Global;
 
 // Offsets, each with its key, by ascending key. A key is found by binary search. An offset with the greatest key so
@@ -52,13 +52,18 @@ impl KeyedOffsets {
     }
 
     // Adds the offset of a key that has none yet.
-    pub(crate) fn put(&mut self, memory: &mut Memory, key: u32, offset: u32) -> Result<(), Refused>
+    pub(crate) fn put(
+        &mut self,
+        memory: &mut Memory,
+        key: u32,
+        offset: u32,
+    ) -> Result<(), AllocFailed>
         requires { key_in self.old key ≡ None }
         ensures ok { OnOk result ((k : ℕ) → key_in self.new k ≡ (if key == k then Some offset else key_in self.old k)) }
         ensures err { OnErr result ((k : ℕ) → key_in self.new k ≡ key_in self.old k) }
         ensures size { OnOk result (keyed_size self.new ≡ keyed_size self.old + 1) }
         ensures kept { OnErr result (keyed_size self.new ≡ keyed_size self.old) }
-        ensures memory { Lacks result memory.old memory.new }
+        ensures memory { CountsAllocFailure result memory.old memory.new }
         ensures asked { memory.new.asked ≤ memory.old.asked + keyed_paid self.old + 32 }
         ensures paid { OnOk result (memory.new.asked + keyed_paid self.new ≤ memory.old.asked + keyed_paid self.old + 32) }
     {

@@ -1,10 +1,10 @@
 // Whether a plan is legal.
 ghost use Rattle.std.specs.Prelude.{◌≡◌, ◌≤◌, true, List, ◌∷◌, [], length, IfOk, OnErr, IsTrue, ◌↔◌};
-ghost use Rattle.px_bytes.specs.Held.{mark_bytes};
-ghost use Rattle.px_bytes.specs.Lacking.{Lacks, AsksAtMost};
+ghost use Rattle.px_bytes.specs.Claimed.{mark_bytes};
+ghost use Rattle.px_bytes.specs.Allocations.{CountsAllocFailure, AsksAtMost};
 ghost use Rattle.px_bytes.specs.Parts.{limit};
 ghost use Rattle.px_bytes.specs.Range.{Range, range, Agrees};
-ghost use Rattle.px_meaning.specs.Fits.{Fits};
+ghost use Rattle.px_meaning.specs.Writable.{IsWritable};
 ghost use Rattle.px_meaning.specs.calls.Seen.{meaning_of};
 ghost use Rattle.px_plans.specs.calls.Planned.{plan_of};
 ghost use Rattle.px_layout.specs.Chunks.{chunks};
@@ -14,10 +14,9 @@ ghost use Rattle.px_plans.specs.calls.Judging.{is_placed, all_placed};
 
 use crate::plan::Plan;
 use crate::sizing::chunk_sizes;
-use px_bytes::{LIMIT, Memory, Ranges, Refused};
+use px_bytes::{AllocFailed, LIMIT, Memory, Ranges};
 use px_layout::Chunk;
 use px_tree::Meaning;
-use std::alloc::{AllocError, Global};
 
 // Whether a chunk of `size` bytes has an offset, is inside the plan's length, and shares no byte with a
 // claimed range. If so, it claims its range.
@@ -27,14 +26,14 @@ fn claim(
     claimed: &mut Ranges,
     chunk: Chunk,
     size: u64,
-) -> Result<bool, Refused>
+) -> Result<bool, AllocFailed>
     requires { (plan_of plan.now).length ≤ limit }
-    ensures memory { Lacks result memory.old memory.new }
+    ensures memory { CountsAllocFailure result memory.old memory.new }
     ensures free { (taken : List Range) → Agrees taken claimed.old.ranges →
         IfOk result (λ free. (free ≡ is_placed (plan_of plan.now) taken (chunk, size))
         × (free ≡ true → Agrees (range (place (plan_of plan.now) chunk) size ∷ taken) claimed.new.ranges)) }
-    ensures room { claimed.old.room ≤ claimed.new.room }
-    ensures fits { (plan_of plan.now).length ≤ claimed.old.room → memory.new.asked ≡ memory.old.asked }
+    ensures capacity { claimed.old.capacity ≤ claimed.new.capacity }
+    ensures fits { (plan_of plan.now).length ≤ claimed.old.capacity → memory.new.asked ≡ memory.old.asked }
 {
     let Some(offset) = plan.offset(chunk) else {
         return Ok(false);
@@ -55,12 +54,12 @@ fn claim_all(
     plan: &Plan,
     claimed: &mut Ranges,
     chunks: &[(Chunk, u64)],
-) -> Result<bool, Refused>
+) -> Result<bool, AllocFailed>
     requires { (plan_of plan.now).length ≤ limit }
-    ensures memory { Lacks result memory.old memory.new }
+    ensures memory { CountsAllocFailure result memory.old memory.new }
     ensures free { (taken : List Range) → Agrees taken claimed.old.ranges →
         IfOk result (λ free. free ≡ all_placed (plan_of plan.now) taken chunks.now) }
-    ensures fits { (plan_of plan.now).length ≤ claimed.old.room → memory.new.asked ≡ memory.old.asked }
+    ensures fits { (plan_of plan.now).length ≤ claimed.old.capacity → memory.new.asked ≡ memory.old.asked }
 {
     for i in 0..chunks.len() {
         let (chunk, size) = chunks[i];
@@ -73,40 +72,30 @@ fn claim_all(
 
 // Whether all chunks have offsets, are inside the plan's length, and share no byte with the header or one
 // another.
-fn are_apart(memory: &mut Memory, plan: &Plan, chunks: &[(Chunk, u64)]) -> Result<bool, Refused>
+fn are_apart(memory: &mut Memory, plan: &Plan, chunks: &[(Chunk, u64)]) -> Result<bool, AllocFailed>
     requires { (plan_of plan.now).length ≤ limit }
-    ensures memory { Lacks result memory.old memory.new }
+    ensures memory { CountsAllocFailure result memory.old memory.new }
     ensures free { IfOk result (λ free. free ≡ all_placed (plan_of plan.now) (range 0 8 ∷ []) chunks.now) }
     ensures asked { 8 ≤ (plan_of plan.now).length → AsksAtMost (mark_bytes (plan_of plan.now).length) memory.old memory.new }
 {
-    let mut claimed = Ranges::with_room_in(memory, plan.len())?;
+    let mut claimed = Ranges::with_capacity_in(memory, plan.len())?;
     claimed.add_in(memory, 0, 8)?;
     claim_all(memory, plan, &mut claimed, chunks)
 }
 
-/// Like `is_legal_in`, with memory of its own.
-pub fn is_legal(alloc: Global, m: &Meaning, plan: &Plan) -> Result<bool, AllocError>
-    requires { Fits (meaning_of m.now) }
-    ensures legal { IfOk result (λ legal. IsTrue legal ↔ Legal (meaning_of m.now) (plan_of plan.now)) }
-    ensures least { OnErr result (8 ≤ (plan_of plan.now).length) }
-    ensures most { OnErr result ((plan_of plan.now).length ≤ limit) }
-{
-    Ok(is_legal_in(&mut Memory::new(alloc), m, plan)?)
-}
-
-/// Whether a plan is legal for a meaning that can be written (`fits`): it has exactly the meaning's chunks,
+/// Whether a plan is legal for a meaning that can be written (`is_writable`): it has exactly the meaning's chunks,
 /// its length is at least 8 and at most `LIMIT`, each chunk is inside it, and no two chunks share a byte, nor
 /// a chunk and the header. TIFF 6.0 section 7, "No Duplicate Pointers".
 ///
 /// Allocates a list of the chunks, and a bit for each byte of the block, if the length is legal: it asks for at
 /// most 64 bytes for each chunk, and for these bits. The cost grows as n log n with the number of chunks, and by a
 /// word for each 64 of their bytes. `Err`: an allocation failed.
-pub fn is_legal_in(memory: &mut Memory, m: &Meaning, plan: &Plan) -> Result<bool, Refused>
-    requires { Fits (meaning_of m.now) }
+pub fn is_legal_in(memory: &mut Memory, m: &Meaning, plan: &Plan) -> Result<bool, AllocFailed>
+    requires { IsWritable (meaning_of m.now) }
     ensures legal { IfOk result (λ legal. IsTrue legal ↔ Legal (meaning_of m.now) (plan_of plan.now)) }
     ensures least { OnErr result (8 ≤ (plan_of plan.now).length) }
     ensures most { OnErr result ((plan_of plan.now).length ≤ limit) }
-    ensures memory { Lacks result memory.old memory.new }
+    ensures memory { CountsAllocFailure result memory.old memory.new }
     ensures asked { AsksAtMost (legal_request (length (chunks (meaning_of m.now))) (plan_of plan.now).length) memory.old memory.new }
 {
     if plan.len() < 8 {

@@ -14,6 +14,7 @@
 #![tactic(auto)]
 
 mod building;
+mod global;
 mod keyed;
 mod layout;
 mod legal;
@@ -26,9 +27,10 @@ mod reading;
 mod sizing;
 mod with_plan;
 
-pub use legal::{is_legal, is_legal_in};
-pub use normal::{plan_normal, plan_normal_in};
+pub use global::{is_legal, plan_normal, write_with};
+pub use legal::is_legal_in;
+pub use normal::plan_normal_in;
 pub use plan::Plan;
 pub use px_layout::Chunk;
 pub use reading::read_back_in;
-pub use with_plan::{write_with, write_with_in};
+pub use with_plan::write_with_in;

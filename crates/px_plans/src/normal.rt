@@ -1,9 +1,9 @@
 // The plan of the normal form.
 ghost use Rattle.std.specs.Prelude.{◌≡◌, ◌≤◌, ◌+◌, OnOk, length};
-ghost use Rattle.px_bytes.specs.Lacking.{AsksAtMost};
+ghost use Rattle.px_bytes.specs.Allocations.{AsksAtMost};
 ghost use Rattle.px_bytes.specs.Parts.{limit};
-ghost use Rattle.px_bytes.specs.calls.Writing.{LacksWrite};
-ghost use Rattle.px_meaning.specs.Fits.{Fits};
+ghost use Rattle.px_bytes.specs.calls.Writing.{CountsAllocFailureInWrite};
+ghost use Rattle.px_meaning.specs.Writable.{IsWritable};
 ghost use Rattle.px_meaning.specs.calls.Seen.{meaning_of};
 ghost use Rattle.px_layout.specs.Chunks.{chunks};
 ghost use Rattle.px_plans.specs.Asking.{place_request, plan_request};
@@ -13,9 +13,8 @@ ghost use Rattle.px_plans.specs.calls.PlanningNormal.{NextResult, AllResult, Pla
 use crate::plan::Plan;
 use crate::sizing::chunk_sizes;
 use px_bytes::{Memory, WriteRefusal};
-use px_layout::{Chunk, behind};
+use px_layout::{Chunk, end_padded};
 use px_tree::Meaning;
-use std::alloc::Global;
 
 // Gives a chunk its offset. Returns the offset of the next one.
 fn place_next(
@@ -27,11 +26,11 @@ fn place_next(
 ) -> Result<u32, WriteRefusal>
     requires { at ≤ limit }
     ensures next { NextResult result (plan_of plan.old) (plan_of plan.new) at (chunk, size) }
-    ensures memory { LacksWrite result memory.old memory.new }
+    ensures memory { CountsAllocFailureInWrite result memory.old memory.new }
     ensures asked { memory.new.asked ≤ memory.old.asked + paid_of plan.old + place_request 1 }
     ensures paid { OnOk result (memory.new.asked + paid_of plan.new ≤ memory.old.asked + paid_of plan.old + place_request 1) }
 {
-    let Some(end) = behind(at, size) else {
+    let Some(end) = end_padded(at, size) else {
         return Err(WriteRefusal::NormalTooLong);
     };
     plan.place_in(memory, chunk, at)?;
@@ -46,7 +45,7 @@ fn place_all(
 ) -> Result<u32, WriteRefusal>
     requires { plan_of plan.old ≡ bare 8 }
     ensures all { AllResult result (plan_of plan.new) chunks.now }
-    ensures memory { LacksWrite result memory.old memory.new }
+    ensures memory { CountsAllocFailureInWrite result memory.old memory.new }
     ensures asked { memory.new.asked ≤ memory.old.asked + paid_of plan.old + place_request (length chunks.now) }
 {
     let mut at = 8;
@@ -57,24 +56,17 @@ fn place_all(
     Ok(at)
 }
 
-/// Like `plan_normal_in`, with memory of its own.
-pub fn plan_normal(alloc: Global, m: &Meaning) -> Result<Plan, WriteRefusal>
-    requires { Fits (meaning_of m.now) }
-    ensures { PlanResult result (meaning_of m.now) }
-{
-    plan_normal_in(&mut Memory::new(alloc), m)
-}
-
-/// The plan of the normal form of a meaning that can be written (`fits`). For each directory: the table, the
-/// values of more than four bytes by ascending tag, the JPEG, and the strips. Each chunk follows the one
-/// before, the first follows the header, and each is padded to an even number of bytes. The plan is legal.
+/// The plan of the normal form of a meaning that can be written (`is_writable`). For each directory: the table, and
+/// the values of more than four bytes by ascending tag; then the JPEG, and the strips. Each chunk follows the one
+/// before, the first follows the header, and each is padded to an even number of bytes.
 ///
-/// Allocates the plan, and a list of the chunks while it works. `NormalTooLong`: the normal form is longer
-/// than `LIMIT`. `OutOfMemory`: an allocation failed.
+/// `Ok`: this plan, which is legal; the form has at most `LIMIT` bytes, 16,777,216. `NormalTooLong`: the form is
+/// longer. `OutOfMemory`: an allocation failed, and nothing is said of the form. `WriteFailed` never comes. Allocates
+/// the plan, and a list of the chunks while it works.
 pub fn plan_normal_in(memory: &mut Memory, m: &Meaning) -> Result<Plan, WriteRefusal>
-    requires { Fits (meaning_of m.now) }
+    requires { IsWritable (meaning_of m.now) }
     ensures plan { PlanResult result (meaning_of m.now) }
-    ensures memory { LacksWrite result memory.old memory.new }
+    ensures memory { CountsAllocFailureInWrite result memory.old memory.new }
     ensures asked { AsksAtMost (plan_request (length (chunks (meaning_of m.now)))) memory.old memory.new }
 {
     let chunks = chunk_sizes(memory, m)?;

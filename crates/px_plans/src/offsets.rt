@@ -1,13 +1,13 @@
 // The offsets of chunks, by directory and by strip.
 ghost use Rattle.std.specs.Prelude.{◌≡◌, ◌+◌, ◌<◌, ◌≤◌, ◌^◌, ℕ, OnOk, OnErr, None, Some, if◌then◌else◌, ◌==◌};
-ghost use Rattle.px_bytes.specs.Lacking.{Lacks};
+ghost use Rattle.px_bytes.specs.Allocations.{CountsAllocFailure};
 ghost use Rattle.px_layout.specs.declared.chunks.Chunk.{Chunk as AnyChunk};
 ghost use Rattle.px_layout.specs.declared.chunks.Chunk.TheVariants.{Table, Placed, Jpeg, Strip};
 ghost use Rattle.px_layout.specs.Chunks.{same_chunk};
 ghost use Rattle.px_plans.specs.calls.Kept.{key_in, dir_in, offset_in, dir_size, size_in, keyed_paid, paid_in};
 
 use crate::keyed::KeyedOffsets;
-use px_bytes::{Memory, Refused};
+use px_bytes::{AllocFailed, Memory};
 use px_layout::Chunk;
 use px_tree::Dir;
 use std::alloc::Global;
@@ -134,14 +134,14 @@ impl Offsets {
         dir: Dir,
         tag: u16,
         offset: u32,
-    ) -> Result<(), Refused>
+    ) -> Result<(), AllocFailed>
         requires { offset_in self.old (Placed dir tag) ≡ None }
         ensures ok { OnOk result ((c : AnyChunk) → offset_in self.new c ≡ (if same_chunk (Placed dir tag) c then Some offset else offset_in
             self.old c)) }
         ensures err { OnErr result ((c : AnyChunk) → offset_in self.new c ≡ offset_in self.old c) }
         ensures size { OnOk result (size_in self.new ≡ size_in self.old + 1) }
         ensures kept { OnErr result (size_in self.new ≡ size_in self.old) }
-        ensures memory { Lacks result memory.old memory.new }
+        ensures memory { CountsAllocFailure result memory.old memory.new }
         ensures asked { memory.new.asked ≤ memory.old.asked + paid_in self.old + 32 }
         ensures paid { OnOk result (memory.new.asked + paid_in self.new ≤ memory.old.asked + paid_in self.old + 32) }
     {
@@ -164,14 +164,14 @@ impl Offsets {
         self.jpeg = Some(offset);
     }
 
-    fn put_strip(&mut self, memory: &mut Memory, i: u32, offset: u32) -> Result<(), Refused>
+    fn put_strip(&mut self, memory: &mut Memory, i: u32, offset: u32) -> Result<(), AllocFailed>
         requires { offset_in self.old (Strip i) ≡ None }
         ensures ok { OnOk result ((c : AnyChunk) → offset_in self.new c ≡ (if same_chunk (Strip i) c then Some offset else offset_in
             self.old c)) }
         ensures err { OnErr result ((c : AnyChunk) → offset_in self.new c ≡ offset_in self.old c) }
         ensures size { OnOk result (size_in self.new ≡ size_in self.old + 1) }
         ensures kept { OnErr result (size_in self.new ≡ size_in self.old) }
-        ensures memory { Lacks result memory.old memory.new }
+        ensures memory { CountsAllocFailure result memory.old memory.new }
         ensures asked { memory.new.asked ≤ memory.old.asked + paid_in self.old + 32 }
         ensures paid { OnOk result (memory.new.asked + paid_in self.new ≤ memory.old.asked + paid_in self.old + 32) }
     {
@@ -184,14 +184,14 @@ impl Offsets {
         memory: &mut Memory,
         chunk: Chunk,
         offset: u32,
-    ) -> Result<(), Refused>
+    ) -> Result<(), AllocFailed>
         requires { offset_in self.old chunk ≡ None }
         ensures ok { OnOk result ((c : AnyChunk) → offset_in self.new c ≡ (if same_chunk chunk c then Some offset else offset_in self.old
             c)) }
         ensures err { OnErr result ((c : AnyChunk) → offset_in self.new c ≡ offset_in self.old c) }
         ensures size { OnOk result (size_in self.new ≡ size_in self.old + 1) }
         ensures kept { OnErr result (size_in self.new ≡ size_in self.old) }
-        ensures memory { Lacks result memory.old memory.new }
+        ensures memory { CountsAllocFailure result memory.old memory.new }
         ensures asked { memory.new.asked ≤ memory.old.asked + paid_in self.old + 32 }
         ensures paid { OnOk result (memory.new.asked + paid_in self.new ≤ memory.old.asked + paid_in self.old + 32) }
     {

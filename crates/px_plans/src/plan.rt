@@ -1,13 +1,12 @@
 // Plans: the offset of each chunk of a block.
 ghost use Rattle.std.specs.Prelude.{◌≡◌, ◌≤◌, ◌+◌, None, IsSome, IfOk, OnOk, OnErr, true, false, if◌then◌else◌};
-ghost use Rattle.px_bytes.specs.Lacking.{Lacks};
+ghost use Rattle.px_bytes.specs.Allocations.{CountsAllocFailure};
 ghost use Rattle.px_plans.specs.calls.Kept.{offset_in, size_in};
 ghost use Rattle.px_plans.specs.calls.Counted.{IsCount};
 
 use crate::offsets::Offsets;
-use px_bytes::{Memory, Refused};
+use px_bytes::{AllocFailed, Memory};
 use px_layout::Chunk;
-use std::alloc::{AllocError, Global};
 
 /// A layout: the length of a block in bytes, and the offset of each of its chunks. TIFF 6.0 section 2 leaves
 /// offsets free.
@@ -18,20 +17,13 @@ use std::alloc::{AllocError, Global};
 #[derive(Drop)]
 pub struct Plan {
     len: u32,
-    offsets: Offsets,
+    pub(crate) offsets: Offsets,
     ghost counted: { IsCount (size_in offsets) (offset_in offsets) },
 }
 
 impl Plan {
     ghost use Rattle.px_plans.specs.Asking.{place_request};
     ghost use Rattle.px_plans.specs.calls.Planned.{plan_of, bare, with_chunk, with_length, paid_of};
-
-    /// Like `new_in`, with memory of its own.
-    pub fn new(alloc: Global, len: u32) -> Plan
-        ensures { plan_of result ≡ bare len }
-    {
-        Plan::new_in(&Memory::new(alloc), len)
-    }
 
     /// A plan of a block of `len` bytes without any chunk. It allocates nothing. Later calls use the
     /// allocator of `memory`.
@@ -62,19 +54,6 @@ impl Plan {
         self.offsets.offset(chunk)
     }
 
-    /// Like `place_in`, with memory of its own.
-    pub fn place(&mut self, chunk: Chunk, offset: u32) -> Result<bool, AllocError>
-        ensures placed { IfOk result (λ placed. placed ≡ true → (plan_of self.old).offset chunk ≡ None) }
-        ensures there { IfOk result (λ placed. placed ≡ false → IsSome ((plan_of self.old).offset chunk)) }
-        ensures after { IfOk result (λ placed. plan_of self.new
-            ≡ (if placed then with_chunk (plan_of self.old) chunk offset else plan_of self.old)) }
-        ensures err { OnErr result (plan_of self.new ≡ plan_of self.old) }
-        ensures unplaced { OnErr result ((plan_of self.old).offset chunk ≡ None) }
-    {
-        let mut memory = Memory::new(self.offsets.allocator());
-        Ok(self.place_in(&mut memory, chunk, offset)?)
-    }
-
     /// Places a chunk at an offset and returns true, or returns false and changes nothing if it is placed
     /// already. It accepts any offset: `is_legal` judges a plan. `Err`: an allocation failed, the chunk isn't
     /// placed, and nothing has changed. Placing `n` chunks in a new plan asks for at most 32 bytes for each.
@@ -84,14 +63,14 @@ impl Plan {
         memory: &mut Memory,
         chunk: Chunk,
         offset: u32,
-    ) -> Result<bool, Refused>
+    ) -> Result<bool, AllocFailed>
         ensures placed { IfOk result (λ placed. placed ≡ true → (plan_of self.old).offset chunk ≡ None) }
         ensures there { IfOk result (λ placed. placed ≡ false → IsSome ((plan_of self.old).offset chunk)) }
         ensures after { IfOk result (λ placed. plan_of self.new
             ≡ (if placed then with_chunk (plan_of self.old) chunk offset else plan_of self.old)) }
         ensures err { OnErr result (plan_of self.new ≡ plan_of self.old) }
         ensures unplaced { OnErr result ((plan_of self.old).offset chunk ≡ None) }
-        ensures memory { Lacks result memory.old memory.new }
+        ensures memory { CountsAllocFailure result memory.old memory.new }
         ensures asked { memory.new.asked ≤ memory.old.asked + paid_of self.old + place_request 1 }
         ensures paid { OnOk result (memory.new.asked + paid_of self.new ≤ memory.old.asked + paid_of self.old + place_request 1) }
     {

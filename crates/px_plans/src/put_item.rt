@@ -1,10 +1,10 @@
 // The entries of a table, added to the output buffer. TIFF 6.0 section 2, "IFD Entry" and "Value/Offset".
 ghost use Rattle.std.specs.Prelude.{◌≡◌, ◌≤◌, ◌-◌, ◌*◌, ◌++◌, length, take, map, flat_map};
 ghost use Rattle.std.specs.List.{AllByRecursion, range_with_len};
-ghost use Rattle.px_bytes.specs.Devices.{CanFail};
+ghost use Rattle.px_bytes.specs.Devices.{CanCountFailure};
 ghost use Rattle.px_bytes.specs.Parts.{limit};
-ghost use Rattle.px_bytes.specs.Waiting.{AddsTo};
-ghost use Rattle.px_layout.specs.calls.Items.{item_of, entry_of, IsCounted};
+ghost use Rattle.px_bytes.specs.Waiting.{AddsBuffered};
+ghost use Rattle.px_layout.specs.calls.Items.{item_of, entry_of, CountsFit};
 ghost use Rattle.px_plans.specs.calls.Layouts.{plan_of_layout, item_in, last_in, entry_in};
 ghost use Rattle.px_layout.specs.Laid.{long_bytes, item_bytes, last_bytes};
 ghost use Rattle.px_plans.specs.calls.Planned.{plan_of};
@@ -33,8 +33,8 @@ pub(crate) fn put_place<W: Sink>(
     layout: &Layout,
     chunk: Chunk,
 ) -> Result<(), Failed>
-    requires { CanFail (W.calls writer.old) }
-    ensures { AddsTo W.calls W.bytes_taken result writer.old writer.new pending.old pending.new
+    requires { CanCountFailure (W.calls writer.old) }
+    ensures { AddsBuffered W.calls W.bytes_taken result writer.old writer.new pending.old pending.new
         (long_bytes layout.now.order (place (plan_of_layout layout.now) chunk)) }
 {
     put_long(pending, writer, layout.order, place_of(layout.plan, chunk))
@@ -47,8 +47,8 @@ fn put_strip_offsets<W: Sink>(
     layout: &Layout,
     count: u32,
 ) -> Result<(), Failed>
-    requires { CanFail (W.calls writer.old) }
-    ensures { AddsTo W.calls W.bytes_taken result writer.old writer.new pending.old pending.new (flat_map
+    requires { CanCountFailure (W.calls writer.old) }
+    ensures { AddsBuffered W.calls W.bytes_taken result writer.old writer.new pending.old pending.new (flat_map
         (λ i. long_bytes layout.now.order (place (plan_of_layout layout.now) (Chunk.Strip i))) (range_with_len 0 count)) }
 {
     for i in 0..count {
@@ -65,9 +65,10 @@ pub(crate) fn put_item<W: Sink>(
     layout: &Layout,
     item: Item,
 ) -> Result<(), Failed>
-    requires few { CanFail (W.calls writer.old) }
-    requires counted { IsCounted (item_of item) }
-    ensures { AddsTo W.calls W.bytes_taken result writer.old writer.new pending.old pending.new (item_in layout.now (item_of item.entry)) }
+    requires few { CanCountFailure (W.calls writer.old) }
+    requires counted { CountsFit (item_of item) }
+    ensures { AddsBuffered W.calls W.bytes_taken result writer.old writer.new pending.old pending.new
+        (item_in layout.now (item_of item.entry)) }
 {
     match item {
         Item::Field(value) => put_value(pending, writer, layout.order, value),
@@ -91,9 +92,9 @@ fn put_last<W: Sink>(
     dir: Dir,
     entry: &Entry,
 ) -> Result<(), Failed>
-    requires few { CanFail (W.calls writer.old) }
-    requires counted { IsCounted (item_of entry.now.item) }
-    ensures { AddsTo W.calls W.bytes_taken result writer.old writer.new pending.old pending.new
+    requires few { CanCountFailure (W.calls writer.old) }
+    requires counted { CountsFit (item_of entry.now.item) }
+    ensures { AddsBuffered W.calls W.bytes_taken result writer.old writer.new pending.old pending.new
         (last_in layout.now dir (entry_of entry.now)) }
 {
     let Entry { tag, item } = *entry;
@@ -113,9 +114,9 @@ pub(crate) fn put_entry<W: Sink>(
     dir: Dir,
     entry: &Entry,
 ) -> Result<(), Failed>
-    requires few { CanFail (W.calls writer.old) }
-    requires counted { IsCounted (item_of entry.now.item) }
-    ensures { AddsTo W.calls W.bytes_taken result writer.old writer.new pending.old pending.new
+    requires few { CanCountFailure (W.calls writer.old) }
+    requires counted { CountsFit (item_of entry.now.item) }
+    ensures { AddsBuffered W.calls W.bytes_taken result writer.old writer.new pending.old pending.new
         (entry_in layout.now dir (entry_of entry.now)) }
 {
     pending.put(writer, &entry_head(layout.order, entry))?;

@@ -1,7 +1,7 @@
 // The header and the tables of directories. TIFF 6.0 section 2, "Image File Header" and "Image File Directory".
 ghost use Rattle.std.specs.Prelude.{◌<◌, ◌^◌, length, flat_map};
-ghost use Rattle.px_bytes.specs.Devices.{CanFail};
-ghost use Rattle.px_bytes.specs.Waiting.{AddsTo};
+ghost use Rattle.px_bytes.specs.Devices.{CanCountFailure};
+ghost use Rattle.px_bytes.specs.Waiting.{AddsBuffered};
 ghost use Rattle.px_plans.specs.calls.Layouts.{header_in, entry_in, next_in, table_in};
 
 use crate::layout::Layout;
@@ -15,8 +15,8 @@ pub(crate) fn put_header<W: Sink>(
     writer: &mut W,
     layout: &Layout,
 ) -> Result<(), Failed>
-    requires { CanFail (W.calls writer.old) }
-    ensures { AddsTo W.calls W.bytes_taken result writer.old writer.new pending.old pending.new
+    requires { CanCountFailure (W.calls writer.old) }
+    ensures { AddsBuffered W.calls W.bytes_taken result writer.old writer.new pending.old pending.new
         (header_in layout.now) }
 {
     pending.put(writer, &magic_of(layout.order))?;
@@ -30,8 +30,8 @@ fn put_entries<W: Sink>(
     dir: Dir,
     entries: &Entries,
 ) -> Result<(), Failed>
-    requires { CanFail (W.calls writer.old) }
-    ensures { AddsTo W.calls W.bytes_taken result writer.old writer.new pending.old pending.new
+    requires { CanCountFailure (W.calls writer.old) }
+    ensures { AddsBuffered W.calls W.bytes_taken result writer.old writer.new pending.old pending.new
         (flat_map (entry_in layout.now dir) entries.now) }
 {
     for i in 0..entries.len() {
@@ -47,8 +47,8 @@ fn put_next_of_main<W: Sink>(
     writer: &mut W,
     layout: &Layout,
 ) -> Result<(), Failed>
-    requires { CanFail (W.calls writer.old) }
-    ensures { AddsTo W.calls W.bytes_taken result writer.old writer.new pending.old pending.new (next_in layout.now Dir.Main) }
+    requires { CanCountFailure (W.calls writer.old) }
+    ensures { AddsBuffered W.calls W.bytes_taken result writer.old writer.new pending.old pending.new (next_in layout.now Dir.Main) }
 {
     match &layout.m.thumb {
         Some(_) => put_place(pending, writer, layout, Chunk::Table(Dir::Thumb)),
@@ -63,8 +63,8 @@ fn put_next<W: Sink>(
     layout: &Layout,
     dir: Dir,
 ) -> Result<(), Failed>
-    requires { CanFail (W.calls writer.old) }
-    ensures { AddsTo W.calls W.bytes_taken result writer.old writer.new pending.old pending.new (next_in layout.now dir) }
+    requires { CanCountFailure (W.calls writer.old) }
+    ensures { AddsBuffered W.calls W.bytes_taken result writer.old writer.new pending.old pending.new (next_in layout.now dir) }
 {
     match dir {
         Dir::Main => put_next_of_main(pending, writer, layout),
@@ -81,9 +81,10 @@ pub(crate) fn put_table<W: Sink>(
     dir: Dir,
     entries: &Entries,
 ) -> Result<(), Failed>
-    requires few { CanFail (W.calls writer.old) }
+    requires few { CanCountFailure (W.calls writer.old) }
     requires counted { length entries.now < 2 ^ 16 }
-    ensures { AddsTo W.calls W.bytes_taken result writer.old writer.new pending.old pending.new (table_in layout.now dir entries.now) }
+    ensures { AddsBuffered W.calls W.bytes_taken result writer.old writer.new pending.old pending.new
+        (table_in layout.now dir entries.now) }
 {
     put_short(pending, writer, layout.order, entries.len() as u16)?;
     put_entries(pending, writer, layout, dir, entries)?;

@@ -2,18 +2,18 @@
 ghost use Rattle.std.specs.Prelude.{◌≡◌, [], ◌∷◌, ◌++◌, ◌+◌, ◌*◌, ◌<◌, ◌≤◌, ◌^◌, IfOk, OnOk, IfSome, length, filter_map};
 ghost use Rattle.std.specs.Prelude.{option_map};
 ghost use Rattle.std.specs.Option.{option_to_list};
-ghost use Rattle.px_bytes.specs.Lacking.{Lacks, AsksAtMost};
+ghost use Rattle.px_bytes.specs.Allocations.{CountsAllocFailure, AsksAtMost};
 ghost use Rattle.px_bytes.specs.Parts.{limit};
 ghost use Rattle.px_meaning.specs.Entry.{table_size};
-ghost use Rattle.px_meaning.specs.Fits.{Fits, items};
+ghost use Rattle.px_meaning.specs.Writable.{IsWritable, items};
 ghost use Rattle.px_meaning.specs.calls.Seen.{thumb_of, meaning_of};
-ghost use Rattle.px_layout.specs.calls.Items.{item_of, entry_of, IsCounted};
+ghost use Rattle.px_layout.specs.calls.Items.{item_of, entry_of, CountsFit};
 ghost use Rattle.px_layout.specs.Chunks.{placed_chunk, dir_chunks, chunks_of_dir, jpeg_chunks, strip_chunks, all_strip_chunks};
 ghost use Rattle.px_layout.specs.Chunks.{thumb_chunks, chunks};
 ghost use Rattle.px_plans.specs.Asking.{chunks_request};
-ghost use Rattle.px_plans.specs.calls.Spent.{spent};
+ghost use Rattle.px_plans.specs.calls.AskedAndPaid.{asked_and_paid};
 
-use px_bytes::{Memory, Refused};
+use px_bytes::{AllocFailed, Memory};
 use px_layout::{Chunk, Entries, Entry, entries_in, table_len};
 use px_tree::{Dir, Meaning, Strips, Thumb, needs_place};
 
@@ -22,11 +22,11 @@ fn push_chunk(
     memory: &mut Memory,
     out: &mut Vec<(Chunk, u64)>,
     chunk: (Chunk, u64),
-) -> Result<(), Refused>
+) -> Result<(), AllocFailed>
     ensures chunks { OnOk result (out.new.items ≡ out.old.items ++ chunk ∷ []) }
-    ensures memory { Lacks result memory.old memory.new }
-    ensures asked { memory.new.asked ≤ spent 16 memory.old out.old + 64 }
-    ensures paid { OnOk result (spent 16 memory.new out.new ≤ spent 16 memory.old out.old + 64) }
+    ensures memory { CountsAllocFailure result memory.old memory.new }
+    ensures asked { memory.new.asked ≤ asked_and_paid 16 memory.old out.old + 64 }
+    ensures paid { OnOk result (asked_and_paid 16 memory.new out.new ≤ asked_and_paid 16 memory.old out.old + 64) }
 {
     memory.push(out, chunk)
 }
@@ -38,13 +38,13 @@ fn push_value(
     out: &mut Vec<(Chunk, u64)>,
     dir: Dir,
     entry: &Entry,
-) -> Result<(), Refused>
-    requires { IsCounted (item_of entry.now.item) }
+) -> Result<(), AllocFailed>
+    requires { CountsFit (item_of entry.now.item) }
     ensures chunks { OnOk result (out.new.items ≡ out.old.items ++ option_to_list (placed_chunk dir (entry_of entry.now))) }
-    ensures memory { Lacks result memory.old memory.new }
-    ensures asked { memory.new.asked ≤ spent 16 memory.old out.old
+    ensures memory { CountsAllocFailure result memory.old memory.new }
+    ensures asked { memory.new.asked ≤ asked_and_paid 16 memory.old out.old
         + chunks_request (length (option_to_list (placed_chunk dir (entry_of entry.now)))) }
-    ensures paid { OnOk result (spent 16 memory.new out.new ≤ spent 16 memory.old out.old
+    ensures paid { OnOk result (asked_and_paid 16 memory.new out.new ≤ asked_and_paid 16 memory.old out.old
         + chunks_request (length (option_to_list (placed_chunk dir (entry_of entry.now))))) }
 {
     let Entry { tag, item } = *entry;
@@ -60,12 +60,12 @@ fn push_values(
     out: &mut Vec<(Chunk, u64)>,
     dir: Dir,
     entries: &Entries,
-) -> Result<(), Refused>
+) -> Result<(), AllocFailed>
     ensures chunks { OnOk result (out.new.items ≡ out.old.items ++ filter_map (placed_chunk dir) entries.now) }
-    ensures memory { Lacks result memory.old memory.new }
-    ensures asked { memory.new.asked ≤ spent 16 memory.old out.old
+    ensures memory { CountsAllocFailure result memory.old memory.new }
+    ensures asked { memory.new.asked ≤ asked_and_paid 16 memory.old out.old
         + chunks_request (length (filter_map (placed_chunk dir) entries.now)) }
-    ensures paid { OnOk result (spent 16 memory.new out.new ≤ spent 16 memory.old out.old
+    ensures paid { OnOk result (asked_and_paid 16 memory.new out.new ≤ asked_and_paid 16 memory.old out.old
         + chunks_request (length (filter_map (placed_chunk dir) entries.now))) }
 {
     for i in 0..entries.len() {
@@ -81,13 +81,13 @@ fn push_entries(
     out: &mut Vec<(Chunk, u64)>,
     dir: Dir,
     entries: &Entries,
-) -> Result<(), Refused>
+) -> Result<(), AllocFailed>
     requires { length entries.now < 2 ^ 16 }
     ensures chunks { OnOk result (out.new.items ≡ out.old.items ++ dir_chunks dir entries.now) }
-    ensures memory { Lacks result memory.old memory.new }
-    ensures asked { memory.new.asked ≤ spent 16 memory.old out.old
+    ensures memory { CountsAllocFailure result memory.old memory.new }
+    ensures asked { memory.new.asked ≤ asked_and_paid 16 memory.old out.old
         + chunks_request (length (dir_chunks dir entries.now)) }
-    ensures paid { OnOk result (spent 16 memory.new out.new ≤ spent 16 memory.old out.old
+    ensures paid { OnOk result (asked_and_paid 16 memory.new out.new ≤ asked_and_paid 16 memory.old out.old
         + chunks_request (length (dir_chunks dir entries.now))) }
 {
     push_chunk(memory, out, (Chunk::Table(dir), table_len(entries.len())))?;
@@ -99,13 +99,13 @@ fn push_dir(
     out: &mut Vec<(Chunk, u64)>,
     m: &Meaning,
     dir: Dir,
-) -> Result<(), Refused>
-    requires { Fits (meaning_of m.now) }
+) -> Result<(), AllocFailed>
+    requires { IsWritable (meaning_of m.now) }
     ensures chunks { OnOk result (out.new.items ≡ out.old.items ++ chunks_of_dir dir (items (meaning_of m.now) dir)) }
-    ensures memory { Lacks result memory.old memory.new }
-    ensures asked { memory.new.asked ≤ spent 16 memory.old out.old
+    ensures memory { CountsAllocFailure result memory.old memory.new }
+    ensures asked { memory.new.asked ≤ asked_and_paid 16 memory.old out.old
         + chunks_request (length (chunks_of_dir dir (items (meaning_of m.now) dir))) }
-    ensures paid { OnOk result (spent 16 memory.new out.new ≤ spent 16 memory.old out.old
+    ensures paid { OnOk result (asked_and_paid 16 memory.new out.new ≤ asked_and_paid 16 memory.old out.old
         + chunks_request (length (chunks_of_dir dir (items (meaning_of m.now) dir)))) }
 {
     match entries_in(m, dir) {
@@ -118,12 +118,12 @@ fn push_jpeg(
     memory: &mut Memory,
     out: &mut Vec<(Chunk, u64)>,
     jpeg: Option<&[u8]>,
-) -> Result<(), Refused>
+) -> Result<(), AllocFailed>
     ensures chunks { OnOk result (out.new.items ≡ out.old.items ++ jpeg_chunks (option_map (λ x. x.now) jpeg.entry)) }
-    ensures memory { Lacks result memory.old memory.new }
-    ensures asked { memory.new.asked ≤ spent 16 memory.old out.old
+    ensures memory { CountsAllocFailure result memory.old memory.new }
+    ensures asked { memory.new.asked ≤ asked_and_paid 16 memory.old out.old
         + chunks_request (length (jpeg_chunks (option_map (λ x. x.now) jpeg.entry))) }
-    ensures paid { OnOk result (spent 16 memory.new out.new ≤ spent 16 memory.old out.old
+    ensures paid { OnOk result (asked_and_paid 16 memory.new out.new ≤ asked_and_paid 16 memory.old out.old
         + chunks_request (length (jpeg_chunks (option_map (λ x. x.now) jpeg.entry)))) }
 {
     let Some(jpeg) = jpeg else {
@@ -137,13 +137,13 @@ fn push_strips(
     memory: &mut Memory,
     out: &mut Vec<(Chunk, u64)>,
     strips: &Strips,
-) -> Result<(), Refused>
+) -> Result<(), AllocFailed>
     requires { length strips.now ≤ limit }
     ensures chunks { OnOk result (out.new.items ≡ out.old.items ++ strip_chunks 0 strips.now) }
-    ensures memory { Lacks result memory.old memory.new }
-    ensures asked { memory.new.asked ≤ spent 16 memory.old out.old
+    ensures memory { CountsAllocFailure result memory.old memory.new }
+    ensures asked { memory.new.asked ≤ asked_and_paid 16 memory.old out.old
         + chunks_request (length (strip_chunks 0 strips.now)) }
-    ensures paid { OnOk result (spent 16 memory.new out.new ≤ spent 16 memory.old out.old
+    ensures paid { OnOk result (asked_and_paid 16 memory.new out.new ≤ asked_and_paid 16 memory.old out.old
         + chunks_request (length (strip_chunks 0 strips.now))) }
 {
     for i in 0..strips.len() {
@@ -160,13 +160,13 @@ fn push_optional_strips(
     memory: &mut Memory,
     out: &mut Vec<(Chunk, u64)>,
     strips: &Option<Strips>,
-) -> Result<(), Refused>
+) -> Result<(), AllocFailed>
     requires { IfSome strips.now (λ s. length s ≤ limit) }
     ensures chunks { OnOk result (out.new.items ≡ out.old.items ++ all_strip_chunks strips.now) }
-    ensures memory { Lacks result memory.old memory.new }
-    ensures asked { memory.new.asked ≤ spent 16 memory.old out.old
+    ensures memory { CountsAllocFailure result memory.old memory.new }
+    ensures asked { memory.new.asked ≤ asked_and_paid 16 memory.old out.old
         + chunks_request (length (all_strip_chunks strips.now)) }
-    ensures paid { OnOk result (spent 16 memory.new out.new ≤ spent 16 memory.old out.old
+    ensures paid { OnOk result (asked_and_paid 16 memory.new out.new ≤ asked_and_paid 16 memory.old out.old
         + chunks_request (length (all_strip_chunks strips.now))) }
 {
     match strips {
@@ -180,13 +180,13 @@ fn push_thumb(
     memory: &mut Memory,
     out: &mut Vec<(Chunk, u64)>,
     thumb: &Option<Thumb>,
-) -> Result<(), Refused>
+) -> Result<(), AllocFailed>
     requires { IfSome (option_map thumb_of thumb.now) (λ t. IfSome t.strips (λ s. length s ≤ limit)) }
     ensures chunks { OnOk result (out.new.items ≡ out.old.items ++ thumb_chunks (option_map thumb_of thumb.now)) }
-    ensures memory { Lacks result memory.old memory.new }
-    ensures asked { memory.new.asked ≤ spent 16 memory.old out.old
+    ensures memory { CountsAllocFailure result memory.old memory.new }
+    ensures asked { memory.new.asked ≤ asked_and_paid 16 memory.old out.old
         + chunks_request (length (thumb_chunks (option_map thumb_of thumb.now))) }
-    ensures paid { OnOk result (spent 16 memory.new out.new ≤ spent 16 memory.old out.old
+    ensures paid { OnOk result (asked_and_paid 16 memory.new out.new ≤ asked_and_paid 16 memory.old out.old
         + chunks_request (length (thumb_chunks (option_map thumb_of thumb.now)))) }
 {
     let Some(thumb) = thumb else {
@@ -197,13 +197,17 @@ fn push_thumb(
 }
 
 // Appends all chunks, in the order of the normal form.
-fn push_all(memory: &mut Memory, out: &mut Vec<(Chunk, u64)>, m: &Meaning) -> Result<(), Refused>
-    requires { Fits (meaning_of m.now) }
+fn push_all(
+    memory: &mut Memory,
+    out: &mut Vec<(Chunk, u64)>,
+    m: &Meaning,
+) -> Result<(), AllocFailed>
+    requires { IsWritable (meaning_of m.now) }
     ensures chunks { OnOk result (out.new.items ≡ out.old.items ++ chunks (meaning_of m.now)) }
-    ensures memory { Lacks result memory.old memory.new }
-    ensures asked { memory.new.asked ≤ spent 16 memory.old out.old
+    ensures memory { CountsAllocFailure result memory.old memory.new }
+    ensures asked { memory.new.asked ≤ asked_and_paid 16 memory.old out.old
         + chunks_request (length (chunks (meaning_of m.now))) }
-    ensures paid { OnOk result (spent 16 memory.new out.new ≤ spent 16 memory.old out.old
+    ensures paid { OnOk result (asked_and_paid 16 memory.new out.new ≤ asked_and_paid 16 memory.old out.old
         + chunks_request (length (chunks (meaning_of m.now)))) }
 {
     push_dir(memory, out, m, Dir::Main)?;
@@ -215,10 +219,13 @@ fn push_all(memory: &mut Memory, out: &mut Vec<(Chunk, u64)>, m: &Meaning) -> Re
 }
 
 /// The chunks of a meaning in the order of the normal form, each with its size in bytes. Allocates the list.
-pub(crate) fn chunk_sizes(memory: &mut Memory, m: &Meaning) -> Result<Vec<(Chunk, u64)>, Refused>
-    requires { Fits (meaning_of m.now) }
+pub(crate) fn chunk_sizes(
+    memory: &mut Memory,
+    m: &Meaning,
+) -> Result<Vec<(Chunk, u64)>, AllocFailed>
+    requires { IsWritable (meaning_of m.now) }
     ensures chunks { IfOk result (λ v. v.items ≡ chunks (meaning_of m.now)) }
-    ensures memory { Lacks result memory.old memory.new }
+    ensures memory { CountsAllocFailure result memory.old memory.new }
     ensures asked { AsksAtMost (chunks_request (length (chunks (meaning_of m.now)))) memory.old memory.new }
 {
     let mut out = memory.list();

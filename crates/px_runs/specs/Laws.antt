@@ -4,7 +4,7 @@ use Rattle.std.specs.Io.KnownBytes.{Appends}
 use Rattle.px_engine.specs.declared.Fault.{Fault}
 use Rattle.px_engine.specs.Headline.{Headline}
 use Rattle.px_bytes.specs.Devices.{Device}
-use Rattle.px_bytes.specs.Lacking.{Taken}
+use Rattle.px_bytes.specs.Allocations.{MemoryCounts}
 use Rattle.px_runs.specs.Programs.{EndsForm}
 
 module _ {F R W : Type 0} (remaining : R → Option (List ℕ)) (contents : W → Option (List ℕ))
@@ -24,10 +24,10 @@ module _ {F R W : Type 0} (remaining : R → Option (List ℕ)) (contents : W �
   -- the two forms.
   abbrev pub OutputsDecide : Type 0
   OutputsDecide = (f g file out other_file other_out : List ℕ) (files files_now other_files other_files_now : F)
-      (taken taken_now other_taken other_taken_now : Taken) (lines other_lines : Device)
+      (allocs allocs_now other_allocs other_allocs_now : MemoryCounts) (lines other_lines : Device)
       → HasBytes files file f → HasBytes other_files other_file g
-      → EndsForm remaining contents opens makes closes file out files files_now taken taken_now 0 lines
-      → EndsForm remaining contents opens makes closes other_file other_out other_files other_files_now other_taken other_taken_now 0
+      → EndsForm remaining contents opens makes closes file out files files_now allocs allocs_now 0 lines
+      → EndsForm remaining contents opens makes closes other_file other_out other_files other_files_now other_allocs other_allocs_now 0
       other_lines
       → (m n : List ℕ) × Received files_now out m × Received other_files_now other_out n × Headline f g m n
 
@@ -35,9 +35,9 @@ module _ {F R W : Type 0} (remaining : R → Option (List ℕ)) (contents : W �
   -- closed last.
   abbrev pub KnownOutputsDecide : (F → List ℕ → List ℕ → Type 0) → (F → List ℕ → Type 0) → Type 0
   KnownOutputsDecide has_file has_written = (f g file out other_file other_out : List ℕ) (files files_now other_files other_files_now : F)
-      (taken taken_now other_taken other_taken_now : Taken) (lines other_lines : Device)
+      (allocs allocs_now other_allocs other_allocs_now : MemoryCounts) (lines other_lines : Device)
       → has_file files file f → has_file other_files other_file g
-      → EndsForm remaining contents opens makes closes file out files files_now taken taken_now 0 lines
-      → EndsForm remaining contents opens makes closes other_file other_out other_files other_files_now other_taken other_taken_now 0
+      → EndsForm remaining contents opens makes closes file out files files_now allocs allocs_now 0 lines
+      → EndsForm remaining contents opens makes closes other_file other_out other_files other_files_now other_allocs other_allocs_now 0
       other_lines
       → (m n : List ℕ) × has_written files_now m × has_written other_files_now n × Headline f g m n

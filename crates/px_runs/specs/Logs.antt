@@ -4,7 +4,7 @@ use Rattle.px_engine.specs.declared.Fault.{Fault}
 use Rattle.px_words.specs.declared.Words.{Words}
 use Rattle.px_words.specs.declared.Words.TheVariants as words
 use Rattle.px_bytes.specs.Devices.{Device}
-use Rattle.px_bytes.specs.Lacking.{Taken}
+use Rattle.px_bytes.specs.Allocations.{MemoryCounts}
 use Rattle.px_runs.specs.Programs.{EndsWords}
 
 -- a call to open a file, to create or empty one, or to close a writer that has taken these bytes
@@ -33,7 +33,7 @@ module _ {F R W : Type 0} (remaining : R → Option (List ℕ)) (contents : W �
 
   -- over such files a run appends the calls of its request, and no other
   abbrev pub OnlyCalls : Type 0
-  OnlyCalls = (log : F → List Call) → IsLog log → (asked : Words) (files files_now : F) (taken taken_now : Taken) (status : ℕ)
+  OnlyCalls = (log : F → List Call) → IsLog log → (asked : Words) (files files_now : F) (allocs allocs_now : MemoryCounts) (status : ℕ)
       (input out lines : Device)
-      → EndsWords remaining contents opens makes closes asked files files_now taken taken_now status input out lines
+      → EndsWords remaining contents opens makes closes asked files files_now allocs allocs_now status input out lines
       → (calls : List Call) × MayCall asked calls × (log files_now ≡ log files ++ calls)

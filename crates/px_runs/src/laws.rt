@@ -5,22 +5,31 @@ ghost use Rattle.px_runs.specs.Logs.{OnlyCalls};
 use crate::named::KnownFiles;
 use crate::opens::Opens;
 
-/// After two runs of `normalise FILE OUT` with status 0, what each `OUT` has received is equal exactly if the two
-/// files mean the same. It has the meaning of its file, and is its own normal form.
+/// Let two runs of `normalise FILE OUT` end with status 0, where every reader that opening its FILE may return has
+/// the same known bytes. Then there are two forms: each OUT was created or emptied, took its form and no more, if
+/// what it takes is known, and was closed without an error. For the two files and forms the headline holds: each file
+/// has one meaning, and its form is the normal form of that, of at most `LIMIT` bytes, 16,777,216; the forms are
+/// equal exactly if the meanings are; each form, as a file, has the meaning of its file and no other, and is its own
+/// normal form.
 pub fn outputs_decide<O: Opens>()
     ensures { OutputsDecide O.Reader.remaining O.Writer.contents O.opens O.makes O.closes }
 {
     px_jobs::laws::forms_decide();
 }
 
-/// Over files that keep a list of the calls made on them, a run appends the calls of its request, in their order,
-/// and no other.
+/// Let files keep a list of the calls made on them: each call, whether it succeeds or not, appends itself. Then a run
+/// appends these and no other: for `show`, `check` or `captions` one call to open FILE; for `normalise` one to open
+/// FILE, perhaps one to make OUT, and after that perhaps one to close it; for `compare` one to open the first file
+/// and perhaps one to open the second; for any other request none.
 pub fn only_calls<O: Opens>()
     ensures { OnlyCalls O.Reader.remaining O.Writer.contents O.opens O.makes O.closes }
 {}
 
-/// The same at files whose bytes are known, as those of `Named` are: two runs of `normalise FILE OUT` with status 0, of
-/// which each has its `FILE`, have written two files whose bytes are equal exactly if the two files mean the same.
+/// Let two runs of `normalise FILE OUT` end with status 0, over files whose bytes are known, as those of `Named` are,
+/// and let each FILE be there. Then there are two forms, each of which is the bytes of the file that its run closed
+/// last, and for the two files and forms the headline holds: each file has one meaning, and its form is the normal
+/// form of that, of at most `LIMIT` bytes, 16,777,216; the forms are equal exactly if the meanings are; each form, as
+/// a file, has the meaning of its file and no other, and is its own normal form.
 pub fn known_outputs_decide<O: KnownFiles>()
     ensures { KnownOutputsDecide O.Reader.remaining O.Writer.contents O.opens O.makes O.closes O.has_file O.has_written }
 {

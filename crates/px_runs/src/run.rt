@@ -4,7 +4,7 @@ ghost use Rattle.px_jobs.specs.declared.Job.TheVariants.{Normalise};
 ghost use Rattle.px_jobs.specs.Endings.{Ends, IsIdle};
 ghost use Rattle.px_runs.specs.Programs.{job_of, DoesRequest, EndsBeside, EndsFile, EndsFiles, EndsForm, EndsJob, EndsOther, EndsPair};
 ghost use Rattle.px_runs.specs.Programs.{EndsWords, ReportsClosed, ReportsNoWords};
-ghost use Rattle.px_bytes.specs.Devices.{CanFail, no_calls, over};
+ghost use Rattle.px_bytes.specs.Devices.{CanCountFailure, no_calls, device_of};
 
 use crate::opens::Opens;
 use px_bytes::{Memory, Sink, Source, Watched};
@@ -38,8 +38,10 @@ fn after_name<S>(all: &[S]) -> &[S]
     &all[1..]
 }
 
-/// Runs the program with the words of the system, of which the first is the program's name. Returns the exit
-/// status. If there are no words, it only writes a line.
+/// Runs the program with the words of the system, of which the first is the program's name, as `run_words` does with
+/// the others. Returns the exit status. If there are no words, it only writes a line to `lines`, and calls nothing
+/// else: `failed: OutOfMemory` with status 4, or `refused words: they are not text` with status 3; the status is 4 if
+/// that write fails.
 pub fn run_given<S: AsStr + Drop, P: Parser, O: Opens, I: Source, W: Sink, L: Sink>(
     parser: &P,
     files: &mut O,
@@ -47,17 +49,18 @@ pub fn run_given<S: AsStr + Drop, P: Parser, O: Opens, I: Source, W: Sink, L: Si
     given: Result<Vec<S>, NoWords>,
     streams: &mut Streams<I, W, L>,
 ) -> u8
-    requires reading { CanFail (I.calls streams.old.input) }
-    requires writing { CanFail (W.calls streams.old.out) }
-    requires reporting { CanFail (L.calls streams.old.lines) }
+    requires reading { CanCountFailure (I.calls streams.old.input) }
+    requires writing { CanCountFailure (W.calls streams.old.out) }
+    requires reporting { CanCountFailure (L.calls streams.old.lines) }
     ensures given { IfOk given (λ all. DoesRequest O.Reader.remaining O.Writer.contents O.opens O.makes O.closes
         (P.lacks parser.now) (map S.text (drop 1 all.items)) files.old files.new memory.old memory.new result
-        (over I.calls I.bytes_left streams.old.input streams.new.input)
-        (over W.calls W.bytes_taken streams.old.out streams.new.out)
-        (over L.calls L.bytes_taken streams.old.lines streams.new.lines)) }
+        (device_of I.calls I.bytes_left streams.old.input streams.new.input)
+        (device_of W.calls W.bytes_taken streams.old.out streams.new.out)
+        (device_of L.calls L.bytes_taken streams.old.lines streams.new.lines)) }
     ensures same { IfErr given (λ _. (files.new ≡ files.old) × (memory.new ≡ memory.old)
         × (streams.new.input ≡ streams.old.input) × (streams.new.out ≡ streams.old.out)) }
-    ensures reported { IfErr given (λ why. ReportsNoWords why result (over L.calls L.bytes_taken streams.old.lines streams.new.lines)) }
+    ensures reported { IfErr given (λ why.
+        ReportsNoWords why result (device_of L.calls L.bytes_taken streams.old.lines streams.new.lines)) }
 {
     match given {
         Ok(all) => run_words(parser, files, memory, after_name(&all), streams),
@@ -85,14 +88,14 @@ pub fn run_words<'a, S: AsStr, P: Parser, O: Opens, I: Source, W: Sink, L: Sink>
     words: &'a [S],
     streams: &mut Streams<I, W, L>,
 ) -> u8
-    requires reading { CanFail (I.calls streams.old.input) }
-    requires writing { CanFail (W.calls streams.old.out) }
-    requires reporting { CanFail (L.calls streams.old.lines) }
+    requires reading { CanCountFailure (I.calls streams.old.input) }
+    requires writing { CanCountFailure (W.calls streams.old.out) }
+    requires reporting { CanCountFailure (L.calls streams.old.lines) }
     ensures { DoesRequest O.Reader.remaining O.Writer.contents O.opens O.makes O.closes
         (P.lacks parser.now) (map S.text words.entry.now) files.old files.new memory.old memory.new result
-        (over I.calls I.bytes_left streams.old.input streams.new.input)
-        (over W.calls W.bytes_taken streams.old.out streams.new.out)
-        (over L.calls L.bytes_taken streams.old.lines streams.new.lines) }
+        (device_of I.calls I.bytes_left streams.old.input streams.new.input)
+        (device_of W.calls W.bytes_taken streams.old.out streams.new.out)
+        (device_of L.calls L.bytes_taken streams.old.lines streams.new.lines) }
 {
     let asked = parse(memory, parser, words, VERSION);
     run_asked(files, memory, asked, streams)
@@ -105,13 +108,13 @@ fn run_asked<O: Opens, I: Source, W: Sink, L: Sink>(
     asked: Words,
     streams: &mut Streams<I, W, L>,
 ) -> u8
-    requires reading { CanFail (I.calls streams.old.input) }
-    requires writing { CanFail (W.calls streams.old.out) }
-    requires reporting { CanFail (L.calls streams.old.lines) }
+    requires reading { CanCountFailure (I.calls streams.old.input) }
+    requires writing { CanCountFailure (W.calls streams.old.out) }
+    requires reporting { CanCountFailure (L.calls streams.old.lines) }
     ensures { EndsWords O.Reader.remaining O.Writer.contents O.opens O.makes O.closes asked
-        files.old files.new memory.old memory.new result (over I.calls I.bytes_left streams.old.input streams.new.input)
-        (over W.calls W.bytes_taken streams.old.out streams.new.out)
-        (over L.calls L.bytes_taken streams.old.lines streams.new.lines) }
+        files.old files.new memory.old memory.new result (device_of I.calls I.bytes_left streams.old.input streams.new.input)
+        (device_of W.calls W.bytes_taken streams.old.out streams.new.out)
+        (device_of L.calls L.bytes_taken streams.old.lines streams.new.lines) }
 {
     match asked {
         Words::Filter => run_filter(memory, streams),
@@ -164,10 +167,10 @@ fn run_job<F: Source + Drop, W: Sink, L: Sink>(
     lines: &mut L,
 ) -> u8
     requires reading { F.calls reader ≡ no_calls }
-    requires writing { CanFail (W.calls out.old) }
-    requires reporting { CanFail (L.calls lines.old) }
+    requires writing { CanCountFailure (W.calls out.old) }
+    requires reporting { CanCountFailure (L.calls lines.old) }
     ensures { EndsJob job (F.bytes_left reader) memory.old memory.new result
-        (over W.calls W.bytes_taken out.old out.new) (over L.calls L.bytes_taken lines.old lines.new) }
+        (device_of W.calls W.bytes_taken out.old out.new) (device_of L.calls L.bytes_taken lines.old lines.new) }
 {
     run_one_in(memory, job, &mut reader, out, lines)
 }
@@ -181,9 +184,9 @@ fn run_pair<F: Source + Drop, S: Source + Drop, L: Sink>(
 ) -> u8
     requires first { F.calls first ≡ no_calls }
     requires second { S.calls second ≡ no_calls }
-    requires reporting { CanFail (L.calls lines.old) }
+    requires reporting { CanCountFailure (L.calls lines.old) }
     ensures { EndsPair (F.bytes_left first) (S.bytes_left second)
-        memory.old memory.new result (over L.calls L.bytes_taken lines.old lines.new) }
+        memory.old memory.new result (device_of L.calls L.bytes_taken lines.old lines.new) }
 {
     run_compare_in(memory, &mut first, &mut second, lines)
 }
@@ -193,12 +196,12 @@ fn run_filter<I: Source, W: Sink, L: Sink>(
     memory: &mut Memory,
     streams: &mut Streams<I, W, L>,
 ) -> u8
-    requires reading { CanFail (I.calls streams.old.input) }
-    requires writing { CanFail (W.calls streams.old.out) }
-    requires reporting { CanFail (L.calls streams.old.lines) }
-    ensures { Ends Normalise (over I.calls I.bytes_left streams.old.input streams.new.input)
-        (over W.calls W.bytes_taken streams.old.out streams.new.out)
-        (over L.calls L.bytes_taken streams.old.lines streams.new.lines) memory.old memory.new result }
+    requires reading { CanCountFailure (I.calls streams.old.input) }
+    requires writing { CanCountFailure (W.calls streams.old.out) }
+    requires reporting { CanCountFailure (L.calls streams.old.lines) }
+    ensures { Ends Normalise (device_of I.calls I.bytes_left streams.old.input streams.new.input)
+        (device_of W.calls W.bytes_taken streams.old.out streams.new.out)
+        (device_of L.calls L.bytes_taken streams.old.lines streams.new.lines) memory.old memory.new result }
 {
     run_one_in(
         memory,
@@ -217,12 +220,12 @@ fn run_file<O: Opens, I: Source, W: Sink, L: Sink>(
     name: &str,
     streams: &mut Streams<I, W, L>,
 ) -> u8
-    requires writing { CanFail (W.calls streams.old.out) }
-    requires reporting { CanFail (L.calls streams.old.lines) }
-    ensures input { IsIdle (over I.calls I.bytes_left streams.old.input streams.new.input) }
+    requires writing { CanCountFailure (W.calls streams.old.out) }
+    requires reporting { CanCountFailure (L.calls streams.old.lines) }
+    ensures input { IsIdle (device_of I.calls I.bytes_left streams.old.input streams.new.input) }
     ensures ends { EndsFile O.Reader.remaining O.Writer.contents O.opens O.makes O.closes (job_of what) name.now
-        files.old files.new memory.old memory.new result (over W.calls W.bytes_taken streams.old.out streams.new.out)
-        (over L.calls L.bytes_taken streams.old.lines streams.new.lines) }
+        files.old files.new memory.old memory.new result (device_of W.calls W.bytes_taken streams.old.out streams.new.out)
+        (device_of L.calls L.bytes_taken streams.old.lines streams.new.lines) }
 {
     match files.open(name) {
         Ok(file) => {
@@ -242,8 +245,8 @@ fn run_file<O: Opens, I: Source, W: Sink, L: Sink>(
 // Reports that a file can't be closed, unless the job that wrote it has failed, with this status. Returns the status
 // of the run.
 fn report_closed<L: Sink>(closed: Result<(), Fault>, status: u8, lines: &mut L) -> u8
-    requires { status ≡ 0 → CanFail (L.calls lines.old) }
-    ensures { ReportsClosed closed status result (over L.calls L.bytes_taken lines.old lines.new) }
+    requires { status ≡ 0 → CanCountFailure (L.calls lines.old) }
+    ensures { ReportsClosed closed status result (device_of L.calls L.bytes_taken lines.old lines.new) }
 {
     match closed {
         Ok(()) => status,
@@ -264,9 +267,9 @@ fn run_beside<O: Opens, L: Sink>(
     out_name: &str,
     lines: &mut L,
 ) -> u8
-    requires { CanFail (L.calls lines.old) }
+    requires { CanCountFailure (L.calls lines.old) }
     ensures { EndsBeside O.Reader.remaining O.Writer.contents O.opens O.makes O.closes out_name.now file
-        files.old files.new memory.old memory.new result (over L.calls L.bytes_taken lines.old lines.new) }
+        files.old files.new memory.old memory.new result (device_of L.calls L.bytes_taken lines.old lines.new) }
 {
     match files.make_beside(out_name, &file) {
         Ok(Some(out)) => {
@@ -288,9 +291,9 @@ fn run_form<O: Opens, L: Sink>(
     out_name: &str,
     lines: &mut L,
 ) -> u8
-    requires { CanFail (L.calls lines.old) }
+    requires { CanCountFailure (L.calls lines.old) }
     ensures { EndsForm O.Reader.remaining O.Writer.contents O.opens O.makes O.closes name.now out_name.now
-        files.old files.new memory.old memory.new result (over L.calls L.bytes_taken lines.old lines.new) }
+        files.old files.new memory.old memory.new result (device_of L.calls L.bytes_taken lines.old lines.new) }
 {
     match files.open(name) {
         Ok(file) => run_beside(files, memory, file, out_name, lines),
@@ -306,9 +309,9 @@ fn run_other<O: Opens, L: Sink>(
     name: &str,
     lines: &mut L,
 ) -> u8
-    requires { CanFail (L.calls lines.old) }
+    requires { CanCountFailure (L.calls lines.old) }
     ensures { EndsOther O.Reader.remaining O.Writer.contents O.opens O.makes O.closes file name.now
-        files.old files.new memory.old memory.new result (over L.calls L.bytes_taken lines.old lines.new) }
+        files.old files.new memory.old memory.new result (device_of L.calls L.bytes_taken lines.old lines.new) }
 {
     match files.open(name) {
         Ok(other) => run_pair(memory, Watched::new(file), Watched::new(other), lines),
@@ -324,9 +327,9 @@ fn run_files<O: Opens, L: Sink>(
     second: &str,
     lines: &mut L,
 ) -> u8
-    requires { CanFail (L.calls lines.old) }
+    requires { CanCountFailure (L.calls lines.old) }
     ensures { EndsFiles O.Reader.remaining O.Writer.contents O.opens O.makes O.closes first.now second.now
-        files.old files.new memory.old memory.new result (over L.calls L.bytes_taken lines.old lines.new) }
+        files.old files.new memory.old memory.new result (device_of L.calls L.bytes_taken lines.old lines.new) }
 {
     match files.open(first) {
         Ok(file) => run_other(files, memory, file, second, lines),

@@ -1,7 +1,7 @@
 -- What one caption more in a list pays for.
 use Rattle.std.proofs.Common.{◌≡◌, ◌≤◌, ◌<◌, ◌+◌, ◌-◌, ◌*◌, ℕ, inl, inr, arith, Result, Ok, Err, is_ok, if◌then◌else◌, OnOk}
 use Rattle.std.proofs.lemmas.Bool.{cases_lt}
-use Rattle.px_bytes.specs.Lacking.{enlarged}
+use Rattle.px_bytes.specs.Allocations.{enlarged}
 
 pushed : {A : Type 0} (len capacity capacity_now asked asked_now : ℕ) → len ≤ capacity
     → (len + 1 ≤ capacity → A × (capacity_now ≡ capacity) × (asked_now ≡ asked))

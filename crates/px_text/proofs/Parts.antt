@@ -5,7 +5,7 @@ use Rattle.std.specs.Prelude.{codes}
 use Rattle.std.specs.List.{flat_map, filter_map}
 use Rattle.std.proofs.Math.Seq.{take-add}
 use Rattle.px_bytes.specs.Devices.{AppendsPrefix}
-use Rattle.px_bytes.specs.Waiting.{Held, ◌⊕◌, Owes}
+use Rattle.px_bytes.specs.Waiting.{Buffer, ◌⊕◌, Owes}
 use Rattle.px_bytes.specs.lemmas.WaitingLaws.{puts_first}
 use Rattle.std.proofs.lemmas.List.{take_more, flat_map_more}
 use Rattle.std.proofs.lemmas.List.Elements.{filter_map-append}
@@ -37,30 +37,30 @@ unfolding encode_with
 encode_none = refl
 
 -- the piece from i to e follows the first i bytes
-piece_behind : (xs : List ℕ) (i e : ℕ) → i ≤ e → encode_lower (take i xs) ++ encode_lower (take (e - i) (drop i xs)) ≡ encode_lower
+piece_after : (xs : List ℕ) (i e : ℕ) → i ≤ e → encode_lower (take i xs) ++ encode_lower (take (e - i) (drop i xs)) ≡ encode_lower
     (take e xs)
-piece_behind xs i e le =
+piece_after xs i e le =
     let end : e ≡ i + (e - i) = omega (arith, le) in
     let cut : take e xs ≡ take i xs ++ take (e - i) (drop i xs) = ap (λ n. take n xs) end ∙ take-add i (e - i) xs in
     sym (ap encode_lower cut ∙ encode_append lower_digits (take i xs) (take (e - i) (drop i xs)))
 
 -- all bytes after the first e
-rest_behind : (xs : List ℕ) (e : ℕ) → encode_lower (take e xs) ++ encode_lower (drop e xs) ≡ encode_lower xs
-rest_behind xs e = sym (encode_append lower_digits (take e xs) (drop e xs)) ∙ ap encode_lower (take-append-drop e xs)
+rest_after : (xs : List ℕ) (e : ℕ) → encode_lower (take e xs) ++ encode_lower (drop e xs) ≡ encode_lower xs
+rest_after xs e = sym (encode_append lower_digits (take e xs) (drop e xs)) ∙ ap encode_lower (take-append-drop e xs)
 
-pub hex_next : (a b c : Option (List ℕ)) (h k m : Held) (xs : List ℕ) (i e : ℕ) → i ≤ e → Owes a b k (h ⊕ encode_lower (take i xs))
+pub hex_next : (a b c : Option (List ℕ)) (h k m : Buffer) (xs : List ℕ) (i e : ℕ) → i ≤ e → Owes a b k (h ⊕ encode_lower (take i xs))
     → Owes b c m (k ⊕ encode_lower (take (e - i) (drop i xs)))
     → Owes a c m (h ⊕ encode_lower (take e xs))
 hex_next a b c h k m xs i e le p q =
-    owes_as a c h m _ _ (piece_behind xs i e le) (owes_append a b c h k m (encode_lower (take i xs))
+    owes_as a c h m _ _ (piece_after xs i e le) (owes_append a b c h k m (encode_lower (take i xs))
     (encode_lower (take (e - i) (drop i xs))) p q)
 
-pub hex_stop : (a b c : Option (List ℕ)) (h k : Held) (xs : List ℕ) (i e : ℕ) → i ≤ e → Owes a b k (h ⊕ encode_lower (take i xs))
+pub hex_stop : (a b c : Option (List ℕ)) (h k : Buffer) (xs : List ℕ) (i e : ℕ) → i ≤ e → Owes a b k (h ⊕ encode_lower (take i xs))
     → AppendsPrefix b c (k.bytes ++ encode_lower (take (e - i) (drop i xs)))
     → AppendsPrefix a c (h.bytes ++ encode_lower xs)
 hex_stop a b c h k xs i e le p q =
-    prefix_as a c h _ _ (rest_behind xs e) (puts_first a c h (encode_lower (take e xs)) (encode_lower (drop e xs))
-    (prefix_as a c h _ _ (piece_behind xs i e le) (owes_prefix a b c h k (encode_lower (take i xs))
+    prefix_as a c h _ _ (rest_after xs e) (puts_first a c h (encode_lower (take e xs)) (encode_lower (drop e xs))
+    (prefix_as a c h _ _ (piece_after xs i e le) (owes_prefix a b c h k (encode_lower (take i xs))
     (encode_lower (take (e - i) (drop i xs))) p
     q)))
 

@@ -11,8 +11,8 @@ use Rattle.px_field.specs.declared.Kind.{Kind}
 use Rattle.px_field.specs.declared.Kind.TheVariants.{Of, Whole}
 use Rattle.px_field.specs.declared.Element.{Element}
 use Rattle.px_field.specs.declared.Element.TheVariants as element
-use Rattle.px_field.specs.Values.{Value, is_bytes, spell, spelled}
-use Rattle.px_field.specs.lemmas.ValueLaws.{spell_bytes}
+use Rattle.px_field.specs.Values.{Value, is_bytes, encode, encoded}
+use Rattle.px_field.specs.lemmas.ValueLaws.{encode_bytes}
 use Rattle.px_text.specs.Words.{shown_bytes}
 use Rattle.px_text.specs.Listing.{element_text, divider, shown_elements}
 use Rattle.px_text.specs.Captions.{is_text, is_plain, escaped_byte}
@@ -65,9 +65,9 @@ text_is_bytes Whole h = absurd (cc)
 -- the bytes of a text
 pub text_bytes : (v : Value) (r : Option (Bor (List ℕ))) → is_text v.kind ≡ true → (IsSome r ↔ IsTrue (is_bytes v.kind))
     → IfSome r (λ s. v.elements ≡ map element.Byte s.now)
-    → option_map (λ x. x.now) r ≡ (if is_text v.kind then Some (spelled Most v) else None)
-unfolding spelled
+    → option_map (λ x. x.now) r ≡ (if is_text v.kind then Some (encoded Most v) else None)
+unfolding encoded
 text_bytes v None t which same = let some : is_some {T = Bor (List ℕ)} None ≡ true = which.1 (text_is_bytes v.kind t) in absurd (cc)
 text_bytes v (Some s) t which same =
-    let all : s.now ≡ spelled Most v = sym (ap (flat_map (spell Most)) same ∙ spell_bytes Most s.now) in
-    ap (λ (l : List ℕ). Some l) all ∙ sym (ap (λ u. if u then Some (spelled Most v) else None) t)
+    let all : s.now ≡ encoded Most v = sym (ap (flat_map (encode Most)) same ∙ encode_bytes Most s.now) in
+    ap (λ (l : List ℕ). Some l) all ∙ sym (ap (λ u. if u then Some (encoded Most v) else None) t)

@@ -6,7 +6,7 @@ use Rattle.px_bytes.specs.declared.Order.TheVariants.{Most}
 use Rattle.px_field.specs.declared.Form.TheVariants.{Ascii, Utf8}
 use Rattle.px_field.specs.declared.Kind.{Kind}
 use Rattle.px_field.specs.declared.Kind.TheVariants.{Of}
-use Rattle.px_field.specs.Values.{Value, spelled}
+use Rattle.px_field.specs.Values.{Value, encoded}
 use Rattle.px_iim.specs.Group.{Record, named, items_at}
 use Rattle.px_meaning.specs.Roles.{at_tag}
 use Rattle.px_meaning.specs.Tree.{Fields, Meaning}
@@ -74,7 +74,7 @@ is_text _ = false
 -- a field's bytes, if the directory has the field and it is a text
 abbrev pub text_captions : Label → Option Value → List Labelled
 text_captions l None = []
-text_captions l (Some v) = if is_text v.kind then (l, spelled Most v) ∷ [] else []
+text_captions l (Some v) = if is_text v.kind then (l, encoded Most v) ∷ [] else []
 
 -- the texts of a main directory in the order of their captions: ImageDescription, Artist and Copyright
 abbrev pub caption_texts : List (ℕ × Label)

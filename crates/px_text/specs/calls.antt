@@ -1,3 +1,3 @@
 -- Definitions for the contracts of single calls. The definitions of the promises are in the folder above.
 pub mod CaptionView
-pub mod Spent
+pub mod AskedAndPaid

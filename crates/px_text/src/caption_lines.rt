@@ -1,6 +1,6 @@
 // The lines of captions, escaped, group by group.
 ghost use Rattle.std.specs.Prelude.{◌≡◌, [], ◌∷◌, map, filter_map};
-ghost use Rattle.px_bytes.specs.Devices.{CanFail, over};
+ghost use Rattle.px_bytes.specs.Devices.{CanCountFailure, device_of};
 ghost use Rattle.px_bytes.specs.Waiting.{Adds};
 ghost use Rattle.px_iim.specs.calls.View.{item_view};
 ghost use Rattle.px_meaning.specs.Roles.{at_tag};
@@ -25,8 +25,8 @@ fn is_plain(byte: u8) -> bool
 }
 
 fn put_byte<W: Sink>(pending: &mut Pending<'_>, writer: &mut W, byte: u8) -> Result<(), Failed>
-    requires { CanFail (W.calls writer.old) }
-    ensures { Adds result (over W.calls W.bytes_taken writer.old writer.new) pending.old pending.new (escaped_byte byte) }
+    requires { CanCountFailure (W.calls writer.old) }
+    ensures { Adds result (device_of W.calls W.bytes_taken writer.old writer.new) pending.old pending.new (escaped_byte byte) }
 {
     if is_plain(byte) {
         return pending.put(writer, &[byte]);
@@ -41,8 +41,8 @@ fn put_escaped<W: Sink>(
     writer: &mut W,
     bytes: &[u8],
 ) -> Result<(), Failed>
-    requires { CanFail (W.calls writer.old) }
-    ensures { Adds result (over W.calls W.bytes_taken writer.old writer.new) pending.old pending.new (escaped bytes.now) }
+    requires { CanCountFailure (W.calls writer.old) }
+    ensures { Adds result (device_of W.calls W.bytes_taken writer.old writer.new) pending.old pending.new (escaped bytes.now) }
 {
     for i in 0..bytes.len() {
         put_byte(pending, writer, bytes[i])?;
@@ -56,8 +56,8 @@ fn put_line<W: Sink>(
     writer: &mut W,
     caption: Caption,
 ) -> Result<(), Failed>
-    requires { CanFail (W.calls writer.old) }
-    ensures { Adds result (over W.calls W.bytes_taken writer.old writer.new) pending.old pending.new
+    requires { CanCountFailure (W.calls writer.old) }
+    ensures { Adds result (device_of W.calls W.bytes_taken writer.old writer.new) pending.old pending.new
         (caption_line (caption_view caption.entry)) }
 {
     pending.put(writer, label_word(caption.label))?;
@@ -67,8 +67,8 @@ fn put_line<W: Sink>(
 
 // Adds the line of a DataSet if it has a label.
 fn put_item<W: Sink>(pending: &mut Pending<'_>, writer: &mut W, item: &Item) -> Result<(), Failed>
-    requires { CanFail (W.calls writer.old) }
-    ensures { Adds result (over W.calls W.bytes_taken writer.old writer.new) pending.old pending.new
+    requires { CanCountFailure (W.calls writer.old) }
+    ensures { Adds result (device_of W.calls W.bytes_taken writer.old writer.new) pending.old pending.new
         (caption_lines (filter_map labelled (item_view item.now ∷ []))) }
 {
     match label_of(item.number) {
@@ -90,8 +90,8 @@ fn put_group<W: Sink>(
     writer: &mut W,
     items: &[Item],
 ) -> Result<(), Failed>
-    requires { CanFail (W.calls writer.old) }
-    ensures { Adds result (over W.calls W.bytes_taken writer.old writer.new) pending.old pending.new
+    requires { CanCountFailure (W.calls writer.old) }
+    ensures { Adds result (device_of W.calls W.bytes_taken writer.old writer.new) pending.old pending.new
         (caption_lines (filter_map labelled (map item_view items.now))) }
 {
     for item in items {
@@ -102,8 +102,8 @@ fn put_group<W: Sink>(
 
 // Adds the lines of a record's captions.
 fn put_groups<W: Sink>(pending: &mut Pending<'_>, writer: &mut W, iim: &Iim) -> Result<(), Failed>
-    requires { CanFail (W.calls writer.old) }
-    ensures { Adds result (over W.calls W.bytes_taken writer.old writer.new) pending.old pending.new
+    requires { CanCountFailure (W.calls writer.old) }
+    ensures { Adds result (device_of W.calls W.bytes_taken writer.old writer.new) pending.old pending.new
         (caption_lines (iim_captions iim.now)) }
 {
     for i in 0..GROUPS.len() {
@@ -125,8 +125,8 @@ fn charset_line(declared: bool) -> &'static [u8]
 
 // Adds the lines of a record.
 fn put_iim<W: Sink>(pending: &mut Pending<'_>, writer: &mut W, iim: &Iim) -> Result<(), Failed>
-    requires { CanFail (W.calls writer.old) }
-    ensures { Adds result (over W.calls W.bytes_taken writer.old writer.new) pending.old pending.new (iim_lines iim.now) }
+    requires { CanCountFailure (W.calls writer.old) }
+    ensures { Adds result (device_of W.calls W.bytes_taken writer.old writer.new) pending.old pending.new (iim_lines iim.now) }
 {
     pending.put(writer, charset_line(declares_utf8(iim)))?;
     put_groups(pending, writer, iim)
@@ -138,8 +138,8 @@ fn put_record<W: Sink>(
     writer: &mut W,
     iim: &Option<Iim>,
 ) -> Result<(), Failed>
-    requires { CanFail (W.calls writer.old) }
-    ensures { Adds result (over W.calls W.bytes_taken writer.old writer.new) pending.old pending.new (record_lines iim.now) }
+    requires { CanCountFailure (W.calls writer.old) }
+    ensures { Adds result (device_of W.calls W.bytes_taken writer.old writer.new) pending.old pending.new (record_lines iim.now) }
 {
     match iim {
         Some(iim) => put_iim(pending, writer, iim),
@@ -155,8 +155,8 @@ fn put_text<W: Sink>(
     tag: u16,
     label: Label,
 ) -> Result<(), Failed>
-    requires { CanFail (W.calls writer.old) }
-    ensures { Adds result (over W.calls W.bytes_taken writer.old writer.new) pending.old pending.new
+    requires { CanCountFailure (W.calls writer.old) }
+    ensures { Adds result (device_of W.calls W.bytes_taken writer.old writer.new) pending.old pending.new
         (caption_lines (text_captions label (at_tag tag fields.now))) }
 {
     let Some(value) = fields.get(tag) else {
@@ -174,8 +174,8 @@ fn put_texts<W: Sink>(
     writer: &mut W,
     fields: &Fields,
 ) -> Result<(), Failed>
-    requires { CanFail (W.calls writer.old) }
-    ensures { Adds result (over W.calls W.bytes_taken writer.old writer.new) pending.old pending.new
+    requires { CanCountFailure (W.calls writer.old) }
+    ensures { Adds result (device_of W.calls W.bytes_taken writer.old writer.new) pending.old pending.new
         (caption_lines (exif_captions fields.now)) }
 {
     for i in 0..TEXTS.len() {
@@ -185,17 +185,19 @@ fn put_texts<W: Sink>(
     Ok(())
 }
 
-/// Adds the captions of an Exif block to the output buffer, one for each line. Bytes from 20 to 7E except the
-/// backslash are printed as they are; any other byte is a backslash and two hexadecimal digits. It allocates
-/// nothing. It ends at the first call that fails: the writer has then taken a prefix of the buffered bytes
-/// and of these lines after them.
+/// Adds the text of an Exif block's captions to the output buffer: the line `exif`; a line `LABEL: TEXT` for each of
+/// the fields ImageDescription, Artist and Copyright of the main directory that is ASCII or UTF-8; and, if it has a
+/// record, the lines of that, as `put_iim_captions` has them after `iim`. Bytes from 20 to 7E except the backslash
+/// are printed as they are; any other byte is a backslash and two hexadecimal digits. It allocates nothing. It ends
+/// at the first call that fails, which is counted: the writer has then taken a prefix of the buffered bytes and of
+/// these lines after them.
 pub fn put_exif_captions<W: Sink>(
     pending: &mut Pending<'_>,
     writer: &mut W,
     meaning: &Meaning,
 ) -> Result<(), Failed>
-    requires { CanFail (W.calls writer.old) }
-    ensures { Adds result (over W.calls W.bytes_taken writer.old writer.new) pending.old pending.new
+    requires { CanCountFailure (W.calls writer.old) }
+    ensures { Adds result (device_of W.calls W.bytes_taken writer.old writer.new) pending.old pending.new
         (exif_text (meaning_of meaning.now)) }
 {
     pending.put(writer, b"exif\n")?;
@@ -203,14 +205,18 @@ pub fn put_exif_captions<W: Sink>(
     put_record(pending, writer, &meaning.iptc)
 }
 
-/// Adds the captions of a record, like `put_exif_captions`.
+/// Adds the text of a record's captions to the output buffer: the line `iim`; `charset: UTF-8` or
+/// `charset: not declared`; and a line `LABEL: TEXT` for each DataSet of record 2 with a label, group by group: 5,
+/// 120, 105, 110, 115, 116, 80 with 85, 25 and 103. Bytes from 20 to 7E except the backslash are printed as they are;
+/// any other byte is a backslash and two hexadecimal digits. It allocates nothing. It ends at the first call that
+/// fails, which is counted: the writer has then taken a prefix of the buffered bytes and of these lines after them.
 pub fn put_iim_captions<W: Sink>(
     pending: &mut Pending<'_>,
     writer: &mut W,
     iim: &Iim,
 ) -> Result<(), Failed>
-    requires { CanFail (W.calls writer.old) }
-    ensures { Adds result (over W.calls W.bytes_taken writer.old writer.new) pending.old pending.new (iim_text iim.now) }
+    requires { CanCountFailure (W.calls writer.old) }
+    ensures { Adds result (device_of W.calls W.bytes_taken writer.old writer.new) pending.old pending.new (iim_text iim.now) }
 {
     pending.put(writer, b"iim\n")?;
     put_iim(pending, writer, iim)

@@ -1,6 +1,6 @@
 // The lines of DataSets: record number, DataSet number, length and data.
 ghost use Rattle.std.specs.Prelude.{◌≡◌, map, length, flat_map};
-ghost use Rattle.px_bytes.specs.Devices.{CanFail, over};
+ghost use Rattle.px_bytes.specs.Devices.{CanCountFailure, device_of};
 ghost use Rattle.px_bytes.specs.Waiting.{Adds};
 ghost use Rattle.px_iim.specs.Asking.{dataset_count};
 ghost use Rattle.px_iim.specs.calls.View.{item_view};
@@ -17,8 +17,8 @@ fn put_dataset<W: Sink>(
     rec: u8,
     item: &Item,
 ) -> Result<(), Failed>
-    requires { CanFail (W.calls writer.old) }
-    ensures { Adds result (over W.calls W.bytes_taken writer.old writer.new) pending.old pending.new
+    requires { CanCountFailure (W.calls writer.old) }
+    ensures { Adds result (device_of W.calls W.bytes_taken writer.old writer.new) pending.old pending.new
         (dataset_line rec (item_view item.now)) }
 {
     put_ended(pending, writer, rec, b":")?;
@@ -32,8 +32,8 @@ fn put_group<W: Sink>(
     rec: u8,
     items: &[Item],
 ) -> Result<(), Failed>
-    requires { CanFail (W.calls writer.old) }
-    ensures { Adds result (over W.calls W.bytes_taken writer.old writer.new) pending.old pending.new
+    requires { CanCountFailure (W.calls writer.old) }
+    ensures { Adds result (device_of W.calls W.bytes_taken writer.old writer.new) pending.old pending.new
         (flat_map (dataset_line rec) (map item_view items.now)) }
 {
     for item in items {
@@ -48,8 +48,8 @@ pub(crate) fn put_datasets<W: Sink>(
     writer: &mut W,
     iim: &Iim,
 ) -> Result<(), Failed>
-    requires { CanFail (W.calls writer.old) }
-    ensures { Adds result (over W.calls W.bytes_taken writer.old writer.new) pending.old pending.new (dataset_lines iim.now) }
+    requires { CanCountFailure (W.calls writer.old) }
+    ensures { Adds result (device_of W.calls W.bytes_taken writer.old writer.new) pending.old pending.new (dataset_lines iim.now) }
 {
     for (rec, _, items) in iim.iter() {
         put_group(pending, writer, rec, items)?;

@@ -1,7 +1,7 @@
 // The lines of fields: tag, type, count and elements.
 ghost use Rattle.std.specs.Prelude.{◌≡◌, ◌++◌, codes, decimal, flat_map, length};
 ghost use Rattle.hex.specs.Hex.{encode_lower};
-ghost use Rattle.px_bytes.specs.Devices.{CanFail, over};
+ghost use Rattle.px_bytes.specs.Devices.{CanCountFailure, device_of};
 ghost use Rattle.px_bytes.specs.Waiting.{Adds};
 ghost use Rattle.px_bytes.specs.declared.Order.TheVariants.{Most};
 ghost use Rattle.px_bytes.specs.Numbers.{spelling};
@@ -47,8 +47,8 @@ fn type_word(kind: Kind) -> &'static [u8]
 
 // Adds a number of two bytes in hexadecimal, most significant byte first.
 fn put_digits16<W: Sink>(pending: &mut Pending<'_>, writer: &mut W, n: u16) -> Result<(), Failed>
-    requires { CanFail (W.calls writer.old) }
-    ensures { Adds result (over W.calls W.bytes_taken writer.old writer.new) pending.old pending.new
+    requires { CanCountFailure (W.calls writer.old) }
+    ensures { Adds result (device_of W.calls W.bytes_taken writer.old writer.new) pending.old pending.new
         (encode_lower (spelling Most 2 n)) }
 {
     let mut bytes = [0; 2];
@@ -58,8 +58,8 @@ fn put_digits16<W: Sink>(pending: &mut Pending<'_>, writer: &mut W, n: u16) -> R
 
 // Adds a number of four bytes in the same way.
 fn put_digits32<W: Sink>(pending: &mut Pending<'_>, writer: &mut W, n: u32) -> Result<(), Failed>
-    requires { CanFail (W.calls writer.old) }
-    ensures { Adds result (over W.calls W.bytes_taken writer.old writer.new) pending.old pending.new
+    requires { CanCountFailure (W.calls writer.old) }
+    ensures { Adds result (device_of W.calls W.bytes_taken writer.old writer.new) pending.old pending.new
         (encode_lower (spelling Most 4 n)) }
 {
     let mut bytes = [0; 4];
@@ -69,8 +69,8 @@ fn put_digits32<W: Sink>(pending: &mut Pending<'_>, writer: &mut W, n: u32) -> R
 
 // Adds a number of eight bytes in the same way.
 fn put_digits64<W: Sink>(pending: &mut Pending<'_>, writer: &mut W, n: u64) -> Result<(), Failed>
-    requires { CanFail (W.calls writer.old) }
-    ensures { Adds result (over W.calls W.bytes_taken writer.old writer.new) pending.old pending.new
+    requires { CanCountFailure (W.calls writer.old) }
+    ensures { Adds result (device_of W.calls W.bytes_taken writer.old writer.new) pending.old pending.new
         (encode_lower (spelling Most 8 n)) }
 {
     let mut bytes = [0; 8];
@@ -84,8 +84,8 @@ fn put_fraction<W: Sink, I: Integer>(
     numerator: I,
     denominator: I,
 ) -> Result<(), Failed>
-    requires { CanFail (W.calls writer.old) }
-    ensures { Adds result (over W.calls W.bytes_taken writer.old writer.new) pending.old pending.new
+    requires { CanCountFailure (W.calls writer.old) }
+    ensures { Adds result (device_of W.calls W.bytes_taken writer.old writer.new) pending.old pending.new
         (I.text numerator ++ codes "/" ++ I.text denominator) }
 {
     put_ended(pending, writer, numerator, b"/")?;
@@ -97,8 +97,8 @@ fn put_element<W: Sink>(
     writer: &mut W,
     element: Element,
 ) -> Result<(), Failed>
-    requires { CanFail (W.calls writer.old) }
-    ensures { Adds result (over W.calls W.bytes_taken writer.old writer.new) pending.old pending.new (element_text element) }
+    requires { CanCountFailure (W.calls writer.old) }
+    ensures { Adds result (device_of W.calls W.bytes_taken writer.old writer.new) pending.old pending.new (element_text element) }
 {
     match element {
         Element::Byte(n) => put_hex(pending, writer, &[n]),
@@ -119,8 +119,8 @@ fn put_apart<W: Sink>(
     writer: &mut W,
     element: Element,
 ) -> Result<(), Failed>
-    requires { CanFail (W.calls writer.old) }
-    ensures { Adds result (over W.calls W.bytes_taken writer.old writer.new) pending.old pending.new
+    requires { CanCountFailure (W.calls writer.old) }
+    ensures { Adds result (device_of W.calls W.bytes_taken writer.old writer.new) pending.old pending.new
         (codes " " ++ element_text element) }
 {
     pending.put(writer, b" ")?;
@@ -133,8 +133,8 @@ fn put_elements<W: Sink>(
     writer: &mut W,
     value: &Value,
 ) -> Result<(), Failed>
-    requires { CanFail (W.calls writer.old) }
-    ensures { Adds result (over W.calls W.bytes_taken writer.old writer.new) pending.old pending.new
+    requires { CanCountFailure (W.calls writer.old) }
+    ensures { Adds result (device_of W.calls W.bytes_taken writer.old writer.new) pending.old pending.new
         (flat_map (λ e. codes " " ++ element_text e) value.now.elements) }
 {
     for i in 0..value.count() {
@@ -149,8 +149,8 @@ fn put_value<W: Sink>(
     writer: &mut W,
     value: &Value,
 ) -> Result<(), Failed>
-    requires { CanFail (W.calls writer.old) }
-    ensures { Adds result (over W.calls W.bytes_taken writer.old writer.new) pending.old pending.new
+    requires { CanCountFailure (W.calls writer.old) }
+    ensures { Adds result (device_of W.calls W.bytes_taken writer.old writer.new) pending.old pending.new
         (shown_elements value.now.kind value.now.elements) }
 {
     match value.bytes() {
@@ -166,8 +166,8 @@ fn put_head<W: Sink>(
     tag: u16,
     value: &Value,
 ) -> Result<(), Failed>
-    requires { CanFail (W.calls writer.old) }
-    ensures { Adds result (over W.calls W.bytes_taken writer.old writer.new) pending.old pending.new
+    requires { CanCountFailure (W.calls writer.old) }
+    ensures { Adds result (device_of W.calls W.bytes_taken writer.old writer.new) pending.old pending.new
         (encode_lower (spelling Most 2 tag) ++ codes " " ++ type_word value.now.kind ++ codes " " ++ decimal (length value.now.elements)
         ++ codes ":") }
 {
@@ -183,8 +183,8 @@ fn put_field<W: Sink>(
     tag: u16,
     value: &Value,
 ) -> Result<(), Failed>
-    requires { CanFail (W.calls writer.old) }
-    ensures { Adds result (over W.calls W.bytes_taken writer.old writer.new) pending.old pending.new
+    requires { CanCountFailure (W.calls writer.old) }
+    ensures { Adds result (device_of W.calls W.bytes_taken writer.old writer.new) pending.old pending.new
         (field_line (tag, value.now)) }
 {
     put_head(pending, writer, tag, value)?;
@@ -198,8 +198,8 @@ pub(crate) fn put_fields<W: Sink>(
     writer: &mut W,
     fields: &Fields,
 ) -> Result<(), Failed>
-    requires { CanFail (W.calls writer.old) }
-    ensures { Adds result (over W.calls W.bytes_taken writer.old writer.new) pending.old pending.new (field_lines fields.now) }
+    requires { CanCountFailure (W.calls writer.old) }
+    ensures { Adds result (device_of W.calls W.bytes_taken writer.old writer.new) pending.old pending.new (field_lines fields.now) }
 {
     for i in 0..fields.len() {
         let (tag, value) = fields.at(i);

@@ -1,6 +1,6 @@
 // The listing of a block.
 ghost use Rattle.std.specs.Prelude.{◌++◌, Some, codes, flat_map, option_map};
-ghost use Rattle.px_bytes.specs.Devices.{CanFail, over};
+ghost use Rattle.px_bytes.specs.Devices.{CanCountFailure, device_of};
 ghost use Rattle.px_bytes.specs.Waiting.{Adds};
 ghost use Rattle.px_meaning.specs.calls.Seen.{exif_of, thumb_of, meaning_of};
 ghost use Rattle.px_text.specs.Listing.{field_lines, jpeg_lines, strip_line, strips_lines, record_lines, directory_lines, exif_lines};
@@ -20,8 +20,8 @@ fn put_record<W: Sink>(
     writer: &mut W,
     iim: &Option<Iim>,
 ) -> Result<(), Failed>
-    requires { CanFail (W.calls writer.old) }
-    ensures { Adds result (over W.calls W.bytes_taken writer.old writer.new) pending.old pending.new (record_lines iim.now) }
+    requires { CanCountFailure (W.calls writer.old) }
+    ensures { Adds result (device_of W.calls W.bytes_taken writer.old writer.new) pending.old pending.new (record_lines iim.now) }
 {
     let Some(iim) = iim else {
         return Ok(());
@@ -37,8 +37,8 @@ fn put_titled<W: Sink>(
     name: &[u8],
     fields: &Fields,
 ) -> Result<(), Failed>
-    requires { CanFail (W.calls writer.old) }
-    ensures { Adds result (over W.calls W.bytes_taken writer.old writer.new) pending.old pending.new
+    requires { CanCountFailure (W.calls writer.old) }
+    ensures { Adds result (device_of W.calls W.bytes_taken writer.old writer.new) pending.old pending.new
         (name.now ++ field_lines fields.now) }
 {
     pending.put(writer, name)?;
@@ -52,8 +52,8 @@ fn put_directory<W: Sink>(
     name: &[u8],
     fields: &Option<Fields>,
 ) -> Result<(), Failed>
-    requires { CanFail (W.calls writer.old) }
-    ensures { Adds result (over W.calls W.bytes_taken writer.old writer.new) pending.old pending.new
+    requires { CanCountFailure (W.calls writer.old) }
+    ensures { Adds result (device_of W.calls W.bytes_taken writer.old writer.new) pending.old pending.new
         (directory_lines name.now fields.now) }
 {
     match fields {
@@ -67,8 +67,8 @@ fn put_exif<W: Sink>(
     writer: &mut W,
     exif: &Option<ExifPart>,
 ) -> Result<(), Failed>
-    requires { CanFail (W.calls writer.old) }
-    ensures { Adds result (over W.calls W.bytes_taken writer.old writer.new) pending.old pending.new
+    requires { CanCountFailure (W.calls writer.old) }
+    ensures { Adds result (device_of W.calls W.bytes_taken writer.old writer.new) pending.old pending.new
         (exif_lines (option_map exif_of exif.now)) }
 {
     let Some(exif) = exif else {
@@ -85,8 +85,8 @@ fn put_part<W: Sink>(
     word: &[u8],
     bytes: &[u8],
 ) -> Result<(), Failed>
-    requires { CanFail (W.calls writer.old) }
-    ensures { Adds result (over W.calls W.bytes_taken writer.old writer.new) pending.old pending.new
+    requires { CanCountFailure (W.calls writer.old) }
+    ensures { Adds result (device_of W.calls W.bytes_taken writer.old writer.new) pending.old pending.new
         (word.now ++ sized_bytes bytes.now) }
 {
     pending.put(writer, word)?;
@@ -98,8 +98,8 @@ fn put_jpeg<W: Sink>(
     writer: &mut W,
     jpeg: Option<&[u8]>,
 ) -> Result<(), Failed>
-    requires { CanFail (W.calls writer.old) }
-    ensures { Adds result (over W.calls W.bytes_taken writer.old writer.new) pending.old pending.new
+    requires { CanCountFailure (W.calls writer.old) }
+    ensures { Adds result (device_of W.calls W.bytes_taken writer.old writer.new) pending.old pending.new
         (jpeg_lines (option_map (λ x. x.now) jpeg.entry)) }
 {
     match jpeg {
@@ -113,8 +113,8 @@ fn put_each_strip<W: Sink>(
     writer: &mut W,
     strips: &Strips,
 ) -> Result<(), Failed>
-    requires { CanFail (W.calls writer.old) }
-    ensures { Adds result (over W.calls W.bytes_taken writer.old writer.new) pending.old pending.new
+    requires { CanCountFailure (W.calls writer.old) }
+    ensures { Adds result (device_of W.calls W.bytes_taken writer.old writer.new) pending.old pending.new
         (flat_map strip_line strips.now) }
 {
     for i in 0..strips.len() {
@@ -129,8 +129,8 @@ fn put_strips<W: Sink>(
     writer: &mut W,
     strips: &Option<Strips>,
 ) -> Result<(), Failed>
-    requires { CanFail (W.calls writer.old) }
-    ensures { Adds result (over W.calls W.bytes_taken writer.old writer.new) pending.old pending.new (strips_lines strips.now) }
+    requires { CanCountFailure (W.calls writer.old) }
+    ensures { Adds result (device_of W.calls W.bytes_taken writer.old writer.new) pending.old pending.new (strips_lines strips.now) }
 {
     let Some(strips) = strips else {
         return Ok(());
@@ -144,8 +144,8 @@ fn put_thumb<W: Sink>(
     writer: &mut W,
     thumb: &Option<Thumb>,
 ) -> Result<(), Failed>
-    requires { CanFail (W.calls writer.old) }
-    ensures { Adds result (over W.calls W.bytes_taken writer.old writer.new) pending.old pending.new
+    requires { CanCountFailure (W.calls writer.old) }
+    ensures { Adds result (device_of W.calls W.bytes_taken writer.old writer.new) pending.old pending.new
         (thumb_lines (option_map thumb_of thumb.now)) }
 {
     let Some(thumb) = thumb else {
@@ -163,25 +163,28 @@ fn put_main<W: Sink>(
     fields: &Fields,
     iim: &Option<Iim>,
 ) -> Result<(), Failed>
-    requires { CanFail (W.calls writer.old) }
-    ensures { Adds result (over W.calls W.bytes_taken writer.old writer.new) pending.old pending.new
+    requires { CanCountFailure (W.calls writer.old) }
+    ensures { Adds result (device_of W.calls W.bytes_taken writer.old writer.new) pending.old pending.new
         (codes "exif\n[main]\n" ++ field_lines fields.now ++ record_lines iim.now) }
 {
     put_titled(pending, writer, b"exif\n[main]\n", fields)?;
     put_record(pending, writer, iim)
 }
 
-/// Adds the listing of an Exif block to the output buffer: a line for each directory, field and DataSet. It
-/// allocates nothing. It ends at the first call that fails: the writer has then taken a prefix of the
-/// buffered bytes and of this listing after them.
+/// Adds the listing of an Exif block to the output buffer: the line `exif`; for each directory that the meaning has,
+/// in the order main, Exif, Interoperability, GPS and thumbnail, a line with its name, as `[main]`, and a line for
+/// each field with tag, type, count and elements; after the main one's fields the record, a line with its number of
+/// DataSets and a line for each; after the thumbnail's fields its JPEG and strips. It allocates nothing. It ends at
+/// the first call that fails, which is counted: the writer has then taken a prefix of the buffered bytes and of this
+/// listing after them.
 #[tactic(auto, unfolding(crate::specs::Listing::exif_listing))]
 pub fn put_exif_listing<W: Sink>(
     pending: &mut Pending<'_>,
     writer: &mut W,
     meaning: &Meaning,
 ) -> Result<(), Failed>
-    requires { CanFail (W.calls writer.old) }
-    ensures { Adds result (over W.calls W.bytes_taken writer.old writer.new) pending.old pending.new
+    requires { CanCountFailure (W.calls writer.old) }
+    ensures { Adds result (device_of W.calls W.bytes_taken writer.old writer.new) pending.old pending.new
         (exif_listing (meaning_of meaning.now)) }
 {
     put_main(pending, writer, &meaning.main, &meaning.iptc)?;
@@ -190,15 +193,18 @@ pub fn put_exif_listing<W: Sink>(
     put_thumb(pending, writer, &meaning.thumb)
 }
 
-/// Adds the listing of a record, a line for each DataSet, like `put_exif_listing`.
+/// Adds the listing of a record to the output buffer: the line `iim`, and a line for each DataSet, group by group,
+/// with its record number, its own number, the length of its data and the data. It allocates nothing. It ends at the
+/// first call that fails, which is counted: the writer has then taken a prefix of the buffered bytes and of this
+/// listing after them.
 #[tactic(auto, unfolding(crate::specs::Listing::iim_listing))]
 pub fn put_iim_listing<W: Sink>(
     pending: &mut Pending<'_>,
     writer: &mut W,
     iim: &Iim,
 ) -> Result<(), Failed>
-    requires { CanFail (W.calls writer.old) }
-    ensures { Adds result (over W.calls W.bytes_taken writer.old writer.new) pending.old pending.new (iim_listing iim.now) }
+    requires { CanCountFailure (W.calls writer.old) }
+    ensures { Adds result (device_of W.calls W.bytes_taken writer.old writer.new) pending.old pending.new (iim_listing iim.now) }
 {
     pending.put(writer, b"iim\n")?;
     put_datasets(pending, writer, iim)

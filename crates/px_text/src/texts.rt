@@ -1,7 +1,7 @@
 // Parts of texts. Each call adds one to the output buffer.
 ghost use Rattle.std.specs.Prelude.{◌≤◌, ◌++◌, length};
 ghost use Rattle.hex.specs.Hex.{encode_lower};
-ghost use Rattle.px_bytes.specs.Devices.{CanFail, over};
+ghost use Rattle.px_bytes.specs.Devices.{CanCountFailure, device_of};
 ghost use Rattle.px_bytes.specs.Waiting.{Adds};
 ghost use Rattle.px_text.specs.Words.{shown_bytes, sized_bytes};
 
@@ -18,8 +18,8 @@ pub(crate) fn put_decimal<W: Sink, I: Integer>(
     writer: &mut W,
     n: I,
 ) -> Result<(), Failed>
-    requires { CanFail (W.calls writer.old) }
-    ensures { Adds result (over W.calls W.bytes_taken writer.old writer.new) pending.old pending.new (I.text n) }
+    requires { CanCountFailure (W.calls writer.old) }
+    ensures { Adds result (device_of W.calls W.bytes_taken writer.old writer.new) pending.old pending.new (I.text n) }
 {
     let mut digits = Buffer::new();
     pending.put(writer, digits.format(n).as_bytes())
@@ -32,8 +32,8 @@ pub(crate) fn put_ended<W: Sink, I: Integer>(
     n: I,
     after: &[u8],
 ) -> Result<(), Failed>
-    requires { CanFail (W.calls writer.old) }
-    ensures { Adds result (over W.calls W.bytes_taken writer.old writer.new) pending.old pending.new (I.text n ++ after.now) }
+    requires { CanCountFailure (W.calls writer.old) }
+    ensures { Adds result (device_of W.calls W.bytes_taken writer.old writer.new) pending.old pending.new (I.text n ++ after.now) }
 {
     put_decimal(pending, writer, n)?;
     pending.put(writer, after)
@@ -47,8 +47,8 @@ pub(crate) fn put_number<W: Sink, I: Integer>(
     n: I,
     after: &[u8],
 ) -> Result<(), Failed>
-    requires { CanFail (W.calls writer.old) }
-    ensures { Adds result (over W.calls W.bytes_taken writer.old writer.new) pending.old pending.new
+    requires { CanCountFailure (W.calls writer.old) }
+    ensures { Adds result (device_of W.calls W.bytes_taken writer.old writer.new) pending.old pending.new
         (before.now ++ (I.text n ++ after.now)) }
 {
     pending.put(writer, before)?;
@@ -57,9 +57,9 @@ pub(crate) fn put_number<W: Sink, I: Integer>(
 
 // Adds a few bytes in hexadecimal.
 fn put_piece<W: Sink>(pending: &mut Pending<'_>, writer: &mut W, piece: &[u8]) -> Result<(), Failed>
-    requires few { CanFail (W.calls writer.old) }
+    requires few { CanCountFailure (W.calls writer.old) }
     requires short { length piece.now ≤ 64 }
-    ensures { Adds result (over W.calls W.bytes_taken writer.old writer.new) pending.old pending.new (encode_lower piece.now) }
+    ensures { Adds result (device_of W.calls W.bytes_taken writer.old writer.new) pending.old pending.new (encode_lower piece.now) }
 {
     let mut digits = [0; 2 * PIECE];
     let width = 2 * piece.len();
@@ -75,8 +75,8 @@ pub(crate) fn put_hex<W: Sink>(
     writer: &mut W,
     bytes: &[u8],
 ) -> Result<(), Failed>
-    requires { CanFail (W.calls writer.old) }
-    ensures { Adds result (over W.calls W.bytes_taken writer.old writer.new) pending.old pending.new (encode_lower bytes.now) }
+    requires { CanCountFailure (W.calls writer.old) }
+    ensures { Adds result (device_of W.calls W.bytes_taken writer.old writer.new) pending.old pending.new (encode_lower bytes.now) }
 {
     let mut at = 0;
     while at < bytes.len() {
@@ -93,8 +93,8 @@ pub(crate) fn put_shown<W: Sink>(
     writer: &mut W,
     bytes: &[u8],
 ) -> Result<(), Failed>
-    requires { CanFail (W.calls writer.old) }
-    ensures { Adds result (over W.calls W.bytes_taken writer.old writer.new) pending.old pending.new (shown_bytes bytes.now) }
+    requires { CanCountFailure (W.calls writer.old) }
+    ensures { Adds result (device_of W.calls W.bytes_taken writer.old writer.new) pending.old pending.new (shown_bytes bytes.now) }
 {
     if bytes.is_empty() {
         return Ok(());
@@ -110,8 +110,8 @@ pub(crate) fn put_sized<W: Sink>(
     writer: &mut W,
     bytes: &[u8],
 ) -> Result<(), Failed>
-    requires { CanFail (W.calls writer.old) }
-    ensures { Adds result (over W.calls W.bytes_taken writer.old writer.new) pending.old pending.new (sized_bytes bytes.now) }
+    requires { CanCountFailure (W.calls writer.old) }
+    ensures { Adds result (device_of W.calls W.bytes_taken writer.old writer.new) pending.old pending.new (sized_bytes bytes.now) }
 {
     put_number(pending, writer, b" ", bytes.len(), b":")?;
     put_shown(pending, writer, bytes)?;

@@ -15,7 +15,7 @@ use Rattle.px_meaning.specs.declared.Dir.TheVariants.{Main, Thumb}
 use Rattle.px_meaning.specs.Tree.{Meaning}
 use Rattle.px_meaning.specs.Says.{meaning, SaysExif}
 use Rattle.px_tree.specs.Checks.{checks}
-use Rattle.px_tree.specs.Faults.{Fault}
+use Rattle.px_tree.specs.Faults.{ExifFault}
 use Rattle.px_tree.proofs.Opened.{opened}
 
 first_fault : List ℕ → Option (Cause × ℕ)
@@ -40,14 +40,14 @@ one_entry = header ++ 0 ∷ 1 ∷ orientation ++ 0 ∷ 0 ∷ 0 ∷ 0 ∷ []
 one_field : Meaning
 one_field = main_only ((0x0112, record { kind = Of Short; elements = element.Short 1 ∷ [] }) ∷ [])
 
-one_entry_says : (first_fault one_entry ≡ None) × (meaning one_entry Most ≡ one_field)
+one_entry_means : (first_fault one_entry ≡ None) × (meaning one_entry Most ≡ one_field)
 unfolding first_fault main_only header orientation one_entry one_field opened
-one_entry_says = (refl, refl)
+one_entry_means = (refl, refl)
 
 -- and, condition by condition, it has that field
-one_entry_says_exif : SaysExif one_entry one_field
+one_entry_means_exif : SaysExif one_entry one_field
 unfolding main_only header orientation one_entry one_field opened
-one_entry_says_exif = record {
+one_entry_means_exif = record {
   order = Most;
   is_block = record {
     least = lit≤ tt;
@@ -60,16 +60,16 @@ one_entry_says_exif = record {
     thumbnail = tt;
     apart = (((λ p i j. omega arith), tt), (tt, tt));
   };
-  says = refl;
+  means = refl;
 }
 
 -- the same in the other order, with spare bytes that have no meaning
 turned : List ℕ
 turned = 0x49 ∷ 0x49 ∷ 0x2A ∷ 0 ∷ 8 ∷ 0 ∷ 0 ∷ 0 ∷ 1 ∷ 0 ∷ 0x12 ∷ 1 ∷ 3 ∷ 0 ∷ 1 ∷ 0 ∷ 0 ∷ 0 ∷ 1 ∷ 0 ∷ 0xBE ∷ 0xEF ∷ 0 ∷ 0 ∷ 0 ∷ 0 ∷ []
 
-turned_says_the_same : (first_fault turned ≡ None) × (meaning turned Least ≡ one_field)
+turned_means_the_same : (first_fault turned ≡ None) × (meaning turned Least ≡ one_field)
 unfolding first_fault main_only turned one_field opened
-turned_says_the_same = (refl, refl)
+turned_means_the_same = (refl, refl)
 
 -- cut short
 cut_blocks : (first_fault (take 25 one_entry) ≡ Some (DirectoryOutside, 4)) ×
@@ -86,7 +86,7 @@ odd_offset =
     0x4D ∷ 0x4D ∷ 0 ∷ 0x2A ∷ 0 ∷ 0 ∷ 0 ∷ 8 ∷ 0 ∷ 1 ∷ 1 ∷ 0x0E ∷ 0 ∷ 2 ∷ 0 ∷ 0 ∷ 0 ∷ 5 ∷ 0 ∷ 0 ∷ 0 ∷ 0x1B ∷ 0 ∷ 0 ∷ 0 ∷ 0 ∷ 0xFF ∷ 0x55 ∷
     0x72 ∷ 0x6E ∷ 0x73 ∷ 0 ∷ []
 
-odd_offset_says : (first_fault odd_offset ≡ None) ×
+odd_offset_means : (first_fault odd_offset ≡ None) ×
     (meaning odd_offset Most ≡ main_only ((
       0x010E,
       record {
@@ -96,7 +96,7 @@ odd_offset_says : (first_fault odd_offset ≡ None) ×
       },
     ) ∷ []))
 unfolding first_fault main_only odd_offset opened
-odd_offset_says = (refl, refl)
+odd_offset_means = (refl, refl)
 
 -- the same value in the other order, at an even offset
 described_least : List ℕ
@@ -104,9 +104,9 @@ described_least =
     0x49 ∷ 0x49 ∷ 0x2A ∷ 0 ∷ 8 ∷ 0 ∷ 0 ∷ 0 ∷ 1 ∷ 0 ∷ 0x0E ∷ 1 ∷ 2 ∷ 0 ∷ 5 ∷ 0 ∷ 0 ∷ 0 ∷ 0x1A ∷ 0 ∷ 0 ∷ 0 ∷ 0 ∷ 0 ∷ 0 ∷ 0 ∷ 0x55 ∷ 0x72 ∷
     0x6E ∷ 0x73 ∷ 0 ∷ []
 
-described_least_says_the_same : (first_fault described_least ≡ None) × (meaning described_least Least ≡ meaning odd_offset Most)
+described_least_means_the_same : (first_fault described_least ≡ None) × (meaning described_least Least ≡ meaning odd_offset Most)
 unfolding first_fault main_only described_least odd_offset opened
-described_least_says_the_same = (refl, refl)
+described_least_means_the_same = (refl, refl)
 
 -- PixelXDimension as SHORT in the Exif directory
 pixels_short : List ℕ
@@ -133,9 +133,9 @@ pixels_are_whole : (first_fault pixels_short ≡ None) ×
 unfolding first_fault main_only pixels_short opened
 pixels_are_whole = (refl, refl)
 
-pixels_say_the_same : (first_fault pixels_long ≡ None) × (meaning pixels_long Most ≡ meaning pixels_short Most)
+pixels_mean_the_same : (first_fault pixels_long ≡ None) × (meaning pixels_long Most ≡ meaning pixels_short Most)
 unfolding first_fault main_only pixels_long pixels_short opened
-pixels_say_the_same = (refl, refl)
+pixels_mean_the_same = (refl, refl)
 
 -- ImageWidth of two SHORTs
 widths : List ℕ
@@ -151,10 +151,10 @@ no_elements : List ℕ
 no_elements =
     0x4D ∷ 0x4D ∷ 0 ∷ 0x2A ∷ 0 ∷ 0 ∷ 0 ∷ 8 ∷ 0 ∷ 1 ∷ 1 ∷ 0x0E ∷ 0 ∷ 2 ∷ 0 ∷ 0 ∷ 0 ∷ 0 ∷ 0xFF ∷ 0xFF ∷ 0xFF ∷ 0xFF ∷ 0 ∷ 0 ∷ 0 ∷ 0 ∷ []
 
-no_elements_says : (first_fault no_elements ≡ None) ×
+no_elements_means : (first_fault no_elements ≡ None) ×
     (meaning no_elements Most ≡ main_only ((0x010E, record { kind = Of Ascii; elements = [] }) ∷ []))
 unfolding first_fault main_only no_elements opened
-no_elements_says = (refl, refl)
+no_elements_means = (refl, refl)
 
 -- ---- shared bytes
 
@@ -179,13 +179,13 @@ two_resolutions =
     0x4D ∷ 0x4D ∷ 0 ∷ 0x2A ∷ 0 ∷ 0 ∷ 0 ∷ 8 ∷ 0 ∷ 2 ∷ 1 ∷ 0x1A ∷ 0 ∷ 5 ∷ 0 ∷ 0 ∷ 0 ∷ 1 ∷ 0 ∷ 0 ∷ 0 ∷ 0x26 ∷ 1 ∷ 0x1B ∷ 0 ∷ 5 ∷ 0 ∷ 0 ∷ 0 ∷ 1
     ∷ 0 ∷ 0 ∷ 0 ∷ 0x2E ∷ 0 ∷ 0 ∷ 0 ∷ 0 ∷ 0 ∷ 0 ∷ 0 ∷ 0x48 ∷ 0 ∷ 0 ∷ 0 ∷ 1 ∷ 0 ∷ 0 ∷ 0 ∷ 0x48 ∷ 0 ∷ 0 ∷ 0 ∷ 1 ∷ []
 
-two_resolutions_say : (first_fault two_resolutions ≡ None) ×
+two_resolutions_mean : (first_fault two_resolutions ≡ None) ×
     (meaning two_resolutions Most ≡ main_only ((0x011A, record { kind = Of Rational; elements = element.Rational 72 1 ∷ [] }) ∷ (
       0x011B,
       record { kind = Of Rational; elements = element.Rational 72 1 ∷ [] },
     ) ∷ []))
 unfolding first_fault main_only two_resolutions opened
-two_resolutions_say = (refl, refl)
+two_resolutions_mean = (refl, refl)
 
 value_past_end : List ℕ
 value_past_end = 0x4D ∷ 0x4D ∷ 0 ∷ 0x2A ∷ 0 ∷ 0 ∷ 0 ∷ 8 ∷ 0 ∷ 1 ∷ 1 ∷ 0x0E ∷ 0 ∷ 2 ∷ 0 ∷ 0 ∷ 0 ∷ 5 ∷ 0 ∷ 0 ∷ 0 ∷ 0x16 ∷ 0 ∷ 0 ∷ 0 ∷ 0 ∷ []
@@ -278,7 +278,7 @@ empty_jpeg =
     0x4D ∷ 0x4D ∷ 0 ∷ 0x2A ∷ 0 ∷ 0 ∷ 0 ∷ 8 ∷ 0 ∷ 1 ∷ 1 ∷ 0x12 ∷ 0 ∷ 3 ∷ 0 ∷ 0 ∷ 0 ∷ 1 ∷ 0 ∷ 1 ∷ 0 ∷ 0 ∷ 0 ∷ 0 ∷ 0 ∷ 0x1A ∷ 0 ∷ 2 ∷ 2 ∷ 1 ∷
     0 ∷ 4 ∷ 0 ∷ 0 ∷ 0 ∷ 1 ∷ 0 ∷ 0 ∷ 0 ∷ 0x38 ∷ 2 ∷ 2 ∷ 0 ∷ 4 ∷ 0 ∷ 0 ∷ 0 ∷ 1 ∷ 0 ∷ 0 ∷ 0 ∷ 0 ∷ 0 ∷ 0 ∷ 0 ∷ 0 ∷ []
 
-empty_jpeg_says : (first_fault empty_jpeg ≡ None) ×
+empty_jpeg_means : (first_fault empty_jpeg ≡ None) ×
     (meaning empty_jpeg Most ≡ record {
       main = (0x0112, record { kind = Of Short; elements = element.Short 1 ∷ [] }) ∷ [];
       iptc = None;
@@ -287,7 +287,7 @@ empty_jpeg_says : (first_fault empty_jpeg ≡ None) ×
       thumb = Some (record { fields = []; jpeg = Some []; strips = None });
     })
 unfolding first_fault main_only empty_jpeg opened
-empty_jpeg_says = (refl, refl)
+empty_jpeg_means = (refl, refl)
 
 -- a JPEG of three bytes
 small_jpeg : List ℕ
@@ -295,7 +295,7 @@ small_jpeg =
     0x4D ∷ 0x4D ∷ 0 ∷ 0x2A ∷ 0 ∷ 0 ∷ 0 ∷ 8 ∷ 0 ∷ 1 ∷ 1 ∷ 0x12 ∷ 0 ∷ 3 ∷ 0 ∷ 0 ∷ 0 ∷ 1 ∷ 0 ∷ 1 ∷ 0 ∷ 0 ∷ 0 ∷ 0 ∷ 0 ∷ 0x1A ∷ 0 ∷ 2 ∷ 2 ∷ 1 ∷
     0 ∷ 4 ∷ 0 ∷ 0 ∷ 0 ∷ 1 ∷ 0 ∷ 0 ∷ 0 ∷ 0x38 ∷ 2 ∷ 2 ∷ 0 ∷ 4 ∷ 0 ∷ 0 ∷ 0 ∷ 1 ∷ 0 ∷ 0 ∷ 0 ∷ 3 ∷ 0 ∷ 0 ∷ 0 ∷ 0 ∷ 0xFF ∷ 0xD8 ∷ 0xFF ∷ []
 
-small_jpeg_says : (first_fault small_jpeg ≡ None) ×
+small_jpeg_means : (first_fault small_jpeg ≡ None) ×
     (meaning small_jpeg Most ≡ record {
       main = (0x0112, record { kind = Of Short; elements = element.Short 1 ∷ [] }) ∷ [];
       iptc = None;
@@ -304,7 +304,7 @@ small_jpeg_says : (first_fault small_jpeg ≡ None) ×
       thumb = Some (record { fields = []; jpeg = Some (0xFF ∷ 0xD8 ∷ 0xFF ∷ []); strips = None });
     })
 unfolding first_fault main_only small_jpeg opened
-small_jpeg_says = (refl, refl)
+small_jpeg_means = (refl, refl)
 
 jpeg_too_long : List ℕ
 jpeg_too_long =
@@ -345,7 +345,7 @@ three_strips =
     ∷ 0 ∷ 3 ∷ 0 ∷ 0 ∷ 0 ∷ 3 ∷ 0 ∷ 0 ∷ 0 ∷ 0x38 ∷ 1 ∷ 0x17 ∷ 0 ∷ 3 ∷ 0 ∷ 0 ∷ 0 ∷ 3 ∷ 0 ∷ 0 ∷ 0 ∷ 0x3E ∷ 0 ∷ 0 ∷ 0 ∷ 0 ∷ 0 ∷ 0x47 ∷ 0 ∷ 0x46
     ∷ 0 ∷ 0x44 ∷ 0 ∷ 2 ∷ 0 ∷ 0 ∷ 0 ∷ 3 ∷ 0x58 ∷ 0x59 ∷ 0x5A ∷ 0x41 ∷ 0x42 ∷ []
 
-three_strips_say : (first_fault three_strips ≡ None) ×
+three_strips_mean : (first_fault three_strips ≡ None) ×
     (meaning three_strips Most ≡ record {
       main = (0x0112, record { kind = Of Short; elements = element.Short 1 ∷ [] }) ∷ [];
       iptc = None;
@@ -355,7 +355,7 @@ three_strips_say : (first_fault three_strips ≡ None) ×
       thumb = Some (record { fields = []; jpeg = None; strips = Some ((0x41 ∷ 0x42 ∷ []) ∷ [] ∷ (0x58 ∷ 0x59 ∷ 0x5A ∷ []) ∷ []) });
     })
 unfolding first_fault main_only three_strips opened
-three_strips_say = (refl, refl)
+three_strips_mean = (refl, refl)
 
 strip_in_strip : List ℕ
 strip_in_strip =
@@ -378,7 +378,7 @@ four_directories =
     2 ∷ 0 ∷ 0 ∷ 0 ∷ 4 ∷ 0x52 ∷ 0x39 ∷ 0x38 ∷ 0 ∷ 0 ∷ 0 ∷ 0 ∷ 0 ∷ 0 ∷ 1 ∷ 0xA0 ∷ 5 ∷ 0 ∷ 4 ∷ 0 ∷ 0 ∷ 0 ∷ 1 ∷ 0 ∷ 0 ∷ 0 ∷ 0x38 ∷ 0 ∷ 0 ∷ 0 ∷
     0 ∷ []
 
-four_directories_say : (first_fault four_directories ≡ None) ×
+four_directories_mean : (first_fault four_directories ≡ None) ×
     (meaning four_directories Most ≡ record {
       main = [];
       iptc = None;
@@ -402,7 +402,7 @@ four_directories_say : (first_fault four_directories ≡ None) ×
           None;
     })
 unfolding first_fault main_only four_directories opened
-four_directories_say = (refl, refl)
+four_directories_mean = (refl, refl)
 
 -- the next offset of the GPS directory is not read
 unread_next : List ℕ
@@ -412,9 +412,9 @@ unread_next =
     ∷ 0 ∷ 2 ∷ 0 ∷ 0 ∷ 0 ∷ 4 ∷ 0x52 ∷ 0x39 ∷ 0x38 ∷ 0 ∷ 0 ∷ 0 ∷ 0 ∷ 0 ∷ 0 ∷ 1 ∷ 0 ∷ 0 ∷ 0 ∷ 1 ∷ 0 ∷ 0 ∷ 0 ∷ 4 ∷ 2 ∷ 2 ∷ 0 ∷ 0 ∷ 0xFF ∷ 0xFF
     ∷ 0xFF ∷ 0xFF ∷ []
 
-unread_next_says_the_same : (first_fault unread_next ≡ None) × (meaning unread_next Most ≡ meaning four_directories Most)
+unread_next_means_the_same : (first_fault unread_next ≡ None) × (meaning unread_next Most ≡ meaning four_directories Most)
 unfolding first_fault main_only unread_next four_directories opened
-unread_next_says_the_same = (refl, refl)
+unread_next_means_the_same = (refl, refl)
 
 -- a MakerNote, whose bytes no order turns
 maker_note : List ℕ
@@ -422,7 +422,7 @@ maker_note =
     0x49 ∷ 0x49 ∷ 0x2A ∷ 0 ∷ 8 ∷ 0 ∷ 0 ∷ 0 ∷ 1 ∷ 0 ∷ 0x69 ∷ 0x87 ∷ 4 ∷ 0 ∷ 1 ∷ 0 ∷ 0 ∷ 0 ∷ 0x1A ∷ 0 ∷ 0 ∷ 0 ∷ 0 ∷ 0 ∷ 0 ∷ 0 ∷ 1 ∷ 0 ∷ 0x7C
     ∷ 0x92 ∷ 7 ∷ 0 ∷ 5 ∷ 0 ∷ 0 ∷ 0 ∷ 0x30 ∷ 0 ∷ 0 ∷ 0 ∷ 0 ∷ 0 ∷ 0 ∷ 0 ∷ 0xFF ∷ 0xFF ∷ 0xFF ∷ 0xFF ∷ 1 ∷ 2 ∷ 3 ∷ 4 ∷ 5 ∷ []
 
-maker_note_says : (first_fault maker_note ≡ None) ×
+maker_note_means : (first_fault maker_note ≡ None) ×
     (meaning maker_note Least ≡ record {
       main = [];
       iptc = None;
@@ -442,7 +442,7 @@ maker_note_says : (first_fault maker_note ≡ None) ×
       thumb = None;
     })
 unfolding first_fault main_only maker_note opened
-maker_note_says = (refl, refl)
+maker_note_means = (refl, refl)
 
 -- ---- a record inside the block
 
@@ -452,7 +452,7 @@ recorded =
     0x4D ∷ 0x4D ∷ 0 ∷ 0x2A ∷ 0 ∷ 0 ∷ 0 ∷ 8 ∷ 0 ∷ 1 ∷ 0x83 ∷ 0xBB ∷ 0 ∷ 7 ∷ 0 ∷ 0 ∷ 0 ∷ 0x0C ∷ 0 ∷ 0 ∷ 0 ∷ 0x1A ∷ 0 ∷ 0 ∷ 0 ∷ 0 ∷ 0x1C ∷ 2 ∷
     0x78 ∷ 0x80 ∷ 4 ∷ 0 ∷ 0 ∷ 0 ∷ 3 ∷ 0x61 ∷ 0x62 ∷ 0x63 ∷ []
 
-recorded_says : (first_fault recorded ≡ None) ×
+recorded_means : (first_fault recorded ≡ None) ×
     (meaning recorded Most ≡ record {
       main = [];
       iptc = Some (record {
@@ -465,7 +465,7 @@ recorded_says : (first_fault recorded ≡ None) ×
       thumb = None;
     })
 unfolding first_fault main_only recorded opened
-recorded_says = (refl, refl)
+recorded_means = (refl, refl)
 
 -- the same of type BYTE, as a standard DataSet with zeros after it
 recorded_bytes : List ℕ
@@ -473,9 +473,9 @@ recorded_bytes =
     0x4D ∷ 0x4D ∷ 0 ∷ 0x2A ∷ 0 ∷ 0 ∷ 0 ∷ 8 ∷ 0 ∷ 1 ∷ 0x83 ∷ 0xBB ∷ 0 ∷ 1 ∷ 0 ∷ 0 ∷ 0 ∷ 0x0B ∷ 0 ∷ 0 ∷ 0 ∷ 0x1A ∷ 0 ∷ 0 ∷ 0 ∷ 0 ∷ 0x1C ∷ 2 ∷
     0x78 ∷ 0 ∷ 3 ∷ 0x61 ∷ 0x62 ∷ 0x63 ∷ 0 ∷ 0 ∷ 0 ∷ []
 
-recorded_bytes_say_the_same : (first_fault recorded_bytes ≡ None) × (meaning recorded_bytes Most ≡ meaning recorded Most)
+recorded_bytes_mean_the_same : (first_fault recorded_bytes ≡ None) × (meaning recorded_bytes Most ≡ meaning recorded Most)
 unfolding first_fault main_only recorded_bytes recorded opened
-recorded_bytes_say_the_same = (refl, refl)
+recorded_bytes_mean_the_same = (refl, refl)
 
 -- bytes that are no record are a field
 no_record : List ℕ
@@ -483,7 +483,7 @@ no_record =
     0x4D ∷ 0x4D ∷ 0 ∷ 0x2A ∷ 0 ∷ 0 ∷ 0 ∷ 8 ∷ 0 ∷ 1 ∷ 0x83 ∷ 0xBB ∷ 0 ∷ 7 ∷ 0 ∷ 0 ∷ 0 ∷ 5 ∷ 0 ∷ 0 ∷ 0 ∷ 0x1A ∷ 0 ∷ 0 ∷ 0 ∷ 0 ∷ 0x1C ∷ 2 ∷
     0x78 ∷ 0x80 ∷ 0 ∷ 0 ∷ []
 
-no_record_says : (first_fault no_record ≡ None) ×
+no_record_means : (first_fault no_record ≡ None) ×
     (meaning no_record Most ≡ main_only ((
       0x83BB,
       record {
@@ -493,7 +493,7 @@ no_record_says : (first_fault no_record ≡ None) ×
       },
     ) ∷ []))
 unfolding first_fault main_only no_record opened
-no_record_says = (refl, refl)
+no_record_means = (refl, refl)
 
 -- and so are LONGs
 record_as_longs : List ℕ
@@ -501,7 +501,7 @@ record_as_longs =
     0x4D ∷ 0x4D ∷ 0 ∷ 0x2A ∷ 0 ∷ 0 ∷ 0 ∷ 8 ∷ 0 ∷ 1 ∷ 0x83 ∷ 0xBB ∷ 0 ∷ 4 ∷ 0 ∷ 0 ∷ 0 ∷ 2 ∷ 0 ∷ 0 ∷ 0 ∷ 0x1A ∷ 0 ∷ 0 ∷ 0 ∷ 0 ∷ 0x1C ∷ 2 ∷
     0x78 ∷ 0 ∷ 3 ∷ 0x61 ∷ 0x62 ∷ 0x63 ∷ []
 
-record_as_longs_says : (first_fault record_as_longs ≡ None) ×
+record_as_longs_means : (first_fault record_as_longs ≡ None) ×
     (meaning record_as_longs Most ≡ main_only ((
       0x83BB,
       record {
@@ -511,19 +511,19 @@ record_as_longs_says : (first_fault record_as_longs ≡ None) ×
       },
     ) ∷ []))
 unfolding first_fault main_only record_as_longs opened
-record_as_longs_says = (refl, refl)
+record_as_longs_means = (refl, refl)
 
 -- ---- standing faults
 
 -- the main directory's next offset is its own
-loop_stands : Fault next_to_main Loop 22
+loop_is_fault : ExifFault next_to_main Loop 22
 unfolding next_to_main opened
-loop_stands = (Most, Thumb, Main, 8, ((lit≤ tt, refl), refl), ((lit≤ tt, refl), refl), lit≤ tt, refl)
+loop_is_fault = (Most, Thumb, Main, 8, ((lit≤ tt, refl), refl), ((lit≤ tt, refl), refl), lit≤ tt, refl)
 
 -- the second resolution shares its first byte with the first
-overlap_stands : Fault one_for_both Overlap 22
+overlap_is_fault : ExifFault one_for_both Overlap 22
 unfolding one_for_both opened
-overlap_stands = (
+overlap_is_fault = (
   Most,
   2,
   3,
@@ -542,9 +542,9 @@ overlap_stands = (
 )
 
 -- a later fault is a fault too: here the tags descend, which is the first, and the type of the second entry is unknown
-unknown_stands : Fault falling_unknown UnknownType 22
+unknown_is_fault : ExifFault falling_unknown UnknownType 22
 unfolding falling_unknown opened
-unknown_stands = (
+unknown_is_fault = (
   Most,
   Main,
   1,

@@ -1,6 +1,6 @@
 pub mod Opened
 pub mod Examples
 pub mod lists
-pub mod saying
+pub mod assembling
 pub mod faulting
 pub mod reading

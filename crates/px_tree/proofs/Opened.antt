@@ -1,7 +1,7 @@
 -- All definitions unfolded at once, for proofs by computation.
 use Rattle.std.proofs.Common.{ℕ}
 use Rattle.px_field.specs.Forms.{form_of}
-use Rattle.px_field.specs.Values.{elements, spelled}
+use Rattle.px_field.specs.Values.{elements, encoded}
 use Rattle.px_iim.specs.Group.{named, put, gather}
 use Rattle.px_iim.specs.Record.{is_dataset, dataset, sequence_of, iim_of, normal_count, normal_dataset}
 use Rattle.px_meaning.specs.Roles.{role}
@@ -10,12 +10,12 @@ use Rattle.px_meaning.specs.Directory.{pointer, dir_at}
 use Rattle.px_meaning.specs.Thumbnail.{numbers, jpeg_range, strip_ranges}
 use Rattle.px_meaning.specs.Footprint.{placed_range, dir_ranges, thumb_ranges, footprint}
 use Rattle.px_meaning.specs.Says.{record_at, exif_part, thumbnail, meaning}
-use Rattle.px_meaning.specs.Fits.{item_size, items}
+use Rattle.px_meaning.specs.Writable.{item_size, items}
 use Rattle.px_tree.specs.Checks.{entry_checks, dir_checks, named_at, thumb_checks, tree_checks, checks}
 use Rattle.px_tree.specs.Faults.{dir_owners, thumb_owners, owners}
 
 unfoldable pub opened : ℕ
-unfolding form_of elements spelled named put gather is_dataset dataset sequence_of iim_of normal_count normal_dataset role entry has_table
+unfolding form_of elements encoded named put gather is_dataset dataset sequence_of iim_of normal_count normal_dataset role entry has_table
     table entries next raw_size raw has_raw entry_elements field fields pointer dir_at numbers jpeg_range strip_ranges placed_range
     dir_ranges thumb_ranges footprint record_at exif_part thumbnail meaning item_size items entry_checks dir_checks named_at thumb_checks
     tree_checks checks dir_owners thumb_owners owners

@@ -1,5 +1,5 @@
 -- Blocks that are refused.
-pub mod Unsaid
+pub mod NoMeaning
 pub mod Reported
 pub mod ReportedDirs
 pub mod ReportedThumb

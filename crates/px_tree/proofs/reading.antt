@@ -3,7 +3,7 @@ pub mod Pieces
 pub mod Shapes
 pub mod Raw
 pub mod Loop
-pub mod Standing
+pub mod Faulted
 pub mod Pointers
 pub mod KeptUses
 pub mod NoUse

@@ -1,6 +1,6 @@
 -- How many bytes the calls ask for at most.
 use Rattle.std.specs.Prelude.{ℕ, ◌+◌, ◌*◌}
-use Rattle.px_bytes.specs.Held.{mark_bytes}
+use Rattle.px_bytes.specs.Claimed.{mark_bytes}
 use Rattle.px_iim.specs.Asking.{iim_request}
 
 -- for the fields of a block of n bytes: an entry of twelve bytes has at most one, which takes 32 bytes

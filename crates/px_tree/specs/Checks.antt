@@ -204,5 +204,5 @@ unfoldable pub checks : List ℕ → List Check
 checks b = header_checks b ++ checks_in b (order_of b)
 
 -- the first fault of a block: the cause and byte offset of its first check that fails
-abbrev pub FirstFault : List ℕ → Cause → ℕ → Type 0
-FirstFault b c p = first_false (checks b) ≡ Some (c, p)
+abbrev pub FirstExifFault : List ℕ → Cause → ℕ → Type 0
+FirstExifFault b c p = first_false (checks b) ≡ Some (c, p)

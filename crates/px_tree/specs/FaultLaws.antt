@@ -8,8 +8,8 @@ use Rattle.px_bytes.specs.Range.{IsIn}
 use Rattle.px_meaning.specs.Tree.{Meaning}
 use Rattle.px_meaning.specs.Footprint.{footprint}
 use Rattle.px_meaning.specs.Says.{SaysExif}
-use Rattle.px_tree.specs.Checks.{FirstFault}
-use Rattle.px_tree.specs.Faults.{owners, Fault}
+use Rattle.px_tree.specs.Checks.{FirstExifFault}
+use Rattle.px_tree.specs.Faults.{owners, ExifFault}
 
 -- Bytes outside the footprint have no meaning.
 abbrev pub FootprintCounts : Type 0
@@ -21,11 +21,11 @@ abbrev pub OwnersOwn : Type 0
 OwnersOwn = (b : List ℕ) (o : Order) → map (λ x. x.1) (owners b o) ≡ footprint b o
 
 -- The first fault is a fault. A block with a fault has no meaning, and each block has a meaning or a first fault.
-abbrev pub FaultsTell : Type 0
-FaultsTell = ((b : List ℕ) (c : Cause) (p : ℕ) → FirstFault b c p → Fault b c p)
-    × ((b : List ℕ) (c : Cause) (p : ℕ) (m : Meaning) → Fault b c p → SaysExif b m → ⊥)
-    × ((b : List ℕ) → ((m : Meaning) × SaysExif b m) ⊎ ((c : Cause) × (p : ℕ) × FirstFault b c p))
+abbrev pub FaultsDecide : Type 0
+FaultsDecide = ((b : List ℕ) (c : Cause) (p : ℕ) → FirstExifFault b c p → ExifFault b c p)
+    × ((b : List ℕ) (c : Cause) (p : ℕ) (m : Meaning) → ExifFault b c p → SaysExif b m → ⊥)
+    × ((b : List ℕ) → ((m : Meaning) × SaysExif b m) ⊎ ((c : Cause) × (p : ℕ) × FirstExifFault b c p))
 
 -- The first fault of a block is at an offset of at most the limit, however long the block is.
 abbrev pub FaultsBounded : Type 0
-FaultsBounded = (b : List ℕ) (c : Cause) (p : ℕ) → FirstFault b c p → p ≤ limit
+FaultsBounded = (b : List ℕ) (c : Cause) (p : ℕ) → FirstExifFault b c p → p ≤ limit

@@ -94,35 +94,37 @@ PartAt b o p r =
 
 -- ---- the fault
 
-abbrev pub Fault : List ℕ → Cause → ℕ → Type 0
+abbrev pub ExifFault : List ℕ → Cause → ℕ → Type 0
 -- the block is longer than the limit
-Fault b TooLong p = (p ≡ limit) × (limit < length b)
+ExifFault b TooLong p = (p ≡ limit) × (limit < length b)
 -- its first bytes, up to four, begin no header
-Fault b UnknownKind p = (p ≡ 0) × ((length b ≡ 0) ⊎ ((o : Order) → take 4 b ≡ take (length b) (magic o) → ⊥))
-Fault b HeaderCut p = (p ≡ length b) × (length b < 8)
+ExifFault b UnknownKind p = (p ≡ 0) × ((length b ≡ 0) ⊎ ((o : Order) → take 4 b ≡ take (length b) (magic o) → ⊥))
+ExifFault b HeaderCut p = (p ≡ length b) × (length b < 8)
 -- an earlier directory is at the same offset
-Fault b Loop p =
+ExifFault b Loop p =
     (o : Order) × (d e : Dir) × (a : ℕ) × Reached b o d a × Reached b o e a × (dir_number e < dir_number d) × (p ≡ named_at b o d)
 -- its table, the number of entries among it, passes the end
-Fault b DirectoryOutside p =
+ExifFault b DirectoryOutside p =
     (o : Order) × (d : Dir) × (a : ℕ) × Reached b o d a × (p ≡ named_at b o d) × (length b < a + table_size (short o (part b a 2)))
-Fault b EmptyDirectory p = (o : Order) × (d : Dir) × Reached b o d p × (p + 2 ≤ length b) × (short o (part b p 2) ≡ 0)
+ExifFault b EmptyDirectory p = (o : Order) × (d : Dir) × Reached b o d p × (p + 2 ≤ length b) × (short o (part b p 2) ≡ 0)
 -- two ranges share a byte; the offset is that of the owner whose check comes later
-Fault b Overlap p =
+ExifFault b Overlap p =
     (o : Order) × (i j q : ℕ) × (r s : Range) × (x : ℕ) × Begins b o × (i < j) × At (owners b o) i (q, r) × At (owners b o) j
     (p, s) × IsInside b r × IsInside b s × IsIn x r × IsIn x s
 -- a tag is less than the one before, or equal to it
-Fault b Unsorted p = (o : Order) × (d : Dir) × (i q : ℕ) × (e f : Entry) × EntryAt b o d i q e × EntryAt b o d (i + 1) p f × (f.tag < e.tag)
-Fault b Doubled p = (o : Order) × (d : Dir) × (i q : ℕ) × (e f : Entry) × EntryAt b o d i q e × EntryAt b o d (i + 1) p f × (f.tag ≡ e.tag)
-Fault b UnknownType p = (o : Order) × (d : Dir) × (i : ℕ) × (e : Entry) × EntryAt b o d i p e × (form_of e.code ≡ None)
-Fault b MisplacedOffset p = (o : Order) × (d : Dir) × (i : ℕ) × (e : Entry) × EntryAt b o d i p e × (role d e.tag ≡ Forbidden)
-Fault b PointerForm p = (o : Order) × (d : Dir) × (i : ℕ) × (e : Entry) × EntryAt b o d i p e × (has_form (role d e.tag) e ≡ false)
-Fault b ValueOutside p = (o : Order) × (d : Dir) × (i : ℕ) × (e : Entry) × EntryAt b o d i p e × (has_raw b o e ≡ false)
-Fault b ThumbnailPair p =
+ExifFault b Unsorted p = (o : Order) × (d : Dir) × (i q : ℕ) × (e f : Entry) × EntryAt b o d i q e × EntryAt b o d (i + 1) p f
+    × (f.tag < e.tag)
+ExifFault b Doubled p = (o : Order) × (d : Dir) × (i q : ℕ) × (e f : Entry) × EntryAt b o d i q e × EntryAt b o d (i + 1) p f
+    × (f.tag ≡ e.tag)
+ExifFault b UnknownType p = (o : Order) × (d : Dir) × (i : ℕ) × (e : Entry) × EntryAt b o d i p e × (form_of e.code ≡ None)
+ExifFault b MisplacedOffset p = (o : Order) × (d : Dir) × (i : ℕ) × (e : Entry) × EntryAt b o d i p e × (role d e.tag ≡ Forbidden)
+ExifFault b PointerForm p = (o : Order) × (d : Dir) × (i : ℕ) × (e : Entry) × EntryAt b o d i p e × (has_form (role d e.tag) e ≡ false)
+ExifFault b ValueOutside p = (o : Order) × (d : Dir) × (i : ℕ) × (e : Entry) × EntryAt b o d i p e × (has_raw b o e ≡ false)
+ExifFault b ThumbnailPair p =
     (o : Order) × (a i : ℕ) × (e : Entry) × Reached b o Thumb a × EntryAt b o Thumb i p
     e × (IsAlone e (entries_at b o a) ⊎ IsUneven e (entries_at b o a))
-Fault b ExtraDirectory p =
+ExifFault b ExtraDirectory p =
     (o : Order) × (a : ℕ) × Reached b o Thumb a × (p ≡ a + 2 + 12 * length (entries_at b o a)) × (next o (table b o a) ≡ 0 → ⊥)
-Fault b ThumbnailOutside p = (o : Order) × (r : Range) × PartAt b o p r × (length b < r.start + r.size)
+ExifFault b ThumbnailOutside p = (o : Order) × (r : Range) × PartAt b o p r × (length b < r.start + r.size)
 -- the other three belong to IIM blocks
-Fault b _ p = ⊥
+ExifFault b _ p = ⊥

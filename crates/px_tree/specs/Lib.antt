@@ -7,7 +7,7 @@ pub use Rattle.px_meaning.specs.Directory
 pub use Rattle.px_meaning.specs.Thumbnail
 pub use Rattle.px_meaning.specs.Footprint
 pub use Rattle.px_meaning.specs.Says
-pub use Rattle.px_meaning.specs.Fits
+pub use Rattle.px_meaning.specs.Writable
 pub use Rattle.px_meaning.specs.Laws
 pub use Rattle.px_meaning.specs.lemmas
 pub mod Asking

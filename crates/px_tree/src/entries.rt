@@ -2,7 +2,7 @@
 ghost use Rattle.std.specs.Prelude.{◌≡◌, ◌≤◌, ◌<◌, ◌+◌, ◌*◌, List, ◌++◌, length, option_to_list, IfOk, Some, true};
 ghost use Rattle.px_bytes.specs.Parts.{limit, part};
 ghost use Rattle.px_bytes.specs.Range.{Range, Agrees};
-ghost use Rattle.px_bytes.specs.Checks.{ContentOnly, LacksBlock, Judges};
+ghost use Rattle.px_bytes.specs.Checks.{ContentOnly, CountsAllocFailureInBlock, Judges};
 ghost use Rattle.px_field.specs.Forms.{form_of, size};
 ghost use Rattle.px_meaning.specs.Roles.{role};
 ghost use Rattle.px_meaning.specs.Entry.{entry, has_form};
@@ -10,7 +10,7 @@ ghost use Rattle.px_meaning.specs.Footprint.{placed_range};
 ghost use Rattle.px_tree.specs.Checks.{shape_checks, entry_checks};
 ghost use Rattle.px_meaning.specs.calls.Used.{HasNoUse};
 ghost use Rattle.px_tree.specs.calls.Reading.{Shows, bare, IsShape, Follows, span, span_checks};
-ghost use Rattle.px_tree.specs.calls.Paying.{Pays, StaysBelow};
+ghost use Rattle.px_tree.specs.calls.Paying.{ClaimsPay, ClaimsBelow};
 
 use crate::claiming::claim_range;
 use crate::source::BlockReader;
@@ -37,7 +37,7 @@ pub struct Shape {
     pub is_common: bool,
 }
 
-// The entry at an offset.
+// The tag, type, count and offset of the entry in the twelve bytes at an offset of a block.
 pub fn head_at(block: &[u8], order: Order, at: u32) -> Head
     requires inside { at + 12 ≤ length block.now }
     requires bounded { length block.now ≤ limit }
@@ -107,17 +107,17 @@ fn claim_value(
     shape: Shape,
 ) -> Result<(), Refusal>
     requires bounded { length block.now ≤ limit }
-    requires room { length block.now ≤ claimed.old.room }
+    requires capacity { length block.now ≤ claimed.old.capacity }
     ensures judged { let start = shape.head.offset in let len = shape.head.count * size shape.form in
         (taken : List Range) → Agrees taken claimed.old.ranges →
         Judges result (span_checks block.now taken at start len)
         (λ _. Agrees (option_to_list (span start len) ++ taken) claimed.new.ranges) }
     ensures inside { let start = shape.head.offset in let len = shape.head.count * size shape.form in
         IfOk result (λ _. 4 < len → start + len ≤ length block.now) }
-    ensures memory { LacksBlock result memory.old memory.new }
-    ensures asked { Pays 0 memory.old memory.new claimed.old claimed.new }
-    ensures below { StaysBelow (length block.now) claimed.old claimed.new }
-    ensures room { claimed.old.room ≤ claimed.new.room }
+    ensures memory { CountsAllocFailureInBlock result memory.old memory.new }
+    ensures asked { ClaimsPay 0 memory.old memory.new claimed.old claimed.new }
+    ensures below { ClaimsBelow (length block.now) claimed.old claimed.new }
+    ensures capacity { claimed.old.capacity ≤ claimed.new.capacity }
 {
     let start = shape.head.offset;
     let len = u64::from(shape.head.count) * u64::from(shape.form.size());
@@ -130,7 +130,12 @@ fn claim_value(
     claim_range(memory, claimed, at, start, len as u32)
 }
 
-// Judges the entry at an offset, after an entry with a given tag, and claims its value.
+// Judges the entry in the twelve bytes at offset `at`, after one of the tag `before` or none, and claims its value if
+// that has an offset. `Ok`: all its checks pass; its head, type and role are returned; its tag is above `before`; and
+// a value of more than four bytes lies inside the block. `Content`: the first check that fails: `Unsorted`,
+// `Doubled`, `UnknownType`, `MisplacedOffset`, `PointerForm`, `ValueOutside` or `Overlap`, all at `at`.
+// `OutOfMemory`: an allocation failed. If `is_common` of the shape, no directory has a special use for the tag or
+// refuses it: it is no pointer, no part of the thumbnail and no record.
 pub fn judge_entry(
     memory: &mut Memory,
     source: &BlockReader,
@@ -140,7 +145,7 @@ pub fn judge_entry(
 ) -> Result<Shape, Refusal>
     requires inside { at + 12 ≤ length source.now.block.now }
     requires bounded { length source.now.block.now ≤ limit }
-    requires room { length source.now.block.now ≤ claimed.old.room }
+    requires capacity { length source.now.block.now ≤ claimed.old.capacity }
     ensures judged { let b = source.now.block.now in let o = source.now.order in
         let e = entry o (part b at 12) in
         (taken : List Range) → Agrees taken claimed.old.ranges →
@@ -153,10 +158,10 @@ pub fn judge_entry(
         → s.head.offset + s.head.count * size s.form ≤ length source.now.block.now) }
     ensures follows { IfOk result (λ s. Follows before s.head.tag) }
     ensures common { IfOk result (λ s. s.is_common ≡ true → HasNoUse s.head.tag) }
-    ensures memory { LacksBlock result memory.old memory.new }
-    ensures asked { Pays 0 memory.old memory.new claimed.old claimed.new }
-    ensures below { StaysBelow (length source.now.block.now) claimed.old claimed.new }
-    ensures room { claimed.old.room ≤ claimed.new.room }
+    ensures memory { CountsAllocFailureInBlock result memory.old memory.new }
+    ensures asked { ClaimsPay 0 memory.old memory.new claimed.old claimed.new }
+    ensures below { ClaimsBelow (length source.now.block.now) claimed.old claimed.new }
+    ensures capacity { claimed.old.capacity ≤ claimed.new.capacity }
 {
     let head = head_at(source.block, source.order, at);
     let shape = shape_of(source.dir, at, before, head)?;

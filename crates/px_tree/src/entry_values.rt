@@ -11,7 +11,8 @@ use px_bytes::Order;
 use px_field::{Form, Value, read_value};
 use px_meaning::{needs_place, part_of};
 
-// The raw bytes of an entry.
+// The bytes of the value of a judged entry, in its last four bytes or at its offset: count times size, at most
+// `LIMIT`.
 pub fn raw_of<'a>(block: &'a [u8], order: Order, at: u32, head: Head, form: Form) -> &'a [u8]
     requires { IsReadable block.now order at head form }
     ensures bytes { result.now ≡ raw block.now order (entry order (part block.now at 12)) }
@@ -25,7 +26,7 @@ pub fn raw_of<'a>(block: &'a [u8], order: Order, at: u32, head: Head, form: Form
     part_of(block, at + 8, len as u32)
 }
 
-// The value of an entry.
+// The value of a judged entry: its type, and the elements that its bytes encode in the block's order.
 pub fn value_at<'a>(block: &'a [u8], order: Order, at: u32, head: Head, form: Form) -> Value<'a>
     requires { IsReadable block.now order at head form }
     ensures { result

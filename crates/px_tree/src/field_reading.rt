@@ -3,24 +3,24 @@ ghost use Rattle.std.specs.Prelude.{◌≡◌, ◌≤◌, ◌<◌, ◌+◌, ◌*
 ghost use Rattle.std.specs.Prelude.{true, [], vec_len, vec_capacity};
 ghost use Rattle.px_bytes.specs.Parts.{limit, part};
 ghost use Rattle.px_bytes.specs.Range.{Range, Agrees};
-ghost use Rattle.px_bytes.specs.Checks.{LacksBlock, Judges};
+ghost use Rattle.px_bytes.specs.Checks.{CountsAllocFailureInBlock, Judges};
 ghost use Rattle.px_field.specs.declared.Kind.TheVariants.{Of};
-ghost use Rattle.px_meaning.specs.Entry.{entry, raw, entry_elements, widened_value, record_in, unless_record, value_in, field};
+ghost use Rattle.px_meaning.specs.Entry.{entry, raw, entry_elements, widened_value, record_in, unless_record, field_value_in, field};
 ghost use Rattle.px_meaning.specs.Footprint.{placed_range};
 ghost use Rattle.px_tree.specs.Checks.{entries_checks};
 ghost use Rattle.px_tree.specs.calls.Reading.{IsReadable, is_whole, if_kept, entries_from};
 ghost use Rattle.px_tree.specs.calls.Uses.{AreUses};
-ghost use Rattle.px_bytes.specs.Lacking.{Lacks, AsksAtMost};
+ghost use Rattle.px_bytes.specs.Allocations.{CountsAllocFailure, AsksAtMost};
 ghost use Rattle.px_meaning.specs.Asking.{field_bytes};
-ghost use Rattle.px_tree.specs.calls.Paying.{Pays, StaysBelow};
+ghost use Rattle.px_tree.specs.calls.Paying.{ClaimsPay, ClaimsBelow};
 
 use crate::entries::{Head, Shape, judge_entry};
 use crate::entry_values::{raw_of, value_at};
 use crate::source::BlockReader;
 use crate::uses::{Uses, keep_use, no_uses};
-use px_bytes::{Memory, Order, Ranges, Refusal, Refused};
+use px_bytes::{AllocFailed, Memory, Order, Ranges, Refusal};
 use px_field::{Form, Value, read_whole};
-use px_meaning::{Fields, Role, says_record};
+use px_meaning::{Fields, Role, is_record_in};
 
 // Whether a type is SHORT or LONG.
 fn is_whole_form(form: Form) -> bool
@@ -55,7 +55,7 @@ fn unless_record_at<'a>(
         result ≡ unless_record (record_in form (raw block.now order e))
         (record { kind = Of form; elements = entry_elements block.now order e form }) }
 {
-    if says_record(form, raw_of(block, order, at, head, form)) {
+    if is_record_in(form, raw_of(block, order, at, head, form)) {
         return None;
     }
     Some(value_at(block, order, at, head, form))
@@ -65,7 +65,7 @@ fn unless_record_at<'a>(
 fn field_of<'a>(block: &'a [u8], order: Order, at: u32, shape: Shape) -> Option<Value<'a>>
     requires { IsReadable block.now order at shape.head shape.form }
     ensures { result
-        ≡ value_in block.now order (entry order (part block.now at 12)) shape.role shape.form }
+        ≡ field_value_in block.now order (entry order (part block.now at 12)) shape.role shape.form }
 {
     match shape.role {
         Role::Plain => Some(value_at(block, order, at, shape.head, shape.form)),
@@ -83,11 +83,11 @@ fn keep_any_field<'a>(
     shape: Shape,
 )
     requires claimed { IsReadable source.now.block.now source.now.order at shape.head shape.form }
-    requires room { vec_len list.old < vec_capacity list.old }
+    requires capacity { vec_len list.old < vec_capacity list.old }
     ensures kept { let b = source.now.block.now in let o = source.now.order in
         list.new.items ≡ list.old.items
         ++ option_to_list (option_map (λ v. (shape.head.tag, v))
-        (value_in b o (entry o (part b at 12)) shape.role shape.form)) }
+        (field_value_in b o (entry o (part b at 12)) shape.role shape.form)) }
     ensures len { vec_len list.new ≤ vec_len list.old + 1 }
     ensures capacity { vec_capacity list.new ≡ vec_capacity list.old }
 {
@@ -100,11 +100,11 @@ fn keep_any_field<'a>(
 // Keeps the field of an entry, if it is one and fields are kept. Most are plain.
 fn keep_field<'a>(list: &mut Vec<(u16, Value<'a>)>, source: &BlockReader<'a>, at: u32, shape: Shape)
     requires claimed { IsReadable source.now.block.now source.now.order at shape.head shape.form }
-    requires room { source.now.keeps_fields ≡ true → vec_len list.old < vec_capacity list.old }
+    requires capacity { source.now.keeps_fields ≡ true → vec_len list.old < vec_capacity list.old }
     ensures kept { let b = source.now.block.now in let o = source.now.order in
         list.new.items ≡ list.old.items
         ++ option_to_list (option_map (λ v. (shape.head.tag, v))
-        (if_kept source.now.keeps_fields (value_in b o (entry o (part b at 12)) shape.role shape.form))) }
+        (if_kept source.now.keeps_fields (field_value_in b o (entry o (part b at 12)) shape.role shape.form))) }
     ensures len { vec_len list.new ≤ vec_len list.old + 1 }
     ensures capacity { vec_capacity list.new ≡ vec_capacity list.old }
 {
@@ -132,11 +132,11 @@ fn list_for<'a>(
     memory: &mut Memory,
     keeps_fields: bool,
     count: u16,
-) -> Result<Vec<(u16, Value<'a>)>, Refused>
+) -> Result<Vec<(u16, Value<'a>)>, AllocFailed>
     ensures none { IfOk result (λ list. list.items ≡ []) }
     ensures len { IfOk result (λ list. vec_len list ≡ 0) }
-    ensures room { IfOk result (λ list. keeps_fields ≡ true → count ≤ vec_capacity list) }
-    ensures memory { Lacks result memory.old memory.new }
+    ensures capacity { IfOk result (λ list. keeps_fields ≡ true → count ≤ vec_capacity list) }
+    ensures memory { CountsAllocFailure result memory.old memory.new }
     ensures asked { AsksAtMost (count * field_bytes) memory.old memory.new }
 {
     let mut list = memory.list();
@@ -147,7 +147,10 @@ fn list_for<'a>(
     Ok(list)
 }
 
-// Reads so many entries: judges each, claims its value and keeps its field, if fields are kept.
+// Reads `count` entries from offset `start` on: judges each, claims its value, and keeps its field if fields are
+// kept. `Ok`: the checks of all entries pass, and for each special use (three pointers, the record, four of the
+// thumbnail) the first entry of it is kept. `Content`: the first check that fails. `OutOfMemory`: an allocation
+// failed.
 pub fn read_entries<'a>(
     memory: &mut Memory,
     source: &BlockReader<'a>,
@@ -157,7 +160,7 @@ pub fn read_entries<'a>(
 ) -> Result<Entries<'a>, Refusal>
     requires inside { start + 12 * count ≤ length source.now.block.now }
     requires bounded { length source.now.block.now ≤ limit }
-    requires room { length source.now.block.now ≤ claimed.old.room }
+    requires capacity { length source.now.block.now ≤ claimed.old.capacity }
     ensures judged { let b = source.now.block.now in let o = source.now.order in
         let d = source.now.dir in let es = entries_from b o start count in
         (taken : List Range) → Agrees taken claimed.old.ranges →
@@ -166,10 +169,10 @@ pub fn read_entries<'a>(
         × Agrees (filter_map (placed_range o) es ++ taken) claimed.new.ranges) }
     ensures uses { let b = source.now.block.now in let o = source.now.order in
         IfOk result (λ v. AreUses b o (entries_from b o start count) start v.uses) }
-    ensures memory { LacksBlock result memory.old memory.new }
-    ensures asked { Pays (count * field_bytes) memory.old memory.new claimed.old claimed.new }
-    ensures below { StaysBelow (length source.now.block.now) claimed.old claimed.new }
-    ensures room { claimed.old.room ≤ claimed.new.room }
+    ensures memory { CountsAllocFailureInBlock result memory.old memory.new }
+    ensures asked { ClaimsPay (count * field_bytes) memory.old memory.new claimed.old claimed.new }
+    ensures below { ClaimsBelow (length source.now.block.now) claimed.old claimed.new }
+    ensures capacity { claimed.old.capacity ≤ claimed.new.capacity }
 {
     let mut list = list_for(memory, source.keeps_fields, count)?;
     let mut uses = no_uses();

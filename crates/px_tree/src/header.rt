@@ -34,7 +34,9 @@ fn is_begun(block: &[u8]) -> bool
     begins(block, Order::Most)
 }
 
-// Checks that the block has a header.
+// Checks that a block of at most `LIMIT` bytes has a header. `Ok`: it has eight bytes or more, and begins with `II`
+// or `MM` and 42 in that order. `Content`: the first check that fails: `UnknownKind` at 0 if its first bytes, up to
+// four, don't begin so, or there are none; then `HeaderCut` at its length. `OutOfMemory` never comes.
 pub fn judge_header(block: &[u8]) -> Result<(), Refusal>
     requires { length block.now ≤ limit }
     ensures judged { Judges result (header_checks block.now) (λ _. ⊤) }
@@ -49,7 +51,7 @@ pub fn judge_header(block: &[u8]) -> Result<(), Refusal>
     Ok(())
 }
 
-// The byte order in the header.
+// The byte order in the header of a block that has one: of its first four bytes.
 pub fn order_in(block: &[u8]) -> Order
     requires least { 8 ≤ length block.now }
     requires begun { begins_header block.now ≡ true }

@@ -11,7 +11,7 @@
 //! let orientation = meaning.main.get(0x0112); // Some: SHORT 1
 //! let (tag, value) = meaning.main.at(0); // the fields are in the order of their tags
 //! meaning.thumb.is_none(); // true: no directory follows
-//! fits(&meaning); // true: what is read can be written
+//! is_writable(&meaning); // true: what is read can be written
 //! ```
 #![tactic(auto)]
 
@@ -20,6 +20,7 @@ mod entries;
 mod entry_values;
 pub mod fault_laws;
 mod field_reading;
+mod global;
 mod header;
 mod judging;
 mod links;
@@ -32,9 +33,10 @@ mod thumbnail;
 mod tree;
 mod uses;
 
+pub use global::read_block;
 pub use judging::judge_block_in;
 pub use px_meaning::{
-    Dir, ExifPart, Fields, Meaning, Role, StripRun, Strips, Thumb, fits, laws, magic_of,
+    Dir, ExifPart, Fields, Meaning, Role, StripRun, Strips, Thumb, is_writable, laws, magic_of,
     needs_place, same_meaning, table_len,
 };
-pub use read::{read_block, read_block_in};
+pub use read::read_block_in;

@@ -25,7 +25,8 @@ pub struct Found {
     pub place: u32,
 }
 
-// The pointer to the next directory after the table at an offset.
+// The pointer to the next directory after the table at an offset, or `None` if it is 0. Its own offset is that of the
+// four bytes after the entries.
 pub fn next_link(block: &[u8], order: Order, at: u32, count: u16) -> Option<Link>
     requires bounded { length block.now ≤ limit }
     requires has_table { HasTable block.now order at count }
@@ -52,7 +53,7 @@ fn leads_to(link: Option<Link>, at: u32) -> bool
     }
 }
 
-// Whether one of the pointers leads to an offset.
+// Whether one of the earlier pointers leads to an offset.
 pub fn is_earlier(earlier: &[Option<Link>], at: u32) -> bool
     ensures { result ≡ is_earlier_at (offsets_of earlier.now) at }
 {

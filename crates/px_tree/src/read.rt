@@ -1,17 +1,17 @@
 // Reads a whole block: its header, its directories, the thumbnail's bytes, and the record.
-ghost use Rattle.std.specs.Prelude.{◌≡◌, ◌≤◌, ℕ, length, true, IfOk, IfErr, None, option_map};
+ghost use Rattle.std.specs.Prelude.{◌≡◌, ◌≤◌, length, true, IfOk, IfErr, None, option_map};
 ghost use Rattle.std.specs.List.{AllByRecursion};
 ghost use Rattle.px_bytes.specs.Parts.{limit};
-ghost use Rattle.px_bytes.specs.Checks.{LacksBlock, Judges, first_false};
+ghost use Rattle.px_bytes.specs.Checks.{CountsAllocFailureInBlock, Judges, first_false};
 ghost use Rattle.px_iim.specs.Asking.{iim_request};
 ghost use Rattle.px_meaning.specs.Directory.{entries_at};
 ghost use Rattle.px_meaning.specs.Entry.{IsEntry};
-ghost use Rattle.px_meaning.specs.Fits.{Fits};
+ghost use Rattle.px_meaning.specs.Writable.{IsWritable};
 ghost use Rattle.px_meaning.specs.Says.{meaning, SaysExif};
 ghost use Rattle.px_meaning.specs.calls.Seen.{exif_of, meaning_of};
 ghost use Rattle.px_tree.specs.Checks.{tree_checks};
 ghost use Rattle.px_tree.specs.Refused.{IsRefused};
-ghost use Rattle.px_bytes.specs.Lacking.{AsksAtMost};
+ghost use Rattle.px_bytes.specs.Allocations.{AsksAtMost};
 ghost use Rattle.px_tree.specs.Asking.{exif_request};
 ghost use Rattle.px_tree.specs.calls.ReadTree.{IsReadMain, IsAlone};
 
@@ -25,7 +25,6 @@ use crate::tree::{
 };
 use px_bytes::{Block, Memory, Order, Ranges, Refusal};
 use px_meaning::{Dir, ExifPart, Fields, Meaning};
-use std::alloc::Global;
 
 // The fields of a directory, if the block has it.
 fn fields_in<'a>(directory: Option<Directory<'a>>) -> Option<Fields<'a>>
@@ -62,7 +61,7 @@ fn read_alone<'a>(
     requires passed { first_false (tree_checks block.now order) ≡ None }
     ensures judged { Judges result (tree_checks block.now order)
         (λ m. meaning_of m ≡ meaning block.now order) }
-    ensures memory { LacksBlock result memory.old memory.new }
+    ensures memory { CountsAllocFailureInBlock result memory.old memory.new }
     ensures asked { AsksAtMost (iim_request (length block.now)) memory.old memory.new }
 {
     let main = main_directory_of(main);
@@ -83,10 +82,10 @@ fn read_tree<'a>(memory: &mut Memory, block: &'a [u8], order: Order) -> Result<M
     requires bounded { length block.now ≤ limit }
     ensures judged { Judges result (tree_checks block.now order)
         (λ m. meaning_of m ≡ meaning block.now order) }
-    ensures memory { LacksBlock result memory.old memory.new }
+    ensures memory { CountsAllocFailureInBlock result memory.old memory.new }
     ensures asked { AsksAtMost (exif_request (length block.now)) memory.old memory.new }
 {
-    let mut claimed = Ranges::with_room_in(memory, block.len() as u32)?;
+    let mut claimed = Ranges::with_capacity_in(memory, block.len() as u32)?;
     let source = BlockReader {
         block,
         order,
@@ -120,16 +119,6 @@ fn read_tree<'a>(memory: &mut Memory, block: &'a [u8], order: Order) -> Result<M
     })
 }
 
-/// Like `read_block_in`, with memory of its own.
-pub fn read_block<'a>(alloc: Global, block: Block<'a>) -> Result<Meaning<'a>, Refusal>
-    ensures says { IfOk result (λ m. SaysExif block.entry (meaning_of m)) }
-    ensures fits { IfOk result (λ m. Fits (meaning_of m)) }
-    ensures refused { IfErr result (λ e. (refused : ℕ) × IsRefused block.entry refused e) }
-{
-    let mut memory = Memory::new(alloc);
-    read_block_in(&mut memory, block)
-}
-
 /// The meaning of an Exif block. It doesn't depend on the byte order or the layout. TIFF 6.0 section 2; CIPA
 /// DC-008 4.5 and 4.6.
 ///
@@ -142,10 +131,10 @@ pub fn read_block<'a>(alloc: Global, block: Block<'a>) -> Result<Meaning<'a>, Re
 /// The cost is linear in the block's length. `Content`: the cause and byte offset (at most `LIMIT`) of the
 /// block's first fault; it has no meaning. `OutOfMemory`: an allocation failed.
 pub fn read_block_in<'a>(memory: &mut Memory, block: Block<'a>) -> Result<Meaning<'a>, Refusal>
-    ensures says { IfOk result (λ m. SaysExif block.entry (meaning_of m)) }
-    ensures fits { IfOk result (λ m. Fits (meaning_of m)) }
-    ensures refused { IfErr result (IsRefused block.entry memory.new.refusals) }
-    ensures memory { LacksBlock result memory.old memory.new }
+    ensures means { IfOk result (λ m. SaysExif block.entry (meaning_of m)) }
+    ensures fits { IfOk result (λ m. IsWritable (meaning_of m)) }
+    ensures refused { IfErr result (IsRefused block.entry memory.new.failed_allocations) }
+    ensures memory { CountsAllocFailureInBlock result memory.old memory.new }
     ensures asked { AsksAtMost (exif_request (length block.entry)) memory.old memory.new }
 {
     let bytes = block.bytes();

@@ -1,7 +1,7 @@
 // The record in the main directory, at tag 0x83BB (IPTC-NAA).
 ghost use Rattle.std.specs.Prelude.{◌≡◌, ◌≤◌, length, IfOk, IfErr, option_and_then};
 ghost use Rattle.std.specs.List.{AllByRecursion};
-ghost use Rattle.px_bytes.specs.Checks.{LacksBlock};
+ghost use Rattle.px_bytes.specs.Checks.{CountsAllocFailureInBlock};
 ghost use Rattle.px_bytes.specs.declared.Refusal.TheVariants.{OutOfMemory};
 ghost use Rattle.px_bytes.specs.Parts.{limit};
 ghost use Rattle.px_field.specs.Forms.{form_of};
@@ -11,7 +11,7 @@ ghost use Rattle.px_meaning.specs.Directory.{entries_at};
 ghost use Rattle.px_meaning.specs.Says.{record_at};
 ghost use Rattle.px_meaning.specs.Roles.{record_tag};
 ghost use Rattle.px_tree.specs.calls.Parts.{HasValue, Finds, entry_here};
-ghost use Rattle.px_bytes.specs.Lacking.{AsksAtMost};
+ghost use Rattle.px_bytes.specs.Allocations.{AsksAtMost};
 ghost use Rattle.px_iim.specs.Asking.{iim_request};
 
 use crate::entry_values::raw_of;
@@ -26,7 +26,7 @@ use px_meaning::Dir;
 fn iim_in<'a>(memory: &mut Memory, raw: &'a [u8]) -> Result<Option<Iim<'a>>, Refusal>
     ensures ok { IfOk result (λ r. r ≡ iim_of raw.now) }
     ensures err { IfErr result (λ e. e ≡ OutOfMemory) }
-    ensures memory { LacksBlock result memory.old memory.new }
+    ensures memory { CountsAllocFailureInBlock result memory.old memory.new }
     ensures asked { AsksAtMost (iim_request (length raw.now)) memory.old memory.new }
 {
     match read_iim_in(memory, raw) {
@@ -40,7 +40,7 @@ fn iim_in<'a>(memory: &mut Memory, raw: &'a [u8]) -> Result<Option<Iim<'a>>, Ref
 fn record_of<'a>(memory: &mut Memory, form: Form, raw: &'a [u8]) -> Result<Option<Iim<'a>>, Refusal>
     ensures ok { IfOk result (λ r. r ≡ record_in form raw.now) }
     ensures err { IfErr result (λ e. e ≡ OutOfMemory) }
-    ensures memory { LacksBlock result memory.old memory.new }
+    ensures memory { CountsAllocFailureInBlock result memory.old memory.new }
     ensures asked { AsksAtMost (iim_request (length raw.now)) memory.old memory.new }
 {
     match form {
@@ -61,7 +61,7 @@ fn record_found<'a>(
         IfOk result (λ r. r ≡ option_and_then
         (λ f. record_in f (raw block.now order e)) (form_of e.code)) }
     ensures err { IfErr result (λ e. e ≡ OutOfMemory) }
-    ensures memory { LacksBlock result memory.old memory.new }
+    ensures memory { CountsAllocFailureInBlock result memory.old memory.new }
     ensures asked { AsksAtMost (iim_request (length block.now)) memory.old memory.new }
 {
     match Form::of(found.head.code) {
@@ -73,7 +73,8 @@ fn record_found<'a>(
     }
 }
 
-// The record in the main directory.
+// The record in the main directory: the DataSets at tag `0x83BB`, if the type is BYTE or UNDEFINED and the bytes are
+// a record; otherwise `None`. `OutOfMemory`: an allocation failed. `Content` never comes.
 pub fn read_record<'a>(
     memory: &mut Memory,
     block: &'a [u8],
@@ -86,7 +87,7 @@ pub fn read_record<'a>(
         (entries_at block.now order main.now.at) }
     ensures ok { IfOk result (λ r. r ≡ record_at block.now order main.now.at) }
     ensures err { IfErr result (λ e. e ≡ OutOfMemory) }
-    ensures memory { LacksBlock result memory.old memory.new }
+    ensures memory { CountsAllocFailureInBlock result memory.old memory.new }
     ensures asked { AsksAtMost (iim_request (length block.now)) memory.old memory.new }
 {
     match main.iptc {

@@ -20,7 +20,8 @@ fn first_start(lists: &StripLists) -> u32 {
     number_in(&lists.starts, 0)
 }
 
-// The span of strips inside the block, if no strip starts before the end of the one before. Otherwise None.
+// If there is a result, it is a span inside the block in which all strips lie, and each starts at the end of the one
+// before or after it. That there is one if the strips lie so is not stated.
 pub fn rising_span(lists: &StripLists) -> Option<Span>
     requires bounded { length lists.now.block.now ≤ limit }
     requires same { length lists.now.starts.elements ≡ length lists.now.sizes.elements }

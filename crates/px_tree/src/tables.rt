@@ -2,7 +2,7 @@
 ghost use Rattle.std.specs.Prelude.{◌≡◌, ◌≤◌, ◌+◌, ◌*◌, ◌++◌, List, ◌∷◌, length, true, IfOk};
 ghost use Rattle.px_bytes.specs.Parts.{limit};
 ghost use Rattle.px_bytes.specs.Range.{Range, range, Agrees};
-ghost use Rattle.px_bytes.specs.Checks.{LacksBlock, Judges};
+ghost use Rattle.px_bytes.specs.Checks.{CountsAllocFailureInBlock, Judges};
 ghost use Rattle.px_meaning.specs.Entry.{fields, table_size};
 ghost use Rattle.px_meaning.specs.Directory.{entries_at};
 ghost use Rattle.px_meaning.specs.Footprint.{dir_ranges};
@@ -11,7 +11,7 @@ ghost use Rattle.px_tree.specs.calls.Reading.{HasTable};
 ghost use Rattle.px_tree.specs.calls.Uses.{AreUses};
 ghost use Rattle.px_tree.specs.calls.Linked.{offsets_of};
 ghost use Rattle.px_meaning.specs.Asking.{field_bytes};
-ghost use Rattle.px_tree.specs.calls.Paying.{paid, Pays, StaysBelow};
+ghost use Rattle.px_tree.specs.calls.Paying.{paid, ClaimsPay, ClaimsBelow};
 
 use crate::claiming::claim_range;
 use crate::field_reading::{Entries, read_entries};
@@ -39,17 +39,17 @@ fn open_table(
     link: Link,
 ) -> Result<u16, Refusal>
     requires bounded { length source.now.block.now ≤ limit }
-    requires room { length source.now.block.now ≤ claimed.old.room }
+    requires capacity { length source.now.block.now ≤ claimed.old.capacity }
     ensures judged { (taken : List Range) → Agrees taken claimed.old.ranges →
         Judges result (opening_checks source.now.block.now source.now.order
         (offsets_of earlier.now) taken link.place link.at)
         (λ n. Agrees (range link.at (table_size n) ∷ taken) claimed.new.ranges) }
     ensures there { IfOk result (λ n. HasTable source.now.block.now source.now.order link.at n) }
-    ensures memory { LacksBlock result memory.old memory.new }
+    ensures memory { CountsAllocFailureInBlock result memory.old memory.new }
     ensures table { IfOk result (λ n. memory.new.asked + paid claimed.old + n * field_bytes ≤ memory.old.asked + paid claimed.new) }
-    ensures asked { Pays 0 memory.old memory.new claimed.old claimed.new }
-    ensures below { StaysBelow (length source.now.block.now) claimed.old claimed.new }
-    ensures room { claimed.old.room ≤ claimed.new.room }
+    ensures asked { ClaimsPay 0 memory.old memory.new claimed.old claimed.new }
+    ensures below { ClaimsBelow (length source.now.block.now) claimed.old claimed.new }
+    ensures capacity { claimed.old.capacity ≤ claimed.new.capacity }
 {
     let block = source.block;
     let at = link.at;
@@ -72,7 +72,10 @@ fn open_table(
     Ok(count)
 }
 
-// Reads the directory at a pointer. Without its fields if none are kept.
+// Reads the directory that a pointer leads to, if those at the earlier pointers were read: judges its table and its
+// entries, and claims them and their values. Without its fields if none are kept. `Ok`: all checks pass, and its
+// entries with a special use are kept. `Content`: the first check that fails: `Loop`, `DirectoryOutside`,
+// `EmptyDirectory` or `Overlap` of the table, or one of an entry. `OutOfMemory`: an allocation failed.
 pub fn read_directory<'a>(
     memory: &mut Memory,
     source: &BlockReader<'a>,
@@ -81,7 +84,7 @@ pub fn read_directory<'a>(
     link: Link,
 ) -> Result<Directory<'a>, Refusal>
     requires bounded { length source.now.block.now ≤ limit }
-    requires room { length source.now.block.now ≤ claimed.old.room }
+    requires capacity { length source.now.block.now ≤ claimed.old.capacity }
     ensures judged { let b = source.now.block.now in let o = source.now.order in
         let d = source.now.dir in
         (taken : List Range) → Agrees taken claimed.old.ranges →
@@ -92,10 +95,10 @@ pub fn read_directory<'a>(
         IfOk result (λ t. (t.at ≡ link.at) × HasTable b o t.at t.count) }
     ensures uses { let b = source.now.block.now in let o = source.now.order in
         IfOk result (λ t. AreUses b o (entries_at b o t.at) (t.at + 2) t.uses) }
-    ensures memory { LacksBlock result memory.old memory.new }
-    ensures asked { Pays 0 memory.old memory.new claimed.old claimed.new }
-    ensures below { StaysBelow (length source.now.block.now) claimed.old claimed.new }
-    ensures room { claimed.old.room ≤ claimed.new.room }
+    ensures memory { CountsAllocFailureInBlock result memory.old memory.new }
+    ensures asked { ClaimsPay 0 memory.old memory.new claimed.old claimed.new }
+    ensures below { ClaimsBelow (length source.now.block.now) claimed.old claimed.new }
+    ensures capacity { claimed.old.capacity ≤ claimed.new.capacity }
 {
     let count = open_table(memory, source, claimed, earlier, link)?;
     let entries = read_entries(memory, source, claimed, link.at + 2, count)?;

@@ -6,7 +6,7 @@ ghost use Rattle.std.specs.Prelude.{option_map, option_to_list, ⊤};
 ghost use Rattle.px_bytes.specs.declared.Cause.TheVariants.{Overlap, ThumbnailOutside};
 ghost use Rattle.px_bytes.specs.Parts.{limit, part};
 ghost use Rattle.px_bytes.specs.Range.{Range, range, is_free, Agrees};
-ghost use Rattle.px_bytes.specs.Checks.{ContentOnly, LacksBlock, Judges, check};
+ghost use Rattle.px_bytes.specs.Checks.{ContentOnly, CountsAllocFailureInBlock, Judges, check};
 ghost use Rattle.px_field.specs.Forms.{form_of};
 ghost use Rattle.px_meaning.specs.Thumbnail.{whole_number, numbers, bytes_of, IsInside};
 ghost use Rattle.px_meaning.specs.Footprint.{listed};
@@ -14,10 +14,10 @@ ghost use Rattle.px_meaning.specs.Says.{thumbnail};
 ghost use Rattle.px_meaning.specs.calls.Seen.{thumb_of};
 ghost use Rattle.px_tree.specs.Checks.{end_checks, range_checks, thumb_checks, thumb_checks_at};
 ghost use Rattle.px_tree.specs.calls.Reading.{HasTable};
-ghost use Rattle.px_tree.specs.calls.Parts.{HasNumbers, HaveNumbers, AreEven, entry_here, place_in, pair_check, count_check, pairs_checks};
-ghost use Rattle.px_tree.specs.calls.Parts.{jpeg_of, strips_of, IsReadThumb};
+ghost use Rattle.px_tree.specs.calls.Parts.{HasNumbers, HaveNumbers, HaveSameCount, entry_here, place_in, pair_check, count_check};
+ghost use Rattle.px_tree.specs.calls.Parts.{pairs_checks, jpeg_of, strips_of, IsReadThumb};
 ghost use Rattle.px_meaning.specs.calls.Strips.{ranges_in};
-ghost use Rattle.px_tree.specs.calls.Paying.{Pays, StaysBelow};
+ghost use Rattle.px_tree.specs.calls.Paying.{ClaimsPay, ClaimsBelow};
 
 use crate::claiming::claim_range;
 use crate::entry_values::value_at;
@@ -96,17 +96,17 @@ fn claim(
     extent: Extent,
 ) -> Result<(), Refusal>
     requires bounded { length block.now ≤ limit }
-    requires room { length block.now ≤ claimed.old.room }
+    requires capacity { length block.now ≤ claimed.old.capacity }
     ensures judged { let start = extent.start in let len = extent.len in
         (taken : List Range) → Agrees taken claimed.old.ranges →
         Judges result (check ThumbnailOutside place (nat_le (start + len) (length block.now))
         ∷ check Overlap place (is_free taken (range start len)) ∷ [])
         (λ _. Agrees (range start len ∷ taken) claimed.new.ranges) }
     ensures inside { OnOk result (extent.start + extent.len ≤ length block.now) }
-    ensures memory { LacksBlock result memory.old memory.new }
-    ensures asked { Pays 0 memory.old memory.new claimed.old claimed.new }
-    ensures below { StaysBelow (length block.now) claimed.old claimed.new }
-    ensures room { claimed.old.room ≤ claimed.new.room }
+    ensures memory { CountsAllocFailureInBlock result memory.old memory.new }
+    ensures asked { ClaimsPay 0 memory.old memory.new claimed.old claimed.new }
+    ensures below { ClaimsBelow (length block.now) claimed.old claimed.new }
+    ensures capacity { claimed.old.capacity ≤ claimed.new.capacity }
 {
     let Extent { start, len } = extent;
     if u64::from(start) + u64::from(len) > block.len() as u64 {
@@ -123,17 +123,17 @@ fn claim_jpeg<'a>(
     parts: Uses,
 ) -> Result<Option<&'a [u8]>, Refusal>
     requires bounded { length block.now ≤ limit }
-    requires room { length block.now ≤ claimed.old.room }
+    requires capacity { length block.now ≤ claimed.old.capacity }
     ensures judged { let rs = option_to_list (jpeg_of parts.jpeg_offset parts.jpeg_length) in
         (taken : List Range) → Agrees taken claimed.old.ranges →
         Judges result (range_checks block.now (place_in parts.jpeg_offset) taken rs)
         (λ _. Agrees (rs ++ taken) claimed.new.ranges) }
     ensures part { IfOk result (λ j. option_map
         (λ s. s.now) j ≡ option_map (bytes_of block.now) (jpeg_of parts.jpeg_offset parts.jpeg_length)) }
-    ensures memory { LacksBlock result memory.old memory.new }
-    ensures asked { Pays 0 memory.old memory.new claimed.old claimed.new }
-    ensures below { StaysBelow (length block.now) claimed.old claimed.new }
-    ensures room { claimed.old.room ≤ claimed.new.room }
+    ensures memory { CountsAllocFailureInBlock result memory.old memory.new }
+    ensures asked { ClaimsPay 0 memory.old memory.new claimed.old claimed.new }
+    ensures below { ClaimsBelow (length block.now) claimed.old claimed.new }
+    ensures capacity { claimed.old.capacity ≤ claimed.new.capacity }
 {
     match (parts.jpeg_offset, parts.jpeg_length) {
         (Some(offset), Some(size)) => {
@@ -184,14 +184,14 @@ fn claim_each(
 ) -> Result<(), Refusal>
     requires bounded { length lists.now.block.now ≤ limit }
     requires same { length lists.now.starts.elements ≡ length lists.now.sizes.elements }
-    requires room { length lists.now.block.now ≤ claimed.old.room }
+    requires capacity { length lists.now.block.now ≤ claimed.old.capacity }
     ensures judged { (taken : List Range) → Agrees taken claimed.old.ranges →
         Judges result (range_checks lists.now.block.now place taken (ranges_in lists.now)) (λ _. ⊤) }
     ensures inside { OnOk result (AllByRecursion (IsInside lists.now.block.now) (ranges_in lists.now)) }
-    ensures memory { LacksBlock result memory.old memory.new }
-    ensures asked { Pays 0 memory.old memory.new claimed.old claimed.new }
-    ensures below { StaysBelow (length lists.now.block.now) claimed.old claimed.new }
-    ensures room { claimed.old.room ≤ claimed.new.room }
+    ensures memory { CountsAllocFailureInBlock result memory.old memory.new }
+    ensures asked { ClaimsPay 0 memory.old memory.new claimed.old claimed.new }
+    ensures below { ClaimsBelow (length lists.now.block.now) claimed.old claimed.new }
+    ensures capacity { claimed.old.capacity ≤ claimed.new.capacity }
 {
     for i in 0..lists.starts.count() {
         let extent = Extent {
@@ -213,14 +213,14 @@ fn claim_strips(
 ) -> Result<(), Refusal>
     requires bounded { length lists.now.block.now ≤ limit }
     requires same { length lists.now.starts.elements ≡ length lists.now.sizes.elements }
-    requires room { length lists.now.block.now ≤ claimed.old.room }
+    requires capacity { length lists.now.block.now ≤ claimed.old.capacity }
     ensures judged { (taken : List Range) → Agrees taken claimed.old.ranges →
         Judges result (range_checks lists.now.block.now place taken (ranges_in lists.now)) (λ _. ⊤) }
     ensures inside { OnOk result (AllByRecursion (IsInside lists.now.block.now) (ranges_in lists.now)) }
-    ensures memory { LacksBlock result memory.old memory.new }
-    ensures asked { Pays 0 memory.old memory.new claimed.old claimed.new }
-    ensures below { StaysBelow (length lists.now.block.now) claimed.old claimed.new }
-    ensures room { claimed.old.room ≤ claimed.new.room }
+    ensures memory { CountsAllocFailureInBlock result memory.old memory.new }
+    ensures asked { ClaimsPay 0 memory.old memory.new claimed.old claimed.new }
+    ensures below { ClaimsBelow (length lists.now.block.now) claimed.old claimed.new }
+    ensures capacity { claimed.old.capacity ≤ claimed.new.capacity }
 {
     let longs = Kind::Of(Form::Long);
     if lists.starts.kind() == longs && lists.sizes.kind() == longs {
@@ -239,14 +239,14 @@ fn judge_strips(
 ) -> Result<(), Refusal>
     requires bounded { length lists.now.block.now ≤ limit }
     requires same { length lists.now.starts.elements ≡ length lists.now.sizes.elements }
-    requires room { length lists.now.block.now ≤ claimed.old.room }
+    requires capacity { length lists.now.block.now ≤ claimed.old.capacity }
     ensures judged { (taken : List Range) → Agrees taken claimed.old.ranges →
         Judges result (range_checks lists.now.block.now place taken (ranges_in lists.now)) (λ _. ⊤) }
     ensures inside { OnOk result (AllByRecursion (IsInside lists.now.block.now) (ranges_in lists.now)) }
-    ensures memory { LacksBlock result memory.old memory.new }
-    ensures asked { Pays 0 memory.old memory.new claimed.old claimed.new }
-    ensures below { StaysBelow (length lists.now.block.now) claimed.old claimed.new }
-    ensures room { claimed.old.room ≤ claimed.new.room }
+    ensures memory { CountsAllocFailureInBlock result memory.old memory.new }
+    ensures asked { ClaimsPay 0 memory.old memory.new claimed.old claimed.new }
+    ensures below { ClaimsBelow (length lists.now.block.now) claimed.old claimed.new }
+    ensures capacity { claimed.old.capacity ≤ claimed.new.capacity }
 {
     if let Some(span) = rising_span(lists) {
         if claimed.are_free(span.start, span.end) {
@@ -266,16 +266,16 @@ fn read_strips<'a>(
 ) -> Result<Option<Strips<'a>>, Refusal>
     requires bounded { length block.now ≤ limit }
     requires numbers { HaveNumbers block.now order parts.strip_offsets × HaveNumbers block.now order parts.strip_lengths }
-    requires even { AreEven parts.strip_offsets parts.strip_lengths }
-    requires room { length block.now ≤ claimed.old.room }
+    requires even { HaveSameCount parts.strip_offsets parts.strip_lengths }
+    requires capacity { length block.now ≤ claimed.old.capacity }
     ensures judged { let rs = strips_of block.now order parts.strip_offsets parts.strip_lengths in
         (taken : List Range) → Agrees taken claimed.old.ranges →
         Judges result (range_checks block.now (place_in parts.strip_offsets) taken (listed rs))
         (λ s. s ≡ option_map (map (bytes_of block.now)) rs) }
-    ensures memory { LacksBlock result memory.old memory.new }
-    ensures asked { Pays 0 memory.old memory.new claimed.old claimed.new }
-    ensures below { StaysBelow (length block.now) claimed.old claimed.new }
-    ensures room { claimed.old.room ≤ claimed.new.room }
+    ensures memory { CountsAllocFailureInBlock result memory.old memory.new }
+    ensures asked { ClaimsPay 0 memory.old memory.new claimed.old claimed.new }
+    ensures below { ClaimsBelow (length block.now) claimed.old claimed.new }
+    ensures capacity { claimed.old.capacity ≤ claimed.new.capacity }
 {
     match (parts.strip_offsets, parts.strip_lengths) {
         (Some(offsets), Some(lengths)) => {
@@ -291,7 +291,9 @@ fn read_strips<'a>(
     }
 }
 
-// The thumbnail directory at an offset, after its entries were read, with the thumbnail's bytes.
+// The thumbnail directory at an offset, after its entries were read, with the thumbnail's bytes, which it claims.
+// `Ok`: all checks of the thumbnail pass, and this is the thumbnail that the definitions give. `Content`: the first
+// check that fails. `OutOfMemory`: an allocation failed.
 pub fn read_thumbnail<'a>(
     memory: &mut Memory,
     block: &'a [u8],
@@ -301,14 +303,14 @@ pub fn read_thumbnail<'a>(
 ) -> Result<Thumb<'a>, Refusal>
     requires bounded { length block.now ≤ limit }
     requires read { IsReadThumb block.now order directory }
-    requires room { length block.now ≤ claimed.old.room }
+    requires capacity { length block.now ≤ claimed.old.capacity }
     ensures judged { (taken : List Range) → Agrees taken claimed.old.ranges →
         Judges result (thumb_checks block.now order taken directory.entry.at)
         (λ t. thumb_of t ≡ thumbnail block.now order directory.entry.at) }
-    ensures memory { LacksBlock result memory.old memory.new }
-    ensures asked { Pays 0 memory.old memory.new claimed.old claimed.new }
-    ensures below { StaysBelow (length block.now) claimed.old claimed.new }
-    ensures room { claimed.old.room ≤ claimed.new.room }
+    ensures memory { CountsAllocFailureInBlock result memory.old memory.new }
+    ensures asked { ClaimsPay 0 memory.old memory.new claimed.old claimed.new }
+    ensures below { ClaimsBelow (length block.now) claimed.old claimed.new }
+    ensures capacity { claimed.old.capacity ≤ claimed.new.capacity }
 {
     let Directory {
         fields,
@@ -327,7 +329,8 @@ pub fn read_thumbnail<'a>(
     })
 }
 
-// The thumbnail directory with the thumbnail's bytes, if the block has one.
+// The thumbnail directory with the thumbnail's bytes, if the block has one, as `read_thumbnail` reads it. Without
+// one, `None`, and there is no check. `Content`: the first check that fails. `OutOfMemory`: an allocation failed.
 pub fn read_thumb<'a>(
     memory: &mut Memory,
     block: &'a [u8],
@@ -337,15 +340,15 @@ pub fn read_thumb<'a>(
 ) -> Result<Option<Thumb<'a>>, Refusal>
     requires bounded { length block.now ≤ limit }
     requires read { IfSome directory (IsReadThumb block.now order) }
-    requires room { length block.now ≤ claimed.old.room }
+    requires capacity { length block.now ≤ claimed.old.capacity }
     ensures judged { let a = option_map (λ t. t.at) directory.entry in
         (taken : List Range) → Agrees taken claimed.old.ranges →
         Judges result (thumb_checks_at block.now order taken a)
         (λ t. option_map thumb_of t ≡ option_map (thumbnail block.now order) a) }
-    ensures memory { LacksBlock result memory.old memory.new }
-    ensures asked { Pays 0 memory.old memory.new claimed.old claimed.new }
-    ensures below { StaysBelow (length block.now) claimed.old claimed.new }
-    ensures room { claimed.old.room ≤ claimed.new.room }
+    ensures memory { CountsAllocFailureInBlock result memory.old memory.new }
+    ensures asked { ClaimsPay 0 memory.old memory.new claimed.old claimed.new }
+    ensures below { ClaimsBelow (length block.now) claimed.old claimed.new }
+    ensures capacity { claimed.old.capacity ≤ claimed.new.capacity }
 {
     match directory {
         None => Ok(None),

@@ -3,7 +3,7 @@
 ghost use Rattle.std.specs.Prelude.{◌≡◌, ◌≤◌, ◌++◌, List, [], ◌∷◌, length, option_map, option_and_then, Some, None, true, IfSome, IfOk};
 ghost use Rattle.px_bytes.specs.Parts.{limit};
 ghost use Rattle.px_bytes.specs.Range.{Range, Agrees};
-ghost use Rattle.px_bytes.specs.Checks.{LacksBlock, Judges};
+ghost use Rattle.px_bytes.specs.Checks.{CountsAllocFailureInBlock, Judges};
 ghost use Rattle.px_meaning.specs.declared.Dir.TheVariants.{Main};
 ghost use Rattle.px_meaning.specs.Entry.{next, table};
 ghost use Rattle.px_meaning.specs.Directory.{main_at, dir_at, fields_at, unless_zero};
@@ -13,7 +13,7 @@ ghost use Rattle.px_tree.specs.calls.Reading.{HasTable};
 ghost use Rattle.px_tree.specs.calls.Uses.{link_as};
 ghost use Rattle.px_tree.specs.calls.Linked.{Names, IsRead, offsets_of, next_place};
 ghost use Rattle.px_tree.specs.calls.ReadTree.{main_checks, main_claimed, others, IsReadMain, SeenTree};
-ghost use Rattle.px_tree.specs.calls.Paying.{Pays, StaysBelow};
+ghost use Rattle.px_tree.specs.calls.Paying.{ClaimsPay, ClaimsBelow};
 
 use crate::claiming::claim_range;
 use crate::links::{Found, Link, next_link};
@@ -52,7 +52,7 @@ fn read_linked<'a>(
 ) -> Result<Option<Directory<'a>>, Refusal>
     requires bounded { length source.now.block.now ≤ limit }
     requires named { Names source.now.block.now source.now.order source.now.dir link }
-    requires room { length source.now.block.now ≤ claimed.old.room }
+    requires capacity { length source.now.block.now ≤ claimed.old.capacity }
     ensures judged { let b = source.now.block.now in let o = source.now.order in
         let d = source.now.dir in
         (taken : List Range) → Agrees taken claimed.old.ranges →
@@ -61,10 +61,10 @@ fn read_linked<'a>(
         × Agrees (ranges_at b o d ++ taken) claimed.new.ranges) }
     ensures there { IfOk result
         (λ t. IsRead source.now.block.now source.now.order source.now.dir t) }
-    ensures memory { LacksBlock result memory.old memory.new }
-    ensures asked { Pays 0 memory.old memory.new claimed.old claimed.new }
-    ensures below { StaysBelow (length source.now.block.now) claimed.old claimed.new }
-    ensures room { claimed.old.room ≤ claimed.new.room }
+    ensures memory { CountsAllocFailureInBlock result memory.old memory.new }
+    ensures asked { ClaimsPay 0 memory.old memory.new claimed.old claimed.new }
+    ensures below { ClaimsBelow (length source.now.block.now) claimed.old claimed.new }
+    ensures capacity { claimed.old.capacity ≤ claimed.new.capacity }
 {
     match link {
         None => Ok(None),
@@ -140,7 +140,9 @@ pub fn main_directory_of<'a>(main: Directory<'a>) -> MainDirectory<'a>
     }
 }
 
-// Claims the header of a block, and reads the main directory.
+// Claims the header of a block, and reads the main directory. `Ok`: all checks of both pass; its entries with a
+// special use are kept, and its fields if fields are kept. `Content`: the first check that fails. `OutOfMemory`: an
+// allocation failed.
 pub fn read_main<'a>(
     memory: &mut Memory,
     source: &BlockReader<'a>,
@@ -150,21 +152,22 @@ pub fn read_main<'a>(
     requires bounded { length source.now.block.now ≤ limit }
     requires main { source.now.dir ≡ Main }
     requires none { claimed.old.ranges ≡ [] }
-    requires room { length source.now.block.now ≤ claimed.old.room }
+    requires capacity { length source.now.block.now ≤ claimed.old.capacity }
     ensures judged { let b = source.now.block.now in let o = source.now.order in
         Judges result (main_checks b o)
         (λ t. IsReadMain b o source.now.keeps_fields t × Agrees (main_claimed b o) claimed.new.ranges) }
-    ensures memory { LacksBlock result memory.old memory.new }
-    ensures asked { Pays 0 memory.old memory.new claimed.old claimed.new }
-    ensures below { StaysBelow (length source.now.block.now) claimed.old claimed.new }
-    ensures room { claimed.old.room ≤ claimed.new.room }
+    ensures memory { CountsAllocFailureInBlock result memory.old memory.new }
+    ensures asked { ClaimsPay 0 memory.old memory.new claimed.old claimed.new }
+    ensures below { ClaimsBelow (length source.now.block.now) claimed.old claimed.new }
+    ensures capacity { claimed.old.capacity ≤ claimed.new.capacity }
 {
     claim_range(memory, claimed, 0, 0, 8)?;
     let link = link_to_main(source.block, source.order);
     read_directory(memory, source, claimed, &[], link)
 }
 
-// Whether no pointer of the main directory leads to another directory.
+// True only if no pointer of the main directory leads to another directory: it has no entry kept as the pointer to
+// the Exif or the GPS directory, and its next offset is 0. That such a directory gives true is not stated.
 pub fn is_alone(block: &[u8], order: Order, main: &Directory) -> bool
     requires bounded { length block.now ≤ limit }
     requires has_table { HasTable block.now order main.now.at main.now.count }
@@ -182,8 +185,10 @@ pub fn is_alone(block: &[u8], order: Order, main: &Directory) -> bool
     }
 }
 
-// Reads the directories after the main directory. A caller that needs only some of them then moves only these.
-// The fields of the thumbnail directory are always kept: they are part of the thumbnail, which is read later.
+// Reads the directories after the main directory: Exif, Interoperability, GPS and thumbnail. A caller that needs only
+// some of them then moves only these. The fields of the thumbnail directory are always kept: they are part of the
+// thumbnail, which is read later. `Ok`: all their checks pass. `Content`: the first check that fails. `OutOfMemory`:
+// an allocation failed.
 #[inline(always)]
 pub fn read_others<'a>(
     memory: &mut Memory,
@@ -194,15 +199,15 @@ pub fn read_others<'a>(
     requires least { 8 ≤ length source.now.block.now }
     requires bounded { length source.now.block.now ≤ limit }
     requires read { IsReadMain source.now.block.now source.now.order source.now.keeps_fields main }
-    requires room { length source.now.block.now ≤ claimed.old.room }
+    requires capacity { length source.now.block.now ≤ claimed.old.capacity }
     ensures judged { let b = source.now.block.now in let o = source.now.order in
         (taken : List Range) → Agrees taken claimed.old.ranges →
         Judges result (dirs_checks b o (main_at b o ∷ []) taken others)
         (λ t. SeenTree b o source.now.keeps_fields t × Agrees (dirs_claimed b o taken others) claimed.new.ranges) }
-    ensures memory { LacksBlock result memory.old memory.new }
-    ensures asked { Pays 0 memory.old memory.new claimed.old claimed.new }
-    ensures below { StaysBelow (length source.now.block.now) claimed.old claimed.new }
-    ensures room { claimed.old.room ≤ claimed.new.room }
+    ensures memory { CountsAllocFailureInBlock result memory.old memory.new }
+    ensures asked { ClaimsPay 0 memory.old memory.new claimed.old claimed.new }
+    ensures below { ClaimsBelow (length source.now.block.now) claimed.old claimed.new }
+    ensures capacity { claimed.old.capacity ≤ claimed.new.capacity }
 {
     let block = source.block;
     let order = source.order;

@@ -25,7 +25,7 @@ pub struct Uses {
     pub strip_lengths: Option<Found>,
 }
 
-// No entries.
+// No entry is kept for any of the eight special uses: three pointers, the record, and four of the thumbnail.
 pub fn no_uses() -> Uses
     ensures { NoUses result }
 {
@@ -48,7 +48,9 @@ fn is_one_long(head: Head) -> bool
     head.code == 4 && head.count == 1
 }
 
-// Keeps the entry at an offset, if its tag has a special use.
+// Keeps the entry at an offset for the special use of its tag, in place of what was kept for that: as the pointer to
+// the Exif, GPS or Interoperability directory, if it is a LONG with a count of 1; as the record; or as the offset or
+// length of the JPEG or of the strips. What is kept for the other uses stays; with no such tag, all does.
 #[tactic(auto, using(crate::proofs::reading::NoUse::keeps_none))]
 pub fn keep_use(uses: &mut Uses, shape: Shape, place: u32)
     requires { shape.is_common ≡ true → HasNoUse shape.head.tag }
@@ -90,7 +92,7 @@ fn keep_any(uses: &mut Uses, head: Head, place: u32)
     }
 }
 
-// The pointer in an entry.
+// The pointer in an entry: the offset that it leads to, and where the entry is. `None` without an entry.
 pub fn link_of(found: Option<Found>) -> Option<Link>
     ensures { result ≡ option_map link_as found }
 {

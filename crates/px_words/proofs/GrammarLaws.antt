@@ -48,15 +48,15 @@ pub about_local : (old new : Command) (about : Bor Text) → out-Command new ≡
 about_local old new about is = ap (λ (f : Command-F Command). f.has_globals) is
 
 -- the settings of the command, each made of the one before
-pub bare_app : (made versioned told helped unnamed single needs named : Command) (version about help : Bor Text)
+pub bare_app : (made versioned reported helped unnamed single needs named : Command) (version about help : Bor Text)
     → app_of made ≡ new_app (codes "exifnorm") → out-Command versioned ≡ record (out-Command made) { version = Some version }
-    → out-Command told ≡ record (out-Command versioned) { about = Some about }
-    → out-Command helped ≡ record (out-Command told) { after_help = Some help }
+    → out-Command reported ≡ record (out-Command versioned) { about = Some about }
+    → out-Command helped ≡ record (out-Command reported) { after_help = Some help }
     → out-Command unnamed ≡ record (out-Command helped) { no_binary_name = true }
     → out-Command single ≡ record (out-Command unnamed) { disable_help_subcommand = true }
     → out-Command needs ≡ record (out-Command single) { subcommand_required = true }
     → out-Command named ≡ record (out-Command needs) { bin_name = (out-Command named).bin_name } → app_of named ≡ bare
-bare_app made versioned told helped unnamed single needs named version about help new h1 h2 h3 h4 h5 h6 h7 =
+bare_app made versioned reported helped unnamed single needs named version about help new h1 h2 h3 h4 h5 h6 h7 =
     let one = h2 ∙ ap (λ (f : Command-F Command). record f { about = Some about }) h1 in
     let two = h3 ∙ ap (λ (f : Command-F Command). record f { after_help = Some help }) one in
     let three = h4 ∙ ap (λ (f : Command-F Command). record f { no_binary_name = true }) two in

@@ -7,7 +7,7 @@ use Rattle.clap.specs.declared.error.ErrorKind.TheVariants as kind
 use Rattle.px_words.specs.declared.words.Words.{Words}
 use Rattle.px_words.specs.declared.words.Words.TheVariants as words
 use Rattle.px_words.specs.Words.{Asks, AsksFiles, IsFor, ShowsPlain}
-use Rattle.px_words.specs.calls.Met.{AsksMatched, TellsKind, IsTold}
+use Rattle.px_words.specs.calls.Met.{AsksMatched, IsTextForKind, IsText}
 
 -- a match has no text except for one name for two files
 pub of_match : (kinds : Kinds) (met : Option (Text × List Row)) (w : Words) → kinds ≡ [] → AsksFiles met w → IsFor kinds w
@@ -22,29 +22,29 @@ of_match kinds met words.Unread none h = tt
 
 -- an error has a text of its kind, which is among the possible kinds, or means out of memory
 pub of_error : (kinds : Kinds) (e : Error) (w : Words) → HasKind kinds e → (kind_of e ≡ kind.OutOfMemory → w ≡ words.Unread)
-    → IsTold w → TellsKind (kind_of e) w → IsFor kinds w
-of_error kinds e words.Filter h memory told k = tt
-of_error kinds e (words.One what file) h memory told k = absurd told
-of_error kinds e (words.Normalise file out) h memory told k = absurd told
-of_error kinds e (words.Compare first second) h memory told k = absurd told
-of_error kinds e words.NoMemory h memory told k = tt
-of_error kinds e words.Unread h memory told k = tt
-of_error kinds e (words.Help text) (inl lacking) memory told k = let bad : words.Help text ≡ words.Unread = memory lacking in absurd (cc)
-of_error kinds e (words.Help text) (inr among) memory told k = (kind_of e, among, k)
-of_error kinds e (words.Refused text) (inl lacking) memory told k =
+    → IsText w → IsTextForKind (kind_of e) w → IsFor kinds w
+of_error kinds e words.Filter h memory reported k = tt
+of_error kinds e (words.One what file) h memory reported k = absurd reported
+of_error kinds e (words.Normalise file out) h memory reported k = absurd reported
+of_error kinds e (words.Compare first second) h memory reported k = absurd reported
+of_error kinds e words.NoMemory h memory reported k = tt
+of_error kinds e words.Unread h memory reported k = tt
+of_error kinds e (words.Help text) (inl lacking) memory reported k = let bad : words.Help text ≡ words.Unread = memory lacking in absurd (cc)
+of_error kinds e (words.Help text) (inr among) memory reported k = (kind_of e, among, k)
+of_error kinds e (words.Refused text) (inl lacking) memory reported k =
     let bad : words.Refused text ≡ words.Unread = memory lacking in absurd (cc)
-of_error kinds e (words.Refused text) (inr among) memory told k = inr (kind_of e, among, k)
+of_error kinds e (words.Refused text) (inr among) memory reported k = inr (kind_of e, among, k)
 
 -- a text names no file
-pub of_told : (met : Option (Text × List Row)) (w : Words) → IsTold w → Asks met w
-of_told met words.Filter told = tt
-of_told met (words.One what file) told = absurd told
-of_told met (words.Normalise file out) told = absurd told
-of_told met (words.Compare first second) told = absurd told
-of_told met (words.Help text) told = tt
-of_told met (words.Refused text) told = tt
-of_told met words.NoMemory told = tt
-of_told met words.Unread told = tt
+pub of_text : (met : Option (Text × List Row)) (w : Words) → IsText w → Asks met w
+of_text met words.Filter reported = tt
+of_text met (words.One what file) reported = absurd reported
+of_text met (words.Normalise file out) reported = absurd reported
+of_text met (words.Compare first second) reported = absurd reported
+of_text met (words.Help text) reported = tt
+of_text met (words.Refused text) reported = tt
+of_text met words.NoMemory reported = tt
+of_text met words.Unread reported = tt
 
 -- what a match gives
 pub matched_files : (met : Option (Text × List Row)) (w : Words) → AsksMatched met w → AsksFiles met w

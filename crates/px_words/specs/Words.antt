@@ -5,7 +5,7 @@ use Rattle.clap.specs.Words.{App, Row, Rule, Shape, Text, fault_of, first_of, ne
 use Rattle.clap.specs.Kinds.{IsAmong, Kinds}
 use Rattle.clap.specs.declared.error.ErrorKind.{ErrorKind}
 use Rattle.clap.specs.declared.error.ErrorKind.TheVariants as kind
-use Rattle.px_bytes.specs.Lacking.{Taken}
+use Rattle.px_bytes.specs.Allocations.{MemoryCounts}
 use Rattle.px_words.specs.declared.words.One.{One}
 use Rattle.px_words.specs.declared.words.One.TheVariants as one
 use Rattle.px_words.specs.declared.words.Words.{Words}
@@ -95,7 +95,7 @@ TakesCommands = (file other : Text)
     × AreTaken (codes "captions" ∷ codes "--" ∷ file ∷ []) × AreTaken (codes "normalise" ∷ codes "--" ∷ file ∷ other ∷ [])
     × AreTaken (codes "compare" ∷ codes "--" ∷ file ∷ other ∷ [])
 
--- the match of such arguments has the files that they name
+-- the match of such arguments, without `--`, has the files that they name
 abbrev pub MatchesFiles : Type 0
 MatchesFiles = (file other : Text)
     → (IsName file → Has (subcommand_of exifnorm (codes "show" ∷ file ∷ [])) (codes "show") (codes "FILE") file
@@ -147,10 +147,10 @@ AskedBy lacks ws asked = (ws ≡ [] ↔ asked ≡ words.Filter) × Asks (subcomm
 
 -- running out of memory counts one failed allocation, and no other result counts any: `old` and `new` are the counts before and
 -- after the call
-abbrev pub LacksWordsBy : Words → ℕ → ℕ → Type 0
-LacksWordsBy words.NoMemory old new = new ≡ old + 1
-LacksWordsBy _ old new = new ≡ old
+abbrev pub CountsAllocFailureInWordsBy : Words → ℕ → ℕ → Type 0
+CountsAllocFailureInWordsBy words.NoMemory old new = new ≡ old + 1
+CountsAllocFailureInWordsBy _ old new = new ≡ old
 
 -- the same of memory
-abbrev pub LacksWords : Words → Taken → Taken → Type 0
-LacksWords r old new = LacksWordsBy r old.refusals new.refusals
+abbrev pub CountsAllocFailureInWords : Words → MemoryCounts → MemoryCounts → Type 0
+CountsAllocFailureInWords r old new = CountsAllocFailureInWordsBy r old.failed_allocations new.failed_allocations

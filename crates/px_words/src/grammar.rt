@@ -151,7 +151,9 @@ fn with_compare<'a>(
     joined(command, of_two(alloc, "compare", about, "FIRST", "SECOND"))
 }
 
-/// The whole command, for the arguments after the program's name.
+/// The whole command, for the arguments after the program's name: `show`, `check` and `captions` with one FILE,
+/// `normalise` with FILE and OUT, and `compare` with FIRST and SECOND, all required, and one of these subcommands.
+/// `Err`: an allocation failed.
 pub fn command<'a>(alloc: Global, version: &'a str) -> Result<Command<'a>, AllocError>
     ensures { IfOk result (λ c. app_of c ≡ exifnorm) }
 {

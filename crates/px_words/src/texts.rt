@@ -1,9 +1,9 @@
 // Texts for a terminal: without control characters, except line feeds.
 ghost use Rattle.std.specs.Prelude.{IfOk, string_bytes};
 ghost use Rattle.px_words.specs.Words.{IsPlain, IsPrintable};
-ghost use Rattle.px_bytes.specs.Lacking.{Lacks};
+ghost use Rattle.px_bytes.specs.Allocations.{CountsAllocFailure};
 
-use px_bytes::{Memory, Refused};
+use px_bytes::{AllocFailed, Memory};
 use std::fmt;
 use std::marker::Model;
 
@@ -40,7 +40,7 @@ fn printable(c: char) -> char
 }
 
 // Appends a character.
-fn push(memory: &mut Memory, text: &mut String, c: char) -> Result<(), Refused>
+fn push(memory: &mut Memory, text: &mut String, c: char) -> Result<(), AllocFailed>
     requires { IsPlain (string_bytes text.old) }
     ensures { IsPlain (string_bytes text.new) }
 {
@@ -49,7 +49,7 @@ fn push(memory: &mut Memory, text: &mut String, c: char) -> Result<(), Refused>
 }
 
 // Appends the characters of `more`.
-fn push_all(memory: &mut Memory, text: &mut String, more: &str) -> Result<(), Refused>
+fn push_all(memory: &mut Memory, text: &mut String, more: &str) -> Result<(), AllocFailed>
     requires { IsPlain (string_bytes text.old) }
     ensures { IsPlain (string_bytes text.new) }
 {
@@ -68,10 +68,11 @@ impl Plain {
         }
     }
 
-    /// The text, or `Err` if an allocation failed.
-    pub fn finish(self, memory: &mut Memory) -> Result<String, Refused>
+    /// The text: line feeds, and characters that are no control characters. `Err`: an allocation failed, which is
+    /// counted.
+    pub fn finish(self, memory: &mut Memory) -> Result<String, AllocFailed>
         ensures plain { IfOk result (λ text. IsPlain (string_bytes text)) }
-        ensures memory { Lacks result memory.old memory.new }
+        ensures memory { CountsAllocFailure result memory.old memory.new }
     {
         let Plain { memory: own, text } = self;
         memory.join(&own)?;

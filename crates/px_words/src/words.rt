@@ -2,16 +2,16 @@
 ghost use Rattle.std.specs.Prelude.{◌≡◌, ◌↔◌, ◌⊎◌, Some, [], map, codes, IfOk};
 ghost use Rattle.clap.specs.Words.{fault_of, first_of, found_of, kind_of, rows_of, subcommand_of, subcommand_rows_of};
 ghost use Rattle.px_words.specs.declared.words.Words.TheVariants as words_of;
-ghost use Rattle.px_words.specs.Words.{exifnorm, name_of, Asks, AsksFiles, AreTaken, IsFor, MatchesFiles, TakesCommands, LacksWords};
-ghost use Rattle.px_words.specs.Words.{IsPlain, ShowsPlain};
-ghost use Rattle.px_words.specs.calls.Met.{TellsKind, IsTold, AsksIn, IsMet, IsThere};
-ghost use Rattle.px_bytes.specs.Lacking.{Lacks};
+ghost use Rattle.px_words.specs.Words.{exifnorm, name_of, Asks, AsksFiles, AreTaken, IsFor, MatchesFiles, TakesCommands};
+ghost use Rattle.px_words.specs.Words.{CountsAllocFailureInWords, IsPlain, ShowsPlain};
+ghost use Rattle.px_words.specs.calls.Met.{IsTextForKind, IsText, AsksIn, IsMet, IsThere};
+ghost use Rattle.px_bytes.specs.Allocations.{CountsAllocFailure};
 
 use crate::parser::Parser;
 use crate::texts::Plain;
 use clap::error::ErrorKind;
 use clap::{ArgMatches, Error};
-use px_bytes::{Memory, Refused};
+use px_bytes::{AllocFailed, Memory};
 use std::convert::AsStr;
 use std::fmt::Write;
 use std::marker::Model;
@@ -32,9 +32,9 @@ impl Model for Text {
 
 impl Text {
     // A copy of a text. `Err`: an allocation failed.
-    fn of(memory: &mut Memory, text: &str) -> Result<Text, Refused>
+    fn of(memory: &mut Memory, text: &str) -> Result<Text, AllocFailed>
         ensures text { IfOk result (λ t. t ≡ text.now) }
-        ensures memory { Lacks result memory.old memory.new }
+        ensures memory { CountsAllocFailure result memory.old memory.new }
     {
         let mut copy = memory.text();
         memory.push_str(&mut copy, text)?;
@@ -85,10 +85,10 @@ pub enum Words {
 pub const OUT_IS_FILE: &str = "refused words: OUT is FILE";
 
 // The argument at an id that the subcommand's match contains. `Err`: an allocation failed.
-fn word_at(memory: &mut Memory, inner: &ArgMatches<'_>, id: &str) -> Result<Text, Refused>
+fn word_at(memory: &mut Memory, inner: &ArgMatches<'_>, id: &str) -> Result<Text, AllocFailed>
     requires { IsThere id.now (rows_of (found_of inner.now)) }
     ensures word { IfOk result (λ t. first_of id.now (rows_of (found_of inner.now)) ≡ Some t) }
-    ensures memory { Lacks result memory.old memory.new }
+    ensures memory { CountsAllocFailure result memory.old memory.new }
 {
     let Some(word) = inner.get_str(id) else {
         unreachable!()
@@ -99,7 +99,7 @@ fn word_at(memory: &mut Memory, inner: &ArgMatches<'_>, id: &str) -> Result<Text
 // A refusal with this line as its text.
 fn refuse(memory: &mut Memory, line: &str) -> Words
     ensures line { (result ≡ words_of.NoMemory) ⊎ (result ≡ words_of.Refused line.now) }
-    ensures memory { LacksWords result memory.old memory.new }
+    ensures memory { CountsAllocFailureInWords result memory.old memory.new }
 {
     match Text::of(memory, line) {
         Ok(text) => Words::Refused(text),
@@ -111,7 +111,7 @@ fn refuse(memory: &mut Memory, line: &str) -> Words
 fn read_one(memory: &mut Memory, what: One, inner: &ArgMatches<'_>) -> Words
     requires { IsThere (codes "FILE") (rows_of (found_of inner.now)) }
     ensures asked { AsksIn (Some (name_of what, rows_of (found_of inner.now))) result }
-    ensures memory { LacksWords result memory.old memory.new }
+    ensures memory { CountsAllocFailureInWords result memory.old memory.new }
 {
     let Ok(file) = word_at(memory, inner, "FILE") else {
         return Words::NoMemory;
@@ -124,7 +124,7 @@ fn read_normalise(memory: &mut Memory, inner: &ArgMatches<'_>) -> Words
     requires file { IsThere (codes "FILE") (rows_of (found_of inner.now)) }
     requires out { IsThere (codes "OUT") (rows_of (found_of inner.now)) }
     ensures asked { AsksIn (Some (codes "normalise", rows_of (found_of inner.now))) result }
-    ensures memory { LacksWords result memory.old memory.new }
+    ensures memory { CountsAllocFailureInWords result memory.old memory.new }
 {
     let Ok(file) = word_at(memory, inner, "FILE") else {
         return Words::NoMemory;
@@ -143,7 +143,7 @@ fn read_compare(memory: &mut Memory, inner: &ArgMatches<'_>) -> Words
     requires first { IsThere (codes "FIRST") (rows_of (found_of inner.now)) }
     requires second { IsThere (codes "SECOND") (rows_of (found_of inner.now)) }
     ensures asked { AsksIn (Some (codes "compare", rows_of (found_of inner.now))) result }
-    ensures memory { LacksWords result memory.old memory.new }
+    ensures memory { CountsAllocFailureInWords result memory.old memory.new }
 {
     let Ok(first) = word_at(memory, inner, "FIRST") else {
         return Words::NoMemory;
@@ -159,7 +159,7 @@ fn read_compare(memory: &mut Memory, inner: &ArgMatches<'_>) -> Words
 fn read_subcommand(memory: &mut Memory, name: &str, inner: &ArgMatches<'_>) -> Words
     requires { IsMet (Some (name.now, rows_of (found_of inner.now))) }
     ensures asked { AsksIn (Some (name.now, rows_of (found_of inner.now))) result }
-    ensures memory { LacksWords result memory.old memory.new }
+    ensures memory { CountsAllocFailureInWords result memory.old memory.new }
 {
     if name == "show" {
         return read_one(memory, One::Show, inner);
@@ -183,7 +183,7 @@ fn read_subcommand(memory: &mut Memory, name: &str, inner: &ArgMatches<'_>) -> W
 fn read_match(memory: &mut Memory, matches: &ArgMatches<'_>) -> Words
     requires { IsMet (subcommand_rows_of matches.now) }
     ensures asked { AsksIn (subcommand_rows_of matches.now) result }
-    ensures memory { LacksWords result memory.old memory.new }
+    ensures memory { CountsAllocFailureInWords result memory.old memory.new }
 {
     let Some((name, inner)) = matches.subcommand() else {
         unreachable!()
@@ -192,9 +192,9 @@ fn read_match(memory: &mut Memory, matches: &ArgMatches<'_>) -> Words
 }
 
 // clap's text, without its control characters. `Err`: an allocation failed.
-fn text_of(memory: &mut Memory, error: &Error) -> Result<Text, Refused>
+fn text_of(memory: &mut Memory, error: &Error) -> Result<Text, AllocFailed>
     ensures plain { IfOk result (λ text. IsPlain text) }
-    ensures memory { Lacks result memory.old memory.new }
+    ensures memory { CountsAllocFailure result memory.old memory.new }
 {
     let mut plain = Plain::new(memory);
     // It fails only if an allocation failed, which `finish` reports.
@@ -205,11 +205,11 @@ fn text_of(memory: &mut Memory, error: &Error) -> Result<Text, Refused>
 
 // clap's text if there is no match.
 fn read_error(memory: &mut Memory, error: &Error) -> Words
-    ensures asked { IsTold result }
-    ensures kind { TellsKind (kind_of error.now) result }
+    ensures asked { IsText result }
+    ensures kind { IsTextForKind (kind_of error.now) result }
     ensures lacking { kind_of error.now ≡ ErrorKind.OutOfMemory ↔ result ≡ words_of.Unread }
     ensures plain { ShowsPlain result }
-    ensures memory { LacksWords result memory.old memory.new }
+    ensures memory { CountsAllocFailureInWords result memory.old memory.new }
 {
     let kind = error.kind();
     if kind == ErrorKind::OutOfMemory {
@@ -224,20 +224,25 @@ fn read_error(memory: &mut Memory, error: &Error) -> Words
     Words::Refused(text)
 }
 
-/// clap accepts each command with every name of a file that begins with no hyphen, and with any name after `--`. It
-/// does nothing: its contract is a law.
+/// clap finds no mistake, and no request for help, in `show FILE`, `check FILE`, `captions FILE`,
+/// `normalise FILE OUT` and `compare FIRST SECOND`, if each name is empty or begins with another byte than a hyphen;
+/// and, with any names, if `--` stands between the command and these. It does nothing: its contract is a law.
 pub fn commands_are_taken()
     ensures { TakesCommands }
 {}
 
-/// The match of such a command has the files that it names, in their order. It does nothing: its contract is a
-/// law.
+/// For `show FILE`, `check FILE`, `captions FILE`, `normalise FILE OUT` and `compare FIRST SECOND`, if each name is
+/// empty or begins with another byte than a hyphen, clap's match has that subcommand, with each name at its argument.
+/// Arguments with `--` it leaves out. It does nothing: its contract is a law.
 pub fn files_are_matched()
     ensures { MatchesFiles }
 {}
 
-/// Parses the arguments; `version` is the version to print. Without arguments the result is `Filter`, and
-/// clap is not called. `NoMemory`: an allocation of `memory` failed. `Unread`: clap ran out of memory.
+/// Parses the arguments; `version` is the version to print. The result is `Filter` exactly if there are none, and
+/// then clap is not called. `One`, `Normalise` and `Compare` have the names of clap's match, and mean that clap finds
+/// no mistake; the two names of `Normalise` differ. `Refused` means a mistake or, without any, one name for both
+/// files of `normalise`. `Help` means that help or the version was asked for. Both are text without control
+/// characters but line feeds. `NoMemory`: an allocation of `memory` failed. `Unread`: clap ran out of memory.
 pub fn parse<'a, S: AsStr, P: Parser>(
     memory: &mut Memory,
     parser: &P,
@@ -246,11 +251,11 @@ pub fn parse<'a, S: AsStr, P: Parser>(
 ) -> Words
     ensures filter { map S.text words.entry.now ≡ [] ↔ result ≡ words_of.Filter }
     ensures asked { Asks (subcommand_of exifnorm (map S.text words.entry.now)) result }
-    ensures told { IsFor (fault_of exifnorm (map S.text words.entry.now)) result }
+    ensures fault { IsFor (fault_of exifnorm (map S.text words.entry.now)) result }
     ensures taken { AreTaken (map S.text words.entry.now) → AsksFiles (subcommand_of exifnorm (map S.text words.entry.now)) result }
     ensures lacking { result ≡ words_of.Unread → P.lacks parser.now (map S.text words.entry.now) }
     ensures plain { ShowsPlain result }
-    ensures memory { LacksWords result memory.old memory.new }
+    ensures memory { CountsAllocFailureInWords result memory.old memory.new }
 {
     if words.is_empty() {
         return Words::Filter;

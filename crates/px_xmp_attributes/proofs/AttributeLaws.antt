@@ -24,14 +24,14 @@ Follows n attributes = (more : List Attr) × (attributes ≡ n.attribute ∷ mor
     × (option_map (λ (r : List Attr × ℕ). r.0) (attributes_of n.rest) ≡ Some more)
 
 -- the attributes of a tag are read one after another
-listed : AttributesInOrder → (attributes : List Attr) (x : List ℕ) → option_map (λ (r : List Attr × ℕ). r.0) (attributes_of x) ≡ Some attributes
+pub attributes_listed : AttributesInOrder → (attributes : List Attr) (x : List ℕ) → option_map (λ (r : List Attr × ℕ). r.0) (attributes_of x) ≡ Some attributes
     → AreListed attributes x
-listed law [] x h = by_next (next_attribute x) refl (law x [] h)
+attributes_listed law [] x h = by_next (next_attribute x) refl (law x [] h)
   where
     by_next : (q : Option Next) → next_attribute x ≡ q → MatchOption q (◌≡◌ {A = List Attr} [] []) (λ (n : Next). Follows n []) → next_attribute x ≡ None
     by_next None e m = e
     by_next (Some n) e (more, f, g) = absurd (cc)
-listed law (a ∷ more) x h = by_next (next_attribute x) refl (law x (a ∷ more) h) (λ z g. listed law more z g)
+attributes_listed law (a ∷ more) x h = by_next (next_attribute x) refl (law x (a ∷ more) h) (λ z g. attributes_listed law more z g)
   where
     by_next : (q : Option Next) → next_attribute x ≡ q
         → MatchOption q (a ∷ more ≡ []) (λ (n : Next). Follows n (a ∷ more))
@@ -122,25 +122,25 @@ same_mark law m rest n tail i j e =
       sym (drop_at m rest (length m) refl) ∙ ap (drop (length m)) e ∙ drop_at n tail (length m) (sym size),
     )
 
-pub tag_distinct : StartTagsAreRead → AttributesInOrder → (x : List ℕ) (t : Start) → start_tag x ≡ Some t
-    → ((attributes : List Attr) → AreListed attributes t.rest → AreDistinct attributes) → (m rest : List ℕ) → x ≡ m ++ rest → HasDistinct m
-tag_distinct law order x t e all m rest w n attributes empty i =
+pub tag_distinct : StartTagsAreRead → (x : List ℕ) (t : Start) → start_tag x ≡ Some t
+    → ((attributes : List Attr) → HasAttributes t attributes → AreDistinct attributes) → (m rest : List ℕ) → x ≡ m ++ rest → HasDistinct m
+tag_distinct law x t e all m rest w n attributes empty i =
     let (u, g, named, has, is_empty, size) = law m rest n attributes empty i in
     let same : u ≡ t = some_same u t (sym g ∙ ap start_tag (sym w) ∙ e) in
-    all attributes (listed order attributes t.rest (subst (λ (z : Start). HasAttributes z attributes) same has))
+    all attributes (subst (λ (z : Start). HasAttributes z attributes) same has)
 
 pub no_tag_distinct : StartTagsAreRead → (x : List ℕ) → start_tag x ≡ None → (m rest : List ℕ) → x ≡ m ++ rest → HasDistinct m
 no_tag_distinct law x e m rest w n attributes empty i =
     let (u, g, named, has, is_empty, size) = law m rest n attributes empty i in
     let wrong = sym e ∙ ap start_tag w ∙ g in absurd (cc)
 
-pub tag_repeated : MarksAreRead → OnlyStartTagsAreRead → AttributesInOrder → (x : List ℕ) (t : Start) → start_tag x ≡ Some t
-    → ((attributes : List Attr) → AreListed attributes t.rest → AreRepeated attributes)
+pub tag_repeated : MarksAreRead → OnlyStartTagsAreRead → (x : List ℕ) (t : Start) → start_tag x ≡ Some t
+    → ((attributes : List Attr) → HasAttributes t attributes → AreRepeated attributes)
     → (m rest : List ℕ) → IsMark m rest → x ≡ m ++ rest → HasRepeated m
-tag_repeated law only order x t e twice m rest i w =
+tag_repeated law only x t e twice m rest i w =
     let (y, tail, attributes, whole, size, has, is) = only x t e in
     let same = same_mark law y tail m rest (inl (t.name, attributes, t.is_empty, is)) i (sym whole ∙ w) in
-    subst HasRepeated same.0 (t.name, attributes, t.is_empty, is, twice attributes (listed order attributes t.rest has))
+    subst HasRepeated same.0 (t.name, attributes, t.is_empty, is, twice attributes has)
 
 -- ---- rows
 

@@ -1,1 +1,2 @@
 pub mod AttributeLaws
+pub mod NameLaws

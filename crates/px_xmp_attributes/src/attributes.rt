@@ -1,19 +1,28 @@
 // Attributes that are there once. XML 1.0, 3.1.
-ghost use Rattle.std.specs.Prelude.{◌≡◌, ◌↔◌, ℕ, true, false, List, ◌++◌, IsTrue, MatchOption};
-ghost use Rattle.px_xmp_marks.specs.Reading.{Attr, name_view};
+ghost use Rattle.std.specs.Prelude.{◌≡◌, ◌↔◌, ℕ, true, false, Some, option_map, List, map, ◌++◌, IsTrue, MatchOption};
+ghost use Rattle.px_xmp_marks.specs.Reading.{Attr, name_view, attributes_of, start_tag, start_tag_view};
 ghost use Rattle.px_xmp_marks.specs.Marks.{IsMark};
 ghost use Rattle.px_xmp_attributes.specs.Distinct.{IsAmong, AreDistinct, AreRepeated, HasDistinct, HasRepeated, IsDistinctRow};
 ghost use Rattle.px_xmp_attributes.specs.Faults.{IsFault};
 ghost use Rattle.px_xmp_attributes.specs.calls.Listed.{AreListed};
+ghost use Rattle.px_xmp_attributes.specs.calls.Names.{are_same, is_among, has_twice};
 
 use crate::faults::{Cause, Fault};
-use px_xmp_marks::{Name, mark_len, next_attribute, read_start_tag};
+use px_xmp_marks::{Name, StartTag, next_attribute, read_mark, read_names};
+
+// The names of so many attributes are stored in one space for all tags, which few tags exceed: a larger one costs more to clear
+// than small documents cost to read.
+const STORED: usize = 16;
+
+// The names of so many are stored in a space for one tag. Those of a tag with more are compared as they are written.
+const MANY: usize = 256;
 
 // Whether two names are the same.
 fn is_same(a: Name, b: Name) -> bool
-    ensures { IsTrue result ↔ (name_view a.entry ≡ name_view b.entry) }
+    ensures same { IsTrue result ↔ (name_view a.entry ≡ name_view b.entry) }
+    ensures value { result ≡ are_same (name_view a.entry) (name_view b.entry) }
 {
-    a.size == b.size && a.prefix == b.prefix && a.local == b.local
+    a.size == b.size && a.local == b.local && a.prefix == b.prefix
 }
 
 // Whether one of the attributes at the start has a name.
@@ -47,18 +56,91 @@ fn has_repeated(octets: &[u8]) -> bool
     false
 }
 
+// Whether one of some names is a certain one.
+fn is_among(names: &[Name], name: Name) -> bool
+    ensures { result ≡ is_among (name_view name.entry) (map name_view names.now) }
+{
+    for other in names {
+        if is_same(name, *other) {
+            return true;
+        }
+    }
+    false
+}
+
+// Whether one of some names is there twice.
+fn has_twice(names: &[Name]) -> bool
+    ensures { result ≡ has_twice (map name_view names.now) }
+{
+    for (n, name) in names.iter().enumerate() {
+        if is_among(names.split_at(n + 1).1, *name) {
+            return true;
+        }
+    }
+    false
+}
+
+// Whether a tag has an attribute twice. The names are stored in the space for them.
+fn tag_repeats<'a>(tag: StartTag<'a>, names: &mut [Name<'a>]) -> bool
+    ensures repeated { (attributes : List Attr) → option_map (λ r. r.0) (attributes_of tag.entry.rest.now) ≡ Some attributes
+        → result ≡ true → AreRepeated attributes }
+    ensures distinct { (attributes : List Attr) → option_map (λ r. r.0) (attributes_of tag.entry.rest.now) ≡ Some attributes
+        → result ≡ false → AreDistinct attributes }
+{
+    px_xmp_marks::laws::attributes_in_order();
+    match read_names(tag.rest, names) {
+        Some(len) => has_twice(names.split_at(len).0),
+        None => has_repeated(tag.rest),
+    }
+}
+
+// As `tag_repeats`, with a large space for the names.
+#[inline(never)]
+fn large_tag_repeats(tag: StartTag) -> bool
+    ensures repeated { (attributes : List Attr) → option_map (λ r. r.0) (attributes_of tag.entry.rest.now) ≡ Some attributes
+        → result ≡ true → AreRepeated attributes }
+    ensures distinct { (attributes : List Attr) → option_map (λ r. r.0) (attributes_of tag.entry.rest.now) ≡ Some attributes
+        → result ≡ false → AreDistinct attributes }
+{
+    let mut names = [no_name(tag.rest); MANY];
+    tag_repeats(tag, &mut names)
+}
+
+// Whether a tag has an attribute twice. The names are stored in the space, or in a larger one if it is too small.
+fn sized_tag_repeats<'a>(tag: StartTag<'a>, names: &mut [Name<'a>]) -> bool
+    ensures repeated { (attributes : List Attr) → option_map (λ r. r.0) (attributes_of tag.entry.rest.now) ≡ Some attributes
+        → result ≡ true → AreRepeated attributes }
+    ensures distinct { (attributes : List Attr) → option_map (λ r. r.0) (attributes_of tag.entry.rest.now) ≡ Some attributes
+        → result ≡ false → AreDistinct attributes }
+{
+    match read_names(tag.rest, names) {
+        Some(len) => has_twice(names.split_at(len).0),
+        None => large_tag_repeats(tag),
+    }
+}
+
 // Whether the mark at the start is a tag that has an attribute twice.
-fn is_repeated(octets: &[u8]) -> bool
+fn is_repeated<'a>(octets: &[u8], tag: Option<StartTag<'a>>, names: &mut [Name<'a>]) -> bool
+    requires { option_map start_tag_view tag ≡ start_tag octets.now }
     ensures repeated { (m rest : List ℕ) → IsMark m rest → octets.now ≡ m ++ rest → result ≡ true → HasRepeated m }
     ensures distinct { (m rest : List ℕ) → IsMark m rest → octets.now ≡ m ++ rest → result ≡ false → HasDistinct m }
 {
     px_xmp_marks::laws::marks_are_read();
     px_xmp_marks::laws::start_tags_are_read();
     px_xmp_marks::laws::only_start_tags_are_read();
-    px_xmp_marks::laws::attributes_in_order();
-    match read_start_tag(octets) {
-        Some(tag) => has_repeated(tag.rest),
+    match tag {
+        Some(tag) => sized_tag_repeats(tag, names),
         None => false,
+    }
+}
+
+// A name that is not read.
+fn no_name<'a>(octets: &'a [u8]) -> Name<'a> {
+    let nothing = octets.split_at(0).0;
+    Name {
+        prefix: nothing,
+        local: nothing,
+        size: 0,
     }
 }
 
@@ -69,22 +151,23 @@ pub fn first_fault(octets: &[u8]) -> Option<Fault>
 {
     px_xmp_marks::laws::marks_are_read();
     px_xmp_marks::laws::only_marks_are_read();
+    let mut names = [no_name(octets); STORED];
     let mut at = 0;
     while at < octets.len() {
         let rest = octets.split_at(at).1;
-        let Some(len) = mark_len(rest) else {
+        let Some(mark) = read_mark(rest) else {
             return Some(Fault {
                 cause: Cause::NoMark,
                 offset: at,
             });
         };
-        if is_repeated(rest) {
+        if is_repeated(rest, mark.tag, &mut names) {
             return Some(Fault {
                 cause: Cause::AttributeTwice,
                 offset: at,
             });
         }
-        at += len;
+        at += mark.size;
     }
     None
 }

@@ -87,8 +87,10 @@ fn order_mark_len(octets: &[u8]) -> usize
     0
 }
 
-/// The first fault of some octets. None: they are a document without a document type, in UTF-8, whose prefixes are
-/// declared; a byte order mark may precede it. It allocates nothing. XML 1.0, productions 1 and 22, and 4.3.3.
+/// A fault of some octets. None: they are a document without a document type, in UTF-8, in which no tag has an attribute twice
+/// and prefixes are declared; a byte order mark may precede it. The characters are judged first, then the encoding that the
+/// declaration names, the elements, the attributes and the prefixes: the fault is the first, from the start, of the first of
+/// these that has one. It allocates nothing. XML 1.0, productions 1 and 22, and 4.3.3.
 pub fn first_fault(octets: &[u8]) -> Option<Fault>
     ensures { MatchOption result (IsFile octets.now) (λ f. IsFileFault octets.now f.cause f.offset) }
 {

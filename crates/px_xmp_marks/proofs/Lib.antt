@@ -7,3 +7,4 @@ pub mod CommentLaws
 pub mod InstructionLaws
 pub mod DeclarationLaws
 pub mod MarkLaws
+pub mod NamingLaws

@@ -340,3 +340,19 @@ row_step x at n (ms, p) h =
     let (m, rest, whole, size, is) = only_marks_are_read (drop at x) n h in
     let left : drop n (drop at x) ≡ rest = ap (drop n) whole ∙ drop_at m rest n (sym size) in
     subst (λ (u : List ℕ). (ns : List (List ℕ)) × AreMarks ns x u) (sym left) (row_more ms x (drop at x) m rest p whole is)
+
+-- ---- start tags
+
+begins_tag : (x : List ℕ) (t : Start) → start_tag x ≡ Some t → begins_with 60 x ≡ true
+unfolding start_tag
+begins_tag x t h = elim (cases_Bool (begins_with 60 x)) [
+  | inl a ↦ a
+  | inr f ↦ let e = sym (cond-false (begins_with 60 x) _ _ f) ∙ h in absurd (cc)
+]
+
+-- a start tag is a mark
+pub tag_mark : (x : List ℕ) (t : Start) → start_tag x ≡ Some t → mark_len x ≡ Some t.size
+unfolding mark_len tag_len
+tag_mark x t h =
+    cond-true (begins_with 60 x) (or_else (tag_len x) (other_len x)) (text_len x) (begins_tag x t h)
+    ∙ ap (λ (q : Option Start). or_else (or_else (option_map (λ (s : Start). s.size) q) (option_map (λ (s : End). s.size) (end_tag x))) (other_len x)) h

@@ -12,6 +12,7 @@ pub mod laws;
 mod listing;
 mod marks;
 mod names;
+mod naming;
 mod sections;
 mod tags;
 
@@ -20,7 +21,8 @@ pub use comments::read_comment;
 pub use declarations::{Declaration, read_declaration};
 pub use instructions::read_instruction;
 pub use listing::{NextAttribute, next_attribute};
-pub use marks::{first_bad_mark, mark_len};
+pub use marks::{Mark, first_bad_mark, mark_len, read_mark};
 pub use names::{Name, read_name};
+pub use naming::read_names;
 pub use sections::read_section;
 pub use tags::{EndTag, StartTag, read_end_tag, read_start_tag};

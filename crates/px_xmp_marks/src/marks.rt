@@ -1,12 +1,13 @@
 // Marks in a row. XML 1.0, 2.4 and 3.1.
-ghost use Rattle.std.specs.Prelude.{◌≡◌, ◌≤◌, ◌+◌, length, IfSome, MatchOption};
+ghost use Rattle.std.specs.Prelude.{◌≡◌, ◌≤◌, ◌+◌, length, option_map, IfSome, MatchOption};
+ghost use Rattle.px_xmp_marks.specs.Reading.{start_tag, start_tag_view};
 ghost use Rattle.px_xmp_marks.specs.Marks.{data_len, text_len, tag_len, other_len, mark_len, IsRow, IsFirstBadMark};
 
 use crate::comments::read_comment;
 use crate::instructions::read_instruction;
 use crate::names::begins_with;
 use crate::sections::{find, read_section};
-use crate::tags::{read_end_tag, read_start_tag};
+use crate::tags::{StartTag, read_end_tag, read_start_tag};
 use px_xmp_text::{TextKind, first_fault};
 
 // The number of octets before the first `<`.
@@ -86,6 +87,34 @@ pub fn mark_len(octets: &[u8]) -> Option<usize>
         Some(len) => Some(len),
         None => other_len(octets),
     }
+}
+
+/// A mark, and the start tag that it is, if it is one.
+#[derive(Clone, Copy, Debug, PartialEq, Eq)]
+pub struct Mark<'a> {
+    /// The start tag, or the tag of an empty element.
+    pub tag: Option<StartTag<'a>>,
+    /// The length of the mark.
+    pub size: usize,
+}
+
+/// The mark at the start of some octets, with the length that `mark_len` returns. It reads a start tag once. None if they
+/// begin with no mark. It allocates nothing.
+pub fn read_mark<'a>(octets: &'a [u8]) -> Option<Mark<'a>>
+    ensures size { option_map (λ m. m.size) result ≡ mark_len octets.now }
+    ensures tag { IfSome result (λ m. option_map start_tag_view m.tag ≡ start_tag octets.now) }
+    ensures within { IfSome result (λ m. (1 ≤ m.size) × (m.size ≤ length octets.now)) }
+{
+    if let Some(tag) = read_start_tag(octets) {
+        return Some(Mark {
+            tag: Some(tag),
+            size: tag.size,
+        });
+    }
+    let Some(size) = mark_len(octets) else {
+        return None;
+    };
+    Some(Mark { tag: None, size })
 }
 
 /// The offset of the first place where no mark is. None: the octets are marks in a row. It allocates nothing.

@@ -28,11 +28,22 @@ fn is_name_start(octet: u8) -> bool
     (b'a' <= octet && octet <= b'z') || (b'A' <= octet && octet <= b'Z') || octet == b'_'
 }
 
+// Each octet that a name can contain is at its own place, and a comma at every other place.
+static NAME_CHARS: [u8; 256] = *b"\
+    ,,,,,,,,,,,,,,,,,,,,,,,,,,,,,,,,\
+    ,,,,,,,,,,,,,-.,0123456789,,,,,,\
+    ,ABCDEFGHIJKLMNOPQRSTUVWXYZ,,,,_\
+    ,abcdefghijklmnopqrstuvwxyz,,,,,\
+    ,,,,,,,,,,,,,,,,,,,,,,,,,,,,,,,,\
+    ,,,,,,,,,,,,,,,,,,,,,,,,,,,,,,,,\
+    ,,,,,,,,,,,,,,,,,,,,,,,,,,,,,,,,\
+    ,,,,,,,,,,,,,,,,,,,,,,,,,,,,,,,,";
+
 // Whether a name can contain an octet.
 fn is_name_char(octet: u8) -> bool
     ensures { result ≡ is_name_char octet }
 {
-    is_name_start(octet) || (b'0' <= octet && octet <= b'9') || octet == b'-' || octet == b'.'
+    NAME_CHARS[octet as usize] != b','
 }
 
 // The number of octets of white space at the start.

@@ -2,3 +2,4 @@ pub mod PieceLaws
 pub mod ScopeLaws
 pub mod FaultLaws
 pub mod PlainLaws
+pub mod TagNameLaws

@@ -1,2 +1,3 @@
 pub mod Entries
 pub mod Passing
+pub mod Names

@@ -1,6 +1,6 @@
 // Prefixes that are declared. Namespaces in XML 1.0, 3, 5 and 6.1.
-ghost use Rattle.std.specs.Prelude.{◌≡◌, ℕ, List, ◌++◌, MatchOption};
-ghost use Rattle.px_xmp_marks.specs.Reading.{Attr, name_view, end_tag};
+ghost use Rattle.std.specs.Prelude.{◌≡◌, ℕ, List, ◌++◌, option_map, MatchOption};
+ghost use Rattle.px_xmp_marks.specs.Reading.{Attr, name_view, start_tag, start_tag_view, end_tag};
 ghost use Rattle.px_xmp_spaces.specs.Pieces.{Piece, IsPiece};
 ghost use Rattle.px_xmp_spaces.specs.Tags.{passed};
 ghost use Rattle.px_xmp_spaces.specs.Faults.{HasSpaces, IsFault};
@@ -8,14 +8,15 @@ ghost use Rattle.px_xmp_spaces.specs.calls.Passing.{Gives, AreListed, start_piec
 
 use crate::faults::{Cause, Fault};
 use crate::scopes::Scope;
-use px_xmp_marks::{StartTag, mark_len, read_end_tag, read_start_tag};
+use crate::tags::{STORED, no_name};
+use px_xmp_marks::{Name, StartTag, read_end_tag, read_mark};
 
 impl<'a> Scope<'a> {
-    fn pass_start(&mut self, tag: StartTag<'a>) -> Option<Cause>
+    fn pass_start(&mut self, tag: StartTag<'a>, names: &mut [Name<'a>; STORED]) -> Option<Cause>
         ensures { (attributes : List Attr) → AreListed tag.entry.rest.now attributes
             → Gives result self.new (passed (start_piece tag.entry.is_empty (name_view tag.entry.name) attributes) self.old) }
     {
-        if let Some(cause) = self.open(tag) {
+        if let Some(cause) = self.open(tag, names) {
             return Some(cause);
         }
         if tag.is_empty {
@@ -33,8 +34,14 @@ impl<'a> Scope<'a> {
         }
     }
 
-    // Passes the mark at the start, or returns what is wrong with it here.
-    fn pass(&mut self, octets: &'a [u8]) -> Option<Cause>
+    // Passes the mark at the start, which is the tag or no start tag, or returns what is wrong with it here.
+    fn pass(
+        &mut self,
+        octets: &'a [u8],
+        tag: Option<StartTag<'a>>,
+        names: &mut [Name<'a>; STORED],
+    ) -> Option<Cause>
+        requires { option_map start_tag_view tag ≡ start_tag octets.now }
         ensures { (p : Piece) (m rest : List ℕ) → IsPiece p m rest → octets.now ≡ m ++ rest → Gives result self.new (passed p self.old) }
     {
         px_xmp_marks::laws::marks_are_read();
@@ -42,8 +49,8 @@ impl<'a> Scope<'a> {
         px_xmp_marks::laws::only_start_tags_are_read();
         px_xmp_marks::laws::end_tags_are_read();
         px_xmp_marks::laws::only_end_tags_are_read();
-        if let Some(tag) = read_start_tag(octets) {
-            return self.pass_start(tag);
+        if let Some(tag) = tag {
+            return self.pass_start(tag, names);
         }
         self.pass_other(octets);
         None
@@ -62,19 +69,20 @@ pub fn first_fault(octets: &[u8]) -> Option<Fault>
     px_xmp_marks::laws::end_tags_are_read();
     px_xmp_marks::laws::only_end_tags_are_read();
     let mut scope = Scope::new();
+    let mut names = [no_name(octets); STORED];
     let mut at = 0;
     while at < octets.len() {
         let rest = octets.split_at(at).1;
-        let Some(len) = mark_len(rest) else {
+        let Some(mark) = read_mark(rest) else {
             return Some(Fault {
                 cause: Cause::NoMark,
                 offset: at,
             });
         };
-        if let Some(cause) = scope.pass(rest) {
+        if let Some(cause) = scope.pass(rest, mark.tag, &mut names) {
             return Some(Fault { cause, offset: at });
         }
-        at += len;
+        at += mark.size;
     }
     None
 }

@@ -1,18 +1,34 @@
 // The tags that declare prefixes, and have names with prefixes.
-ghost use Rattle.std.specs.Prelude.{◌≡◌, nat_lt, List, length, option_map};
+ghost use Rattle.std.specs.Prelude.{◌≡◌, List, Some, map, option_map, if◌then◌else◌};
+ghost use Rattle.px_xmp_spaces.specs.declared.faults.Cause.TheVariants.{ManyAttributes, Undeclared};
 ghost use Rattle.px_xmp_marks.specs.Reading.{Attr, name_view, attribute_view};
 ghost use Rattle.px_xmp_marks.specs.Declarations.{every};
 ghost use Rattle.px_xmp_spaces.specs.Bindings.{is_plain, is_reserved, declared_prefix, with_declaration, with_attribute, with_attributes};
 ghost use Rattle.px_xmp_spaces.specs.Tags.{is_attribute_bound, are_bound, is_element_bound, opened};
-ghost use Rattle.px_xmp_spaces.specs.Tags.{attribute_limit, attribute_space, are_same_spaces, clash, is_among, are_unique, judged};
+ghost use Rattle.px_xmp_spaces.specs.Tags.{attribute_space, are_same_spaces, clash, judged};
+ghost use Rattle.px_xmp_spaces.specs.calls.Names.{are_names_bound, is_name_among, are_names_unique, names_judged};
 ghost use Rattle.px_xmp_spaces.specs.calls.Passing.{Gives, AreListed};
 
 use crate::faults::Cause;
 use crate::scopes::{Entry, Scope, XML, XML_SPACE, XMLNS, XMLNS_SPACE};
-use px_xmp_marks::{Attribute, Name, StartTag, next_attribute};
+use px_xmp_marks::{Attribute, Name, StartTag, next_attribute, read_names};
 
 // No element has more attributes.
 const ATTRIBUTE_LIMIT: usize = 256;
+
+// The names of so many attributes are stored in one space for all tags, which few tags exceed: a larger one costs more to clear
+// than small documents cost to read.
+pub(crate) const STORED: usize = 16;
+
+// A name that is not read.
+pub(crate) fn no_name<'a>(octets: &'a [u8]) -> Name<'a> {
+    let nothing = octets.split_at(0).0;
+    Name {
+        prefix: nothing,
+        local: nothing,
+        size: 0,
+    }
+}
 
 // Whether a namespace's name can contain an octet, that it is compared by this reader.
 fn is_plain(octet: u8) -> bool
@@ -70,23 +86,6 @@ fn are_same_spaces(a: Option<&[u8]>, b: Option<&[u8]>) -> bool
         },
         None => false,
     }
-}
-
-// Whether there are more attributes at the start than this reader judges.
-fn has_many(octets: &[u8]) -> bool
-    ensures { (attributes : List Attr) → AreListed octets.now attributes → result ≡ nat_lt attribute_limit (length attributes) }
-{
-    px_xmp_marks::laws::attributes_in_order();
-    let mut count = 0;
-    let mut rest = octets;
-    while let Some(next) = next_attribute(rest) {
-        if count == ATTRIBUTE_LIMIT {
-            return true;
-        }
-        count += 1;
-        rest = next.rest;
-    }
-    false
 }
 
 impl<'a> Scope<'a> {
@@ -178,59 +177,110 @@ impl<'a> Scope<'a> {
         a.local == b.local && are_same_spaces(self.attribute_space(a), self.attribute_space(b))
     }
 
-    // Whether an attribute has so with one of those at the start.
-    fn is_among(&self, octets: &[u8], name: Name) -> bool
-        ensures { (attributes : List Attr) → AreListed octets.now attributes
-            → result ≡ is_among self.now (name_view name.entry) attributes }
+    // Whether the prefixes of some names of attributes are bound.
+    fn are_names_bound(&self, names: &[Name]) -> bool
+        ensures { result ≡ are_names_bound self.now (map name_view names.now) }
     {
-        px_xmp_marks::laws::attributes_in_order();
-        let mut rest = octets;
-        while let Some(next) = next_attribute(rest) {
-            if self.clash(name, next.attribute.name) {
-                return true;
-            }
-            rest = next.rest;
-        }
-        false
-    }
-
-    // Whether no two of the attributes at the start have one local name in one namespace.
-    fn are_unique(&self, octets: &[u8]) -> bool
-        ensures { (attributes : List Attr) → AreListed octets.now attributes → result ≡ are_unique self.now attributes }
-    {
-        px_xmp_marks::laws::attributes_in_order();
-        let mut rest = octets;
-        while let Some(next) = next_attribute(rest) {
-            if self.is_among(next.rest, next.attribute.name) {
+        for name in names {
+            if !self.is_attribute_bound(*name) {
                 return false;
             }
-            rest = next.rest;
         }
         true
     }
 
-    // What is wrong with the names of a tag.
-    fn judge(&self, tag: StartTag) -> Option<Cause>
+    // Whether a name has a local name and a namespace in common with one of some names.
+    fn is_name_among(&self, names: &[Name], name: Name) -> bool
+        ensures { result ≡ is_name_among self.now (name_view name.entry) (map name_view names.now) }
+    {
+        for other in names {
+            if self.clash(name, *other) {
+                return true;
+            }
+        }
+        false
+    }
+
+    // Whether no two of some names have both in common.
+    fn are_names_unique(&self, names: &[Name]) -> bool
+        ensures { result ≡ are_names_unique self.now (map name_view names.now) }
+    {
+        for (n, name) in names.iter().enumerate() {
+            if self.is_name_among(names.split_at(n + 1).1, *name) {
+                return false;
+            }
+        }
+        true
+    }
+
+    // What is wrong with the names of a tag's attributes, which are no more than the limit.
+    fn judge_names(&self, names: &[Name]) -> Option<Cause>
+        ensures { Gives result self.now (names_judged (map name_view names.now) self.now) }
+    {
+        if !self.are_names_bound(names) {
+            return Some(Cause::Undeclared);
+        }
+        if !self.are_names_unique(names) {
+            return Some(Cause::SameName);
+        }
+        None
+    }
+
+    // What is wrong with the names of a tag. Those of its attributes are stored in the space for them.
+    fn judge<'b>(&self, tag: StartTag<'b>, names: &mut [Name<'b>; ATTRIBUTE_LIMIT]) -> Option<Cause>
         ensures { (attributes : List Attr) → AreListed tag.entry.rest.now attributes
             → Gives result self.now (judged (name_view tag.entry.name) attributes self.now) }
     {
         if !self.is_element_bound(tag.name) {
             return Some(Cause::Undeclared);
         }
+        match read_names(tag.rest, names) {
+            Some(len) => self.judge_names(names.split_at(len).0),
+            None => self.judge_many(tag),
+        }
+    }
+
+    // As `judge`, with a space for the names.
+    #[inline(never)]
+    fn judge_large(&self, tag: StartTag) -> Option<Cause>
+        ensures { (attributes : List Attr) → AreListed tag.entry.rest.now attributes
+            → Gives result self.now (judged (name_view tag.entry.name) attributes self.now) }
+    {
+        let mut names = [no_name(tag.rest); ATTRIBUTE_LIMIT];
+        self.judge(tag, &mut names)
+    }
+
+    // As `judge`, with a smaller space for the names of attributes. If there are more, they get a larger one.
+    fn judge_sized<'b>(&self, tag: StartTag<'b>, names: &mut [Name<'b>; STORED]) -> Option<Cause>
+        ensures { (attributes : List Attr) → AreListed tag.entry.rest.now attributes
+            → Gives result self.now (judged (name_view tag.entry.name) attributes self.now) }
+    {
+        if !self.is_element_bound(tag.name) {
+            return Some(Cause::Undeclared);
+        }
+        match read_names(tag.rest, names) {
+            Some(len) => self.judge_names(names.split_at(len).0),
+            None => self.judge_large(tag),
+        }
+    }
+
+    // What is wrong with the names of a tag that has too many attributes.
+    fn judge_many(&self, tag: StartTag) -> Option<Cause>
+        ensures { (attributes : List Attr) → AreListed tag.entry.rest.now attributes
+            → result ≡ Some (if are_bound self.now attributes then ManyAttributes else Undeclared) }
+    {
         if !self.are_bound(tag.rest) {
             return Some(Cause::Undeclared);
         }
-        if has_many(tag.rest) {
-            return Some(Cause::ManyAttributes);
-        }
-        if !self.are_unique(tag.rest) {
-            return Some(Cause::SameName);
-        }
-        None
+        Some(Cause::ManyAttributes)
     }
 
     // Begins an element.
-    pub(crate) fn open(&mut self, tag: StartTag<'a>) -> Option<Cause>
+    pub(crate) fn open(
+        &mut self,
+        tag: StartTag<'a>,
+        names: &mut [Name<'a>; STORED],
+    ) -> Option<Cause>
         ensures { (attributes : List Attr) → AreListed tag.entry.rest.now attributes
             → Gives result self.new (opened (name_view tag.entry.name) attributes self.old) }
     {
@@ -241,6 +291,6 @@ impl<'a> Scope<'a> {
         if let Some(cause) = self.declare_all(tag.rest) {
             return Some(cause);
         }
-        self.judge(tag)
+        self.judge_sized(tag, names)
     }
 }

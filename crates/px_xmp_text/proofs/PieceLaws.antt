@@ -1,13 +1,14 @@
 -- Texts taken piece by piece.
 use Rattle.std.proofs.Common.{◌≡◌, ◌≤◌, ◌<◌, ◌+◌, ◌*◌, ◌==◌, ◌&&◌, ◌||◌, not, nat_le, ℕ, zero, suc, Bool, true, false, cond, inl, inr, take, List, [], ◌∷◌, ◌++◌, length, drop}
-use Rattle.std.proofs.Common.{Option, Some, None, IfSome, option_map, option_and_then, refl, sym, ap, subst, ◌∙◌, arith, append_assoc}
+use Rattle.std.proofs.Common.{Option, Some, None, IfSome, option_map, option_and_then, refl, sym, ap, subst, ◌∙◌, arith, append_assoc, length-drop}
 use Rattle.std.proofs.lemmas.Grind.{flat_map-append}
 use Rattle.std.proofs.Common.{leb-true}
-use Rattle.std.proofs.lemmas.Bool.{cases_Bool, cond-true, cond-false, ne_eqb}
+use Rattle.std.proofs.lemmas.Bool.{cases_Bool, cond-true, cond-false, cond_both, ne_eqb, and_left, or_parts}
 use Rattle.px_xmp_text.specs.Texts.{piece, text_in, normal_text, normal_octet, has_references, begins_with_feed, or_at, fault_in}
 use Rattle.px_xmp_text.specs.calls.Appending.{is_plain, plain_len, AppendsPart}
 use Rattle.std.proofs.lemmas.Str.{length-encode, len_utf8_bounds}
 use Rattle.std.specs.Char.{encode_utf8}
+use Rattle.std.specs.List.{list_any}
 use Rattle.px_xmp_text.specs.References.{Counted, reference}
 use Rattle.px_xmp_text.specs.Laws.{FaultOrText}
 use Rattle.px_xmp_text.specs.declared.pieces.TextKind.{TextKind}
@@ -15,7 +16,7 @@ use Rattle.px_xmp_text.proofs.GrammarLaws.{reference_size}
 use Rattle.px_xmp_text.proofs.TextLaws.{normal_bound}
 
 -- what is left begins with a piece, and the rest stands for the rest of the text
-pub record Taken (k : TextKind) (x t : List ℕ) : Type 0 where
+pub record MemoryCounts (k : TextKind) (x t : List ℕ) : Type 0 where
   pub piece_of : List ℕ × ℕ
   pub later : List ℕ
   pub fuel : ℕ
@@ -24,18 +25,18 @@ pub record Taken (k : TextKind) (x t : List ℕ) : Type 0 where
   pub joined : t ≡ piece_of.0 ++ later
 
 from_piece : (n : ℕ) (k : TextKind) (x t : List ℕ) (p : Option (List ℕ × ℕ)) → piece k x ≡ p
-    → option_and_then (λ (p : List ℕ × ℕ). option_map (λ (s : List ℕ). p.0 ++ s) (text_in n k (drop p.1 x))) p ≡ Some t → Taken k x t
+    → option_and_then (λ (p : List ℕ × ℕ). option_map (λ (s : List ℕ). p.0 ++ s) (text_in n k (drop p.1 x))) p ≡ Some t → MemoryCounts k x t
 from_piece n k x t None e h = absurd (cc)
 from_piece n k x t (Some p) e h = from_rest n k x t p (text_in n k (drop p.1 x)) e refl h
   where
     from_rest : (n : ℕ) (k : TextKind) (x t : List ℕ) (p : List ℕ × ℕ) (r : Option (List ℕ)) → piece k x ≡ Some p
-        → text_in n k (drop p.1 x) ≡ r → option_map (λ (s : List ℕ). p.0 ++ s) r ≡ Some t → Taken k x t
+        → text_in n k (drop p.1 x) ≡ r → option_map (λ (s : List ℕ). p.0 ++ s) r ≡ Some t → MemoryCounts k x t
     from_rest n k x t p None e f h = absurd (cc)
     from_rest n k x t p (Some s) e f h =
         let same : t ≡ p.0 ++ s = cc in
         record { piece_of = p; later = s; fuel = n; is = e; rest = f; joined = same }
 
-pub text_taken : (n : ℕ) (k : TextKind) (x t : List ℕ) → 1 ≤ length x → text_in n k x ≡ Some t → Taken k x t
+pub text_taken : (n : ℕ) (k : TextKind) (x t : List ℕ) → 1 ≤ length x → text_in n k x ≡ Some t → MemoryCounts k x t
 unfolding text_in
 text_taken n k [] t l h = absurd (omega arith)
 text_taken zero k (o ∷ x) t l h = absurd (cc)
@@ -251,6 +252,32 @@ pub fault_none : (m at : ℕ) (k : TextKind) (x : List ℕ) → length x ≤ 0 �
 unfolding fault_in
 fault_none m at k [] l = refl
 fault_none m at k (o ∷ x) l = absurd (omega arith)
+
+-- a piece that begins with another octet than `&` means something
+some_piece : (k : TextKind) (o : ℕ) (x : List ℕ) → (o == 38) ≡ false
+    → (n : ℕ) × (1 ≤ n) × (option_map (λ (q : List ℕ × ℕ). q.1) (piece k (o ∷ x)) ≡ Some n)
+unfolding piece
+some_piece k o x h =
+    let Q : Option (List ℕ × ℕ) → Type 0 = λ p. (n : ℕ) × (1 ≤ n) × (option_map (λ (q : List ℕ × ℕ). q.1) p ≡ Some n) in
+    let ends = line_end_size x in
+    let feed = cond (begins_with_feed x) 2 1 in
+    subst Q (sym (cond-false ((o == 38) && has_references k) _ _ (and_left (o == 38) (has_references k) h))) (cond_both (o == 13) _ _ Q
+    (λ t. (feed, ends.0, refl)) (λ f. cond_both ((o == 9) || (o == 10)) _ _ Q (λ t. (1, omega arith, refl)) (λ f. (1, omega arith, refl))))
+
+none_later : (n : ℕ) (x : List ℕ) → list_any (λ o. o == 38) x ≡ false → list_any (λ o. o == 38) (drop n x) ≡ false
+none_later zero x h = h
+none_later (suc n) [] h = refl
+none_later (suc n) (o ∷ x) h = none_later n x (or_parts (o == 38) (list_any (λ o. o == 38) x) h).1
+
+-- octets without `&` have no fault
+pub no_fault : (m at : ℕ) (k : TextKind) (x : List ℕ) → length x ≤ m → list_any (λ o. o == 38) x ≡ false → fault_in m at k x ≡ None
+unfolding fault_in
+no_fault m at k [] l h = refl
+no_fault zero at k (o ∷ x) l h = absurd (omega arith)
+no_fault (suc m) at k (o ∷ x) l h =
+    let (n, low, e) = some_piece k o x (or_parts (o == 38) (list_any (λ o. o == 38) x) h).0 in
+    or_more at (λ (j : ℕ). fault_in m (at + j) k (drop j (o ∷ x))) (piece k (o ∷ x)) n e
+    ∙ no_fault m (at + n) k (drop n (o ∷ x)) (omega (arith, low, length-drop n (o ∷ x))) (none_later n (o ∷ x) h)
 
 abbrev HasText : ℕ → TextKind → List ℕ → Type 0
 HasText n k x = (t : List ℕ) × (text_in n k x ≡ Some t)

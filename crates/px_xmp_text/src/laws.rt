@@ -4,17 +4,19 @@ ghost use Rattle.px_xmp_text.specs.Grammar.{ReferencesAreRead, OnlyReferencesAre
 ghost use Rattle.px_xmp_text.specs.Laws.{NormalReadsBack, NormalIsInjective, NormalBound, FaultOrText};
 ghost use Rattle.px_xmp_text.specs.Values.{PacketIsInjective};
 
-/// Octets are characters that XML allows, or there is one first place where none is, and not both.
+/// Octets with a first place where no character begins that XML allows are not all such characters, and have no other
+/// first place.
 pub fn characters_or_fault()
     ensures { CharactersOrFault }
 {}
 
-/// Each reference of the grammar is read, whatever follows it.
+/// A reference of the grammar, before any octets, is what `reference` reads: its character and its length.
 pub fn references_are_read()
     ensures { ReferencesAreRead }
 {}
 
-/// What is read as a reference is one of the grammar.
+/// What `reference` reads at the start of some octets is a reference of the grammar, with this character and this
+/// length.
 pub fn only_references_are_read()
     ensures { OnlyReferencesAreRead }
 {}
@@ -29,7 +31,7 @@ pub fn normal_reads_back()
     ensures { NormalReadsBack }
 {}
 
-/// Two texts have the same normal form exactly if they are the same text.
+/// Two texts have the same normal form exactly if they are the same octets.
 pub fn normal_is_injective()
     ensures { NormalIsInjective }
 {}

@@ -2,14 +2,14 @@
 ghost use Rattle.std.specs.Prelude.{◌≡◌, ◌≤◌, ◌+◌, ◌*◌, ◌++◌, ℕ, List, Some, length, true, is_some, IfSome, IsOk, OnOk, OnErr};
 ghost use Rattle.std.specs.Prelude.{vec_len, vec_capacity};
 ghost use Rattle.std.specs.Char.{encode_utf8};
-ghost use Rattle.px_bytes.specs.Lacking.{Lacks, AsksAtMost, enlarged};
+ghost use Rattle.px_bytes.specs.Allocations.{CountsAllocFailure, AsksAtMost, enlarged};
 ghost use Rattle.px_bytes.specs.Parts.{limit};
 ghost use Rattle.px_xmp_text.specs.Texts.{piece, text_of, text_in, normal_text, normal_octet};
 ghost use Rattle.px_xmp_text.specs.calls.Appending.{is_plain, plain_len, AppendsPart};
 
 use crate::pieces::{TextKind, line_end_len, white_space};
 use crate::references::read_reference;
-use px_bytes::{Memory, Refused};
+use px_bytes::{AllocFailed, Memory};
 
 // Appends octets to a vector that has space for them, as each function below does.
 fn append(memory: &mut Memory, out: &mut Vec<u8>, octets: &[u8])
@@ -17,7 +17,7 @@ fn append(memory: &mut Memory, out: &mut Vec<u8>, octets: &[u8])
     ensures items { out.new.items ≡ out.old.items ++ octets.now }
     ensures len { vec_len out.new ≡ vec_len out.old + length octets.now }
     ensures capacity { vec_capacity out.old ≤ vec_capacity out.new }
-    ensures refusals { memory.new.refusals ≡ memory.old.refusals }
+    ensures failed_allocations { memory.new.failed_allocations ≡ memory.old.failed_allocations }
     ensures asked { memory.new.asked ≡ memory.old.asked }
 {
     let _has_space = memory.extend_from_slice(out, octets);
@@ -29,7 +29,7 @@ fn append_octet(memory: &mut Memory, out: &mut Vec<u8>, octet: u8)
     ensures items { out.new.items ≡ out.old.items ++ normal_octet octet }
     ensures len { vec_len out.new ≡ vec_len out.old + length (normal_octet octet) }
     ensures capacity { vec_capacity out.old ≤ vec_capacity out.new }
-    ensures refusals { memory.new.refusals ≡ memory.old.refusals }
+    ensures failed_allocations { memory.new.failed_allocations ≡ memory.old.failed_allocations }
     ensures asked { memory.new.asked ≡ memory.old.asked }
 {
     if octet == b'&' {
@@ -51,7 +51,7 @@ fn append_octets(memory: &mut Memory, out: &mut Vec<u8>, octets: &[u8])
     ensures items { out.new.items ≡ out.old.items ++ normal_text octets.now }
     ensures len { vec_len out.new ≡ vec_len out.old + length (normal_text octets.now) }
     ensures capacity { vec_capacity out.old ≤ vec_capacity out.new }
-    ensures refusals { memory.new.refusals ≡ memory.old.refusals }
+    ensures failed_allocations { memory.new.failed_allocations ≡ memory.old.failed_allocations }
     ensures asked { memory.new.asked ≡ memory.old.asked }
 {
     for octet in octets {
@@ -65,7 +65,7 @@ fn append_character(memory: &mut Memory, out: &mut Vec<u8>, character: char)
     ensures items { out.new.items ≡ out.old.items ++ normal_text (encode_utf8 character) }
     ensures len { vec_len out.new ≡ vec_len out.old + length (normal_text (encode_utf8 character)) }
     ensures capacity { vec_capacity out.old ≤ vec_capacity out.new }
-    ensures refusals { memory.new.refusals ≡ memory.old.refusals }
+    ensures failed_allocations { memory.new.failed_allocations ≡ memory.old.failed_allocations }
     ensures asked { memory.new.asked ≡ memory.old.asked }
 {
     let mut space = [0u8; 4];
@@ -83,7 +83,7 @@ fn append_piece(memory: &mut Memory, out: &mut Vec<u8>, octets: &[u8], kind: Tex
     ensures items { IfSome (piece kind octets.now) (λ p. out.new.items ≡ out.old.items ++ normal_text p.0) }
     ensures bound { (1 ≤ result) × (result ≤ length octets.now) }
     ensures capacity { vec_capacity out.old ≤ vec_capacity out.new }
-    ensures refusals { memory.new.refusals ≡ memory.old.refusals }
+    ensures failed_allocations { memory.new.failed_allocations ≡ memory.old.failed_allocations }
     ensures asked { memory.new.asked ≡ memory.old.asked }
 {
     let octet = octets[0];
@@ -140,7 +140,7 @@ fn append_part(memory: &mut Memory, out: &mut Vec<u8>, octets: &[u8], kind: Text
         → AppendsPart kind octets.now t result out.old.items out.new.items }
     ensures bound { (1 ≤ result) × (result ≤ length octets.now) }
     ensures room { vec_len out.new + vec_capacity out.old ≤ vec_len out.old + vec_capacity out.new + 5 * result }
-    ensures refusals { memory.new.refusals ≡ memory.old.refusals }
+    ensures failed_allocations { memory.new.failed_allocations ≡ memory.old.failed_allocations }
     ensures asked { memory.new.asked ≡ memory.old.asked }
 {
     let len = plain_len(octets);
@@ -156,7 +156,7 @@ fn append_text(memory: &mut Memory, out: &mut Vec<u8>, octets: &[u8], kind: Text
     requires good { (t : List ℕ) × (text_of kind octets.now ≡ Some t) }
     requires room { vec_len out.old + 5 * length octets.now ≤ vec_capacity out.old }
     ensures items { (t : List ℕ) → text_of kind octets.now ≡ Some t → out.new.items ≡ out.old.items ++ normal_text t }
-    ensures refusals { memory.new.refusals ≡ memory.old.refusals }
+    ensures failed_allocations { memory.new.failed_allocations ≡ memory.old.failed_allocations }
     ensures asked { memory.new.asked ≡ memory.old.asked }
 {
     let mut at = 0;
@@ -173,12 +173,12 @@ pub fn append_normal_in(
     out: &mut Vec<u8>,
     octets: &[u8],
     kind: TextKind,
-) -> Result<(), Refused>
+) -> Result<(), AllocFailed>
     requires good { (t : List ℕ) × (text_of kind octets.now ≡ Some t) }
     requires few { length octets.now ≤ limit }
     ensures done { (t : List ℕ) → text_of kind octets.now ≡ Some t → OnOk result (out.new.items ≡ out.old.items ++ normal_text t) }
     ensures failed { OnErr result (out.new.items ≡ out.old.items) }
-    ensures memory { Lacks result memory.old memory.new }
+    ensures memory { CountsAllocFailure result memory.old memory.new }
     ensures fits { vec_len out.old + 5 * length octets.now ≤ vec_capacity out.old →
         IsOk result × (memory.new.asked ≡ memory.old.asked) }
     ensures asked { AsksAtMost (enlarged (vec_capacity out.old) (vec_len out.old + 5 * length octets.now)) memory.old memory.new }

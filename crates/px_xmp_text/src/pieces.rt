@@ -66,6 +66,10 @@ fn piece_len(octets: &[u8], kind: TextKind) -> Option<usize>
 pub fn first_fault(octets: &[u8], kind: TextKind) -> Option<usize>
     ensures { result ≡ first_fault kind octets.now }
 {
+    // most texts have no reference, and one look at each octet is enough
+    if !octets.contains(&b'&') {
+        return None;
+    }
     let mut at = 0;
     while at < octets.len() {
         match piece_len(octets.split_at(at).1, kind) {

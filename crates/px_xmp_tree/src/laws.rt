@@ -2,7 +2,7 @@
 ghost use Rattle.px_xmp_tree.specs.Kinds.{KindsAreRead, OnlyKindsAreRead};
 ghost use Rattle.px_xmp_tree.specs.Laws.{OneFault};
 
-/// Each mark of the grammar is read, with its kind.
+/// A mark of the grammar, before a rest, is what `mark` reads: its kind and its length.
 pub fn kinds_are_read()
     ensures { KindsAreRead }
 {
@@ -11,7 +11,7 @@ pub fn kinds_are_read()
     px_xmp_marks::laws::marks_are_read();
 }
 
-/// What is read as a mark is one of the grammar.
+/// What `mark` reads at the start of some octets is a mark of the grammar before the rest, of this kind and length.
 pub fn only_kinds_are_read()
     ensures { OnlyKindsAreRead }
 {

@@ -19,7 +19,7 @@ abbrev pub SameMarks : List ℕ → List ℕ → Type 0
 SameMarks old new = (i : ℕ) → get_or new i 0 ≡ get_or old i 0
 
 -- `new` is `old` with all from `start` up to `end` marked
-pub record Puts (old new : List ℕ) (start end : ℕ) : Type 0 where
+pub record MarksRange (old new : List ℕ) (start end : ℕ) : Type 0 where
   pub here : (n : ℕ) → start ≤ n → n < end → Has new n
   pub kept : (n : ℕ) → Has old n → Has new n
   pub only : (n : ℕ) → Has new n → ((start ≤ n) × (n < end)) ⊎ Has old n

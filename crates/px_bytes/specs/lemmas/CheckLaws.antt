@@ -40,8 +40,8 @@ Refuses_same (Content cause place) xs ys same h = sym same ∙ h
 Refuses_same OutOfMemory xs ys same h = tt
 
 -- a refusal by some checks is one by these after checks that pass
-pub Refuses_behind : (e : Refusal) (xs ys : List Check) → first_false xs ≡ None → Refuses e ys → Refuses e (xs ++ ys)
-Refuses_behind e xs ys h r = Refuses_same e ys (xs ++ ys) (sym (first_false_true xs ys h)) r
+pub Refuses_after : (e : Refusal) (xs ys : List Check) → first_false xs ≡ None → Refuses e ys → Refuses e (xs ++ ys)
+Refuses_after e xs ys h r = Refuses_same e ys (xs ++ ys) (sym (first_false_true xs ys h)) r
 
 -- if all checks pass, a refusal means out of memory
 pub Refuses_none : (e : Refusal) (xs ys : List Check) → first_false xs ≡ None → Refuses e xs → Refuses e ys

@@ -2,7 +2,7 @@
 use Rattle.std.proofs.Common.{subst, [], refl, None, Some, ◌≡◌, ℕ, ◌+◌, ◌≤◌, ◌<◌, inl, inr, min, max, true, not, ◌&&◌, nat_lt, List, ◌∷◌}
 use Rattle.std.proofs.Common.{sym, ◌∙◌, arith, ltb-true, lt-ltb}
 use Rattle.std.proofs.lemmas.Bool.{and_parts, and_from, not-true, not_from_false, both_ways, cases_lt, false_from_ne_true}
-use Rattle.px_bytes.specs.Held.{Holds, IsFree, Takes}
+use Rattle.px_bytes.specs.Claimed.{IsClaimed, IsFree, Takes}
 use Rattle.px_bytes.specs.Range.{Range, range, shares, is_free, Agrees}
 use Rattle.px_bytes.specs.calls.Freed.{SameFree}
 
@@ -28,9 +28,9 @@ test_from_gap s n t m l = not_from_false _ (false_from_ne_true (shares (range s 
     omega arith))
 
 -- a range is free of the list exactly if no claimed range has a byte of it
-pub is_free_free : (taken : List Range) (held : List (ℕ × ℕ)) (s n : ℕ) → Agrees taken held → IsFree held s (s + n)
+pub is_free_free : (taken : List Range) (claimed : List (ℕ × ℕ)) (s n : ℕ) → Agrees taken claimed → IsFree claimed s (s + n)
     → is_free taken (range s n) ≡ true
-is_free_free taken held s n a h = a.all_free s n h
+is_free_free taken claimed s n a h = a.all_free s n h
 
 -- one more range
 pub agrees_takes : (taken : List Range) (old new : List (ℕ × ℕ)) (s n : ℕ) → Agrees taken old → Takes old new s (s + n)
@@ -47,15 +47,15 @@ agrees_takes taken old new s n a k = record {
 }
 
 -- lists that leave the same bytes free agree with the same claimed ranges
-pub agrees_same : (xs ys : List Range) (held : List (ℕ × ℕ)) → SameFree xs ys → Agrees xs held → Agrees ys held
-agrees_same xs ys held e a = record {
+pub agrees_same : (xs ys : List Range) (claimed : List (ℕ × ℕ)) → SameFree xs ys → Agrees xs claimed → Agrees ys claimed
+agrees_same xs ys claimed e a = record {
   free = λ s n h. a.free s n (e s n ∙ h);
   all_free = λ s n h. sym (e s n) ∙ a.all_free s n h;
 }
 
 -- nothing is claimed
-pub agrees_none : (held : List (ℕ × ℕ)) → held ≡ [] → Agrees [] held
-agrees_none held z = record {
-  free = λ s n h t e holds. let clash : None ≡ Some e = subst (λ (xs : List (ℕ × ℕ)). Holds xs t e) z holds in absurd (cc);
+pub agrees_none : (claimed : List (ℕ × ℕ)) → claimed ≡ [] → Agrees [] claimed
+agrees_none claimed z = record {
+  free = λ s n h t e holds. let clash : None ≡ Some e = subst (λ (xs : List (ℕ × ℕ)). IsClaimed xs t e) z holds in absurd (cc);
   all_free = λ s n h. refl;
 }

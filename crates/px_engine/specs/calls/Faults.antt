@@ -6,8 +6,8 @@ use Rattle.px_bytes.specs.declared.Refusal.{Refusal}
 use Rattle.px_bytes.specs.declared.Refusal.TheVariants as refusal
 use Rattle.px_bytes.specs.declared.WriteRefusal.{WriteRefusal}
 use Rattle.px_bytes.specs.declared.WriteRefusal.TheVariants as write
-use Rattle.px_engine.specs.declared.faults.Fault.{Fault}
-use Rattle.px_engine.specs.declared.faults.Fault.TheVariants.{Refused, NormalTooLong, OutOfMemory, ReadFailed, WriteFailed}
+use Rattle.px_engine.specs.declared.error.Fault.{Fault}
+use Rattle.px_engine.specs.declared.error.Fault.TheVariants.{Refused, NormalTooLong, OutOfMemory, ReadFailed, WriteFailed}
 
 abbrev pub read_fault : ReadFault → Fault
 read_fault read.ReadFailed = ReadFailed

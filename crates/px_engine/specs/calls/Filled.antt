@@ -2,18 +2,18 @@
 use Rattle.std.specs.Prelude.{◌≡◌, ◌<◌, ◌≤◌, ℕ, List, ◌∷◌, length, take, nat_lt, if◌then◌else◌, Option, Some, None}
 use Rattle.px_bytes.specs.Devices.{Calls}
 use Rattle.px_bytes.specs.Parts.{limit}
-use Rattle.px_engine.specs.declared.filling.Filling.{Filling}
-use Rattle.px_engine.specs.declared.forms.Given.{Given}
-use Rattle.px_engine.specs.Hand.{IsPut}
+use Rattle.px_engine.specs.declared.normal.Filling.{Filling}
+use Rattle.px_engine.specs.declared.normal.Given.{Given}
+use Rattle.px_engine.specs.Slices.{IsPut}
 
 -- Two numbers, the slice to which the writer writes and its length, then the bytes that the writer has put. A call over any writer
 -- only appends to this list, so it leaves the slice and its length as they were.
-abbrev pub told_in : Filling → List ℕ
-told_in f = f.room.ghost_name ∷ length f.room.now ∷ take f.held f.room.now
+abbrev pub reported_in : Filling → List ℕ
+reported_in f = f.space.ghost_name ∷ length f.space.now ∷ take f.filled f.space.now
 
 -- how many calls have found the slice full: none if it isn't full
 abbrev pub refused_in : Filling → ℕ
-refused_in f = if nat_lt f.held (length f.room.now) then 0 else f.refusals
+refused_in f = if nat_lt f.filled (length f.space.now) then 0 else f.refusals
 
 -- those, and how many calls were flushes
 abbrev pub calls_in : Filling → Calls

@@ -1,8 +1,8 @@
 -- A block that has a meaning of its kind.
 use Rattle.std.specs.Prelude.{◌≡◌, ℕ, List}
-use Rattle.px_engine.specs.declared.kinds.BlockKind.{BlockKind}
-use Rattle.px_engine.specs.Files.{Said, kind_said}
-use Rattle.px_engine.specs.Input.{IsSaidIn}
+use Rattle.px_engine.specs.declared.kind.BlockKind.{BlockKind}
+use Rattle.px_engine.specs.Files.{Said, kind_of_meaning}
+use Rattle.px_engine.specs.Input.{HasMeaningAs}
 
-abbrev pub SaysKind : BlockKind → List ℕ → Type 0
-SaysKind k b = (s : Said) × IsSaidIn k b s × (k ≡ kind_said s)
+abbrev pub HasMeaningOfKind : BlockKind → List ℕ → Type 0
+HasMeaningOfKind k b = (s : Said) × HasMeaningAs k b s × (k ≡ kind_of_meaning s)

@@ -1,9 +1,9 @@
 -- The meaning that a value of the program has.
 use Rattle.px_meaning.specs.calls.Seen.{meaning_of}
-use Rattle.px_engine.specs.declared.meanings.Said.{Said}
-use Rattle.px_engine.specs.declared.meanings.Said.TheVariants.{Exif, Iim}
-use Rattle.px_engine.specs.Files as said
+use Rattle.px_engine.specs.declared.meaning.Said.{Said}
+use Rattle.px_engine.specs.declared.meaning.Said.TheVariants.{Exif, Iim}
+use Rattle.px_engine.specs.Files as files
 
-abbrev pub said_of : Said → said.Said
-said_of (Exif m) = said.Exif (meaning_of m)
-said_of (Iim i) = said.Iim i
+abbrev pub said_view : Said → files.Said
+said_view (Exif m) = files.Exif (meaning_of m)
+said_view (Iim i) = files.Iim i

@@ -15,7 +15,7 @@ use Rattle.px_field.specs.lemmas.PieceLaws.{bytes_drop}
 use Rattle.px_iim.specs.Group.{Record, IsRecord}
 use Rattle.px_iim.specs.Record.{normal_dataset, normal_group, normal_iim}
 use Rattle.px_iim.specs.Check.{iim_checks}
-use Rattle.px_iim.specs.lemmas.RecordLaws.{one_record, said_is_record}
+use Rattle.px_iim.specs.lemmas.RecordLaws.{one_record, meaning_is_record}
 use Rattle.px_iim.specs.lemmas.NormalLaws as iim_normal
 use Rattle.px_iim.specs.lemmas.BoundLaws as iim_bound
 use Rattle.px_iim.specs.lemmas.FaultLaws as iim_faults
@@ -27,13 +27,14 @@ use Rattle.px_layout.specs.Laid.{header}
 use Rattle.px_layout.specs.Normal.{normal_exif}
 use Rattle.px_layout.specs.lemmas.NormalLaws as exif_normal
 use Rattle.px_layout.specs.lemmas.BoundLaws as exif_bound
-use Rattle.px_engine.specs.declared.kinds.BlockKind.{BlockKind}
-use Rattle.px_engine.specs.declared.kinds.BlockKind.TheVariants as kind
-use Rattle.px_engine.specs.Files.{Said, Exif, Iim, prefix, is_prefixed, is_marked, kind_of, block_of, SaysBlock, Says, CanBeWritten, normal}
-use Rattle.px_engine.specs.Files.{FirstIn, FirstFaultOf, StandsIn, FaultOf}
+use Rattle.px_engine.specs.declared.kind.BlockKind.{BlockKind}
+use Rattle.px_engine.specs.declared.kind.BlockKind.TheVariants as kind
+use Rattle.px_engine.specs.Files.{Said, Exif, Iim, prefix, is_prefixed, is_marked, kind_of, block_of, MeansAs, Says, CanBeWritten, normal}
+use Rattle.px_engine.specs.Files.{FirstIn, FirstFaultOf, IsFaultIn, FaultOf}
 use Rattle.px_engine.specs.Input.{most_read}
-use Rattle.px_engine.specs.Laws.{OneSaid, SaidCanBeWritten, NormalSays, NormalTells, NormalIsItsOwn, NormalBound, FaultsTell, taken}
-use Rattle.px_engine.specs.Laws.{TakenTells}
+use Rattle.px_engine.specs.Laws.{OneMeaningOfFile, MeaningCanBeWritten, FormHasMeaning, FormDecides, NormalIsItsOwn, NormalBound}
+use Rattle.px_engine.specs.Laws.{FaultsDecide, taken}
+use Rattle.px_engine.specs.Laws.{TakenDecides}
 
 -- ---- a block of a kind
 
@@ -44,7 +45,7 @@ same_fault c d p q z x y =
     (ap (λ (z : Cause × ℕ). z.0) f, ap (λ (z : Cause × ℕ). z.1) f)
 
 module _ (b : List ℕ) where
-  one_in : tree.OneMeaning → (k : BlockKind) (s t : Said) → SaysBlock k b s → SaysBlock k b t → s ≡ t
+  one_in : tree.OneMeaning → (k : BlockKind) (s t : Said) → MeansAs k b s → MeansAs k b t → s ≡ t
   one_in one kind.Exif (Exif m) (Exif n) x y = ap (λ z. Exif z) (one b m n x y)
   one_in one kind.Exif (Exif m) (Iim j) x y = absurd y
   one_in one kind.Exif (Iim i) t x y = absurd x
@@ -52,40 +53,41 @@ module _ (b : List ℕ) where
   one_in one kind.Iim (Iim i) (Exif n) x y = absurd y
   one_in one kind.Iim (Exif m) t x y = absurd x
 
-  written_in : tree.SaidFits → (k : BlockKind) (s : Said) → AreBytes b → SaysBlock k b s → CanBeWritten s
+  written_in : tree.MeaningIsWritable → (k : BlockKind) (s : Said) → AreBytes b → MeansAs k b s → CanBeWritten s
   written_in fits kind.Exif (Exif m) h x = fits b m h x
-  written_in fits kind.Iim (Iim i) h x = said_is_record b i h x
+  written_in fits kind.Iim (Iim i) h x = meaning_is_record b i h x
   written_in fits kind.Exif (Iim i) h x = absurd x
   written_in fits kind.Iim (Exif m) h x = absurd x
 
-  bound_in : tree.SaidFits → (k : BlockKind) (s : Said) → AreBytes b → SaysBlock k b s → length (normal s) ≤ 2 * length b
+  bound_in : tree.MeaningIsWritable → (k : BlockKind) (s : Said) → AreBytes b → MeansAs k b s → length (normal s) ≤ 2 * length b
   bound_in fits kind.Exif (Exif m) h x = exif_bound.normal_bound fits b m h x
   bound_in fits kind.Iim (Iim i) h x = iim_bound.normal_bound b i x
   bound_in fits kind.Exif (Iim i) h x = absurd x
   bound_in fits kind.Iim (Exif m) h x = absurd x
 
-  pub short_in : (k : BlockKind) (s : Said) → SaysBlock k b s → length b ≤ limit
+  pub short_in : (k : BlockKind) (s : Said) → MeansAs k b s → length b ≤ limit
   short_in kind.Exif (Exif m) x = x.is_block.most
   short_in kind.Iim (Iim i) x = x.bounded
   short_in kind.Exif (Iim i) x = absurd x
   short_in kind.Iim (Exif m) x = absurd x
 
-  stands_in : tree_faults.FaultsTell → (k : BlockKind) (c : Cause) (p : ℕ) → FirstIn k b c p → StandsIn k b c p
-  stands_in tell kind.Exif c p h = tell.0 b c p h
-  stands_in tell kind.Iim c p h = iim_faults.first_stands b c p h
+  fault_in : tree_faults.FaultsDecide → (k : BlockKind) (c : Cause) (p : ℕ) → FirstIn k b c p → IsFaultIn k b c p
+  fault_in law kind.Exif c p h = law.0 b c p h
+  fault_in law kind.Iim c p h = iim_faults.first_is_fault b c p h
 
-  unsaid_in : tree_faults.FaultsTell → (k : BlockKind) (c : Cause) (p : ℕ) (s : Said) → StandsIn k b c p → SaysBlock k b s → ⊥
-  unsaid_in tell kind.Exif c p (Exif m) h x = tell.1 b c p m h x
-  unsaid_in tell kind.Iim c p (Iim i) h x = iim_faults.stands_unsaid b c p i h x
-  unsaid_in tell kind.Exif c p (Iim i) h x = absurd x
-  unsaid_in tell kind.Iim c p (Exif m) h x = absurd x
+  no_meaning_in : tree_faults.FaultsDecide → (k : BlockKind) (c : Cause) (p : ℕ) (s : Said) → IsFaultIn k b c p → MeansAs k b s → ⊥
+  no_meaning_in law kind.Exif c p (Exif m) h x = law.1 b c p m h x
+  no_meaning_in law kind.Iim c p (Iim i) h x = iim_faults.fault_excludes_meaning b c p i h x
+  no_meaning_in law kind.Exif c p (Iim i) h x = absurd x
+  no_meaning_in law kind.Iim c p (Exif m) h x = absurd x
 
-  said_or_fault_in : tree_faults.FaultsTell → (k : BlockKind) → ((s : Said) × SaysBlock k b s) ⊎ ((c : Cause) × (p : ℕ) × FirstIn k b c p)
-  said_or_fault_in tell kind.Exif = elim (tell.2 b) [
+  meaning_or_fault_in : tree_faults.FaultsDecide → (k : BlockKind)
+      → ((s : Said) × MeansAs k b s) ⊎ ((c : Cause) × (p : ℕ) × FirstIn k b c p)
+  meaning_or_fault_in law kind.Exif = elim (law.2 b) [
     | inl (m, x) ↦ inl (Exif m, x)
     | inr h ↦ inr h
   ]
-  said_or_fault_in tell kind.Iim = elim (iim_faults.said_or_fault b) [
+  meaning_or_fault_in law kind.Iim = elim (iim_faults.meaning_or_fault b) [
     | inl (i, x) ↦ inl (Iim i, x)
     | inr h ↦ inr h
   ]
@@ -102,8 +104,8 @@ module _ (b : List ℕ) where
 
 -- ---- a file
 
-pub one_said : tree.OneMeaning → OneSaid
-one_said one f s t x y = one_in (block_of f) one (kind_of f) s t x y
+pub one_meaning_of_file : tree.OneMeaning → OneMeaningOfFile
+one_meaning_of_file one f s t x y = one_in (block_of f) one (kind_of f) s t x y
 
 bytes_of_block : (f : List ℕ) → AreBytes f → AreBytes (block_of f)
 unfolding block_of
@@ -112,17 +114,17 @@ bytes_of_block f h = elim (cases_Bool (is_prefixed f)) [
   | inr t ↦ subst (λ z. AreBytes z) (sym (cond-false (is_prefixed f) (drop 6 f) f t)) h
 ]
 
-pub said_can_be_written : tree.SaidFits → SaidCanBeWritten
-said_can_be_written fits f s h x = written_in (block_of f) fits (kind_of f) s (bytes_of_block f h) x
+pub meaning_can_be_written : tree.MeaningIsWritable → MeaningCanBeWritten
+meaning_can_be_written fits f s h x = written_in (block_of f) fits (kind_of f) s (bytes_of_block f h) x
 
-pub normal_bound : tree.SaidFits → NormalBound
+pub normal_bound : tree.MeaningIsWritable → NormalBound
 normal_bound fits f s h x = bound_in (block_of f) fits (kind_of f) s (bytes_of_block f h) x
 
-pub faults_tell : tree_faults.FaultsTell → FaultsTell
-faults_tell tell = (
-  λ f c p h. stands_in (block_of f) tell (kind_of f) c p h,
-  λ f c p s h x. unsaid_in (block_of f) tell (kind_of f) c p s h x,
-  λ f. said_or_fault_in (block_of f) tell (kind_of f),
+pub faults_decide : tree_faults.FaultsDecide → FaultsDecide
+faults_decide law = (
+  λ f c p h. fault_in (block_of f) law (kind_of f) c p h,
+  λ f c p s h x. no_meaning_in (block_of f) law (kind_of f) c p s h x,
+  λ f. meaning_or_fault_in (block_of f) law (kind_of f),
   λ f c d p q h k. one_first_in (block_of f) (kind_of f) c d p q h k,
 )
 
@@ -147,21 +149,21 @@ iim_kind : (i : Record) → IsRecord i → Is kind.Iim (normal_iim i)
 iim_kind [] h = let l = h.some in absurd (omega arith)
 iim_kind (g ∷ gs) h = marked_kind g.rec g.items (flat_map normal_group gs) h.whole.groups.0.some
 
-says_itself : (k : BlockKind) (f : List ℕ) (s : Said) → Is k f → SaysBlock k f s → Says f s
-says_itself k f s is x = subst (λ z. SaysBlock (kind_of f) z s) (sym is.block_is) (subst (λ z. SaysBlock z f s) (sym is.kind_is) x)
+means_itself : (k : BlockKind) (f : List ℕ) (s : Said) → Is k f → MeansAs k f s → Says f s
+means_itself k f s is x = subst (λ z. MeansAs (kind_of f) z s) (sym is.block_is) (subst (λ z. MeansAs z f s) (sym is.kind_is) x)
 
-pub normal_says : NormalSays
-normal_says (Exif m) h l = says_itself kind.Exif (normal_exif m) (Exif m) (exif_kind m) (exif_normal.normal_says m h l)
-normal_says (Iim i) h l = says_itself kind.Iim (normal_iim i) (Iim i) (iim_kind i h) ((iim_normal.normal_says i h).2 l)
+pub form_has_meaning : FormHasMeaning
+form_has_meaning (Exif m) h l = means_itself kind.Exif (normal_exif m) (Exif m) (exif_kind m) (exif_normal.form_has_meaning m h l)
+form_has_meaning (Iim i) h l = means_itself kind.Iim (normal_iim i) (Iim i) (iim_kind i h) ((iim_normal.form_has_meaning i h).2 l)
 
-pub normal_tells : tree.OneMeaning → NormalTells
-normal_tells one s t h k l m = (
-  λ e. one_said one (normal t) s t (subst (λ z. Says z s) e (normal_says s h l)) (normal_says t k m),
+pub form_decides : tree.OneMeaning → FormDecides
+form_decides one s t h k l m = (
+  λ e. one_meaning_of_file one (normal t) s t (subst (λ z. Says z s) e (form_has_meaning s h l)) (form_has_meaning t k m),
   λ e. ap normal e,
 )
 
 pub normal_is_its_own : tree.OneMeaning → NormalIsItsOwn
-normal_is_its_own one s t h l x = ap normal (one_said one (normal s) t s x (normal_says s h l))
+normal_is_its_own one s t h l x = ap normal (one_meaning_of_file one (normal s) t s x (form_has_meaning s h l))
 
 -- ---- the bytes that are read
 
@@ -198,14 +200,14 @@ whole_or_long f = elim (cases_Bool (nat_le (length f) most_read)) [
 ]
 
 -- the meaning of the bytes that are read is that of the whole file, which they are
-pub said_whole : (f : List ℕ) (s : Said) → Says (taken f) s → taken f ≡ f
-said_whole f s x = elim (whole_or_long f) [
+pub meaning_whole : (f : List ℕ) (s : Said) → Says (taken f) s → taken f ≡ f
+meaning_whole f s x = elim (whole_or_long f) [
   | inl e ↦ e
   | inr l ↦ let m = short_in (block_of (taken f)) (kind_of (taken f)) s x in let n = l.1 in absurd (omega arith)
 ]
 
-whole_said : (f : List ℕ) (s : Said) → Says f s → taken f ≡ f
-whole_said f s x = elim (whole_or_long f) [
+whole_has_meaning : (f : List ℕ) (s : Said) → Says f s → taken f ≡ f
+whole_has_meaning f s x = elim (whole_or_long f) [
   | inl e ↦ e
   | inr l ↦ let m = short_in (block_of f) (kind_of f) s x in let n = l.0 in absurd (omega arith)
 ]
@@ -220,9 +222,9 @@ first_fault_too_long f g c p x y h =
     let e = one_first_in (block_of f) (kind_of f) TooLong c limit p x h in
     subst (λ z. FirstFaultOf g z p) e.0 (subst (λ z. FirstFaultOf g TooLong z) e.1 y)
 
-pub taken_tells : TakenTells
-taken_tells = (
-  λ f s. (λ x. subst (λ z. Says z s) (said_whole f s x) x, λ x. subst (λ z. Says z s) (sym (whole_said f s x)) x),
+pub taken_decides : TakenDecides
+taken_decides = (
+  λ f s. (λ x. subst (λ z. Says z s) (meaning_whole f s x) x, λ x. subst (λ z. Says z s) (sym (whole_has_meaning f s x)) x),
   λ f c p. elim (whole_or_long f) [
     | inl e ↦ (λ h. subst (λ z. FirstFaultOf z c p) e h, λ h. subst (λ z. FirstFaultOf z c p) (sym e) h)
     | inr l ↦ (
@@ -233,17 +235,17 @@ taken_tells = (
   ],
 )
 
-too_long_stands : (k : BlockKind) (b : List ℕ) → limit < length b → StandsIn k b TooLong limit
-too_long_stands kind.Exif b l = (refl, l)
-too_long_stands kind.Iim b l = (refl, l)
+too_long_is_fault : (k : BlockKind) (b : List ℕ) → limit < length b → IsFaultIn k b TooLong limit
+too_long_is_fault kind.Exif b l = (refl, l)
+too_long_is_fault kind.Iim b l = (refl, l)
 
 -- the first fault of the bytes that are read is a fault of the whole file
-pub stands_whole : (f : List ℕ) (c : Cause) (p : ℕ) → FirstFaultOf (taken f) c p → FaultOf (taken f) c p → FaultOf f c p
-stands_whole f c p h s = elim (whole_or_long f) [
+pub fault_whole : (f : List ℕ) (c : Cause) (p : ℕ) → FirstFaultOf (taken f) c p → FaultOf (taken f) c p → FaultOf f c p
+fault_whole f c p h s = elim (whole_or_long f) [
   | inl e ↦ subst (λ z. FaultOf z c p) e s
   | inr l ↦
       let e = one_first_in (block_of (taken f)) (kind_of (taken f)) TooLong c limit p (first_long (taken f) l.1) h in
-      subst (λ z. FaultOf f z p) e.0 (subst (λ z. FaultOf f TooLong z) e.1 (too_long_stands (kind_of f) (block_of f) l.0))
+      subst (λ z. FaultOf f z p) e.0 (subst (λ z. FaultOf f TooLong z) e.1 (too_long_is_fault (kind_of f) (block_of f) l.0))
 ]
 
 -- nothing is before the block in a normal form

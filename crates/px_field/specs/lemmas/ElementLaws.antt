@@ -13,7 +13,7 @@ use Rattle.px_field.specs.declared.forms.Form.TheVariants as form
 use Rattle.px_field.specs.declared.forms.Element.{Element}
 use Rattle.px_field.specs.declared.forms.Element.TheVariants as element
 use Rattle.px_field.specs.Forms.{size}
-use Rattle.px_field.specs.Values.{spell, element_of, IsOf}
+use Rattle.px_field.specs.Values.{encode, element_of, IsOf}
 use Rattle.px_field.specs.lemmas.PieceLaws.{bytes_take, bytes_drop}
 
 -- a type has a size
@@ -36,21 +36,21 @@ two_long : (o : Order) (n d : ℕ) → length (spelling o 4 n ++ spelling o 4 d)
 two_long o n d = length-append (spelling o 4 n) (spelling o 4 d) ∙ ap₂ (λ x y. x + y) (length_spelling o 4 n) (length_spelling o 4 d)
 
 -- an element's encoding has the length of its type
-pub length_spell : (o : Order) (f : Form) (e : Element) → IsOf f e → length (spell o e) ≡ size f
-length_spell o form.Short (element.Short n) h = length_spelling o 2 n
-length_spell o form.Long (element.Long n) h = length_spelling o 4 n
-length_spell o form.Rational (element.Rational n d) h = two_long o n d
-length_spell o form.SShort (element.SShort z) h = length_spelling o 2 (cast_unsigned w16 z)
-length_spell o form.SLong (element.SLong z) h = length_spelling o 4 (cast_unsigned w32 z)
-length_spell o form.SRational (element.SRational y z) h = two_long o (cast_unsigned w32 y) (cast_unsigned w32 z)
-length_spell o form.Float (element.Float n) h = length_spelling o 4 n
-length_spell o form.Double (element.Double n) h = length_spelling o 8 n
-length_spell o form.Byte (element.Byte n) h = refl
-length_spell o form.Ascii (element.Byte n) h = refl
-length_spell o form.SByte (element.Byte n) h = refl
-length_spell o form.Undefined (element.Byte n) h = refl
-length_spell o form.Utf8 (element.Byte n) h = refl
-length_spell o _ _ h = absurd h
+pub length_encode : (o : Order) (f : Form) (e : Element) → IsOf f e → length (encode o e) ≡ size f
+length_encode o form.Short (element.Short n) h = length_spelling o 2 n
+length_encode o form.Long (element.Long n) h = length_spelling o 4 n
+length_encode o form.Rational (element.Rational n d) h = two_long o n d
+length_encode o form.SShort (element.SShort z) h = length_spelling o 2 (cast_unsigned w16 z)
+length_encode o form.SLong (element.SLong z) h = length_spelling o 4 (cast_unsigned w32 z)
+length_encode o form.SRational (element.SRational y z) h = two_long o (cast_unsigned w32 y) (cast_unsigned w32 z)
+length_encode o form.Float (element.Float n) h = length_spelling o 4 n
+length_encode o form.Double (element.Double n) h = length_spelling o 8 n
+length_encode o form.Byte (element.Byte n) h = refl
+length_encode o form.Ascii (element.Byte n) h = refl
+length_encode o form.SByte (element.Byte n) h = refl
+length_encode o form.Undefined (element.Byte n) h = refl
+length_encode o form.Utf8 (element.Byte n) h = refl
+length_encode o _ _ h = absurd h
 
 two_back : (o : Order) (n d : ℕ) → n < 2 ^ 32 → d < 2 ^ 32 →
     (number o 4 (take 4 (spelling o 4 n ++ spelling o 4 d)) ≡ n) × (number o 4 (drop 4 (spelling o 4 n ++ spelling o 4 d)) ≡ d)
@@ -60,36 +60,36 @@ two_back o n d h k = (
 )
 
 -- decoding an encoded element returns it
-pub element_of_spell : (o : Order) (f : Form) (e : Element) → IsOf f e → element_of o f (spell o e) ≡ e
-element_of_spell o form.Short (element.Short n) h = ap element.Short (number_spelling o 2 n h)
-element_of_spell o form.Long (element.Long n) h = ap element.Long (number_spelling o 4 n h)
-element_of_spell o form.Rational (element.Rational n d) h = let e = two_back o n d h.0 h.1 in ap₂ element.Rational e.0 e.1
-element_of_spell o form.SShort (element.SShort z) h =
+pub element_of_encode : (o : Order) (f : Form) (e : Element) → IsOf f e → element_of o f (encode o e) ≡ e
+element_of_encode o form.Short (element.Short n) h = ap element.Short (number_spelling o 2 n h)
+element_of_encode o form.Long (element.Long n) h = ap element.Long (number_spelling o 4 n h)
+element_of_encode o form.Rational (element.Rational n d) h = let e = two_back o n d h.0 h.1 in ap₂ element.Rational e.0 e.1
+element_of_encode o form.SShort (element.SShort z) h =
     ap element.SShort (ap (cast_signed w16) (number_spelling o 2 (cast_unsigned w16 z) (omega (arith, Fits-of_z h))) ∙ to_z-of_z h)
-element_of_spell o form.SLong (element.SLong z) h =
+element_of_encode o form.SLong (element.SLong z) h =
     ap element.SLong (ap (cast_signed w32) (number_spelling o 4 (cast_unsigned w32 z) (omega (arith, Fits-of_z h))) ∙ to_z-of_z h)
-element_of_spell o form.SRational (element.SRational y z) h =
+element_of_encode o form.SRational (element.SRational y z) h =
     let e = two_back o (cast_unsigned w32 y) (cast_unsigned w32 z) (omega (arith, Fits-of_z h.0)) (omega (arith, Fits-of_z h.1)) in
     ap₂ element.SRational (ap (cast_signed w32) e.0 ∙ to_z-of_z h.0) (ap (cast_signed w32) e.1 ∙ to_z-of_z h.1)
-element_of_spell o form.Float (element.Float n) h = ap element.Float (number_spelling o 4 n h)
-element_of_spell o form.Double (element.Double n) h = ap element.Double (number_spelling o 8 n h)
-element_of_spell o form.Byte (element.Byte n) h = refl
-element_of_spell o form.Ascii (element.Byte n) h = refl
-element_of_spell o form.SByte (element.Byte n) h = refl
-element_of_spell o form.Undefined (element.Byte n) h = refl
-element_of_spell o form.Utf8 (element.Byte n) h = refl
-element_of_spell o _ _ h = absurd h
+element_of_encode o form.Float (element.Float n) h = ap element.Float (number_spelling o 4 n h)
+element_of_encode o form.Double (element.Double n) h = ap element.Double (number_spelling o 8 n h)
+element_of_encode o form.Byte (element.Byte n) h = refl
+element_of_encode o form.Ascii (element.Byte n) h = refl
+element_of_encode o form.SByte (element.Byte n) h = refl
+element_of_encode o form.Undefined (element.Byte n) h = refl
+element_of_encode o form.Utf8 (element.Byte n) h = refl
+element_of_encode o _ _ h = absurd h
 
-two_stand : (o : Order) (x : List ℕ) → length x ≡ 8 → AreBytes x
+two_placed : (o : Order) (x : List ℕ) → length x ≡ 8 → AreBytes x
     → spelling o 4 (number o 4 (take 4 x)) ++ spelling o 4 (number o 4 (drop 4 x)) ≡ x
-two_stand o x l h =
+two_placed o x l h =
     ap₂ (λ a b. a ++ b) (spelling_number o 4 (take 4 x) (length-take-le 4 x (omega arith)) (bytes_take 4 x h))
     (spelling_number o 4 (drop 4 x) (length-drop 4 x ∙ omega arith) (bytes_drop 4 x h))
     ∙ take-append-drop 4 x
 
-one_stands : (x : List ℕ) → length x ≡ 1 → slice_index x 0 ∷ [] ≡ x
-one_stands [] l = absurd (omega arith)
-one_stands (y ∷ x) l = ap (λ z. y ∷ z) (sym (nil_from_length x (omega arith)))
+one_placed : (x : List ℕ) → length x ≡ 1 → slice_index x 0 ∷ [] ≡ x
+one_placed [] l = absurd (omega arith)
+one_placed (y ∷ x) l = ap (λ z. y ∷ z) (sym (nil_from_length x (omega arith)))
 
 number_below_16 : (o : Order) (x : List ℕ) → AreBytes x → number o 2 x < 2 ^ 16
 number_below_16 o x h = number_lt o 2 x h
@@ -101,23 +101,23 @@ number_below_64 : (o : Order) (x : List ℕ) → AreBytes x → number o 8 x < 2
 number_below_64 o x h = number_lt o 8 x h
 
 -- encoding a decoded element returns its bytes
-pub spell_element_of : (o : Order) (f : Form) (x : List ℕ) → length x ≡ size f → AreBytes x → spell o (element_of o f x) ≡ x
-spell_element_of o form.Short x l h = spelling_number o 2 x l h
-spell_element_of o form.Long x l h = spelling_number o 4 x l h
-spell_element_of o form.Rational x l h = two_stand o x l h
-spell_element_of o form.SShort x l h = ap (spelling o 2) (of_z-to_z w16 (number o 2 x) (number_below_16 o x h)) ∙ spelling_number o 2 x l h
-spell_element_of o form.SLong x l h = ap (spelling o 4) (of_z-to_z w32 (number o 4 x) (number_below_32 o x h)) ∙ spelling_number o 4 x l h
-spell_element_of o form.SRational x l h =
+pub encode_element_of : (o : Order) (f : Form) (x : List ℕ) → length x ≡ size f → AreBytes x → encode o (element_of o f x) ≡ x
+encode_element_of o form.Short x l h = spelling_number o 2 x l h
+encode_element_of o form.Long x l h = spelling_number o 4 x l h
+encode_element_of o form.Rational x l h = two_placed o x l h
+encode_element_of o form.SShort x l h = ap (spelling o 2) (of_z-to_z w16 (number o 2 x) (number_below_16 o x h)) ∙ spelling_number o 2 x l h
+encode_element_of o form.SLong x l h = ap (spelling o 4) (of_z-to_z w32 (number o 4 x) (number_below_32 o x h)) ∙ spelling_number o 4 x l h
+encode_element_of o form.SRational x l h =
     ap₂ (λ a b. spelling o 4 a ++ spelling o 4 b) (of_z-to_z w32 (number o 4 (take 4 x)) (number_below_32 o (take 4 x) (bytes_take 4 x h)))
     (of_z-to_z w32 (number o 4 (drop 4 x)) (number_below_32 o (drop 4 x) (bytes_drop 4 x h)))
-    ∙ two_stand o x l h
-spell_element_of o form.Float x l h = spelling_number o 4 x l h
-spell_element_of o form.Double x l h = spelling_number o 8 x l h
-spell_element_of o form.Byte x l h = one_stands x l
-spell_element_of o form.Ascii x l h = one_stands x l
-spell_element_of o form.SByte x l h = one_stands x l
-spell_element_of o form.Undefined x l h = one_stands x l
-spell_element_of o form.Utf8 x l h = one_stands x l
+    ∙ two_placed o x l h
+encode_element_of o form.Float x l h = spelling_number o 4 x l h
+encode_element_of o form.Double x l h = spelling_number o 8 x l h
+encode_element_of o form.Byte x l h = one_placed x l
+encode_element_of o form.Ascii x l h = one_placed x l
+encode_element_of o form.SByte x l h = one_placed x l
+encode_element_of o form.Undefined x l h = one_placed x l
+encode_element_of o form.Utf8 x l h = one_placed x l
 
 -- a decoded element is of its type and in its range
 pub IsOf_element_of : (o : Order) (f : Form) (x : List ℕ) → AreBytes x → IsOf f (element_of o f x)

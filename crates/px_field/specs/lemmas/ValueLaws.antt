@@ -17,10 +17,10 @@ use Rattle.px_field.specs.declared.forms.Kind.TheVariants as kind
 use Rattle.px_field.specs.declared.forms.Element.{Element}
 use Rattle.px_field.specs.declared.forms.Element.TheVariants as element
 use Rattle.px_field.specs.Forms.{size}
-use Rattle.px_field.specs.Values.{spell, element_of, IsOf, form_in, Value, IsValue, spelled, elements, widened, count_in, value_in}
+use Rattle.px_field.specs.Values.{encode, element_of, IsOf, form_in, Value, IsValue, encoded, elements, widened, count_in, value_in}
 use Rattle.px_field.specs.Values.{whole_in, IsWhole, is_bytes}
 use Rattle.px_field.specs.lemmas.PieceLaws.{length_pieces, get_pieces, pieces_joined, length_joined, each_piece, bytes_take, bytes_drop}
-use Rattle.px_field.specs.lemmas.ElementLaws.{size_pos, length_spell, element_of_spell, spell_element_of, IsOf_element_of}
+use Rattle.px_field.specs.lemmas.ElementLaws.{size_pos, length_encode, element_of_encode, encode_element_of, IsOf_element_of}
 
 -- ---- elements
 
@@ -46,43 +46,44 @@ unfolding elements
 IsOf_elements o f n x h =
     each_of o f (pieces n (size f) x) (each_piece AreBytes AreBytes n (size f) x (bytes_take (size f)) (bytes_drop (size f)) h)
 
-all_stand : (o : Order) (f : Form) (n : ℕ) (x : List ℕ) → length x ≡ n * size f → AreBytes x
-    → flat_map (spell o) (map (element_of o f) (pieces n (size f) x)) ≡ x
-all_stand o f zero x l h = sym (nil_from_length x (omega arith))
-all_stand o f (suc n) x l h =
-    ap₂ (λ a b. a ++ b) (spell_element_of o f (take (size f) x) (length-take-le (size f) x (omega arith)) (bytes_take (size f) x h))
-    (all_stand o f n (drop (size f) x) (length-drop (size f) x ∙ omega arith) (bytes_drop (size f) x h))
+all_placed : (o : Order) (f : Form) (n : ℕ) (x : List ℕ) → length x ≡ n * size f → AreBytes x
+    → flat_map (encode o) (map (element_of o f) (pieces n (size f) x)) ≡ x
+all_placed o f zero x l h = sym (nil_from_length x (omega arith))
+all_placed o f (suc n) x l h =
+    ap₂ (λ a b. a ++ b) (encode_element_of o f (take (size f) x) (length-take-le (size f) x (omega arith)) (bytes_take (size f) x h))
+    (all_placed o f n (drop (size f) x) (length-drop (size f) x ∙ omega arith) (bytes_drop (size f) x h))
     ∙ take-append-drop (size f) x
 
 -- encoding decoded elements returns their bytes
-pub spell_elements : (o : Order) (f : Form) (n : ℕ) (x : List ℕ) → length x ≡ n * size f → AreBytes x
-    → flat_map (spell o) (elements o f n x) ≡ x
+pub encode_elements : (o : Order) (f : Form) (n : ℕ) (x : List ℕ) → length x ≡ n * size f → AreBytes x
+    → flat_map (encode o) (elements o f n x) ≡ x
 unfolding elements
-spell_elements o f n x l h = all_stand o f n x l h
+encode_elements o f n x l h = all_placed o f n x l h
 
-each_length : (o : Order) (f : Form) (es : List Element) → AllByRecursion (IsOf f) es → AllByRecursion (λ e. length (spell o e) ≡ size f) es
+each_length : (o : Order) (f : Form) (es : List Element) → AllByRecursion (IsOf f) es
+    → AllByRecursion (λ e. length (encode o e) ≡ size f) es
 each_length o f [] h = tt
-each_length o f (e ∷ es) h = (length_spell o f e h.0, each_length o f es h.1)
+each_length o f (e ∷ es) h = (length_encode o f e h.0, each_length o f es h.1)
 
-each_back : (o : Order) (f : Form) (es : List Element) → AllByRecursion (IsOf f) es → map (element_of o f) (map (spell o) es) ≡ es
+each_back : (o : Order) (f : Form) (es : List Element) → AllByRecursion (IsOf f) es → map (element_of o f) (map (encode o) es) ≡ es
 each_back o f [] h = refl
-each_back o f (e ∷ es) h = ap₂ (λ x xs. x ∷ xs) (element_of_spell o f e h.0) (each_back o f es h.1)
+each_back o f (e ∷ es) h = ap₂ (λ x xs. x ∷ xs) (element_of_encode o f e h.0) (each_back o f es h.1)
 
 -- ---- values
 
 -- a value's encoding has as many bytes as its elements take
-pub length_spelled : (o : Order) (v : Value) → IsValue v → length (spelled o v) ≡ length v.elements * size (form_in v.kind)
-unfolding spelled
-length_spelled o v h = length_joined (size (form_in v.kind)) (spell o) v.elements (each_length o (form_in v.kind) v.elements h)
+pub length_encoded : (o : Order) (v : Value) → IsValue v → length (encoded o v) ≡ length v.elements * size (form_in v.kind)
+unfolding encoded
+length_encoded o v h = length_joined (size (form_in v.kind)) (encode o) v.elements (each_length o (form_in v.kind) v.elements h)
 
 -- the elements of a value, from its encoding
-pub elements_spelled : (o : Order) (v : Value) → IsValue v → elements o (form_in v.kind) (length v.elements) (spelled o v) ≡ v.elements
-unfolding elements spelled
-elements_spelled o v h =
+pub elements_encoded : (o : Order) (v : Value) → IsValue v → elements o (form_in v.kind) (length v.elements) (encoded o v) ≡ v.elements
+unfolding elements encoded
+elements_encoded o v h =
     let f = form_in v.kind in
     let es = v.elements in
-    ap (map (element_of o f)) (ap (pieces (length es) (size f)) (sym (append-nil (flat_map (spell o) es)))
-    ∙ pieces_joined (size f) (spell o) es [] (each_length o f es h))
+    ap (map (element_of o f)) (ap (pieces (length es) (size f)) (sym (append-nil (flat_map (encode o) es)))
+    ∙ pieces_joined (size f) (encode o) es [] (each_length o f es h))
     ∙ each_back o f es h
 
 -- a whole number of elements
@@ -92,8 +93,8 @@ count_in_whole f x h = omega (arith, div-add-mod' (length x) (size f), h)
 pub count_in_times : (f : Form) (x : List ℕ) (n : ℕ) → n * size f ≡ length x → count_in f x ≡ n
 count_in_times f x n h = ap (λ (m : ℕ). m / size f) (sym h) ∙ mul-div_cancel n (size_pos f)
 
-pub count_in_spelled : (o : Order) (v : Value) → IsValue v → count_in (form_in v.kind) (spelled o v) ≡ length v.elements
-count_in_spelled o v h = count_in_times (form_in v.kind) (spelled o v) (length v.elements) (sym (length_spelled o v h))
+pub count_in_encoded : (o : Order) (v : Value) → IsValue v → count_in (form_in v.kind) (encoded o v) ≡ length v.elements
+count_in_encoded o v h = count_in_times (form_in v.kind) (encoded o v) (length v.elements) (sym (length_encoded o v h))
 
 -- a value that is read of a type is of that type
 pub IsValue_value_in : (o : Order) (f : Form) (x : List ℕ) → AreBytes x → IsValue (value_in o f x)
@@ -124,28 +125,28 @@ pub widened_long : (o : Order) (n : ℕ) (x : List ℕ) → AreBytes x → map w
 widened_long o n x h = each_long (elements o form.Long n x) (IsOf_elements o form.Long n x h)
 
 -- encoding a decoded value returns its bytes
-pub spelled_value_in : (o : Order) (f : Form) (x : List ℕ) → length x % size f ≡ 0 → AreBytes x → spelled o (value_in o f x) ≡ x
-unfolding spelled
-spelled_value_in o f x whole h = spell_elements o f (count_in f x) x (sym (count_in_whole f x whole)) h
+pub encoded_value_in : (o : Order) (f : Form) (x : List ℕ) → length x % size f ≡ 0 → AreBytes x → encoded o (value_in o f x) ≡ x
+unfolding encoded
+encoded_value_in o f x whole h = encode_elements o f (count_in f x) x (sym (count_in_whole f x whole)) h
 
 -- decoding an encoded value returns it
-pub value_in_spelled : (o : Order) (f : Form) (v : Value) → v.kind ≡ kind.Of f → IsValue v → value_in o f (spelled o v) ≡ v
-value_in_spelled o f v k h =
+pub value_in_encoded : (o : Order) (f : Form) (v : Value) → v.kind ≡ kind.Of f → IsValue v → value_in o f (encoded o v) ≡ v
+value_in_encoded o f v k h =
     let g : form_in v.kind ≡ f = ap form_in k in
-    let es : elements o f (count_in f (spelled o v)) (spelled o v) ≡ v.elements =
-    ap (λ (t : Form). elements o t (count_in t (spelled o v)) (spelled o v)) (sym g)
-    ∙ ap (λ (n : ℕ). elements o (form_in v.kind) n (spelled o v)) (count_in_spelled o v h)
-    ∙ elements_spelled o v h in
+    let es : elements o f (count_in f (encoded o v)) (encoded o v) ≡ v.elements =
+    ap (λ (t : Form). elements o t (count_in t (encoded o v)) (encoded o v)) (sym g)
+    ∙ ap (λ (n : ℕ). elements o (form_in v.kind) n (encoded o v)) (count_in_encoded o v h)
+    ∙ elements_encoded o v h in
     ap₂ (λ (k : Kind) (l : List Element). record { kind = k; elements = l }) (sym k) es
 
 -- decoding whole numbers as LONG returns them
-pub whole_in_spelled : (o : Order) (v : Value) → v.kind ≡ kind.Whole → IsValue v → whole_in o form.Long (spelled o v) ≡ v
-whole_in_spelled o v k h =
+pub whole_in_encoded : (o : Order) (v : Value) → v.kind ≡ kind.Whole → IsValue v → whole_in o form.Long (encoded o v) ≡ v
+whole_in_encoded o v k h =
     let g : form_in v.kind ≡ form.Long = ap form_in k in
-    let es : elements o form.Long (count_in form.Long (spelled o v)) (spelled o v) ≡ v.elements =
-    ap (λ (t : Form). elements o t (count_in t (spelled o v)) (spelled o v)) (sym g)
-    ∙ ap (λ (n : ℕ). elements o (form_in v.kind) n (spelled o v)) (count_in_spelled o v h)
-    ∙ elements_spelled o v h in
+    let es : elements o form.Long (count_in form.Long (encoded o v)) (encoded o v) ≡ v.elements =
+    ap (λ (t : Form). elements o t (count_in t (encoded o v)) (encoded o v)) (sym g)
+    ∙ ap (λ (n : ℕ). elements o (form_in v.kind) n (encoded o v)) (count_in_encoded o v h)
+    ∙ elements_encoded o v h in
     let all : AllByRecursion (IsOf form.Long) v.elements = rw (← g) h in
     ap₂ (λ (k : Kind) (l : List Element). record { kind = k; elements = l }) (sym k) (ap (map widened) es ∙ each_long v.elements all)
 
@@ -167,28 +168,28 @@ elements_bytes o form.Utf8 x b = one_each (count_in form.Utf8 x) x (sym (count_i
 elements_bytes o _ x b = absurd (cc)
 
 -- bytes as elements encode to themselves
-pub spell_bytes : (o : Order) (x : List ℕ) → flat_map (spell o) (map element.Byte x) ≡ x
-spell_bytes o [] = refl
-spell_bytes o (b ∷ x) = ap (λ (l : List ℕ). b ∷ l) (spell_bytes o x)
+pub encode_bytes : (o : Order) (x : List ℕ) → flat_map (encode o) (map element.Byte x) ≡ x
+encode_bytes o [] = refl
+encode_bytes o (b ∷ x) = ap (λ (l : List ℕ). b ∷ l) (encode_bytes o x)
 
 -- the bytes of the first elements, and of one more
-pub spell_take : (o : Order) (es : List Element) (i j : ℕ) (e : Element) → slice_get es i ≡ Some e → j ≡ suc i
-    → flat_map (spell o) (take j es) ≡ flat_map (spell o) (take i es) ++ spell o e
-spell_take o [] i j e h s = absurd (cc)
-spell_take o (x ∷ es) zero j e h s =
+pub encode_take : (o : Order) (es : List Element) (i j : ℕ) (e : Element) → slice_get es i ≡ Some e → j ≡ suc i
+    → flat_map (encode o) (take j es) ≡ flat_map (encode o) (take i es) ++ encode o e
+encode_take o [] i j e h s = absurd (cc)
+encode_take o (x ∷ es) zero j e h s =
     let same : x ≡ e = cc in
     let one : j ≡ 1 = omega arith in
-    rw (one, same) (append-nil (spell o e))
-spell_take o (x ∷ es) (suc i) j e h s =
-    rw s (ap (λ (l : List ℕ). spell o x ++ l) (spell_take o es i (suc i) e h refl)
-    ∙ sym (append_assoc (spell o x) (flat_map (spell o) (take i es)) (spell o e)))
+    rw (one, same) (append-nil (encode o e))
+encode_take o (x ∷ es) (suc i) j e h s =
+    rw s (ap (λ (l : List ℕ). encode o x ++ l) (encode_take o es i (suc i) e h refl)
+    ∙ sym (append_assoc (encode o x) (flat_map (encode o) (take i es)) (encode o e)))
 
 -- encoding whole numbers that were decoded from LONGs returns their bytes
-pub spelled_whole_in : (o : Order) (x : List ℕ) → length x % 4 ≡ 0 → AreBytes x → spelled o (whole_in o form.Long x) ≡ x
-unfolding spelled
-spelled_whole_in o x whole h =
-    ap (λ (es : List Element). flat_map (spell o) es) (widened_long o (count_in form.Long x) x h)
-    ∙ spell_elements o form.Long (count_in form.Long x) x (sym (count_in_whole form.Long x whole)) h
+pub encoded_whole_in : (o : Order) (x : List ℕ) → length x % 4 ≡ 0 → AreBytes x → encoded o (whole_in o form.Long x) ≡ x
+unfolding encoded
+encoded_whole_in o x whole h =
+    ap (λ (es : List Element). flat_map (encode o) es) (widened_long o (count_in form.Long x) x h)
+    ∙ encode_elements o form.Long (count_in form.Long x) x (sym (count_in_whole form.Long x whole)) h
 
 -- the value of n elements of a type
 pub value_in_elements : (o : Order) (f : Form) (n : ℕ) (x : List ℕ) → n * size f ≡ length x

@@ -12,7 +12,7 @@ use Rattle.px_iim.specs.lemmas.GroupLaws.{longer, put_nil, put_at, put_under, pu
 use Rattle.px_iim.specs.calls.Reading.{Reads, found_view}
 use Rattle.px_iim.specs.calls.Runs.{join, runs}
 use Rattle.px_iim.proofs.reading.Runs.{join_at, join_new}
-use Rattle.px_iim.proofs.reading.Steps.{datasets, said_last, said_more, gather_last, gather_more}
+use Rattle.px_iim.proofs.reading.Steps.{datasets, meaning_last, meaning_more, gather_last, gather_more}
 
 count_cons : (g : Group) (gs : Record) → dataset_count (g ∷ gs) ≡ length g.items + dataset_count gs
 count_cons g gs = length-append g.items (flat_map (λ h. h.items) gs)
@@ -60,12 +60,12 @@ pub count_next : (x : List ℕ) (at : ℕ) (f : Found) → Reads (drop at x) f �
     → option_map (gather i) (datasets (drop at x)) ≡ Some all → dataset_count i + 1 ≤ dataset_count all
 count_next x at f r i all e = elim (cases_Bool (is_end (drop (at + f.size) x))) [
   | inl t ↦
-      let h = ap (option_map (gather i)) (said_last x at f r t) ∙ gather_last i (found_view f) in
+      let h = ap (option_map (gather i)) (meaning_last x at f r t) ∙ gather_last i (found_view f) in
       let q : ◌≡◌ {A = Option Record} (Some (put (found_view f) i)) (Some all) = sym h ∙ e in
       let same : put (found_view f) i ≡ all = cc in
       let n = ap dataset_count same in let m = count_put (found_view f) i in omega arith
   | inr s ↦
-      let h = ap (option_map (gather i)) (said_more x at f r s) ∙ gather_more i (found_view f) (datasets (drop (at + f.size) x)) in
+      let h = ap (option_map (gather i)) (meaning_more x at f r s) ∙ gather_more i (found_view f) (datasets (drop (at + f.size) x)) in
       let n = count_left (put (found_view f) i) all (datasets (drop (at + f.size) x)) (sym h ∙ e) in
       let m = count_put (found_view f) i in omega arith
 ]

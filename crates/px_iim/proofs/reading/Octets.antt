@@ -35,9 +35,9 @@ pub number_part : (x : List ℕ) (k e : ℕ) → k ≡ e → 5 + e ≤ length x
     → number Most (length (take (5 + k - 5) (drop 5 x))) (take (5 + k - 5) (drop 5 x)) ≡ number Most e (drop 5 x)
 number_part x k e q h =
     let same : 5 + k - 5 ≡ e = omega arith in
-    let room : e ≤ length (drop 5 x) = omega (arith, length-drop 5 x) in
+    let space : e ≤ length (drop 5 x) = omega (arith, length-drop 5 x) in
     ap (λ (n : ℕ). number Most (length (take n (drop 5 x))) (take n (drop 5 x))) same
-    ∙ ap (λ (n : ℕ). number Most n (take e (drop 5 x))) (length-take-le e (drop 5 x) room)
+    ∙ ap (λ (n : ℕ). number Most n (take e (drop 5 x))) (length-take-le e (drop 5 x) space)
     ∙ number_take Most e e (drop 5 x) (omega arith)
 
 -- what is cut out is the first DataSet

@@ -15,7 +15,7 @@ use Rattle.px_iim.specs.Check.{dataset_checks, iim_checks}
 use Rattle.px_iim.specs.calls.Reading.{Reads, found_view}
 use Rattle.px_iim.specs.declared.dataset.Found.{Found}
 use Rattle.px_iim.specs.lemmas.ScanLaws.{checks_left, dataset_clean, left_fault, left_end, left_more}
-use Rattle.px_iim.specs.lemmas.SpellingLaws.{dataset_holds}
+use Rattle.px_iim.specs.lemmas.EncodingLaws.{dataset_holds}
 
 -- the DataSets of some octets
 unfoldable pub datasets : List ℕ → Option (List DataSet)
@@ -81,8 +81,8 @@ first_false_not_dataset p x f h =
     false_from_ne_true (is_dataset x) (λ e. let clash : ◌≡◌ {A = Option (Cause × ℕ)} None (Some f) = sym (dataset_clean p x e)
     ∙ h in absurd (cc))
 
-pub refused_says : (p : ℕ) (x : List ℕ) (f : Cause × ℕ) → first_false (dataset_checks p x) ≡ Some f → datasets x ≡ None
-refused_says p x f h = datasets_none x (first_false_not_dataset p x f h)
+pub refused_means : (p : ℕ) (x : List ℕ) (f : Cause × ℕ) → first_false (dataset_checks p x) ≡ Some f → datasets x ≡ None
+refused_means p x f h = datasets_none x (first_false_not_dataset p x f h)
 
 pub refused_fault : (p : ℕ) (x : List ℕ) (f : Cause × ℕ) → first_false (dataset_checks p x) ≡ Some f
     → first_false (checks_left p x) ≡ Some f
@@ -108,12 +108,12 @@ module _ (x : List ℕ) (at : ℕ) (f : Found) (r : Reads (drop at x) f) where
   at_end : (b : Bool) → is_end (drop (at + f.size) x) ≡ b → is_end (drop (size (drop at x)) (drop at x)) ≡ b
   at_end b e = ap is_end next ∙ e
 
-  pub said_last : is_end (drop (at + f.size) x) ≡ true → datasets (drop at x) ≡ Some (found_view f ∷ [])
-  said_last e = datasets_last (drop at x) r.there (at_end true e) ∙ ap (λ (d : DataSet). Some (d ∷ [])) (sym r.value)
+  pub meaning_last : is_end (drop (at + f.size) x) ≡ true → datasets (drop at x) ≡ Some (found_view f ∷ [])
+  meaning_last e = datasets_last (drop at x) r.there (at_end true e) ∙ ap (λ (d : DataSet). Some (d ∷ [])) (sym r.value)
 
-  pub said_more : is_end (drop (at + f.size) x) ≡ false → datasets (drop at x) ≡ option_map (λ ds. found_view f ∷ ds)
+  pub meaning_more : is_end (drop (at + f.size) x) ≡ false → datasets (drop at x) ≡ option_map (λ ds. found_view f ∷ ds)
       (datasets (drop (at + f.size) x))
-  said_more e =
+  meaning_more e =
       datasets_more (drop at x) r.there (at_end false e)
       ∙ ap (λ (d : DataSet). option_map (λ (ds : List DataSet). d ∷ ds) (datasets (drop (size (drop at x)) (drop at x)))) (sym r.value)
       ∙ ap (λ (y : List ℕ). option_map (λ (ds : List DataSet). found_view f ∷ ds) (datasets y)) next

@@ -6,11 +6,11 @@ use Rattle.std.specs.List.{flat_map, AllByRecursion}
 use Rattle.std.proofs.lemmas.Grind.{flat_map-append}
 use Rattle.std.proofs.lemmas.List.{take-take, take_at, take-append-drop}
 use Rattle.std.proofs.lemmas.Option.{slice_get-map, slice_get-get_or}
-use Rattle.px_bytes.specs.Lacking.{enlarged}
+use Rattle.px_bytes.specs.Allocations.{enlarged}
 use Rattle.px_bytes.specs.Parts.{limit}
-use Rattle.px_bytes.specs.Waiting.{Held}
+use Rattle.px_bytes.specs.Waiting.{Buffer}
 use Rattle.px_bytes.specs.lemmas.WaitingLaws.{HasPut, FailsPut, parts_more, put_both, fails_first, fails_second}
-use Rattle.px_iim.specs.Writing.{most, within as within_most}
+use Rattle.px_iim.specs.Writing.{longest_counted, within as within_most}
 use Rattle.px_iim.specs.calls.Heads.{Grows, normal_head, AreShort}
 use Rattle.px_iim.specs.Group.{Group, Record, IsGroup, IsItem}
 use Rattle.px_iim.specs.Record.{normal_dataset, normal_group, normal_iim}
@@ -44,20 +44,20 @@ length_parts f xs n =
 
 -- ---- lengths
 
-pub within_past : (n : ℕ) → most < n → None ≡ within_most n
-within_past n h = sym (cond-false (nat_le n most) (Some n) None (lt-leb n most h))
+pub within_past : (n : ℕ) → longest_counted < n → None ≡ within_most n
+within_past n h = sym (cond-false (nat_le n longest_counted) (Some n) None (lt-leb n longest_counted h))
 
-pub within_some : (n m : ℕ) → n ≡ m → m ≤ most → Some n ≡ within_most m
-within_some n m e h = ap (λ (k : ℕ). Some k) e ∙ sym (cond-true (nat_le m most) (Some m) None (le-leb m most h))
+pub within_some : (n m : ℕ) → n ≡ m → m ≤ longest_counted → Some n ≡ within_most m
+within_some n m e h = ap (λ (k : ℕ). Some k) e ∙ sym (cond-true (nat_le m longest_counted) (Some m) None (le-leb m longest_counted h))
 
-pub some_within : (n m : ℕ) → Some n ≡ within_most m → (n ≡ m) × (m ≤ most)
-some_within n m e = elim (cases_lt most m) [
+pub some_within : (n m : ℕ) → Some n ≡ within_most m → (n ≡ m) × (m ≤ longest_counted)
+some_within n m e = elim (cases_lt longest_counted m) [
   | inl l ↦ let clash : ◌≡◌ {A = Option ℕ} (Some n) None = e ∙ sym (within_past m l) in absurd (cc)
   | inr l ↦ let same : ◌≡◌ {A = Option ℕ} (Some n) (Some m) = e ∙ sym (within_some m m refl l) in (cc, l)
 ]
 
 pub none_more : (m n : ℕ) → None ≡ within_most m → m ≤ n → None ≡ within_most n
-none_more m n e h = elim (cases_lt most m) [
+none_more m n e h = elim (cases_lt longest_counted m) [
   | inl l ↦ within_past n (omega arith)
   | inr l ↦ let clash : ◌≡◌ {A = Option ℕ} None (Some m) = e ∙ sym (within_some m m refl l) in absurd (cc)
 ]
@@ -66,7 +66,7 @@ none_more m n e h = elim (cases_lt most m) [
 abbrev pub no_item : Item
 no_item = record { rec = 0; number = 0; octets = record { ref_ptr = (0, 0); now = [] } }
 
-pub within_counted : (o : Option ℕ) (n : ℕ) → o ≡ within_most n → IfSome o (λ t. t ≤ most)
+pub within_counted : (o : Option ℕ) (n : ℕ) → o ≡ within_most n → IfSome o (λ t. t ≤ longest_counted)
 within_counted None n e = tt
 within_counted (Some t) n e = let s = some_within t n e in omega arith
 
@@ -96,9 +96,9 @@ module _ (i left : Record) (x : Group) (step : i ≡ x ∷ left) (all : List ℕ
   rest_next : (out : List ℕ) → out ++ normal_iim i ≡ all → out ++ normal_group x ++ normal_iim left ≡ all
   rest_next out e = append_assoc out (normal_group x) (normal_iim left) ∙ ap (λ (k : Record). out ++ normal_iim k) (sym step) ∙ e
 
-  module _ {W : Type 0} (taken : W → Option (List ℕ)) (a b c : W) (h k : Held) where
+  module _ {W : Type 0} (taken : W → Option (List ℕ)) (a b c : W) (h k : Buffer) where
     -- x was put
-    pub put_next : (m : Held) (parts : List ℕ) → HasPut taken a b h k parts → parts ++ normal_iim i ≡ all
+    pub put_next : (m : Buffer) (parts : List ℕ) → HasPut taken a b h k parts → parts ++ normal_iim i ≡ all
         → HasPut taken b c k m (normal_group x)
         → (now : List ℕ) × HasPut taken a c h m now × (now ++ normal_iim left ≡ all)
     put_next m parts p e q = (parts ++ normal_group x, put_both taken a b c h k m parts (normal_group x) p q, rest_next parts e)
@@ -145,14 +145,14 @@ within_most_number None n l e f h = absurd (omega arith)
 within_most_number (Some m) n l e f h = let s = some_within m n e in (omega (arith, s.0), omega (arith, s.0))
 
 pub not_counted : (o : Option ℕ) (n l : ℕ) → o ≡ within_most n → l ≡ unwrap_or o (limit + 1) → limit < l → limit < n
-not_counted None n l e f h = elim (cases_lt most n) [
+not_counted None n l e f h = elim (cases_lt longest_counted n) [
   | inl k ↦ omega arith
   | inr k ↦ let clash : ◌≡◌ {A = Option ℕ} None (Some n) = e ∙ sym (within_some n n refl k) in absurd (cc)
 ]
 not_counted (Some m) n l e f h = let s = some_within m n e in omega (arith, s.0)
 
 -- the length of a form that isn't too long
-pub within_number : (o : Option ℕ) (n l : ℕ) → o ≡ within_most n → l ≡ unwrap_or o 0 → n ≤ most → l ≡ n
+pub within_number : (o : Option ℕ) (n l : ℕ) → o ≡ within_most n → l ≡ unwrap_or o 0 → n ≤ longest_counted → l ≡ n
 within_number None n l e f h = let clash : ◌≡◌ {A = Option ℕ} None (Some n) = e ∙ sym (within_some n n refl h) in absurd (cc)
 within_number (Some m) n l e f h = let s = some_within m n e in omega (arith, s.0)
 

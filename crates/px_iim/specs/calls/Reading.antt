@@ -8,7 +8,7 @@ use Rattle.px_iim.specs.declared.dataset.Found.{Found}
 use Rattle.px_iim.specs.DataSet.{DataSet}
 use Rattle.px_iim.specs.Group.{Record}
 use Rattle.px_iim.specs.Record.{SaysIim, iim_of, size, dataset, is_dataset}
-use Rattle.px_iim.specs.Check.{dataset_checks, Fault}
+use Rattle.px_iim.specs.Check.{dataset_checks, IimFault}
 
 abbrev pub found_view : Found → DataSet
 found_view f = record { rec = f.rec; number = f.number; octets = f.octets.now }
@@ -28,5 +28,5 @@ JudgesAt (Err OutOfMemory) x at = ⊥
 -- a refusal of content reports a fault of the block, at an offset up to the limit, and the block has no record; out of memory
 -- means that an allocation failed
 abbrev pub RefusesIim : List ℕ → ℕ → Refusal → Type 0
-RefusesIim x refused (Content cause place) = Fault x cause place × (place ≤ limit) × (iim_of x ≡ None) × ((i : Record) → SaysIim x i → ⊥)
+RefusesIim x refused (Content cause place) = IimFault x cause place × (place ≤ limit) × (iim_of x ≡ None) × ((i : Record) → SaysIim x i → ⊥)
 RefusesIim x refused OutOfMemory = 0 < refused

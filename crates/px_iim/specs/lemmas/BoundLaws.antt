@@ -6,7 +6,7 @@ use Rattle.std.proofs.lemmas.Grind.{flat_map-append}
 use Rattle.px_bytes.specs.declared.Order.TheVariants.{Most}
 use Rattle.px_bytes.specs.Numbers.{spelling}
 use Rattle.px_bytes.specs.lemmas.NumberLaws.{length_spelling}
-use Rattle.px_iim.specs.DataSet.{DataSet, top_bit, IsSpelling, Spells}
+use Rattle.px_iim.specs.DataSet.{DataSet, top_bit, IsEncoding, Encodes}
 use Rattle.px_iim.specs.Group.{Group, Record, named, put, gather}
 use Rattle.px_iim.specs.Record.{normal_count, normal_dataset, normal_group, normal_iim}
 use Rattle.px_iim.specs.lemmas.KeyLaws.{group_cases}
@@ -39,7 +39,7 @@ unfolding normal_dataset
 length_normal_dataset rec x = let e = length-append (normal_count (length x.1)) x.1 in omega arith
 
 -- the standard form is the shortest, and the extended one has at least one more byte
-pub cost_bound : (d : DataSet) (a : List ℕ) → IsSpelling d a → cost d ≤ 2 * length a
+pub cost_bound : (d : DataSet) (a : List ℕ) → IsEncoding d a → cost d ≤ 2 * length a
 cost_bound d a (c, e, h) =
     let l = length_normal_dataset d.rec (d.number, d.octets) in
     let m = ap length e in
@@ -58,7 +58,7 @@ abbrev pub costs : List DataSet → ℕ
 costs [] = 0
 costs (d ∷ ds) = cost d + costs ds
 
-costs_bound : (ds : List DataSet) (a : List ℕ) → Spells ds a → costs ds ≤ 2 * length a
+costs_bound : (ds : List DataSet) (a : List ℕ) → Encodes ds a → costs ds ≤ 2 * length a
 costs_bound [] a h = omega arith
 costs_bound (d ∷ ds) a (x, y, e, s, t) =
     let l = cost_bound d x s in let m = costs_bound ds y t in let k = ap length e ∙ length-append x y in omega arith
@@ -107,6 +107,6 @@ pub normal_bound : NormalBound
 normal_bound x i s =
     let e = ap (λ (k : Record). length (normal_iim k)) ((gather_gathers s.sequence i).0 s.gathered) in
     let l = length_gather s.sequence [] in
-    let c = costs_bound s.sequence s.spelled s.spells in
-    let m = ap length s.whole ∙ length-append s.spelled s.zeros in
+    let c = costs_bound s.sequence s.encoded s.encodes in
+    let m = ap length s.whole ∙ length-append s.encoded s.zeros in
     omega arith

@@ -9,16 +9,16 @@ use Rattle.px_bytes.specs.declared.Cause.{Cause}
 use Rattle.px_bytes.specs.declared.Cause.TheVariants.{TooLong, NoMarker, LengthForm, DataSetCut}
 use Rattle.px_bytes.specs.Checks.{Check, check, first_false}
 use Rattle.px_bytes.specs.Parts.{limit}
-use Rattle.px_iim.specs.DataSet.{DataSet, top_bit, IsSpelling, Spells}
+use Rattle.px_iim.specs.DataSet.{DataSet, top_bit, IsEncoding, Encodes}
 use Rattle.px_iim.specs.Group.{Record, gather}
 use Rattle.px_iim.specs.Record.{SaysIim, form, extra, size, is_marked, has_form, is_dataset, dataset, is_end}
-use Rattle.px_iim.specs.Check.{dataset_checks, checks_from, iim_checks, FirstFault, Behind, Fault}
+use Rattle.px_iim.specs.Check.{dataset_checks, checks_from, iim_checks, FirstIimFault, SplitAt, IimFault}
 use Rattle.px_iim.specs.lemmas.GatherLaws.{gather_from_empty}
-use Rattle.px_iim.specs.lemmas.SpellingLaws.{Holds, holds_dataset, dataset_holds, spelled_begins, dataset_spelled}
-use Rattle.px_iim.specs.lemmas.SequenceLaws.{IsZero, end_true, blank_unmarked, behind_begins, marked_spelling, Parsed, parsed_end}
+use Rattle.px_iim.specs.lemmas.EncodingLaws.{Holds, holds_dataset, dataset_holds, encoded_begins, dataset_encoded}
+use Rattle.px_iim.specs.lemmas.SequenceLaws.{IsZero, end_true, blank_unmarked, after_begins, marked_encoding, Parsed, parsed_end}
 use Rattle.px_iim.specs.lemmas.SequenceLaws.{parsed_more}
-use Rattle.px_iim.specs.lemmas.NormalLaws.{spells_append}
-use Rattle.px_iim.specs.Laws.{FaultsTell, FaultsBounded}
+use Rattle.px_iim.specs.lemmas.NormalLaws.{encodes_append}
+use Rattle.px_iim.specs.Laws.{FaultsDecide, FaultsBounded}
 
 -- ---- the first of five
 
@@ -52,21 +52,21 @@ five_none p true true true true false rest q = let clash : ◌≡◌ {A = Option
 -- ---- one step
 
 -- the checks after a DataSet
-unfoldable pub checks_behind : ℕ → ℕ → List ℕ → List Check
-checks_behind n p x = if is_dataset x then (if is_end (drop (size x) x) then [] else checks_from n (p + size x) (drop (size x) x)) else []
+unfoldable pub checks_after : ℕ → ℕ → List ℕ → List Check
+checks_after n p x = if is_dataset x then (if is_end (drop (size x) x) then [] else checks_from n (p + size x) (drop (size x) x)) else []
 
-pub checks_step : (n p : ℕ) (x : List ℕ) → checks_from (suc n) p x ≡ dataset_checks p x ++ checks_behind n p x
-unfolding checks_from checks_behind
+pub checks_step : (n p : ℕ) (x : List ℕ) → checks_from (suc n) p x ≡ dataset_checks p x ++ checks_after n p x
+unfolding checks_from checks_after
 checks_step n p x = refl
 
-pub behind_end : (n p : ℕ) (x : List ℕ) → is_dataset x ≡ true → is_end (drop (size x) x) ≡ true → checks_behind n p x ≡ []
-unfolding checks_behind
-behind_end n p x h k = cond-true _ _ _ h ∙ cond-true _ _ _ k
+pub after_end : (n p : ℕ) (x : List ℕ) → is_dataset x ≡ true → is_end (drop (size x) x) ≡ true → checks_after n p x ≡ []
+unfolding checks_after
+after_end n p x h k = cond-true _ _ _ h ∙ cond-true _ _ _ k
 
-pub behind_more : (n p : ℕ) (x : List ℕ) → is_dataset x ≡ true → is_end (drop (size x) x) ≡ false
-    → checks_behind n p x ≡ checks_from n (p + size x) (drop (size x) x)
-unfolding checks_behind
-behind_more n p x h k = cond-true _ _ _ h ∙ cond-false _ _ _ k
+pub after_more : (n p : ℕ) (x : List ℕ) → is_dataset x ≡ true → is_end (drop (size x) x) ≡ false
+    → checks_after n p x ≡ checks_from n (p + size x) (drop (size x) x)
+unfolding checks_after
+after_more n p x h k = cond-true _ _ _ h ∙ cond-false _ _ _ k
 
 five_hold : (x : List ℕ) → is_marked x ≡ true → nat_le 5 (length x) ≡ true → has_form x ≡ true → nat_le (5 + extra x) (length x) ≡ true
     → nat_le (size x) (length x) ≡ true → Holds x
@@ -81,19 +81,19 @@ five_hold x a b c d e = record {
 -- ---- the first fault is a fault of the block
 
 module _ (x : List ℕ) where
-  pub behind_next : (ds : List DataSet) (rest : List ℕ) (p : ℕ) → Behind x ds rest p → Holds rest
-      → Behind x (ds ++ dataset rest ∷ []) (drop (size rest) rest) (p + size rest)
-  behind_next ds rest p b h =
+  pub after_next : (ds : List DataSet) (rest : List ℕ) (p : ℕ) → SplitAt x ds rest p → Holds rest
+      → SplitAt x (ds ++ dataset rest ∷ []) (drop (size rest) rest) (p + size rest)
+  after_next ds rest p b h =
       let cut : rest ≡ take (size rest) rest ++ drop (size rest) rest = sym (take-append-drop (size rest) rest) in
-      let one : Spells (dataset rest ∷ []) (take (size rest) rest) =
-      (take (size rest) rest, [], sym (append-nil (take (size rest) rest)), dataset_spelled rest (holds_dataset rest h), refl) in
+      let one : Encodes (dataset rest ∷ []) (take (size rest) rest) =
+      (take (size rest) rest, [], sym (append-nil (take (size rest) rest)), dataset_encoded rest (holds_dataset rest h), refl) in
       let l = length-take-le (size rest) rest h.whole in
       let m = length-append b.front (take (size rest) rest) in
       let q = b.place in record {
         front = b.front ++ take (size rest) rest;
         whole = b.whole ∙ ap (λ (z : List ℕ). b.front ++ z) cut
             ∙ sym (append_assoc b.front (take (size rest) rest) (drop (size rest) rest));
-        spells = spells_append ds (dataset rest ∷ []) b.front (take (size rest) rest) b.spells one;
+        encodes = encodes_append ds (dataset rest ∷ []) b.front (take (size rest) rest) b.encodes one;
         place = omega arith;
       }
 
@@ -107,14 +107,14 @@ module _ (x : List ℕ) where
         ],
       )
 
-  stands_from : (n : ℕ) (ds : List DataSet) (rest : List ℕ) (p : ℕ) (f : Cause × ℕ) → Behind x ds rest p
+  fault_from : (n : ℕ) (ds : List DataSet) (rest : List ℕ) (p : ℕ) (f : Cause × ℕ) → SplitAt x ds rest p
       → (ds ≡ []) ⊎ (is_end rest ≡ false) →
-      first_false (checks_from n p rest) ≡ Some f → Fault x f.0 f.1
+      first_false (checks_from n p rest) ≡ Some f → IimFault x f.0 f.1
   unfolding checks_from
-  stands_from zero ds rest p f b o e = let clash : None ≡ Some f = e in absurd (cc)
-  stands_from (suc n) ds rest p f b o e =
-      five_cases (Fault x) p (is_marked rest) (nat_le 5 (length rest)) (has_form rest) (nat_le (5 + extra rest) (length rest))
-      (nat_le (size rest) (length rest)) (checks_behind n p rest) f
+  fault_from zero ds rest p f b o e = let clash : None ≡ Some f = e in absurd (cc)
+  fault_from (suc n) ds rest p f b o e =
+      five_cases (IimFault x) p (is_marked rest) (nat_le 5 (length rest)) (has_form rest) (nat_le (5 + extra rest) (length rest))
+      (nat_le (size rest) (length rest)) (checks_after n p rest) f
       (λ a. (ds, rest, b, o, a))
       (λ a l. (ds, rest, b, a, inl (let m = leb-false 5 (length rest) l in omega arith)))
       (λ a l c. let g = long_form rest c in (ds, rest, b, a, leb-true 5 (length rest) l, g.0, g.1))
@@ -124,14 +124,14 @@ module _ (x : List ℕ) where
       let h = five_hold rest a l c d w in
       let i = holds_dataset rest h in
       elim (cases_Bool (is_end (drop (size rest) rest))) [
-        | inl t ↦ let clash : None ≡ Some f = sym (ap first_false (behind_end n p rest i t)) ∙ q in absurd (cc)
-        | inr t ↦ stands_from n (ds ++ dataset rest ∷ []) (drop (size rest) rest) (p + size rest) f (behind_next ds rest p b h) (inr t)
-            (sym (ap first_false (behind_more n p rest i t)) ∙ q)
+        | inl t ↦ let clash : None ≡ Some f = sym (ap first_false (after_end n p rest i t)) ∙ q in absurd (cc)
+        | inr t ↦ fault_from n (ds ++ dataset rest ∷ []) (drop (size rest) rest) (p + size rest) f (after_next ds rest p b h) (inr t)
+            (sym (ap first_false (after_more n p rest i t)) ∙ q)
       ])
       (sym (ap first_false (checks_step n p rest)) ∙ e)
 
-  behind_none : Behind x [] x 0
-  behind_none = record { front = []; whole = refl; spells = refl; place = refl }
+  after_none : SplitAt x [] x 0
+  after_none = record { front = []; whole = refl; encodes = refl; place = refl }
 
 first_head : (c : Check) (cs : List Check) (f : Cause × ℕ) → first_false (c ∷ cs) ≡ Some f
     → ((c.holds ≡ false) × ((c.cause, c.place) ≡ f)) ⊎ ((c.holds ≡ true) × (first_false cs ≡ Some f))
@@ -140,18 +140,18 @@ first_head c cs f e = elim (cases_Bool c.holds) [
   | inr g ↦ let q : Some (c.cause, c.place) ≡ Some f = sym (cond-false _ _ _ g) ∙ e in inl (g, (cc))
 ]
 
-pub first_stands : (x : List ℕ) (c : Cause) (p : ℕ) → FirstFault x c p → Fault x c p
+pub first_is_fault : (x : List ℕ) (c : Cause) (p : ℕ) → FirstIimFault x c p → IimFault x c p
 unfolding iim_checks
-first_stands x c p e = elim (first_head (check TooLong limit (nat_le (length x) limit)) (checks_from (length x + 1) 0 x) (c, p) e) [
-  | inl h ↦ let l = leb-false (length x) limit h.0 in subst (λ (z : Cause × ℕ). Fault x z.0 z.1) h.1 (refl, (omega arith))
-  | inr h ↦ stands_from x (length x + 1) [] x 0 (c, p) (behind_none x) (inl refl) h.1
+first_is_fault x c p e = elim (first_head (check TooLong limit (nat_le (length x) limit)) (checks_from (length x + 1) 0 x) (c, p) e) [
+  | inl h ↦ let l = leb-false (length x) limit h.0 in subst (λ (z : Cause × ℕ). IimFault x z.0 z.1) h.1 (refl, (omega arith))
+  | inr h ↦ fault_from x (length x + 1) [] x 0 (c, p) (after_none x) (inl refl) h.1
 ]
 
 -- ---- a block with a fault has no record
 
 -- the rest after some DataSets of a block is the block's end, or begins with a DataSet
 pub record Next (ds all : List DataSet) (rest zeros : List ℕ) : Type 0 where
-  pub or : ((rest ≡ zeros) × (length ds ≡ length all)) ⊎ ((d : DataSet) × (a : List ℕ) × (y : List ℕ) × IsSpelling d a × (rest ≡ a ++ y))
+  pub or : ((rest ≡ zeros) × (length ds ≡ length all)) ⊎ ((d : DataSet) × (a : List ℕ) × (y : List ℕ) × IsEncoding d a × (rest ≡ a ++ y))
 
 next_more : (d e : DataSet) (ds all : List DataSet) (rest zeros : List ℕ) → Next ds all rest zeros → Next (d ∷ ds) (e ∷ all) rest zeros
 next_more d e ds all rest zeros n = record {
@@ -161,44 +161,44 @@ next_more d e ds all rest zeros n = record {
   ];
 }
 
-pub spells_aligned : (ds all : List DataSet) (front rest spelled zeros : List ℕ) → front ++ rest ≡ spelled ++ zeros → Spells ds front
-    → Spells all spelled → AllByRecursion IsZero zeros → Next ds all rest zeros
-spells_aligned [] [] front rest spelled zeros e s t b =
+pub encodes_aligned : (ds all : List DataSet) (front rest encoded zeros : List ℕ) → front ++ rest ≡ encoded ++ zeros → Encodes ds front
+    → Encodes all encoded → AllByRecursion IsZero zeros → Next ds all rest zeros
+encodes_aligned [] [] front rest encoded zeros e s t b =
     record { or = inl (sym (ap (λ (z : List ℕ). z ++ rest) s) ∙ e ∙ ap (λ (z : List ℕ). z ++ zeros) t, refl) }
-spells_aligned [] (d ∷ all) front rest spelled zeros e s (a, y, q, u, v) b = record {
+encodes_aligned [] (d ∷ all) front rest encoded zeros e s (a, y, q, u, v) b = record {
   or = inr (d, a, y ++ zeros, u, sym (ap (λ (z : List ℕ). z ++ rest) s) ∙ e ∙ ap (λ (z : List ℕ). z ++ zeros) q ∙ append_assoc a y zeros);
 }
-spells_aligned (d ∷ ds) [] front rest spelled zeros e (a, y, q, u, v) t b =
+encodes_aligned (d ∷ ds) [] front rest encoded zeros e (a, y, q, u, v) t b =
     let same : a ++ (y ++ rest) ≡ zeros =
     sym (append_assoc a y rest) ∙ ap (λ (z : List ℕ). z ++ rest) (sym q) ∙ e ∙ ap (λ (z : List ℕ). z ++ zeros) t in
-    absurd (blank_unmarked zeros b (subst (λ (z : List ℕ). is_marked z ≡ true) same (marked_spelling d a (y ++ rest) u)))
-spells_aligned (d ∷ ds) (f ∷ all) front rest spelled zeros e (a, y, q, u, v) (a', y', q', u', v') b =
+    absurd (blank_unmarked zeros b (subst (λ (z : List ℕ). is_marked z ≡ true) same (marked_encoding d a (y ++ rest) u)))
+encodes_aligned (d ∷ ds) (f ∷ all) front rest encoded zeros e (a, y, q, u, v) (a', y', q', u', v') b =
     let same : a ++ (y ++ rest) ≡ a' ++ (y' ++ zeros) =
     sym (append_assoc a y rest) ∙ ap (λ (z : List ℕ). z ++ rest) (sym q) ∙ e ∙ ap (λ (z : List ℕ). z ++ zeros) q'
     ∙ append_assoc a' y' zeros in
     let on : y ++ rest ≡ y' ++ zeros =
-    sym (behind_begins d a (y ++ rest) u) ∙ ap (λ (z : List ℕ). drop (size z) z) same ∙ behind_begins f a' (y' ++ zeros) u' in
-    next_more d f ds all rest zeros (spells_aligned ds all y rest y' zeros on v v' b)
+    sym (after_begins d a (y ++ rest) u) ∙ ap (λ (z : List ℕ). drop (size z) z) same ∙ after_begins f a' (y' ++ zeros) u' in
+    next_more d f ds all rest zeros (encodes_aligned ds all y rest y' zeros on v v' b)
 
 module _ (x : List ℕ) (i : Record) (s : SaysIim x i) where
-  pub next_of : (ds : List DataSet) (rest : List ℕ) (p : ℕ) → Behind x ds rest p → Next ds s.sequence rest s.zeros
-  next_of ds rest p b = spells_aligned ds s.sequence b.front rest s.spelled s.zeros (sym b.whole ∙ s.whole) b.spells s.spells s.blank
+  pub next_of : (ds : List DataSet) (rest : List ℕ) (p : ℕ) → SplitAt x ds rest p → Next ds s.sequence rest s.zeros
+  next_of ds rest p b = encodes_aligned ds s.sequence b.front rest s.encoded s.zeros (sym b.whole ∙ s.whole) b.encodes s.encodes s.blank
 
   -- a marked offset has a whole DataSet
-  marked_holds : (ds : List DataSet) (rest : List ℕ) (p : ℕ) → Behind x ds rest p → is_marked rest ≡ true → Holds rest
+  marked_holds : (ds : List DataSet) (rest : List ℕ) (p : ℕ) → SplitAt x ds rest p → is_marked rest ≡ true → Holds rest
   marked_holds ds rest p b m = elim (next_of ds rest p b).or [
     | inl h ↦ absurd (blank_unmarked s.zeros s.blank (subst (λ (z : List ℕ). is_marked z ≡ true) h.0 m))
-    | inr (d, a, y, u, q) ↦ subst Holds (sym q) (dataset_holds (a ++ y) (spelled_begins d a y u).is)
+    | inr (d, a, y, u, q) ↦ subst Holds (sym q) (dataset_holds (a ++ y) (encoded_begins d a y u).is)
   ]
 
-  no_unmarked : (ds : List DataSet) (rest : List ℕ) (p : ℕ) → Behind x ds rest p → (ds ≡ []) ⊎ (is_end rest ≡ false)
+  no_unmarked : (ds : List DataSet) (rest : List ℕ) (p : ℕ) → SplitAt x ds rest p → (ds ≡ []) ⊎ (is_end rest ≡ false)
       → is_marked rest ≡ false → ⊥
   no_unmarked ds rest p b o m = elim (next_of ds rest p b).or [
     | inl h ↦ elim o [
       | inl none ↦ let l = ap length none in let k = h.1 in let n = s.some in omega arith
       | inr more ↦ true≢false (sym (end_true s.zeros s.short s.blank) ∙ sym (ap is_end h.0) ∙ more)
     ]
-    | inr (d, a, y, u, q) ↦ true≢false (sym (marked_spelling d a y u) ∙ sym (ap is_marked q) ∙ m)
+    | inr (d, a, y, u, q) ↦ true≢false (sym (marked_encoding d a y u) ∙ sym (ap is_marked q) ∙ m)
   ]
 
   no_form : (rest : List ℕ) → Holds rest → top_bit ≤ form rest → (extra rest ≡ 0) ⊎ (4 < extra rest) → ⊥
@@ -217,12 +217,12 @@ module _ (x : List ℕ) (i : Record) (s : SaysIim x i) where
   no_cut rest h (inr (f, inl l)) = let m = h.counted in omega arith
   no_cut rest h (inr (f, inr l)) = let m = h.whole in omega arith
 
-pub stands_unsaid : (x : List ℕ) (c : Cause) (p : ℕ) (i : Record) → Fault x c p → SaysIim x i → ⊥
-stands_unsaid x TooLong p i h s = let l = s.bounded in let m = h.1 in omega arith
-stands_unsaid x NoMarker p i (ds, rest, b, o, m) s = no_unmarked x i s ds rest p b o m
-stands_unsaid x LengthForm p i (ds, rest, b, m, l, f, o) s = no_form x i s rest (marked_holds x i s ds rest p b m) f o
-stands_unsaid x DataSetCut p i (ds, rest, b, m, o) s = no_cut x i s rest (marked_holds x i s ds rest p b m) o
-stands_unsaid x _ p i h s = absurd h
+pub fault_excludes_meaning : (x : List ℕ) (c : Cause) (p : ℕ) (i : Record) → IimFault x c p → SaysIim x i → ⊥
+fault_excludes_meaning x TooLong p i h s = let l = s.bounded in let m = h.1 in omega arith
+fault_excludes_meaning x NoMarker p i (ds, rest, b, o, m) s = no_unmarked x i s ds rest p b o m
+fault_excludes_meaning x LengthForm p i (ds, rest, b, m, l, f, o) s = no_form x i s rest (marked_holds x i s ds rest p b m) f o
+fault_excludes_meaning x DataSetCut p i (ds, rest, b, m, o) s = no_cut x i s rest (marked_holds x i s ds rest p b m) o
+fault_excludes_meaning x _ p i h s = absurd h
 
 -- ---- a record, or a first fault
 
@@ -231,7 +231,7 @@ pub checks_clean : (n p : ℕ) (x : List ℕ) → length x < n → first_false (
 checks_clean zero p x l e = absurd (omega arith)
 checks_clean (suc n) p x l e =
     let q = five_none p (is_marked x) (nat_le 5 (length x)) (has_form x) (nat_le (5 + extra x) (length x)) (nat_le (size x) (length x))
-    (checks_behind n p x) (sym (ap first_false (checks_step n p x)) ∙ e) in
+    (checks_after n p x) (sym (ap first_false (checks_step n p x)) ∙ e) in
     let h = five_hold x q.0 q.1 q.2 q.3 q.4 in
     let i = holds_dataset x h in
     elim (cases_Bool (is_end (drop (size x) x))) [
@@ -239,67 +239,67 @@ checks_clean (suc n) p x l e =
       | inr t ↦
           let d = length-drop (size x) x in
           let w = h.whole in
-          let r = checks_clean n (p + size x) (drop (size x) x) (omega arith) (sym (ap first_false (behind_more n p x i t)) ∙ q.5) in
+          let r = checks_clean n (p + size x) (drop (size x) x) (omega arith) (sym (ap first_false (after_more n p x i t)) ∙ q.5) in
           (dataset x ∷ r.0, parsed_more x r.0 i r.1)
     ]
 
-pub parsed_says : (x : List ℕ) (ds : List DataSet) → length x ≤ limit → Parsed ds x → SaysIim x (gather [] ds)
-parsed_says x ds l p = record {
+pub parsed_means : (x : List ℕ) (ds : List DataSet) → length x ≤ limit → Parsed ds x → SaysIim x (gather [] ds)
+parsed_means x ds l p = record {
   bounded = l;
   sequence = ds;
   some = p.some;
-  spelled = p.front;
+  encoded = p.front;
   zeros = p.zeros;
   whole = p.whole;
-  spells = p.spells;
+  encodes = p.encodes;
   short = p.short;
   blank = p.blank;
   gathered = gather_from_empty ds;
 }
 
-pub clean_says : (x : List ℕ) → first_false (iim_checks x) ≡ None → (i : Record) × SaysIim x i
+pub clean_means : (x : List ℕ) → first_false (iim_checks x) ≡ None → (i : Record) × SaysIim x i
 unfolding iim_checks
-clean_says x e = elim (cases_Bool (nat_le (length x) limit)) [
+clean_means x e = elim (cases_Bool (nat_le (length x) limit)) [
   | inl t ↦
       let r = checks_clean (length x + 1) 0 x (omega arith) (sym (cond-true _ _ _ t) ∙ e) in
-      (gather [] r.0, parsed_says x r.0 (leb-true (length x) limit t) r.1)
+      (gather [] r.0, parsed_means x r.0 (leb-true (length x) limit t) r.1)
   | inr f ↦ let clash : Some (TooLong, limit) ≡ None = sym (cond-false _ _ _ f) ∙ e in absurd (cc)
 ]
 
-pub said_or_fault : (x : List ℕ) → ((i : Record) × SaysIim x i) ⊎ ((c : Cause) × (p : ℕ) × FirstFault x c p)
-said_or_fault x = go (first_false (iim_checks x)) refl
+pub meaning_or_fault : (x : List ℕ) → ((i : Record) × SaysIim x i) ⊎ ((c : Cause) × (p : ℕ) × FirstIimFault x c p)
+meaning_or_fault x = go (first_false (iim_checks x)) refl
   where
     go : (z : Option (Cause × ℕ)) → first_false (iim_checks x) ≡ z
-        → ((i : Record) × SaysIim x i) ⊎ ((c : Cause) × (p : ℕ) × FirstFault x c p)
-    go None e = inl (clean_says x e)
+        → ((i : Record) × SaysIim x i) ⊎ ((c : Cause) × (p : ℕ) × FirstIimFault x c p)
+    go None e = inl (clean_means x e)
     go (Some f) e = inr (f.0, f.1, e)
 
 -- a block with a record has no fault
-pub said_clean : (x : List ℕ) (i : Record) → SaysIim x i → first_false (iim_checks x) ≡ None
-said_clean x i s = go (first_false (iim_checks x)) refl
+pub meaning_clean : (x : List ℕ) (i : Record) → SaysIim x i → first_false (iim_checks x) ≡ None
+meaning_clean x i s = go (first_false (iim_checks x)) refl
   where
     go : (z : Option (Cause × ℕ)) → first_false (iim_checks x) ≡ z → z ≡ None
     go None e = refl
-    go (Some f) e = absurd (stands_unsaid x f.0 f.1 i (first_stands x f.0 f.1 e) s)
+    go (Some f) e = absurd (fault_excludes_meaning x f.0 f.1 i (first_is_fault x f.0 f.1 e) s)
 
-pub faults_tell : FaultsTell
-faults_tell = (first_stands, stands_unsaid, said_or_fault)
+pub faults_decide : FaultsDecide
+faults_decide = (first_is_fault, fault_excludes_meaning, meaning_or_fault)
 
 -- ---- the offset of a fault
 
-behind_place : (x : List ℕ) (ds : List DataSet) (rest : List ℕ) (p : ℕ) → Behind x ds rest p → length x ≤ limit → p ≤ limit
-behind_place x ds rest p b l = omega (arith, b.place, ap length b.whole, length-append b.front rest)
+after_place : (x : List ℕ) (ds : List DataSet) (rest : List ℕ) (p : ℕ) → SplitAt x ds rest p → length x ≤ limit → p ≤ limit
+after_place x ds rest p b l = omega (arith, b.place, ap length b.whole, length-append b.front rest)
 
-pub fault_place_le_limit : (x : List ℕ) (c : Cause) (p : ℕ) → Fault x c p → length x ≤ limit → p ≤ limit
+pub fault_place_le_limit : (x : List ℕ) (c : Cause) (p : ℕ) → IimFault x c p → length x ≤ limit → p ≤ limit
 fault_place_le_limit x TooLong p s l = omega (arith, s.0)
-fault_place_le_limit x NoMarker p s l = behind_place x s.0 s.1 p s.2 l
-fault_place_le_limit x LengthForm p s l = behind_place x s.0 s.1 p s.2 l
-fault_place_le_limit x DataSetCut p s l = behind_place x s.0 s.1 p s.2 l
+fault_place_le_limit x NoMarker p s l = after_place x s.0 s.1 p s.2 l
+fault_place_le_limit x LengthForm p s l = after_place x s.0 s.1 p s.2 l
+fault_place_le_limit x DataSetCut p s l = after_place x s.0 s.1 p s.2 l
 fault_place_le_limit x _ p s l = absurd s
 
 pub faults_bounded : FaultsBounded
 unfolding iim_checks
 faults_bounded x c p e = elim (first_head (check TooLong limit (nat_le (length x) limit)) (checks_from (length x + 1) 0 x) (c, p) e) [
   | inl h ↦ let q : limit ≡ p = ap (λ (z : Cause × ℕ). z.1) h.1 in omega arith
-  | inr h ↦ fault_place_le_limit x c p (first_stands x c p e) (leb-true (length x) limit h.0)
+  | inr h ↦ fault_place_le_limit x c p (first_is_fault x c p e) (leb-true (length x) limit h.0)
 ]

@@ -11,15 +11,15 @@ use Rattle.px_bytes.specs.lemmas.NumberLaws.{number_spelling, length_spelling}
 use Rattle.px_bytes.specs.Parts.{limit}
 use Rattle.px_bytes.specs.lemmas.EachLaws.{each_map}
 use Rattle.px_bytes.specs.lemmas.ByteLaws.{bytes_cons, bytes_append, bytes_spelling}
-use Rattle.px_iim.specs.DataSet.{DataSet, marker, top_bit, IsStandardCount, IsExtendedCount, IsSpelling, Spells}
+use Rattle.px_iim.specs.DataSet.{DataSet, marker, top_bit, IsStandardCount, IsExtendedCount, IsEncoding, Encodes}
 use Rattle.px_iim.specs.Group.{Group, Record, is_at, IsAscending, items_at, item_in, Gathers, IsItem, IsGroup, AreGroups}
 use Rattle.px_iim.specs.Record.{SaysIim, normal_count, normal_dataset, normal_group, normal_iim}
 use Rattle.px_iim.specs.lemmas.KeyLaws.{at_parts, at_true, at_false}
 use Rattle.px_iim.specs.lemmas.GroupLaws.{Item, new_group, items_here, items_there, item_here, item_there}
 use Rattle.px_iim.specs.lemmas.GatherLaws.{IsSome, no_more}
-use Rattle.px_iim.specs.lemmas.SpellingLaws.{number_front}
+use Rattle.px_iim.specs.lemmas.EncodingLaws.{number_front}
 use Rattle.px_iim.specs.lemmas.RecordLaws.{one_record}
-use Rattle.px_iim.specs.Laws.{NormalSays, NormalTells}
+use Rattle.px_iim.specs.Laws.{FormHasMeaning, FormDecides}
 
 -- ---- the count
 
@@ -74,26 +74,26 @@ abbrev pub sequence_in : Record → List DataSet
 sequence_in [] = []
 sequence_in (g ∷ gs) = map (dataset_in g) g.items ++ sequence_in gs
 
-normal_spelling : (g : Group) (x : Item) → length x.1 ≤ limit → IsSpelling (dataset_in g x) (normal_dataset g.rec x)
+normal_encoding : (g : Group) (x : Item) → length x.1 ≤ limit → IsEncoding (dataset_in g x) (normal_dataset g.rec x)
 unfolding normal_dataset
-normal_spelling g x l = (normal_count (length x.1), refl, normal_counts (length x.1) l)
+normal_encoding g x l = (normal_count (length x.1), refl, normal_counts (length x.1) l)
 
-pub spells_append : (ds es : List DataSet) (a b : List ℕ) → Spells ds a → Spells es b → Spells (ds ++ es) (a ++ b)
-spells_append [] es a b h k = subst (λ (z : List ℕ). Spells es (z ++ b)) (sym h) k
-spells_append (d ∷ ds) es a b (x, y, e, s, t) k =
-    (x, y ++ b, ap (λ (z : List ℕ). z ++ b) e ∙ append_assoc x y b, s, spells_append ds es y b t k)
+pub encodes_append : (ds es : List DataSet) (a b : List ℕ) → Encodes ds a → Encodes es b → Encodes (ds ++ es) (a ++ b)
+encodes_append [] es a b h k = subst (λ (z : List ℕ). Encodes es (z ++ b)) (sym h) k
+encodes_append (d ∷ ds) es a b (x, y, e, s, t) k =
+    (x, y ++ b, ap (λ (z : List ℕ). z ++ b) e ∙ append_assoc x y b, s, encodes_append ds es y b t k)
 
-spells_items : (g : Group) (xs : List Item) → AllByRecursion (IsItem g.rec g.number) xs
-    → Spells (map (dataset_in g) xs) (flat_map (normal_dataset g.rec) xs)
-spells_items g [] h = refl
-spells_items g (x ∷ xs) h =
-    (normal_dataset g.rec x, flat_map (normal_dataset g.rec) xs, refl, normal_spelling g x h.0.bounded, spells_items g xs h.1)
+encodes_items : (g : Group) (xs : List Item) → AllByRecursion (IsItem g.rec g.number) xs
+    → Encodes (map (dataset_in g) xs) (flat_map (normal_dataset g.rec) xs)
+encodes_items g [] h = refl
+encodes_items g (x ∷ xs) h =
+    (normal_dataset g.rec x, flat_map (normal_dataset g.rec) xs, refl, normal_encoding g x h.0.bounded, encodes_items g xs h.1)
 
-pub spells_groups : (i : Record) → AllByRecursion IsGroup i → Spells (sequence_in i) (normal_iim i)
-spells_groups [] h = refl
-spells_groups (g ∷ gs) h =
-    spells_append (map (dataset_in g) g.items) (sequence_in gs) (normal_group g) (normal_iim gs) (spells_items g g.items h.0.items)
-    (spells_groups gs h.1)
+pub encodes_groups : (i : Record) → AllByRecursion IsGroup i → Encodes (sequence_in i) (normal_iim i)
+encodes_groups [] h = refl
+encodes_groups (g ∷ gs) h =
+    encodes_append (map (dataset_in g) g.items) (sequence_in gs) (normal_group g) (normal_iim gs) (encodes_items g g.items h.0.items)
+    (encodes_groups gs h.1)
 
 -- ---- gathered again
 
@@ -141,9 +141,9 @@ gathered_again i h = record {
 dataset_bytes : (g : Group) (x : Item) → g.rec < 256 → IsItem g.rec g.number x → AreBytes (normal_dataset g.rec x)
 unfolding normal_dataset
 dataset_bytes g x r h =
-    let behind : List ℕ = normal_count (length x.1) ++ x.1 in
-    bytes_cons marker (g.rec ∷ x.0 ∷ behind) (omega arith)
-    (bytes_cons g.rec (x.0 ∷ behind) r (bytes_cons x.0 behind h.byte (bytes_append (normal_count (length x.1)) x.1
+    let after : List ℕ = normal_count (length x.1) ++ x.1 in
+    bytes_cons marker (g.rec ∷ x.0 ∷ after) (omega arith)
+    (bytes_cons g.rec (x.0 ∷ after) r (bytes_cons x.0 after h.byte (bytes_append (normal_count (length x.1)) x.1
     (count_bytes (length x.1)) h.bytes)))
 
 items_bytes : (g : Group) (xs : List Item) → g.rec < 256 → AllByRecursion (IsItem g.rec g.number) xs
@@ -189,26 +189,26 @@ sequence_long (g ∷ gs) l h = some_in g.items h.0.some
 
 -- ---- the laws
 
-pub normal_says : NormalSays
-normal_says i r = (
+pub form_has_meaning : FormHasMeaning
+form_has_meaning i r = (
   groups_bytes i r.whole.groups,
   groups_long i r.some r.whole.groups,
   λ l. record {
     bounded = l;
     sequence = sequence_in i;
     some = sequence_long i r.some r.whole.groups;
-    spelled = normal_iim i;
+    encoded = normal_iim i;
     zeros = [];
     whole = sym (append-nil (normal_iim i));
-    spells = spells_groups i r.whole.groups;
+    encodes = encodes_groups i r.whole.groups;
     short = omega arith;
     blank = tt;
     gathered = gathered_again i r.whole;
   },
 )
 
-pub normal_tells : NormalTells
-normal_tells i j r s l m = (
-  λ e. one_record (normal_iim j) i j (subst (λ (x : List ℕ). SaysIim x i) e ((normal_says i r).2 l)) ((normal_says j s).2 m),
+pub form_decides : FormDecides
+form_decides i j r s l m = (
+  λ e. one_record (normal_iim j) i j (subst (λ (x : List ℕ). SaysIim x i) e ((form_has_meaning i r).2 l)) ((form_has_meaning j s).2 m),
   λ e. ap (λ (k : Record). normal_iim k) e,
 )

@@ -7,28 +7,29 @@ use Rattle.px_bytes.specs.Numbers.{AreBytes}
 use Rattle.px_bytes.specs.Parts.{limit}
 use Rattle.px_bytes.specs.lemmas.EachLaws.{each_map, each_append}
 use Rattle.px_bytes.specs.lemmas.ByteLaws.{bytes_left, bytes_right}
-use Rattle.px_iim.specs.DataSet.{DataSet, marker, IsSpelling, Spells}
+use Rattle.px_iim.specs.DataSet.{DataSet, marker, IsEncoding, Encodes}
 use Rattle.px_iim.specs.Group.{Group, Record, named, put, gather, IsItem, IsGroup}
 use Rattle.px_iim.specs.Record.{SaysIim, sequence_of, iim_of}
 use Rattle.px_iim.specs.lemmas.KeyLaws.{group_cases}
 use Rattle.px_iim.specs.lemmas.GroupLaws.{new_group, longer, put_nil, put_at, put_under, put_over, put_all}
 use Rattle.px_iim.specs.lemmas.GatherLaws.{gather_gathers}
-use Rattle.px_iim.specs.lemmas.SequenceLaws.{Parsed, spells_read, spells_long, read_parsed}
-use Rattle.px_iim.specs.Laws.{Computes, OneRecord, SaidIsRecord}
+use Rattle.px_iim.specs.lemmas.SequenceLaws.{Parsed, encodes_read, encodes_long, read_parsed}
+use Rattle.px_iim.specs.Laws.{Computes, OneRecord, MeaningIsRecord}
 
 -- ---- computed
 
-pub said_sequence : (x : List ℕ) (i : Record) (s : SaysIim x i) → sequence_of (length x) x ≡ Some s.sequence
-said_sequence x i s =
-    let l = spells_long s.sequence s.spelled s.spells in
-    let m = ap length s.whole ∙ length-append s.spelled s.zeros in
-    ap (sequence_of (length x)) s.whole ∙ spells_read (length x) s.sequence s.spelled s.zeros s.spells s.some (omega arith) s.short s.blank
+pub meaning_sequence : (x : List ℕ) (i : Record) (s : SaysIim x i) → sequence_of (length x) x ≡ Some s.sequence
+meaning_sequence x i s =
+    let l = encodes_long s.sequence s.encoded s.encodes in
+    let m = ap length s.whole ∙ length-append s.encoded s.zeros in
+    ap (sequence_of (length x)) s.whole ∙ encodes_read (length x) s.sequence s.encoded s.zeros s.encodes s.some (omega arith) s.short
+    s.blank
 
-pub said_computed : (x : List ℕ) (i : Record) → SaysIim x i → iim_of x ≡ Some i
+pub meaning_is_computed : (x : List ℕ) (i : Record) → SaysIim x i → iim_of x ≡ Some i
 unfolding iim_of
-said_computed x i s =
+meaning_is_computed x i s =
     cond-true _ _ _ (le-leb (length x) limit s.bounded)
-    ∙ ap (option_map (gather [])) (said_sequence x i s) ∙ ap Some ((gather_gathers s.sequence i).0 s.gathered)
+    ∙ ap (option_map (gather [])) (meaning_sequence x i s) ∙ ap Some ((gather_gathers s.sequence i).0 s.gathered)
 
 from_sequence : (x : List ℕ) (i : Record) → length x ≤ limit → (z : Option (List DataSet))
     → ((ds : List DataSet) → z ≡ Some ds → Parsed ds x) → option_map (gather []) z ≡ Some i → SaysIim x i
@@ -40,30 +41,30 @@ from_sequence x i b (Some ds) f e =
       bounded = b;
       sequence = ds;
       some = p.some;
-      spelled = p.front;
+      encoded = p.front;
       zeros = p.zeros;
       whole = p.whole;
-      spells = p.spells;
+      encodes = p.encodes;
       short = p.short;
       blank = p.blank;
       gathered = (gather_gathers ds i).1 g;
     }
 
-pub computed_said : (x : List ℕ) (i : Record) → iim_of x ≡ Some i → SaysIim x i
+pub computed_is_meaning : (x : List ℕ) (i : Record) → iim_of x ≡ Some i → SaysIim x i
 unfolding iim_of
-computed_said x i e = elim (cases_Bool (nat_le (length x) limit)) [
+computed_is_meaning x i e = elim (cases_Bool (nat_le (length x) limit)) [
   | inl t ↦ from_sequence x i (leb-true (length x) limit t) (sequence_of (length x) x) (read_parsed (length x) x) (sym (cond-true _ _ _ t)
       ∙ e)
   | inr f ↦ let clash : None ≡ Some i = sym (cond-false _ _ _ f) ∙ e in absurd (cc)
 ]
 
 pub iim_of_computes : Computes
-iim_of_computes x i = (said_computed x i, computed_said x i)
+iim_of_computes x i = (meaning_is_computed x i, computed_is_meaning x i)
 
 -- ---- one record
 
 pub one_record : OneRecord
-one_record x i j s t = let e : Some i ≡ Some j = sym (said_computed x i s) ∙ said_computed x j t in cc
+one_record x i j s t = let e : Some i ≡ Some j = sym (meaning_is_computed x i s) ∙ meaning_is_computed x j t in cc
 
 -- ---- a record
 
@@ -71,19 +72,19 @@ one_record x i j s t = let e : Some i ≡ Some j = sym (said_computed x i s) ∙
 abbrev pub IsGood : DataSet → Type 0
 IsGood d = (d.rec < 256) × IsItem (new_group d).rec (new_group d).number (d.number, d.octets)
 
-spelled_good : (d : DataSet) (a : List ℕ) → AreBytes a → length a ≤ limit → IsSpelling d a → IsGood d
-spelled_good d a b l (c, e, h) =
+encoded_good : (d : DataSet) (a : List ℕ) → AreBytes a → length a ≤ limit → IsEncoding d a → IsGood d
+encoded_good d a b l (c, e, h) =
     let o : AreBytes (marker ∷ d.rec ∷ d.number ∷ (c ++ d.octets)) = subst AreBytes e b in
     let m = ap length e in
     let k = length-append c d.octets in
     (o 1, record { byte = o 2; member = refl; bytes = bytes_right c d.octets (λ j. o (suc (suc (suc j)))); bounded = omega arith })
 
-spells_good : (ds : List DataSet) (a : List ℕ) → AreBytes a → length a ≤ limit → Spells ds a → AllByRecursion IsGood ds
-spells_good [] a b l h = tt
-spells_good (d ∷ ds) a b l (x, y, e, s, t) =
+encodes_good : (ds : List DataSet) (a : List ℕ) → AreBytes a → length a ≤ limit → Encodes ds a → AllByRecursion IsGood ds
+encodes_good [] a b l h = tt
+encodes_good (d ∷ ds) a b l (x, y, e, s, t) =
     let z : AreBytes (x ++ y) = subst AreBytes e b in
     let m = ap length e ∙ length-append x y in
-    (spelled_good d x (bytes_left x y z) (omega arith) s, spells_good ds y (bytes_right x y z) (omega arith) t)
+    (encoded_good d x (bytes_left x y z) (omega arith) s, encodes_good ds y (bytes_right x y z) (omega arith) t)
 
 -- an item of a group is one of any group of that name
 item_moves : (g h : Group) → g.rec ≡ h.rec → g.number ≡ h.number → (x : ℕ × List ℕ) → IsItem g.rec g.number x → IsItem h.rec h.number x
@@ -131,12 +132,13 @@ unfolding gather
 gathered_some [] h = absurd (omega arith)
 gathered_some (d ∷ ds) h = gather_some ds (put d []) (put_some d [])
 
-pub said_is_record : SaidIsRecord
-said_is_record x i b s =
+pub meaning_is_record : MeaningIsRecord
+meaning_is_record x i b s =
     let e : gather [] s.sequence ≡ i = (gather_gathers s.sequence i).0 s.gathered in
     let l = s.bounded in
-    let m = ap length s.whole ∙ length-append s.spelled s.zeros in
-    let good = spells_good s.sequence s.spelled (bytes_left s.spelled s.zeros (subst AreBytes s.whole b)) (omega arith) s.spells in record {
+    let m = ap length s.whole ∙ length-append s.encoded s.zeros in
+    let good = encodes_good s.sequence s.encoded (bytes_left s.encoded s.zeros (subst AreBytes s.whole b)) (omega arith) s.encodes in
+    record {
       some = subst (λ (z : Record). 1 ≤ length z) e (gathered_some s.sequence s.some);
       whole = record {
         ascending = s.gathered.ascending;

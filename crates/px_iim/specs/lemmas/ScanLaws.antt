@@ -7,8 +7,8 @@ use Rattle.px_bytes.specs.lemmas.CheckLaws.{first_false_true}
 use Rattle.px_bytes.specs.Parts.{limit}
 use Rattle.px_iim.specs.Record.{extra, size, is_dataset, is_end}
 use Rattle.px_iim.specs.Check.{dataset_checks, checks_from, iim_checks}
-use Rattle.px_iim.specs.lemmas.SpellingLaws.{dataset_holds}
-use Rattle.px_iim.specs.lemmas.FaultLaws.{checks_behind, checks_step, behind_end, behind_more}
+use Rattle.px_iim.specs.lemmas.EncodingLaws.{dataset_holds}
+use Rattle.px_iim.specs.lemmas.FaultLaws.{checks_after, checks_step, after_end, after_more}
 
 -- ---- the checks of the bytes left
 
@@ -16,8 +16,8 @@ use Rattle.px_iim.specs.lemmas.FaultLaws.{checks_behind, checks_step, behind_end
 abbrev pub checks_left : ℕ → List ℕ → List Check
 checks_left p x = checks_from (length x + 1) p x
 
-no_dataset : (n p : ℕ) (x : List ℕ) → is_dataset x ≡ false → checks_behind n p x ≡ []
-unfolding checks_behind
+no_dataset : (n p : ℕ) (x : List ℕ) → is_dataset x ≡ false → checks_after n p x ≡ []
+unfolding checks_after
 no_dataset n p x h = cond-false _ _ _ h
 
 dataset_drop_shorter : (x : List ℕ) → is_dataset x ≡ true → length (drop (size x) x) < length x
@@ -28,19 +28,19 @@ pub checks_enough : (n m p : ℕ) (x : List ℕ) → length x < n → length x <
 checks_enough zero m p x h k = absurd (omega arith)
 checks_enough (suc n) zero p x h k = absurd (omega arith)
 checks_enough (suc n) (suc m) p x h k =
-    let same : checks_behind n p x ≡ checks_behind m p x = elim (cases_Bool (is_dataset x)) [
+    let same : checks_after n p x ≡ checks_after m p x = elim (cases_Bool (is_dataset x)) [
       | inl t ↦ elim (cases_Bool (is_end (drop (size x) x))) [
-        | inl e ↦ behind_end n p x t e ∙ sym (behind_end m p x t e)
+        | inl e ↦ after_end n p x t e ∙ sym (after_end m p x t e)
         | inr e ↦
             let s = dataset_drop_shorter x t in
-            behind_more n p x t e ∙ checks_enough n m (p + size x) (drop (size x) x) (omega arith) (omega arith)
-            ∙ sym (behind_more m p x t e)
+            after_more n p x t e ∙ checks_enough n m (p + size x) (drop (size x) x) (omega arith) (omega arith)
+            ∙ sym (after_more m p x t e)
       ]
       | inr f ↦ no_dataset n p x f ∙ sym (no_dataset m p x f)
     ] in
     checks_step n p x ∙ ap (λ (cs : List Check). dataset_checks p x ++ cs) same ∙ sym (checks_step m p x)
 
-left_step : (p : ℕ) (x : List ℕ) → checks_left p x ≡ dataset_checks p x ++ checks_behind (length x) p x
+left_step : (p : ℕ) (x : List ℕ) → checks_left p x ≡ dataset_checks p x ++ checks_after (length x) p x
 left_step p x = let n : length x + 1 ≡ suc (length x) = omega arith in ap (λ (j : ℕ). checks_from j p x) n ∙ checks_step (length x) p x
 
 -- the checks of a whole DataSet are true
@@ -59,16 +59,16 @@ left_fault p x h =
 -- after the last DataSet nothing is wrong
 pub left_end : (p : ℕ) (x : List ℕ) → is_dataset x ≡ true → is_end (drop (size x) x) ≡ true → first_false (checks_left p x) ≡ None
 left_end p x h e =
-    ap first_false (left_step p x) ∙ first_false_true (dataset_checks p x) (checks_behind (length x) p x) (dataset_clean p x h)
-    ∙ ap first_false (behind_end (length x) p x h e)
+    ap first_false (left_step p x) ∙ first_false_true (dataset_checks p x) (checks_after (length x) p x) (dataset_clean p x h)
+    ∙ ap first_false (after_end (length x) p x h e)
 
 -- after any other, the fault is that of the bytes left
 pub left_more : (p : ℕ) (x : List ℕ) → is_dataset x ≡ true → is_end (drop (size x) x) ≡ false
     → first_false (checks_left p x) ≡ first_false (checks_left (p + size x) (drop (size x) x))
 left_more p x h e =
     let s = dataset_drop_shorter x h in
-    ap first_false (left_step p x) ∙ first_false_true (dataset_checks p x) (checks_behind (length x) p x) (dataset_clean p x h)
-    ∙ ap first_false (behind_more (length x) p x h e ∙ checks_enough (length x) (length (drop (size x) x) + 1) (p + size x)
+    ap first_false (left_step p x) ∙ first_false_true (dataset_checks p x) (checks_after (length x) p x) (dataset_clean p x h)
+    ∙ ap first_false (after_more (length x) p x h e ∙ checks_enough (length x) (length (drop (size x) x) + 1) (p + size x)
     (drop (size x) x) s (omega arith))
 
 -- a block that isn't too long has the checks of all its bytes

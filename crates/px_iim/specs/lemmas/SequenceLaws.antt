@@ -5,9 +5,9 @@ use Rattle.std.proofs.Common.{drop_at, length-append, append_assoc, append-nil}
 use Rattle.std.specs.List.{AllByRecursion, list_all}
 use Rattle.std.proofs.lemmas.Bool.{cond-true, cond-false, cases_Bool, and_parts, and_from, false_from_ne_true}
 use Rattle.std.proofs.lemmas.List.{take-append-drop}
-use Rattle.px_iim.specs.DataSet.{DataSet, marker, IsSpelling, Spells}
+use Rattle.px_iim.specs.DataSet.{DataSet, marker, IsEncoding, Encodes}
 use Rattle.px_iim.specs.Record.{size, is_marked, is_dataset, dataset, is_end, sequence_of}
-use Rattle.px_iim.specs.lemmas.SpellingLaws.{dataset_holds, spelled_begins, dataset_spelled}
+use Rattle.px_iim.specs.lemmas.EncodingLaws.{dataset_holds, encoded_begins, dataset_encoded}
 
 -- ---- the end
 
@@ -59,50 +59,50 @@ module _ (n : ℕ) (x : List ℕ) where
 -- ---- from encodings
 
 -- a DataSet and what follows it
-pub behind_begins : (d : DataSet) (a y : List ℕ) → IsSpelling d a → drop (size (a ++ y)) (a ++ y) ≡ y
-behind_begins d a y s = drop_at a y (size (a ++ y)) (sym (spelled_begins d a y s).sized)
+pub after_begins : (d : DataSet) (a y : List ℕ) → IsEncoding d a → drop (size (a ++ y)) (a ++ y) ≡ y
+after_begins d a y s = drop_at a y (size (a ++ y)) (sym (encoded_begins d a y s).sized)
 
-pub five_octets : (d : DataSet) (a : List ℕ) → IsSpelling d a → 5 ≤ length a
-five_octets d a s = let e = (spelled_begins d a [] s).sized in omega arith
+pub five_octets : (d : DataSet) (a : List ℕ) → IsEncoding d a → 5 ≤ length a
+five_octets d a s = let e = (encoded_begins d a [] s).sized in omega arith
 
-pub marked_spelling : (d : DataSet) (a y : List ℕ) → IsSpelling d a → is_marked (a ++ y) ≡ true
-marked_spelling d a y s = (dataset_holds (a ++ y) (spelled_begins d a y s).is).marked
+pub marked_encoding : (d : DataSet) (a y : List ℕ) → IsEncoding d a → is_marked (a ++ y) ≡ true
+marked_encoding d a y s = (dataset_holds (a ++ y) (encoded_begins d a y s).is).marked
 
-pub spells_long : (ds : List DataSet) (a : List ℕ) → Spells ds a → 5 * length ds ≤ length a
-spells_long [] a h = omega arith
-spells_long (d ∷ ds) a (b, c, e, s, t) =
-    let l = five_octets d b s in let m = spells_long ds c t in let k = ap length e ∙ length-append b c in omega arith
+pub encodes_long : (ds : List DataSet) (a : List ℕ) → Encodes ds a → 5 * length ds ≤ length a
+encodes_long [] a h = omega arith
+encodes_long (d ∷ ds) a (b, c, e, s, t) =
+    let l = five_octets d b s in let m = encodes_long ds c t in let k = ap length e ∙ length-append b c in omega arith
 
-spelled_last : (n : ℕ) (d : DataSet) (a zeros : List ℕ) → IsSpelling d a → is_end zeros ≡ true
+encoded_last : (n : ℕ) (d : DataSet) (a zeros : List ℕ) → IsEncoding d a → is_end zeros ≡ true
     → sequence_of (suc n) (a ++ zeros) ≡ Some (d ∷ [])
-spelled_last n d a zeros s e =
-    let b = spelled_begins d a zeros s in
-    step_end n (a ++ zeros) b.is (subst (λ (y : List ℕ). is_end y ≡ true) (sym (behind_begins d a zeros s)) e)
+encoded_last n d a zeros s e =
+    let b = encoded_begins d a zeros s in
+    step_end n (a ++ zeros) b.is (subst (λ (y : List ℕ). is_end y ≡ true) (sym (after_begins d a zeros s)) e)
     ∙ ap (λ (z : DataSet). Some (z ∷ [])) b.read
 
-spelled_more : (n : ℕ) (d : DataSet) (ds : List DataSet) (a y : List ℕ) → IsSpelling d a → is_end y ≡ false → sequence_of n y ≡ Some ds
+encoded_more : (n : ℕ) (d : DataSet) (ds : List DataSet) (a y : List ℕ) → IsEncoding d a → is_end y ≡ false → sequence_of n y ≡ Some ds
     → sequence_of (suc n) (a ++ y) ≡ Some (d ∷ ds)
-spelled_more n d ds a y s e t =
-    let b = spelled_begins d a y s in
-    let k = behind_begins d a y s in
+encoded_more n d ds a y s e t =
+    let b = encoded_begins d a y s in
+    let k = after_begins d a y s in
     step_more n (a ++ y) b.is (subst (λ (z : List ℕ). is_end z ≡ false) (sym k) e)
     ∙ ap (option_map (λ (z : List DataSet). dataset (a ++ y) ∷ z)) (ap (sequence_of n) k ∙ t) ∙ ap (λ (z : DataSet). Some (z ∷ ds)) b.read
 
 -- An encoded sequence with zeros after it is read.
-pub spells_read : (n : ℕ) (ds : List DataSet) (a zeros : List ℕ) → Spells ds a → 1 ≤ length ds → length ds ≤ n → length zeros ≤ 3
+pub encodes_read : (n : ℕ) (ds : List DataSet) (a zeros : List ℕ) → Encodes ds a → 1 ≤ length ds → length ds ≤ n → length zeros ≤ 3
     → AllByRecursion IsZero zeros → sequence_of n (a ++ zeros) ≡ Some ds
-spells_read n [] a zeros h l m s b = absurd (omega arith)
-spells_read zero (d ∷ ds) a zeros h l m s b = absurd (omega arith)
-spells_read (suc n) (d ∷ []) a zeros (c, e, p, q, r) l m s b =
+encodes_read n [] a zeros h l m s b = absurd (omega arith)
+encodes_read zero (d ∷ ds) a zeros h l m s b = absurd (omega arith)
+encodes_read (suc n) (d ∷ []) a zeros (c, e, p, q, r) l m s b =
     ap (λ (z : List ℕ). sequence_of (suc n) (z ++ zeros)) (p ∙ ap (λ (z : List ℕ). c ++ z) r ∙ append-nil c)
-    ∙ spelled_last n d c zeros q (end_true zeros s b)
-spells_read (suc n) (d ∷ f ∷ ds) a zeros (c, e, p, q, r) l m s b =
+    ∙ encoded_last n d c zeros q (end_true zeros s b)
+encodes_read (suc n) (d ∷ f ∷ ds) a zeros (c, e, p, q, r) l m s b =
     let marked : is_marked (e ++ zeros) ≡ true =
     subst (λ (z : List ℕ). is_marked z ≡ true) (sym (ap (λ (z : List ℕ). z ++ zeros) r.2 ∙ append_assoc r.0 r.1 zeros))
-    (marked_spelling f r.0 (r.1 ++ zeros) r.3) in
+    (marked_encoding f r.0 (r.1 ++ zeros) r.3) in
     ap (sequence_of (suc n)) (ap (λ (z : List ℕ). z ++ zeros) p ∙ append_assoc c e zeros)
-    ∙ spelled_more n d (f ∷ ds) c (e ++ zeros) q (marked_no_end (e ++ zeros) marked)
-    (spells_read n (f ∷ ds) e zeros r (omega arith) (omega arith) s b)
+    ∙ encoded_more n d (f ∷ ds) c (e ++ zeros) q (marked_no_end (e ++ zeros) marked)
+    (encodes_read n (f ∷ ds) e zeros r (omega arith) (omega arith) s b)
 
 -- ---- to encodings
 
@@ -111,7 +111,7 @@ pub record Parsed (ds : List DataSet) (x : List ℕ) : Type 0 where
   pub front : List ℕ
   pub zeros : List ℕ
   pub whole : x ≡ front ++ zeros
-  pub spells : Spells ds front
+  pub encodes : Encodes ds front
   pub some : 1 ≤ length ds
   pub short : length zeros ≤ 3
   pub blank : AllByRecursion IsZero zeros
@@ -122,7 +122,7 @@ parsed_end x h k =
       front = take (size x) x;
       zeros = drop (size x) x;
       whole = sym (take-append-drop (size x) x);
-      spells = (take (size x) x, [], sym (append-nil (take (size x) x)), dataset_spelled x h, refl);
+      encodes = (take (size x) x, [], sym (append-nil (take (size x) x)), dataset_encoded x h, refl);
       some = omega arith;
       short = e.0;
       blank = e.1;
@@ -134,7 +134,7 @@ parsed_more x ds h p = record {
   zeros = p.zeros;
   whole = sym (take-append-drop (size x) x) ∙ ap (λ (z : List ℕ). take (size x) x ++ z) p.whole
       ∙ sym (append_assoc (take (size x) x) p.front p.zeros);
-  spells = (take (size x) x, p.front, refl, dataset_spelled x h, p.spells);
+  encodes = (take (size x) x, p.front, refl, dataset_encoded x h, p.encodes);
   some = omega arith;
   short = p.short;
   blank = p.blank;

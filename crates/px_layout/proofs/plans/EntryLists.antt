@@ -13,12 +13,11 @@ use Rattle.px_meaning.specs.declared.Dir.{Dir}
 use Rattle.px_meaning.specs.declared.Dir.TheVariants.{Main, Exif, Interop, Gps, Thumb}
 use Rattle.px_meaning.specs.Entry.{Rising}
 use Rattle.px_meaning.specs.Tree.{Fields, ExifPart, Thumbnail, Meaning}
-use Rattle.px_meaning.specs.Fits.{Item, Field, StripSizes, items, put, main_items, exif_items, thumb_items, field_items, FitsFields}
-use Rattle.px_meaning.specs.Fits.{FitsExif}
-use Rattle.px_meaning.specs.Fits.{FitsThumb, IsBytes}
+use Rattle.px_meaning.specs.Writable.{Item, Field, StripSizes, items, put, main_items, exif_items, thumb_items, field_items}
+use Rattle.px_meaning.specs.Writable.{AreWritableFields, IsWritableExif, IsWritableThumb, IsBytes}
 use Rattle.px_layout.specs.declared.items.Item as program
-use Rattle.px_layout.specs.calls.Items.{item_of, IsCounted, rank}
-use Rattle.px_layout.specs.calls.Layers.{over, IsAtRank, IsEntryAt, FindsEntryAt, IsClear}
+use Rattle.px_layout.specs.calls.Items.{item_of, CountsFit, rank}
+use Rattle.px_layout.specs.calls.Layers.{with_extra, IsAtRank, IsEntryAt, FindsEntryAt, NoneBefore}
 use Rattle.px_layout.specs.declared.entries.Extra.{Extra}
 use Rattle.px_layout.specs.declared.entries.Step.{Step}
 use Rattle.px_layout.specs.declared.entries.Step.TheVariants.{Here, Under}
@@ -72,16 +71,16 @@ module _ {X : Type 0} where
     | inr q ↦ ap (λ zs. slice_get zs (suc i)) (put_later t x y ys q) ∙ put_here t x ys i (let r = rank_later t y ys q in omega arith)
   ]
 
-  pub put_behind : (t : ℕ) (x : X) (xs : List (ℕ × X)) (j : ℕ) → rank t xs ≤ j → slice_get (put t x xs) (suc j) ≡ slice_get xs j
-  put_behind t x [] j l = refl
-  put_behind t x (y ∷ ys) zero l = elim (cases_Bool (nat_lt t y.0)) [
+  pub put_after : (t : ℕ) (x : X) (xs : List (ℕ × X)) (j : ℕ) → rank t xs ≤ j → slice_get (put t x xs) (suc j) ≡ slice_get xs j
+  put_after t x [] j l = refl
+  put_after t x (y ∷ ys) zero l = elim (cases_Bool (nat_lt t y.0)) [
     | inl q ↦ ap (λ zs. slice_get zs 1) (put_now t x y ys q)
     | inr q ↦ absurd (let r = rank_later t y ys q in omega arith)
   ]
-  put_behind t x (y ∷ ys) (suc j) l = elim (cases_Bool (nat_lt t y.0)) [
+  put_after t x (y ∷ ys) (suc j) l = elim (cases_Bool (nat_lt t y.0)) [
     | inl q ↦ ap (λ zs. slice_get zs (suc (suc j))) (put_now t x y ys q)
     | inr q ↦ ap (λ zs. slice_get zs (suc (suc j))) (put_later t x y ys q)
-        ∙ put_behind t x ys j (let r = rank_later t y ys q in omega arith)
+        ∙ put_after t x ys j (let r = rank_later t y ys q in omega arith)
   ]
 
   -- ---- a position counted
@@ -120,17 +119,17 @@ module _ {X : Type 0} where
   tag_read P (y ∷ ys) (suc i) x h e = tag_read P ys i x h.1 e
 
   -- if tags rise: all before a tag that isn't greater aren't greater either, and none after a greater one counts
-  pub rank_behind : (t : ℕ) (xs : List (ℕ × X)) (i : ℕ) (x : ℕ × X) → Rising (map (λ y. y.0) xs) → slice_get xs i ≡ Some x → x.0 ≤ t
+  pub rank_after : (t : ℕ) (xs : List (ℕ × X)) (i : ℕ) (x : ℕ × X) → Rising (map (λ y. y.0) xs) → slice_get xs i ≡ Some x → x.0 ≤ t
       → i + 1 ≤ rank t xs
-  rank_behind t [] i x r e l = cc
-  rank_behind t (y ∷ ys) zero x r e l =
+  rank_after t [] i x r e l = cc
+  rank_after t (y ∷ ys) zero x r e l =
       let q : y ≡ x = cc in
       let k = ap (λ (z : ℕ × X). z.0) q in
       let n = rank_later t y ys (le-ltb t y.0 (omega arith)) in omega arith
-  rank_behind t (y ∷ ys) (suc i) x r e l =
+  rank_after t (y ∷ ys) (suc i) x r e l =
       let k = tag_read (λ u. y.0 < u) ys i x r.0 e in
       let n = rank_later t y ys (le-ltb t y.0 (omega arith)) in
-      let rest = rank_behind t ys i x r.1 e l in omega arith
+      let rest = rank_after t ys i x r.1 e l in omega arith
 
   pub rank_before : (t : ℕ) (xs : List (ℕ × X)) (i : ℕ) (x : ℕ × X) → slice_get xs i ≡ Some x → t < x.0 → rank t xs ≤ i
   rank_before t [] i x e l = cc
@@ -153,49 +152,49 @@ rank_fields t (y ∷ ys) =
 
 -- ---- one further entry
 
-pub length_over : (e : Extra) (xs : List (ℕ × Item)) → length (over (Some e) xs) ≡ length xs + 1
+pub length_over : (e : Extra) (xs : List (ℕ × Item)) → length (with_extra (Some e) xs) ≡ length xs + 1
 length_over e xs = length_put e.tag (item_of e.item) xs ∙ omega arith
 
-pub pass_before : (e : Extra) (xs : List (ℕ × Item)) (i : ℕ) → i < e.place → IsAtRank (Some e) xs → i < length (over (Some e) xs)
+pub pass_before : (e : Extra) (xs : List (ℕ × Item)) (i : ℕ) → i < e.place → IsAtRank (Some e) xs → i < length (with_extra (Some e) xs)
     → IsEntryAt (Under i) (Some e) xs i
 pass_before e xs i l s h = let p = s.0 in let r = rank_le e.tag xs in (put_before e.tag (item_of e.item) xs i (omega arith), omega arith)
 
-pub pass_here : (e : Extra) (xs : List (ℕ × Item)) (i : ℕ) → i ≡ e.place → IsAtRank (Some e) xs → i < length (over (Some e) xs)
+pub pass_here : (e : Extra) (xs : List (ℕ × Item)) (i : ℕ) → i ≡ e.place → IsAtRank (Some e) xs → i < length (with_extra (Some e) xs)
     → IsEntryAt (Here e.tag e.item) (Some e) xs i
 pass_here e xs i q s h = (put_here e.tag (item_of e.item) xs i (q ∙ s.0), s.1)
 
-pub pass_behind : (e : Extra) (xs : List (ℕ × Item)) (i : ℕ) → e.place < i → IsAtRank (Some e) xs → i < length (over (Some e) xs)
+pub pass_after : (e : Extra) (xs : List (ℕ × Item)) (i : ℕ) → e.place < i → IsAtRank (Some e) xs → i < length (with_extra (Some e) xs)
     → IsEntryAt (Under (i - 1)) (Some e) xs i
-pass_behind e xs zero l s h = absurd (omega arith)
-pass_behind e xs (suc j) l s h =
+pass_after e xs zero l s h = absurd (omega arith)
+pass_after e xs (suc j) l s h =
     let p = s.0 in
     let n = length_put e.tag (item_of e.item) xs in
     let k : j ≡ suc j - 1 = omega arith in
-    (put_behind e.tag (item_of e.item) xs j (omega arith) ∙ ap (slice_get xs) k, omega arith)
+    (put_after e.tag (item_of e.item) xs j (omega arith) ∙ ap (slice_get xs) k, omega arith)
 
 abbrev pub Passes : Step → Option Extra → ℕ → Type 0
-Passes p o i = (xs : List (ℕ × Item)) → IsAtRank o xs → i < length (over o xs) → IsEntryAt p o xs i
+Passes p o i = (xs : List (ℕ × Item)) → IsAtRank o xs → i < length (with_extra o xs) → IsEntryAt p o xs i
 
 pub passes_some : (p : Step) (o : Option Extra) (e : Extra) (i : ℕ) → o ≡ Some e → Passes p (Some e) i → Passes p o i
 passes_some p o e i q f = subst (λ o. Passes p o i) (sym q) f
 
 -- an entry at n or after n leaves each index before n as it is
-pub clear_passes : (o : Option Extra) (n i : ℕ) → IsClear n o → i < n → Passes (Under i) o i
+pub clear_passes : (o : Option Extra) (n i : ℕ) → NoneBefore n o → i < n → Passes (Under i) o i
 clear_passes None n i c l xs s h = (refl, h)
 clear_passes (Some e) n i c l xs s h = pass_before e xs i (omega arith) s h
 
 -- after the steps over four further entries, the field is at the index that is left
 pub passes_through : (a b c d : Option Extra) (fs : Fields) (i k j h g : ℕ) →
     Passes (Under k) d i → Passes (Under j) c k → Passes (Under h) b j → Passes (Under g) a h →
-    IsAtRank a (field_items fs) → IsAtRank b (over a (field_items fs)) → IsAtRank c (over b (over a (field_items fs)))
-    → IsAtRank d (over c (over b (over a (field_items fs)))) →
-    i < length (over d (over c (over b (over a (field_items fs))))) →
-    (slice_get (over d (over c (over b (over a (field_items fs))))) i ≡ option_map (λ p. (p.0, Field p.1)) (slice_get fs g)) × (g < length
+    IsAtRank a (field_items fs) → IsAtRank b (with_extra a (field_items fs)) → IsAtRank c (with_extra b (with_extra a (field_items fs)))
+    → IsAtRank d (with_extra c (with_extra b (with_extra a (field_items fs)))) →
+    i < length (with_extra d (with_extra c (with_extra b (with_extra a (field_items fs))))) →
+    (slice_get (with_extra d (with_extra c (with_extra b (with_extra a (field_items fs))))) i ≡ option_map (λ p. (p.0, Field p.1)) (slice_get fs g)) × (g < length
     fs)
 passes_through a b c d fs i k j h g pd pc pb pa sa sb sc sd l =
-    let z = pd (over c (over b (over a (field_items fs)))) sd l in
-    let y = pc (over b (over a (field_items fs))) sc z.1 in
-    let x = pb (over a (field_items fs)) sb y.1 in
+    let z = pd (with_extra c (with_extra b (with_extra a (field_items fs)))) sd l in
+    let y = pc (with_extra b (with_extra a (field_items fs))) sc z.1 in
+    let x = pb (with_extra a (field_items fs)) sb y.1 in
     let w = pa (field_items fs) sa x.1 in (
       z.0 ∙ y.0 ∙ x.0 ∙ w.0 ∙ slice_get-map (λ (p : ℕ × Value). (p.0, Field p.1)) fs g,
       subst (λ n. g < n)
@@ -205,27 +204,27 @@ passes_through a b c d fs i k j h g pd pc pb pa sa sb sc sd l =
 -- ---- two further entries, the upper one first
 
 abbrev pub PassesBoth : Step → Option Extra → Option Extra → ℕ → Type 0
-PassesBoth p d c i = (xs : List (ℕ × Item)) → IsAtRank c xs → IsAtRank d (over c xs) → i < length (over d (over c xs))
-    → FindsEntryAt p (over d (over c xs)) xs i
+PassesBoth p d c i = (xs : List (ℕ × Item)) → IsAtRank c xs → IsAtRank d (with_extra c xs) → i < length (with_extra d (with_extra c xs))
+    → FindsEntryAt p (with_extra d (with_extra c xs)) xs i
 
 found_under : (p : Step) (ys zs xs : List (ℕ × Item)) (i j : ℕ) → slice_get ys i ≡ slice_get zs j → FindsEntryAt p zs xs j → FindsEntryAt p ys xs i
 found_under (Here t x) ys zs xs i j e f = (e ∙ f.0, f.1)
 found_under (Under k) ys zs xs i j e f = (e ∙ f.0, f.1)
 
 pub upper_here : (t : ℕ) (x : program.Item) (d c : Option Extra) (i : ℕ) → Passes (Here t x) d i → PassesBoth (Here t x) d c i
-upper_here t x d c i p xs sc sd l = p (over c xs) sd l
+upper_here t x d c i p xs sc sd l = p (with_extra c xs) sd l
 
 pub passes_both : (p : Step) (d c : Option Extra) (i j : ℕ) → Passes (Under j) d i → Passes p c j → PassesBoth p d c i
 passes_both p d c i j pd pc xs sc sd l =
-    let z = pd (over c xs) sd l in found_under p (over d (over c xs)) (over c xs) xs i j z.0 (pc xs sc z.1)
+    let z = pd (with_extra c xs) sd l in found_under p (with_extra d (with_extra c xs)) (with_extra c xs) xs i j z.0 (pc xs sc z.1)
 
 -- past two and two more
 pub both_twice : (p : Step) (a b c d : Option Extra) (ys : List (ℕ × Item)) (i j : ℕ) → PassesBoth (Under j) d c i → PassesBoth p b a j
-    → IsAtRank a ys → IsAtRank b (over a ys) → IsAtRank c (over b (over a ys)) → IsAtRank d (over c (over b (over a ys)))
-    → i < length (over d (over c (over b (over a ys)))) → FindsEntryAt p (over d (over c (over b (over a ys)))) ys i
+    → IsAtRank a ys → IsAtRank b (with_extra a ys) → IsAtRank c (with_extra b (with_extra a ys)) → IsAtRank d (with_extra c (with_extra b (with_extra a ys)))
+    → i < length (with_extra d (with_extra c (with_extra b (with_extra a ys)))) → FindsEntryAt p (with_extra d (with_extra c (with_extra b (with_extra a ys)))) ys i
 both_twice p a b c d ys i j pd pb sa sb sc sd l =
-    let z = pd (over b (over a ys)) sc sd l in
-    found_under p (over d (over c (over b (over a ys)))) (over b (over a ys)) ys i j z.0 (pb ys sa sb z.1)
+    let z = pd (with_extra b (with_extra a ys)) sc sd l in
+    found_under p (with_extra d (with_extra c (with_extra b (with_extra a ys)))) (with_extra b (with_extra a ys)) ys i j z.0 (pb ys sa sb z.1)
 
 -- the field at the index that is left is found
 pub field_found : (fs : Fields) (ys : List (ℕ × Item)) (i g : ℕ) → FindsEntryAt (Under g) ys (field_items fs) i
@@ -237,11 +236,11 @@ field_found fs ys i g w = (
 
 -- the fields come before all further entries
 pub clear_through : (a b c d : Option Extra) (fs : Fields) (n i : ℕ) →
-    IsClear n a → IsClear n b → IsClear n c → IsClear n d →
-    IsAtRank a (field_items fs) → IsAtRank b (over a (field_items fs)) → IsAtRank c (over b (over a (field_items fs)))
-    → IsAtRank d (over c (over b (over a (field_items fs)))) → i < n →
-    i < length (over d (over c (over b (over a (field_items fs))))) →
-    (slice_get (over d (over c (over b (over a (field_items fs))))) i ≡ option_map (λ p. (p.0, Field p.1)) (slice_get fs i)) × (i < length
+    NoneBefore n a → NoneBefore n b → NoneBefore n c → NoneBefore n d →
+    IsAtRank a (field_items fs) → IsAtRank b (with_extra a (field_items fs)) → IsAtRank c (with_extra b (with_extra a (field_items fs)))
+    → IsAtRank d (with_extra c (with_extra b (with_extra a (field_items fs)))) → i < n →
+    i < length (with_extra d (with_extra c (with_extra b (with_extra a (field_items fs))))) →
+    (slice_get (with_extra d (with_extra c (with_extra b (with_extra a (field_items fs))))) i ≡ option_map (λ p. (p.0, Field p.1)) (slice_get fs i)) × (i < length
     fs)
 clear_through a b c d fs n i ca cb cc cd sa sb sc sd u l =
     passes_through a b c d fs i i i i i (clear_passes d n i cd u) (clear_passes c n i cc u) (clear_passes b n i cb u)
@@ -249,32 +248,32 @@ clear_through a b c d fs n i ca cb cc cd sa sb sc sd u l =
     sa sb sc sd l
 
 -- an item that is there is counted
-pub counted_in : (o : Option program.Item) (x : program.Item) → o ≡ Some x → IfSome (option_map item_of o) IsCounted → IsCounted (item_of x)
+pub counted_in : (o : Option program.Item) (x : program.Item) → o ≡ Some x → IfSome (option_map item_of o) CountsFit → CountsFit (item_of x)
 counted_in None x q h = cc
-counted_in (Some y) x q h = let k : y ≡ x = cc in subst (λ z. IsCounted (item_of z)) k h
+counted_in (Some y) x q h = let k : y ≡ x = cc in subst (λ z. CountsFit (item_of z)) k h
 
 -- ---- fields
 
-pub few_fields : (d : Dir) (fs : Fields) → FitsFields d fs → length fs < 2 ^ 16
+pub few_fields : (d : Dir) (fs : Fields) → AreWritableFields d fs → length fs < 2 ^ 16
 few_fields d fs f = let n = few_items d (field_items fs) (good_fields d fs f) in let l = same fs in omega arith
   where
     same : (fs : Fields) → length (field_items fs) ≡ length fs
     same [] = refl
     same (p ∷ fs) = ap suc (same fs)
 
-pub few_optional : (d : Dir) (fs : Option Fields) → IfSome fs (FitsFields d) → IfSome fs (λ fs. length fs < 2 ^ 16)
+pub few_optional : (d : Dir) (fs : Option Fields) → IfSome fs (AreWritableFields d) → IfSome fs (λ fs. length fs < 2 ^ 16)
 few_optional d None f = tt
 few_optional d (Some fs) f = few_fields d fs f
 
-pub few_exif : (e : Option ExifPart) → IfSome e FitsExif → IfSome e (λ e. length e.fields < 2 ^ 16)
+pub few_exif : (e : Option ExifPart) → IfSome e IsWritableExif → IfSome e (λ e. length e.fields < 2 ^ 16)
 few_exif None f = tt
 few_exif (Some e) f = few_fields Exif e.fields f.fields
 
-pub few_interop : (e : Option ExifPart) → IfSome e FitsExif → IfSome e (λ e. IfSome e.interop (λ fs. length fs < 2 ^ 16))
+pub few_interop : (e : Option ExifPart) → IfSome e IsWritableExif → IfSome e (λ e. IfSome e.interop (λ fs. length fs < 2 ^ 16))
 few_interop None f = tt
 few_interop (Some e) f = few_optional Interop e.interop f.interop
 
-pub few_thumb : (t : Option Thumbnail) → IfSome t FitsThumb → IfSome t (λ t. length t.fields < 2 ^ 16)
+pub few_thumb : (t : Option Thumbnail) → IfSome t IsWritableThumb → IfSome t (λ t. length t.fields < 2 ^ 16)
 few_thumb None f = tt
 few_thumb (Some t) f = few_fields Thumb t.fields f.fields
 
@@ -285,10 +284,10 @@ lengths_counted [] h = tt
 lengths_counted (x ∷ s) h = (h.0.most, lengths_counted s h.1)
 
 pub strips_counted : (o : Option (List (List ℕ))) (s : List (List ℕ)) → o ≡ Some s
-    → IfSome o (λ s. (length s ≤ limit) × AllByRecursion IsBytes s) → IsCounted (StripSizes (map (λ x. length x) s))
+    → IfSome o (λ s. (length s ≤ limit) × AllByRecursion IsBytes s) → CountsFit (StripSizes (map (λ x. length x) s))
 strips_counted None s q h = cc
 strips_counted (Some t) s q h = let k : t ≡ s = cc in
-    subst (λ (s : List (List ℕ)). IsCounted (StripSizes (map (λ x. length x) s))) k
+    subst (λ (s : List (List ℕ)). CountsFit (StripSizes (map (λ x. length x) s))) k
     (subst (λ n. n ≤ limit) (sym (length-map t (λ x. length x))) h.0, lengths_counted t h.1)
 
 -- ---- the entries of each directory

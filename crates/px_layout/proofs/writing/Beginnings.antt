@@ -2,10 +2,10 @@
 use Rattle.std.proofs.Common.{◌≡◌, ℕ, zero, suc, ◌+◌, Option, Some, List, [], ◌∷◌, length, map, drop, slice_get, get_or}
 use Rattle.std.proofs.Common.{refl, ◌∙◌, ap, subst, arith}
 use Rattle.px_meaning.specs.Tree.{Meaning}
-use Rattle.px_meaning.specs.Fits.{Item, items, Fits}
+use Rattle.px_meaning.specs.Writable.{Item, items, IsWritable}
 use Rattle.px_meaning.specs.Entry.{table_size}
 use Rattle.px_meaning.specs.declared.Dir.{Dir}
-use Rattle.px_layout.specs.calls.Starting.{Ends}
+use Rattle.px_layout.specs.calls.Starting.{SomeIfWithinLimit}
 use Rattle.px_layout.specs.Chunks.{chunks_of_dir, strip_chunks}
 use Rattle.px_layout.specs.Normal.{even, padded_size, normal_plan, normal_exif}
 use Rattle.px_layout.specs.lemmas.LineLaws.{length_normal}
@@ -38,12 +38,12 @@ strips_here xs i n e =
     ∙ ap (λ (m : ℕ). even m + padded_size (strip_chunks (i + 1) (drop (i + 1) xs))) (sized_length xs i n e)
 
 -- the length of the form
-pub form_end : (m : Meaning) → Fits m → length (normal_exif m) ≡ strips_start m + padded_size (strips_part m.thumb)
+pub form_end : (m : Meaning) → IsWritable m → length (normal_exif m) ≡ strips_start m + padded_size (strips_part m.thumb)
 unfolding normal_plan
 form_end m f = length_normal m f ∙ strips_end m
 
-pub ends_as : (r : Option ℕ) (a b : ℕ) → a ≡ b → Ends r a → Ends r b
-ends_as r a b e h = subst (Ends r) e h
+pub ends_as : (r : Option ℕ) (a b : ℕ) → a ≡ b → SomeIfWithinLimit r a → SomeIfWithinLimit r b
+ends_as r a b e h = subst (SomeIfWithinLimit r) e h
 
 -- the end of a directory that is there
 pub dir_there : (m : Meaning) (d : Dir) (x : ℕ) (xs : List (ℕ × Item)) → items m d ≡ Some xs

@@ -4,8 +4,8 @@ use Rattle.std.proofs.Common.{append-nil, lt-ltb, ltb-true, ltb-false, inl, inr}
 use Rattle.std.proofs.lemmas.Bool.{cond-true, cond-false, cases_Bool, le-ltb}
 use Rattle.px_bytes.specs.declared.Order.TheVariants.{Most}
 use Rattle.px_field.specs.Forms.{size}
-use Rattle.px_field.specs.Values.{Value, form_in, spelled}
-use Rattle.px_meaning.specs.Fits.{Item, Field, item_size}
+use Rattle.px_field.specs.Values.{Value, form_in, encoded}
+use Rattle.px_meaning.specs.Writable.{Item, Field, item_size}
 use Rattle.px_layout.specs.Plans.{Plan}
 use Rattle.px_layout.specs.Laid.{long_bytes, item_bytes}
 use Rattle.px_layout.specs.Normal.{padded}
@@ -22,7 +22,7 @@ field_size v n e = e
 -- ---- entries
 
 rest : Value → List ℕ
-rest v = spelled Most v ++ replicate (4 - item_size (Field v)) 0
+rest v = encoded Most v ++ replicate (4 - item_size (Field v)) 0
 
 pub field_far : (at t n : ℕ) (v : Value) → n ≡ item_size (Field v) → 4 < n
     → head_bytes Most (t, Field v) ++ long_bytes Most at ≡ field_given at t v
@@ -31,11 +31,11 @@ field_far at t n v e l =
     ap (λ (x : List ℕ). head_bytes Most (t, Field v) ++ x)
     (sym (cond-true (nat_lt 4 (item_size (Field v))) (long_bytes Most at) (rest v) (lt-ltb 4 (item_size (Field v)) (omega arith))))
 
-pub field_near : (at t n : ℕ) (v : Value) → n ≡ item_size (Field v) → n ≡ length (spelled Most v) → n ≤ 4
-    → head_bytes Most (t, Field v) ++ (spelled Most v ++ replicate (4 - length (spelled Most v)) 0) ≡ field_given at t v
+pub field_near : (at t n : ℕ) (v : Value) → n ≡ item_size (Field v) → n ≡ length (encoded Most v) → n ≤ 4
+    → head_bytes Most (t, Field v) ++ (encoded Most v ++ replicate (4 - length (encoded Most v)) 0) ≡ field_given at t v
 unfolding rest
 field_near at t n v e s l =
-    ap (λ (k : ℕ). head_bytes Most (t, Field v) ++ (spelled Most v ++ replicate (4 - k) 0)) (sym s ∙ e)
+    ap (λ (k : ℕ). head_bytes Most (t, Field v) ++ (encoded Most v ++ replicate (4 - k) 0)) (sym s ∙ e)
     ∙ ap (λ (x : List ℕ). head_bytes Most (t, Field v) ++ x)
     (sym (cond-false (nat_lt 4 (item_size (Field v))) (long_bytes Most at) (rest v) (le-ltb 4 (item_size (Field v)) (omega arith))))
 
@@ -60,18 +60,18 @@ pub placed_field : (plan : Plan) (i : ℕ × Item) (v : Value) → i.1 ≡ Field
 unfolding item_bytes
 placed_field plan i v e = ap (λ (x : Item). placed_bytes plan (i.0, x)) (sym e)
 
-pub field_padded : (v : Value) (n : ℕ) → n ≡ length (spelled Most v) → spelled Most v ++ replicate (n % 2) 0 ≡ padded (spelled Most v)
-field_padded v n e = ap (λ (k : ℕ). spelled Most v ++ replicate (k % 2) 0) e
+pub field_padded : (v : Value) (n : ℕ) → n ≡ length (encoded Most v) → encoded Most v ++ replicate (n % 2) 0 ≡ padded (encoded Most v)
+field_padded v n e = ap (λ (k : ℕ). encoded Most v ++ replicate (k % 2) 0) e
 
-pub field_placed : (v : Value) (n : ℕ) → n ≡ item_size (Field v) → 4 < n → padded (spelled Most v) ≡ field_bytes v
+pub field_placed : (v : Value) (n : ℕ) → n ≡ item_size (Field v) → 4 < n → padded (encoded Most v) ≡ field_bytes v
 field_placed v n e l =
-    sym (cond-true (nat_lt 4 (item_size (Field v))) (padded (spelled Most v)) [] (lt-ltb 4 (item_size (Field v)) (omega arith)))
+    sym (cond-true (nat_lt 4 (item_size (Field v))) (padded (encoded Most v)) [] (lt-ltb 4 (item_size (Field v)) (omega arith)))
 
 pub field_inside : (v : Value) (n : ℕ) → n ≡ item_size (Field v) → n ≤ 4 → [] ≡ field_bytes v
 field_inside v n e l =
-    sym (cond-false (nat_lt 4 (item_size (Field v))) (padded (spelled Most v)) [] (le-ltb 4 (item_size (Field v)) (omega arith)))
+    sym (cond-false (nat_lt 4 (item_size (Field v))) (padded (encoded Most v)) [] (le-ltb 4 (item_size (Field v)) (omega arith)))
 
 -- eight bytes need no padding
-pub field_eight : (v : Value) (n : ℕ) → n ≡ item_size (Field v) → n ≡ length (spelled Most v) → n ≡ 8 → spelled Most v ≡ field_bytes v
+pub field_eight : (v : Value) (n : ℕ) → n ≡ item_size (Field v) → n ≡ length (encoded Most v) → n ≡ 8 → encoded Most v ≡ field_bytes v
 field_eight v n e s l =
-    sym (append-nil (spelled Most v)) ∙ field_padded v 8 (sym l ∙ s) ∙ field_placed v n e (omega arith)
+    sym (append-nil (encoded Most v)) ∙ field_padded v 8 (sym l ∙ s) ∙ field_placed v n e (omega arith)

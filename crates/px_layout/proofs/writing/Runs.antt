@@ -14,8 +14,8 @@ use Rattle.px_meaning.specs.declared.Dir.TheVariants.{Main, Exif, Interop, Gps, 
 use Rattle.px_meaning.specs.Tree.{Fields, ExifPart, Thumbnail, Meaning}
 use Rattle.px_meaning.specs.Entry.{table_size}
 use Rattle.px_meaning.specs.Iim.{Iim}
-use Rattle.px_meaning.specs.Fits.{Item, Iptc, AtJpeg, JpegSize, AtStrips, StripSizes, put_some, link, field_items, main_items, exif_items}
-use Rattle.px_meaning.specs.Fits.{thumb_items, items, item_form, item_count, item_size, Fits}
+use Rattle.px_meaning.specs.Writable.{Item, Iptc, AtJpeg, JpegSize, AtStrips, StripSizes, put_some, link, field_items, main_items, exif_items}
+use Rattle.px_meaning.specs.Writable.{thumb_items, items, item_form, item_count, item_size, IsWritable}
 use Rattle.px_layout.specs.declared.chunks.Chunk.TheVariants.{Table, Placed, Jpeg, Strip}
 use Rattle.px_layout.specs.declared.starts.Starts.{Starts}
 use Rattle.px_layout.specs.Chunks.{jpeg_chunks, strip_chunks, all_strip_chunks}
@@ -94,7 +94,8 @@ module _ (plan : Plan) where
 
 module _ (m : Meaning) where
   -- an entry of a directory, at the offset that the values have reached
-  pub entry_running : (d : Dir) (xs : List (ℕ × Item)) (i at : ℕ) (x : ℕ × Item) → Fits m → items m d ≡ Some xs → slice_get xs i ≡ Some x →
+  pub entry_running : (d : Dir) (xs : List (ℕ × Item)) (i at : ℕ) (x : ℕ × Item) → IsWritable m → items m d ≡ Some xs
+      → slice_get xs i ≡ Some x →
       at + values_size (drop i xs) ≡ start m d + even (table_size (length xs)) + values_size xs
       → entry_given (normal_plan m) at x ≡ entry_bytes (normal_plan m) Most 0 d x
   entry_running d xs i at x f e r h =
@@ -102,14 +103,14 @@ module _ (m : Meaning) where
       given_is (normal_plan m) d at x (λ l. value_place m d xs i at x e g.rising r l h)
 
   -- no directory ends after the limit
-  dir_most : (s : Starts) (d : Dir) → AreStarts s m → Fits m → dir_end (start m d) m d ≤ limit
+  dir_most : (s : Starts) (d : Dir) → AreStarts s m → IsWritable m → dir_end (start m d) m d ≤ limit
   dir_most s Main a f = let e = form_end m f in let n = a.ends in let l = a.most in omega arith
   dir_most s Exif a f = let e = form_end m f in let n = a.ends in let l = a.most in omega arith
   dir_most s Interop a f = let e = form_end m f in let n = a.ends in let l = a.most in omega arith
   dir_most s Gps a f = let e = form_end m f in let n = a.ends in let l = a.most in omega arith
   dir_most s Thumb a f = let e = form_end m f in let n = a.ends in let l = a.most in omega arith
 
-  pub values_most : (s : Starts) (d : Dir) (xs : List (ℕ × Item)) → AreStarts s m → Fits m → items m d ≡ Some xs
+  pub values_most : (s : Starts) (d : Dir) (xs : List (ℕ × Item)) → AreStarts s m → IsWritable m → items m d ≡ Some xs
       → start m d + even (table_size (length xs)) + values_size xs ≤ limit
   values_most s d xs a f e = let t = dir_there m d (start m d) xs e in let l = dir_most s d a f in omega arith
 
@@ -143,10 +144,10 @@ same_places p n x (y ∷ s) h = ap₂ (λ (k : ℕ) (ys : List ℕ). long_bytes 
     (same_places p (n + 1) (x + even (length y)) s (λ j l. ap p (omega arith) ∙ h (suc j) (omega arith) ∙ omega arith))
 
 -- the bytes of the item that names all strips
-pub strips_told : (m : Meaning) (n : ℕ) → CountsAllStrips m (AtStrips n)
+pub strips_reported : (m : Meaning) (n : ℕ) → CountsAllStrips m (AtStrips n)
     → flat_map (long_bytes Most) (strip_places (strips_start m) (strip_list m.thumb)) ≡ flat_map
     (λ i. long_bytes Most (place (normal_plan m) (Strip i))) (range_with_len 0 n)
-strips_told m n h = sym (ap (λ k. flat_map (λ i. long_bytes Most (place (normal_plan m) (Strip i))) (range_with_len 0 k)) h
+strips_reported m n h = sym (ap (λ k. flat_map (λ i. long_bytes Most (place (normal_plan m) (Strip i))) (range_with_len 0 k)) h
     ∙ same_places (λ i. place (normal_plan m) (Strip i)) 0 (strips_start m) (strip_list m.thumb) (go m.thumb refl))
   where
     go : (t : Option Thumbnail) → m.thumb ≡ t → (j : ℕ) → j < length (strip_list t)
@@ -252,7 +253,7 @@ length_places x [] = refl
 length_places x (y ∷ s) = ap suc (length_places (x + even (length y)) s)
 
 -- the strips end before the limit
-pub strips_most : (m : Meaning) (s : Starts) (t : Option Thumbnail) → AreStarts s m → Fits m → m.thumb ≡ t
+pub strips_most : (m : Meaning) (s : Starts) (t : Option Thumbnail) → AreStarts s m → IsWritable m → m.thumb ≡ t
     → s.strips + strips_size (strip_list t) ≤ limit
 strips_most m s t a f e =
     let n = form_end m f in
@@ -272,10 +273,10 @@ strips_most m s t a f e =
     part (Some t) = all t.strips
 
 -- the item that names all strips
-pub item_told : (m : Meaning) (x : Item) (n : ℕ) → x ≡ AtStrips n → CountsAllStrips m x
+pub item_reported : (m : Meaning) (x : Item) (n : ℕ) → x ≡ AtStrips n → CountsAllStrips m x
     → flat_map (long_bytes Most) (strip_places (strips_start m) (strip_list m.thumb)) ≡ item_bytes (normal_plan m) Most 0 x
 unfolding item_bytes
-item_told m x n e h = strips_told m n (subst (CountsAllStrips m) e h) ∙ sym (ap (item_bytes (normal_plan m) Most 0) e)
+item_reported m x n e h = strips_reported m n (subst (CountsAllStrips m) e h) ∙ sym (ap (item_bytes (normal_plan m) Most 0) e)
 
 -- ---- the tables
 

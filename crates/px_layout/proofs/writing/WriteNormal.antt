@@ -5,7 +5,7 @@ use Rattle.px_bytes.specs.declared.WriteRefusal.{WriteRefusal}
 use Rattle.px_bytes.specs.declared.WriteRefusal.TheVariants.{NormalTooLong, OutOfMemory, WriteFailed}
 use Rattle.px_bytes.specs.Devices.{AppendsPrefix, Calls, IsShort, WritesOnce, one_failed, one_flush}
 use Rattle.px_bytes.specs.Parts.{limit}
-use Rattle.px_bytes.specs.Waiting.{Held, ◌⊕◌, Fits, Owes}
+use Rattle.px_bytes.specs.Waiting.{Buffer, ◌⊕◌, FitsBuffer, Owes}
 use Rattle.px_bytes.specs.lemmas.WaitingLaws.{fits_new, from_none, owed_prefix, owed_all, sent_once}
 use Rattle.px_bytes.specs.lemmas.WriteLaws.{appends_kept, prefix_all}
 use Rattle.px_meaning.specs.Tree.{Meaning}
@@ -28,16 +28,16 @@ short_has_form m OutOfMemory h l = absurd h
 short_has_form m WriteFailed h l = absurd h
 
 -- the form of s is that of m, and there is an empty buffer of the usual length
-module _ (m s : Meaning) (h : Held) (same : s ≡ m) (none : h.bytes ≡ []) (room : h.room ≡ 8192)
+module _ (m s : Meaning) (h : Buffer) (same : s ≡ m) (none : h.bytes ≡ []) (space : h.capacity ≡ 8192)
     (short : IsShort (length (normal_exif m))) where
   here : IsShort (length (normal_exif s))
   here = subst (λ (x : Meaning). IsShort (length (normal_exif x))) (sym same) short
 
-  pub short_fits : Fits h (normal_exif s)
-  short_fits = fits_new h (normal_exif s) none room here.1
+  pub short_fits : FitsBuffer h (normal_exif s)
+  short_fits = fits_new h (normal_exif s) none space here.1
 
-  pub once_sent : {E W : Type 0} (wrote : W → List ℕ → Result ℕ E → W → Type 0) (k : Held) (old put sent : W)
-      → (Fits h (normal_exif s) → (k ≡ h ⊕ normal_exif s) × (put ≡ old)) → (0 < length k.bytes → WritesOnce wrote put sent k.bytes)
+  pub once_sent : {E W : Type 0} (wrote : W → List ℕ → Result ℕ E → W → Type 0) (k : Buffer) (old put sent : W)
+      → (FitsBuffer h (normal_exif s) → (k ≡ h ⊕ normal_exif s) × (put ≡ old)) → (0 < length k.bytes → WritesOnce wrote put sent k.bytes)
       → WritesOnce wrote old sent (normal_exif m)
   once_sent {E} {W} wrote k old put sent waits first =
       let p = waits short_fits in
@@ -47,7 +47,7 @@ module _ (m s : Meaning) (h : Held) (same : s ≡ m) (none : h.bytes ≡ []) (ro
 -- ---- any form
 
 -- the form of s is that of m, is not too long, and is put into an empty output buffer
-module _ (m s : Meaning) (a : Option (List ℕ)) (calls : Calls) (h : Held) (same : s ≡ m) (l : length (normal_exif m) ≤ limit)
+module _ (m s : Meaning) (a : Option (List ℕ)) (calls : Calls) (h : Buffer) (same : s ≡ m) (l : length (normal_exif m) ≤ limit)
     (none : h.bytes ≡ []) where
   of_form : (P : List ℕ → Type 0) → P (h.bytes ++ normal_exif s) → P (normal_exif m)
   of_form P p = subst (λ (x : Meaning). P (normal_exif x)) same (from_none P h.bytes (normal_exif s) none p)
@@ -58,22 +58,22 @@ module _ (m s : Meaning) (a : Option (List ℕ)) (calls : Calls) (h : Held) (sam
   not_put b n p q = (l, of_form (AppendsPrefix a b) p, inl q)
 
   -- what waited could not be sent
-  pub not_sent : (b c : Option (List ℕ)) (k : Held) (n : Calls) → Owes a b k (h ⊕ normal_exif s) → AppendsPrefix b c k.bytes
+  pub not_sent : (b c : Option (List ℕ)) (k : Buffer) (n : Calls) → Owes a b k (h ⊕ normal_exif s) → AppendsPrefix b c k.bytes
       → n ≡ one_failed calls
       → WritesExif (Err WriteFailed) a c calls n m
   not_sent b c k n p t q = (l, of_form (AppendsPrefix a c) (owed_prefix a b c k (h ⊕ normal_exif s) p t), inl q)
 
-  all : (b c d : Option (List ℕ)) (k : Held) → Owes a b k (h ⊕ normal_exif s) → Appends b c k.bytes → Keeps c d
+  all : (b c d : Option (List ℕ)) (k : Buffer) → Owes a b k (h ⊕ normal_exif s) → Appends b c k.bytes → Keeps c d
       → Appends a d (normal_exif m)
   all b c d k p t f = appends_kept a c d (normal_exif m) (of_form (Appends a c) (owed_all a b c k (h ⊕ normal_exif s) p t)) f
 
   -- the flush failed
-  pub not_flushed : (b c d : Option (List ℕ)) (k : Held) (n : Calls) → Owes a b k (h ⊕ normal_exif s) → Appends b c k.bytes → Keeps c d
+  pub not_flushed : (b c d : Option (List ℕ)) (k : Buffer) (n : Calls) → Owes a b k (h ⊕ normal_exif s) → Appends b c k.bytes → Keeps c d
       → n ≡ one_failed (one_flush calls)
       → WritesExif (Err WriteFailed) a d calls n m
   not_flushed b c d k n p t f q = (l, prefix_all a d (normal_exif m) (all b c d k p t f), inr q)
 
-  pub normal_written : (b c d : Option (List ℕ)) (k : Held) (n : Calls) (x : ℕ) → x ≡ length (normal_exif s)
+  pub normal_written : (b c d : Option (List ℕ)) (k : Buffer) (n : Calls) (x : ℕ) → x ≡ length (normal_exif s)
       → Owes a b k (h ⊕ normal_exif s)
       → Appends b c k.bytes
       → Keeps c d → n ≡ one_flush calls → WritesExif (Ok x) a d calls n m

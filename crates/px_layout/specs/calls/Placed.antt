@@ -1,7 +1,7 @@
 -- The bytes of values that have an offset.
 use Rattle.std.specs.Prelude.{ℕ, nat_lt, if◌then◌else◌, List, []}
 use Rattle.px_bytes.specs.declared.Order.TheVariants.{Most}
-use Rattle.px_meaning.specs.Fits.{Item, item_size}
+use Rattle.px_meaning.specs.Writable.{Item, item_size}
 use Rattle.px_layout.specs.Plans.{Plan}
 use Rattle.px_layout.specs.Laid.{item_bytes}
 use Rattle.px_layout.specs.Normal.{padded}

@@ -9,10 +9,10 @@ use Rattle.px_layout.specs.declared.starts.Starts as program
 use Rattle.px_layout.specs.Normal.{normal_exif}
 use Rattle.px_layout.specs.lemmas.RunLaws.{start, thumb_start, strips_start}
 
--- n, if it is no more than the limit
-abbrev pub Ends : Option ℕ → ℕ → Type 0
-Ends (Some end) n = (end ≡ n) × (end ≤ limit)
-Ends None n = limit < n
+-- some n if that is at most the limit, otherwise none
+abbrev pub SomeIfWithinLimit : Option ℕ → ℕ → Type 0
+SomeIfWithinLimit (Some end) n = (end ≡ n) × (end ≤ limit)
+SomeIfWithinLimit None n = limit < n
 
 -- the offset of each part
 pub record AreStarts (s : program.Starts) (m : Meaning) : Type 0 where

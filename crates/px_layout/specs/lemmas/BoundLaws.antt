@@ -20,8 +20,8 @@ use Rattle.px_meaning.specs.Directory.{dirs, entries_at, main_at, dir_at}
 use Rattle.px_meaning.specs.Thumbnail.{bytes_of, IsInside, jpeg_range, strip_ranges, IsThumbnail}
 use Rattle.px_meaning.specs.Footprint.{listed, placed_range, dir_ranges, ranges_at, thumb_ranges, footprint}
 use Rattle.px_meaning.specs.Says.{exif_part, thumbnail, meaning, IsExif}
-use Rattle.px_meaning.specs.Fits.{Item, field_items, exif_items, thumb_items, items, Fits}
-use Rattle.px_meaning.specs.Laws.{SaidFits}
+use Rattle.px_meaning.specs.Writable.{Item, field_items, exif_items, thumb_items, items, IsWritable}
+use Rattle.px_meaning.specs.Laws.{MeaningIsWritable}
 use Rattle.px_layout.specs.declared.chunks.Chunk.{Chunk}
 use Rattle.px_layout.specs.Chunks.{dir_chunks, chunks_of_dir, jpeg_chunks, strip_chunks, all_strip_chunks, thumb_chunks, chunks}
 use Rattle.px_layout.specs.Normal.{padded_size, normal_plan, normal_exif}
@@ -154,7 +154,7 @@ module _ (b : List ℕ) (o : Order) where
 
   -- ---- the block
 
-  module _ (x : IsExif b o) (f : Fits (meaning b o)) where
+  module _ (x : IsExif b o) (f : IsWritable (meaning b o)) where
     abbrev m : Meaning
     m = meaning b o
 
@@ -256,7 +256,7 @@ module _ (b : List ℕ) (o : Order) where
     bound_is = let l = length_normal m f in let c = chunks_bound in let t = footprint_fits in omega arith
 
 -- A normal form is at most twice as long as any block with its meaning, because that fits.
-pub normal_bound : SaidFits → NormalBound
+pub normal_bound : MeaningIsWritable → NormalBound
 normal_bound fits b m h s =
-    subst (λ z. length (normal_exif z) ≤ 2 * length b) (sym s.says)
-    (bound_is b s.order s.is_block (subst Fits s.says (fits b m h s)))
+    subst (λ z. length (normal_exif z) ≤ 2 * length b) (sym s.means)
+    (bound_is b s.order s.is_block (subst IsWritable s.means (fits b m h s)))

@@ -16,8 +16,8 @@ use Rattle.px_field.specs.declared.Form.TheVariants as form
 use Rattle.px_field.specs.declared.Element.{Element}
 use Rattle.px_field.specs.declared.Element.TheVariants as element
 use Rattle.px_field.specs.Forms.{code}
-use Rattle.px_field.specs.Values.{spell, IsOf, Value, IsValue, form_in, spelled}
-use Rattle.px_iim.specs.lemmas.NormalLaws.{normal_says}
+use Rattle.px_field.specs.Values.{encode, IsOf, Value, IsValue, form_in, encoded}
+use Rattle.px_iim.specs.lemmas.NormalLaws.{form_has_meaning}
 use Rattle.px_meaning.specs.declared.Dir.{Dir}
 use Rattle.px_meaning.specs.declared.Dir.TheVariants.{Main, Thumb}
 use Rattle.px_meaning.specs.declared.Role.{Role}
@@ -25,8 +25,8 @@ use Rattle.px_meaning.specs.declared.Role.TheVariants.{Plain, Widened, Record, J
 use Rattle.px_meaning.specs.Roles.{role}
 use Rattle.px_meaning.specs.Tree.{Meaning, Thumbnail}
 use Rattle.px_meaning.specs.Directory.{magic, dirs}
-use Rattle.px_meaning.specs.Fits.{Item, Field, Iptc, Link, AtJpeg, JpegSize, AtStrips, StripSizes, item_form, item_count, item_size, items}
-use Rattle.px_meaning.specs.Fits.{IsBytes, FitsThumb, Fits}
+use Rattle.px_meaning.specs.Writable.{Item, Field, Iptc, Link, AtJpeg, JpegSize, AtStrips, StripSizes, item_form, item_count, item_size}
+use Rattle.px_meaning.specs.Writable.{items, IsBytes, IsWritableThumb, IsWritable}
 use Rattle.px_layout.specs.declared.chunks.Chunk.{Chunk}
 use Rattle.px_layout.specs.declared.chunks.Chunk.TheVariants.{Table, Placed, Jpeg, Strip}
 use Rattle.px_layout.specs.Plans.{Plan, place}
@@ -53,30 +53,30 @@ bytes_map g h (p ∷ ps) = bytes_cons (g p) (map g ps) (h p) (bytes_map g h ps)
 
 -- ---- values
 
-bytes_spell : (o : Order) (f : Form) (e : Element) → IsOf f e → AreBytes (spell o e)
-bytes_spell o form.Short (element.Short n) h = bytes_spelling o 2 n
-bytes_spell o form.Long (element.Long n) h = bytes_spelling o 4 n
-bytes_spell o form.Rational (element.Rational n d) h =
+bytes_encode : (o : Order) (f : Form) (e : Element) → IsOf f e → AreBytes (encode o e)
+bytes_encode o form.Short (element.Short n) h = bytes_spelling o 2 n
+bytes_encode o form.Long (element.Long n) h = bytes_spelling o 4 n
+bytes_encode o form.Rational (element.Rational n d) h =
     bytes_append (spelling o 4 n) (spelling o 4 d) (bytes_spelling o 4 n) (bytes_spelling o 4 d)
-bytes_spell o form.SShort (element.SShort z) h = bytes_spelling o 2 (cast_unsigned w16 z)
-bytes_spell o form.SLong (element.SLong z) h = bytes_spelling o 4 (cast_unsigned w32 z)
-bytes_spell o form.SRational (element.SRational y z) h =
+bytes_encode o form.SShort (element.SShort z) h = bytes_spelling o 2 (cast_unsigned w16 z)
+bytes_encode o form.SLong (element.SLong z) h = bytes_spelling o 4 (cast_unsigned w32 z)
+bytes_encode o form.SRational (element.SRational y z) h =
     bytes_append (spelling o 4 (cast_unsigned w32 y)) (spelling o 4 (cast_unsigned w32 z)) (bytes_spelling o 4 (cast_unsigned w32 y))
     (bytes_spelling o 4 (cast_unsigned w32 z))
-bytes_spell o form.Float (element.Float n) h = bytes_spelling o 4 n
-bytes_spell o form.Double (element.Double n) h = bytes_spelling o 8 n
-bytes_spell o form.Byte (element.Byte n) h = bytes_cons n [] h bytes_none
-bytes_spell o form.Ascii (element.Byte n) h = bytes_cons n [] h bytes_none
-bytes_spell o form.SByte (element.Byte n) h = bytes_cons n [] h bytes_none
-bytes_spell o form.Undefined (element.Byte n) h = bytes_cons n [] h bytes_none
-bytes_spell o form.Utf8 (element.Byte n) h = bytes_cons n [] h bytes_none
-bytes_spell o _ _ h = absurd h
+bytes_encode o form.Float (element.Float n) h = bytes_spelling o 4 n
+bytes_encode o form.Double (element.Double n) h = bytes_spelling o 8 n
+bytes_encode o form.Byte (element.Byte n) h = bytes_cons n [] h bytes_none
+bytes_encode o form.Ascii (element.Byte n) h = bytes_cons n [] h bytes_none
+bytes_encode o form.SByte (element.Byte n) h = bytes_cons n [] h bytes_none
+bytes_encode o form.Undefined (element.Byte n) h = bytes_cons n [] h bytes_none
+bytes_encode o form.Utf8 (element.Byte n) h = bytes_cons n [] h bytes_none
+bytes_encode o _ _ h = absurd h
 
 -- a value's encoding is made of bytes
-pub bytes_spelled : (o : Order) (v : Value) → IsValue v → AreBytes (spelled o v)
-unfolding spelled
-bytes_spelled o v h =
-    bytes_flat (spell o) v.elements (each_map (IsOf (form_in v.kind)) (λ e. AreBytes (spell o e)) (bytes_spell o (form_in v.kind))
+pub bytes_encoded : (o : Order) (v : Value) → IsValue v → AreBytes (encoded o v)
+unfolding encoded
+bytes_encoded o v h =
+    bytes_flat (encode o) v.elements (each_map (IsOf (form_in v.kind)) (λ e. AreBytes (encode o e)) (bytes_encode o (form_in v.kind))
     v.elements h)
 
 -- ---- the pieces of a block
@@ -88,10 +88,10 @@ OfBytes c = AreBytes c.1
 module _ (plan : Plan) (o : Order) (filler : ℕ) (fill : filler < 256) where
   item_is : (r : Role) (i : Item) → Suits r i → AreBytes (item_bytes plan o filler i)
   unfolding item_bytes
-  item_is Plain (Field v) h = bytes_spelled o v h.0
-  item_is Widened (Field v) h = bytes_spelled o v h.0
-  item_is Record (Field v) h = bytes_spelled o v h.0
-  item_is Record (Iptc i) h = (normal_says i h).0
+  item_is Plain (Field v) h = bytes_encoded o v h.0
+  item_is Widened (Field v) h = bytes_encoded o v h.0
+  item_is Record (Field v) h = bytes_encoded o v h.0
+  item_is Record (Iptc i) h = (form_has_meaning i h).0
   item_is (To d) (Link e) h = bytes_spelling o 4 (place plan (Table e))
   item_is JpegOffset AtJpeg h = bytes_spelling o 4 (place plan Jpeg)
   item_is JpegLength (JpegSize n) h = bytes_spelling o 4 n
@@ -159,7 +159,7 @@ module _ (plan : Plan) (o : Order) (filler : ℕ) (fill : filler < 256) where
   strips_are n [] h = tt
   strips_are n (x ∷ xs) h = (h.0.each, strips_are (n + 1) xs h.1)
 
-  thumb_is : (t : Option Thumbnail) → IfSome t FitsThumb → AllByRecursion OfBytes (thumb_contents t)
+  thumb_is : (t : Option Thumbnail) → IfSome t IsWritableThumb → AllByRecursion OfBytes (thumb_contents t)
   unfolding thumb_contents
   thumb_is None f = tt
   thumb_is (Some t) f =
@@ -175,7 +175,7 @@ module _ (plan : Plan) (o : Order) (filler : ℕ) (fill : filler < 256) where
       strips (Some s) h = strips_are 0 s h.1
 
   -- each chunk is made of bytes
-  pub contents_are : (m : Meaning) → Fits m → AllByRecursion OfBytes (contents plan o filler m)
+  pub contents_are : (m : Meaning) → IsWritable m → AllByRecursion OfBytes (contents plan o filler m)
   unfolding contents
   contents_are m f =
       each_append OfBytes (flat_map (λ d. contents_of_dir plan o filler m d (items m d)) dirs) (thumb_contents m.thumb) (each_dir dirs)
@@ -199,7 +199,7 @@ module _ (plan : Plan) (o : Order) (filler : ℕ) (fill : filler < 256) where
   unfolding header
   header_is = bytes_append (magic o) (long_bytes o (place plan (Table Main))) (magic_is o) (bytes_spelling o 4 (place plan (Table Main)))
 
-  pieces_are : (m : Meaning) → Fits m → AllByRecursion (λ y. AreBytes y.1) (laid_pieces plan o filler m)
+  pieces_are : (m : Meaning) → IsWritable m → AllByRecursion (λ y. AreBytes y.1) (laid_pieces plan o filler m)
   unfolding laid_pieces
   pieces_are m f = (header_is, each_of_map (λ y. AreBytes y.1) (λ c. (place plan c.0, c.1)) (contents plan o filler m) (contents_are m f))
 

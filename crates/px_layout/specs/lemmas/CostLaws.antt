@@ -11,7 +11,7 @@ use Rattle.px_bytes.specs.declared.Order.{Order}
 use Rattle.px_meaning.specs.declared.Dir.{Dir}
 use Rattle.px_meaning.specs.Entry.{Entry, raw_size, offset, Rising}
 use Rattle.px_meaning.specs.Footprint.{placed_range}
-use Rattle.px_meaning.specs.Fits.{Item, Field, item_size, field_items}
+use Rattle.px_meaning.specs.Writable.{Item, Field, item_size, field_items}
 use Rattle.px_layout.specs.declared.chunks.Chunk.{Chunk}
 use Rattle.px_layout.specs.declared.chunks.Chunk.TheVariants.{Placed}
 use Rattle.px_layout.specs.Chunks.{placed_chunk}

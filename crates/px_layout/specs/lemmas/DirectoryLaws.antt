@@ -15,12 +15,12 @@ use Rattle.px_meaning.specs.Tree.{Meaning}
 use Rattle.px_meaning.specs.Entry.{Entry, entry, short, long, table_size, has_table, table, entries, next, IsEntry, Rising, IsDirectory}
 use Rattle.px_meaning.specs.Entry.{field}
 use Rattle.px_meaning.specs.Entry.{fields}
-use Rattle.px_meaning.specs.Fits.{Item}
+use Rattle.px_meaning.specs.Writable.{Item}
 use Rattle.px_meaning.specs.Roles.{role}
 use Rattle.px_layout.specs.declared.chunks.Chunk.TheVariants.{Table}
 use Rattle.px_layout.specs.Plans.{Plan, place}
 use Rattle.px_layout.specs.Laid.{entry_bytes, next_bytes, table_bytes}
-use Rattle.px_layout.specs.lemmas.StandLaws.{Stands}
+use Rattle.px_layout.specs.lemmas.PlacementLaws.{IsPlaced}
 use Rattle.px_layout.specs.lemmas.SizeLaws.{length_table, length_entries, entries_twelve}
 use Rattle.px_layout.specs.lemmas.ItemLaws.{Suits, item_field, IsHere, entry_of, entry_is}
 use Rattle.px_layout.specs.lemmas.ReadLaws.{field_is, entry_in_order}
@@ -36,7 +36,7 @@ each_along P f (x ∷ xs) h = (h.0, each_along P f xs h.1)
 
 module _ (plan : Plan) (o : Order) (filler : ℕ) (b : List ℕ) (m : Meaning) (d : Dir) (xs : List (ℕ × Item))
     (here : AllByRecursion (IsHere plan o filler b d) xs) (some : 1 ≤ length xs) (few : length xs < 2 ^ 16)
-    (t : Stands b (place plan (Table d)) (table_bytes plan o filler m d xs)) where
+    (t : IsPlaced b (place plan (Table d)) (table_bytes plan o filler m d xs)) where
   unfoldable pub bytes : List ℕ
   bytes = table_bytes plan o filler m d xs
 
@@ -65,13 +65,13 @@ module _ (plan : Plan) (o : Order) (filler : ℕ) (b : List ℕ) (m : Meaning) (
   count_of : short o (take 2 bytes) ≡ length xs
   count_of = ap (number o 2) first_2 ∙ number_spelling o 2 (length xs) few
 
-  stands : part b at (length bytes) ≡ bytes
+  placed : part b at (length bytes) ≡ bytes
   unfolding bytes
-  stands = t.is
+  placed = t.is
 
   pub count_is : short o (part b at 2) ≡ length xs
   count_is =
-      ap (number o 2) (sym (take-take 2 (length bytes) (drop at b) (let l = length_bytes in omega arith)) ∙ ap (take 2) stands) ∙ count_of
+      ap (number o 2) (sym (take-take 2 (length bytes) (drop at b) (let l = length_bytes in omega arith)) ∙ ap (take 2) placed) ∙ count_of
 
   pub has_table_is : has_table b o at ≡ true
   unfolding has_table bytes
@@ -86,7 +86,7 @@ module _ (plan : Plan) (o : Order) (filler : ℕ) (b : List ℕ) (m : Meaning) (
   pub table_is : table b o at ≡ bytes
   unfolding table
   table_is = cond-true (has_table b o at) (part b at (table_size (short o (part b at 2)))) [] has_table_is
-      ∙ ap (part b at) (ap table_size count_is ∙ sym length_bytes) ∙ stands
+      ∙ ap (part b at) (ap table_size count_is ∙ sym length_bytes) ∙ placed
 
   pub entries_are : entries o (table b o at) ≡ map (entry_of plan o filler d) xs
   unfolding entries
@@ -117,8 +117,8 @@ module _ (plan : Plan) (o : Order) (filler : ℕ) (b : List ℕ) (m : Meaning) (
   unfolding entry_of
   tags = map_map (λ (e : Entry). e.tag) (entry_of plan o filler d) xs
 
-  pub directory_stands : Rising (map (λ i. i.0) xs) → IsDirectory b o d at
-  directory_stands r = record {
+  pub directory_placed : Rising (map (λ i. i.0) xs) → IsDirectory b o d at
+  directory_placed r = record {
     there = has_table_is;
     rising = subst (λ es. Rising (map (λ e. e.tag) es)) (sym entries_are) (subst Rising (sym tags) r);
     each = subst (AllByRecursion (IsEntry b o d)) (sym entries_are) (each_along (IsEntry b o d) (entry_of plan o filler d) xs

@@ -15,7 +15,7 @@ use Rattle.px_meaning.specs.Tree.{Meaning}
 use Rattle.px_meaning.specs.Entry.{table_size}
 use Rattle.px_meaning.specs.Roles.{role}
 use Rattle.px_meaning.specs.Directory.{magic, dirs}
-use Rattle.px_meaning.specs.Fits.{Item, item_form, item_count, item_size, items}
+use Rattle.px_meaning.specs.Writable.{Item, item_form, item_count, item_size, items}
 use Rattle.px_layout.specs.declared.chunks.Chunk.TheVariants.{Table, Placed}
 use Rattle.px_layout.specs.Plans.{Plan, place}
 use Rattle.px_layout.specs.Laid.{long_bytes, item_bytes, last_bytes, entry_bytes, next_bytes, table_bytes, placed_content, contents_of_dir}

@@ -18,8 +18,9 @@ use Rattle.px_meaning.specs.declared.Role.TheVariants.{To}
 use Rattle.px_meaning.specs.Roles.{exif_tag, gps_tag, record_tag, interop_tag, jpeg_offset_tag, jpeg_length_tag, strip_offsets_tag}
 use Rattle.px_meaning.specs.Roles.{strip_lengths_tag, free_offsets_tag, role}
 use Rattle.px_meaning.specs.Entry.{Rising}
-use Rattle.px_meaning.specs.Fits.{Item, Field, Iptc, Link, AtJpeg, JpegSize, AtStrips, StripSizes, put, put_some, link, field_items}
-use Rattle.px_meaning.specs.Fits.{main_items, exif_items, thumb_items, items, Allows, FitsField, FitsFields, Fits, FitsExif, FitsThumb}
+use Rattle.px_meaning.specs.Writable.{Item, Field, Iptc, Link, AtJpeg, JpegSize, AtStrips, StripSizes, put, put_some, link, field_items}
+use Rattle.px_meaning.specs.Writable.{main_items, exif_items, thumb_items, items, Allows, IsWritableField, AreWritableFields, IsWritable}
+use Rattle.px_meaning.specs.Writable.{IsWritableExif, IsWritableThumb}
 use Rattle.px_layout.specs.lemmas.ItemLaws.{Suits}
 
 -- a directory's entries, in order
@@ -91,17 +92,18 @@ each_field : (Q : ℕ × Item → Type 0) (P : ℕ × Value → Type 0) → ((p 
 each_field Q P f [] h = tt
 each_field Q P f (p ∷ fs) h = (f p h.0, each_field Q P f fs h.1)
 
-pub good_fields : (d : Dir) (fs : Fields) → FitsFields d fs → Good d (field_items fs)
+pub good_fields : (d : Dir) (fs : Fields) → AreWritableFields d fs → Good d (field_items fs)
 good_fields d fs f = record {
   rising = subst Rising (sym (tags_of fs)) f.rising;
-  tags = each_field (λ i. i.0 < 2 ^ 16) (FitsField d) (λ p h. h.tag) fs f.each;
-  suit = each_field (λ i. Suits (role d i.0) i.1) (FitsField d) (λ p h. suits_field (role d p.0) p.1 h.value h.allowed) fs f.each;
+  tags = each_field (λ i. i.0 < 2 ^ 16) (IsWritableField d) (λ p h. h.tag) fs f.each;
+  suit = each_field (λ i. Suits (role d i.0) i.1) (IsWritableField d) (λ p h. suits_field (role d p.0) p.1 h.value h.allowed) fs f.each;
 }
 
 -- a tag that takes no field is at none
-pub no_field : (d : Dir) (t : ℕ) (fs : Fields) → ((v : Value) → Allows (role d t) v → ⊥) → AllByRecursion (FitsField d) fs
+pub no_field : (d : Dir) (t : ℕ) (fs : Fields) → ((v : Value) → Allows (role d t) v → ⊥) → AllByRecursion (IsWritableField d) fs
     → NotThere t (field_items fs)
-no_field d t fs n h = each_field (λ i. i.0 ≡ t → ⊥) (FitsField d) (λ p f e. n p.1 (subst (λ u. Allows (role d u) p.1) e f.allowed)) fs h
+no_field d t fs n h = each_field (λ i. i.0 ≡ t → ⊥) (IsWritableField d) (λ p f e. n p.1 (subst (λ u. Allows (role d u) p.1) e f.allowed)) fs
+    h
 
 -- ---- each directory
 
@@ -113,7 +115,7 @@ pub if_some : {X : Type 0} (P : Type 0) (o : Option X) → P → IfSome o (λ _.
 if_some P None h = tt
 if_some P (Some x) h = h
 
-pub good_main : (m : Meaning) → Fits m → Good Main (main_items m)
+pub good_main : (m : Meaning) → IsWritable m → Good Main (main_items m)
 unfolding role
 good_main m f =
     good_some Main exif_tag (link Exif m.exif) (put_some gps_tag (link Gps m.gps)
@@ -134,14 +136,14 @@ good_main m f =
     with_record (Some i) r n = good_put Main record_tag (Iptc i) (field_items m.main) (omega arith) r.0
         (each_field (λ i. i.0 ≡ record_tag → ⊥) (λ p. (p.0 ≡ record_tag) → ⊥) (λ p h. h) m.main n) (good_fields Main m.main f.main)
 
-pub good_exif : (e : ExifPart) → FitsExif e → Good Exif (exif_items e)
+pub good_exif : (e : ExifPart) → IsWritableExif e → Good Exif (exif_items e)
 unfolding role
 good_exif e f =
     good_some Exif interop_tag (link Interop e.interop) (field_items e.fields) (omega arith)
     (if_link Exif Interop interop_tag e.interop refl)
     (if_some _ (link Interop e.interop) (no_field Exif interop_tag e.fields (λ v a. a) f.fields.each)) (good_fields Exif e.fields f.fields)
 
-pub good_thumb : (t : Thumbnail) → FitsThumb t → Good Thumb (thumb_items t)
+pub good_thumb : (t : Thumbnail) → IsWritableThumb t → Good Thumb (thumb_items t)
 unfolding role
 good_thumb t f = jpeg t.jpeg t.strips (strips t.strips)
   where
@@ -184,17 +186,19 @@ pub if_map : {X Y : Type 0} (f : X → Y) (P : X → Type 0) (Q : Y → Type 0) 
 if_map f P Q h None p = tt
 if_map f P Q h (Some x) p = h x p
 
-pub good_items : (m : Meaning) → Fits m → (d : Dir) → IfSome (items m d) (Good d)
+pub good_items : (m : Meaning) → IsWritable m → (d : Dir) → IfSome (items m d) (Good d)
 unfolding items
 good_items m f Main = good_main m f
-good_items m f Exif = if_map exif_items FitsExif (Good Exif) good_exif m.exif f.exif
+good_items m f Exif = if_map exif_items IsWritableExif (Good Exif) good_exif m.exif f.exif
 good_items m f Interop = interop m.exif f.exif
   where
-    interop : (e : Option ExifPart) → IfSome e FitsExif → IfSome (option_and_then (λ e. option_map field_items e.interop) e) (Good Interop)
+    interop : (e : Option ExifPart) → IfSome e IsWritableExif
+        → IfSome (option_and_then (λ e. option_map field_items e.interop) e) (Good Interop)
     interop None h = tt
-    interop (Some e) h = if_map field_items (FitsFields Interop) (Good Interop) (λ fs g. good_fields Interop fs g) e.interop h.interop
-good_items m f Gps = if_map field_items (FitsFields Gps) (Good Gps) (λ fs g. good_fields Gps fs g) m.gps f.gps
-good_items m f Thumb = if_map thumb_items FitsThumb (Good Thumb) good_thumb m.thumb f.thumb
+    interop (Some e) h = if_map field_items (AreWritableFields Interop) (Good Interop) (λ fs g. good_fields Interop fs g) e.interop
+        h.interop
+good_items m f Gps = if_map field_items (AreWritableFields Gps) (Good Gps) (λ fs g. good_fields Gps fs g) m.gps f.gps
+good_items m f Thumb = if_map thumb_items IsWritableThumb (Good Thumb) good_thumb m.thumb f.thumb
 
 -- ---- few enough
 

@@ -14,38 +14,39 @@ use Rattle.px_bytes.specs.lemmas.EachLaws.{each_all}
 use Rattle.px_field.specs.Forms.{code}
 use Rattle.px_field.specs.lemmas.FormLaws.{form_of_code, code_lt}
 use Rattle.px_field.specs.Values.{Value, IsValue}
-use Rattle.px_field.specs.lemmas.ValueLaws.{length_spelled}
+use Rattle.px_field.specs.lemmas.ValueLaws.{length_encoded}
 use Rattle.px_field.specs.lemmas.PieceLaws.{length_joined}
-use Rattle.px_iim.specs.lemmas.RecordLaws.{said_computed}
-use Rattle.px_iim.specs.lemmas.NormalLaws.{normal_says}
+use Rattle.px_iim.specs.lemmas.RecordLaws.{meaning_is_computed}
+use Rattle.px_iim.specs.lemmas.NormalLaws.{form_has_meaning}
 use Rattle.px_meaning.specs.Iim.{Iim, iim_of, IsRecord, normal_iim}
 use Rattle.px_meaning.specs.declared.Dir.{Dir}
 use Rattle.px_meaning.specs.declared.Role.{Role}
 use Rattle.px_meaning.specs.declared.Role.TheVariants.{Plain, Widened, Record, JpegOffset, JpegLength, StripOffsets, StripLengths, To}
 use Rattle.px_meaning.specs.Roles.{role}
 use Rattle.px_meaning.specs.Entry.{Entry, entry, sized, raw_size, is_placed, offset, raw, has_raw}
-use Rattle.px_meaning.specs.Fits.{Item, Field, Iptc, Link, AtJpeg, JpegSize, AtStrips, StripSizes, item_form, item_count, item_size, Allows}
+use Rattle.px_meaning.specs.Writable.{Item, Field, Iptc, Link, AtJpeg, JpegSize, AtStrips, StripSizes, item_form, item_count, item_size}
+use Rattle.px_meaning.specs.Writable.{Allows}
 use Rattle.px_layout.specs.declared.chunks.Chunk.TheVariants.{Placed}
 use Rattle.px_layout.specs.declared.chunks.Chunk.TheVariants as chunk
 use Rattle.px_layout.specs.Plans.{Plan, place}
 use Rattle.px_layout.specs.Laid.{long_bytes, item_bytes, last_bytes, entry_bytes}
-use Rattle.px_layout.specs.lemmas.StandLaws.{Stands, length_range}
+use Rattle.px_layout.specs.lemmas.PlacementLaws.{IsPlaced, length_range}
 
 -- a record's normal form reads back
 pub iim_normal : (i : Iim) → IsRecord i → length (normal_iim i) ≤ limit → iim_of (normal_iim i) ≡ Some i
-iim_normal i h l = said_computed (normal_iim i) i ((normal_says i h).2 l)
+iim_normal i h l = meaning_is_computed (normal_iim i) i ((form_has_meaning i h).2 l)
 
 -- an encoded entry is decoded to itself
-pub entry_spelled : (o : Order) (t c n : ℕ) (last : List ℕ) → t < 2 ^ 16 → c < 2 ^ 16 → n < 2 ^ 32 → length last ≡ 4 →
+pub entry_encoded : (o : Order) (t c n : ℕ) (last : List ℕ) → t < 2 ^ 16 → c < 2 ^ 16 → n < 2 ^ 32 → length last ≡ 4 →
     entry o (spelling o 2 t ++ (spelling o 2 c ++ (spelling o 4 n ++ last))) ≡ record { tag = t; code = c; count = n; last = last }
 unfolding entry
-entry_spelled Least t c n last ht hc hn hl i = record {
+entry_encoded Least t c n last ht hc hn hl i = record {
   tag = number_spelling Least 2 t ht i;
   code = number_spelling Least 2 c hc i;
   count = number_spelling Least 4 n hn i;
   last = take_all 4 last (omega arith) i;
 }
-entry_spelled Most t c n last ht hc hn hl i = record {
+entry_encoded Most t c n last ht hc hn hl i = record {
   tag = number_spelling Most 2 t ht i;
   code = number_spelling Most 2 c hc i;
   count = number_spelling Most 4 n hn i;
@@ -76,9 +77,9 @@ item_field i = option_map (λ v. (i.0, v)) (item_value i.1)
 module _ (plan : Plan) (o : Order) (filler : ℕ) where
   pub length_item : (r : Role) (i : Item) → Suits r i → length (item_bytes plan o filler i) ≡ item_size i
   unfolding item_bytes item_size
-  length_item Plain (Field v) h = length_spelled o v h.0
-  length_item Widened (Field v) h = length_spelled o v h.0
-  length_item Record (Field v) h = length_spelled o v h.0
+  length_item Plain (Field v) h = length_encoded o v h.0
+  length_item Widened (Field v) h = length_encoded o v h.0
+  length_item Record (Field v) h = length_encoded o v h.0
   length_item Record (Iptc i) h = omega arith
   length_item (To d) (Link e) h = length_spelling o 4 (place plan (chunk.Table e))
   length_item JpegOffset AtJpeg h = length_spelling o 4 (place plan chunk.Jpeg)
@@ -105,7 +106,7 @@ module _ (plan : Plan) (o : Order) (filler : ℕ) where
     pub bounded : item_size i.1 ≤ limit
     pub suits : Suits (role d i.0) i.1
     pub near : nat_lt 4 (item_size i.1) ≡ true → place plan (Placed d i.0) < 2 ^ 32
-    pub stands : nat_lt 4 (item_size i.1) ≡ true → Stands b (place plan (Placed d i.0)) (item_bytes plan o filler i.1)
+    pub placed : nat_lt 4 (item_size i.1) ≡ true → IsPlaced b (place plan (Placed d i.0)) (item_bytes plan o filler i.1)
 
   module _ (d : Dir) (i : ℕ × Item) (s : Suits (role d i.0) i.1) where
     pub length_is : length (item_bytes plan o filler i.1) ≡ item_size i.1
@@ -141,7 +142,7 @@ module _ (plan : Plan) (o : Order) (filler : ℕ) where
     pub entry_is : entry o (entry_bytes plan o filler d i) ≡ entry_of d i
     unfolding entry_bytes entry_of
     entry_is =
-        entry_spelled o i.0 (code (item_form i.1)) (item_count i.1) (last_bytes plan o filler d i) h.tag (code_lt (item_form i.1)) h.count
+        entry_encoded o i.0 (code (item_form i.1)) (item_count i.1) (last_bytes plan o filler d i) h.tag (code_lt (item_form i.1)) h.count
         (length_last d i h.suits)
 
     pub placed_as : is_placed (entry_of d i) ≡ nat_lt 4 (item_size i.1)
@@ -165,7 +166,7 @@ module _ (plan : Plan) (o : Order) (filler : ℕ) where
     raw_is = elim (cases_Bool (nat_lt 4 (item_size i.1))) [
       | inl t ↦ cond-true (is_placed (entry_of d i)) (part b (offset o (entry_of d i)) (raw_size (entry_of d i)))
           (take (raw_size (entry_of d i)) (entry_of d i).last) (placed_as ∙ t)
-          ∙ ap₂ (part b) (offset_is t) (size_is ∙ sym (length_is d i h.suits)) ∙ (h.stands t).is
+          ∙ ap₂ (part b) (offset_is t) (size_is ∙ sym (length_is d i h.suits)) ∙ (h.placed t).is
       | inr n ↦ cond-false (is_placed (entry_of d i)) (part b (offset o (entry_of d i)) (raw_size (entry_of d i)))
           (take (raw_size (entry_of d i)) (entry_of d i).last) (placed_as ∙ n)
           ∙ ap₂ take (size_is ∙ sym (length_is d i h.suits)) (last_is n)
@@ -177,7 +178,7 @@ module _ (plan : Plan) (o : Order) (filler : ℕ) where
     has_raw_is = elim (cases_Bool (nat_lt 4 (item_size i.1))) [
       | inl t ↦ cond-true (is_placed (entry_of d i)) (nat_le (offset o (entry_of d i) + raw_size (entry_of d i)) (length b)) true
           (placed_as ∙ t)
-          ∙ le-leb _ _ (let a = offset_is t in let s = size_is in let l = (length_is d i h.suits) in let k = (h.stands t).inside in omega
+          ∙ le-leb _ _ (let a = offset_is t in let s = size_is in let l = (length_is d i h.suits) in let k = (h.placed t).inside in omega
           arith)
       | inr n ↦ cond-false (is_placed (entry_of d i)) (nat_le (offset o (entry_of d i) + raw_size (entry_of d i)) (length b)) true
           (placed_as ∙ n)

@@ -26,24 +26,25 @@ use Rattle.px_meaning.specs.Directory.{dir_at, entries_at, entry_with, fields_at
 use Rattle.px_meaning.specs.Says.{record_at, exif_part, thumbnail, meaning, IsExif}
 use Rattle.px_meaning.specs.Thumbnail.{both, are_paired, numbers, jpeg_range, ranges_of, strip_ranges, bytes_of, IsInside, IsThumbnail}
 use Rattle.px_meaning.specs.Footprint.{placed_range, dir_ranges, thumb_ranges, listed, footprint}
-use Rattle.px_meaning.specs.Fits.{Item, Field, Iptc, AtJpeg, JpegSize, AtStrips, StripSizes, item_form, item_size, put_some, link}
-use Rattle.px_meaning.specs.Fits.{field_items}
-use Rattle.px_meaning.specs.Fits.{main_items, exif_items, thumb_items, items, Allows, FitsField, FitsThumb, IsBytes, Fits}
+use Rattle.px_meaning.specs.Writable.{Item, Field, Iptc, AtJpeg, JpegSize, AtStrips, StripSizes, item_form, item_size, put_some, link}
+use Rattle.px_meaning.specs.Writable.{field_items}
+use Rattle.px_meaning.specs.Writable.{main_items, exif_items, thumb_items, items, Allows, IsWritableField, IsWritableThumb, IsBytes}
+use Rattle.px_meaning.specs.Writable.{IsWritable}
 use Rattle.px_layout.specs.declared.chunks.Chunk.{Chunk}
 use Rattle.px_layout.specs.declared.chunks.Chunk.TheVariants.{Table, Placed, Jpeg}
 use Rattle.px_layout.specs.Chunks.{placed_chunk, dir_chunks, chunks_of_dir, jpeg_chunks, strip_chunks, all_strip_chunks, thumb_chunks}
 use Rattle.px_layout.specs.Chunks.{chunks}
 use Rattle.px_layout.specs.Plans.{Plan, place, Legal, plan_ranges}
-use Rattle.px_layout.specs.Laws.{LegalSays}
+use Rattle.px_layout.specs.Laws.{LegalBlockHasMeaning}
 use Rattle.px_layout.specs.Laid.{item_bytes, jpeg_contents, strip_contents, all_strip_contents, thumb_contents}
-use Rattle.px_layout.specs.lemmas.StandLaws.{Stands, length_range}
+use Rattle.px_layout.specs.lemmas.PlacementLaws.{IsPlaced, length_range}
 use Rattle.px_layout.specs.lemmas.ItemLaws.{IsHere, entry_of, raw_is, iim_normal, size_is, placed_as, offset_is}
 use Rattle.px_layout.specs.lemmas.ReadLaws.{record_turned}
-use Rattle.px_layout.specs.lemmas.DirectoryLaws.{filter_map_each, directory_stands, count_is}
+use Rattle.px_layout.specs.lemmas.DirectoryLaws.{filter_map_each, directory_placed, count_is}
 use Rattle.px_layout.specs.lemmas.SizeLaws.{filter_map_map}
 use Rattle.px_layout.specs.lemmas.EntryLaws.{NotThere}
 use Rattle.px_layout.specs.lemmas.TagLaws.{at_some_same, at_some_other, at_fields, each_at, fields_back, entry_found}
-use Rattle.px_layout.specs.lemmas.PlacedLaws.{block, length_block, stands_near, thumb_here, good_dir}
+use Rattle.px_layout.specs.lemmas.PlacedLaws.{block, length_block, placed_near, thumb_here, good_dir}
 use Rattle.px_layout.specs.lemmas.PlacedLaws.{table_here, items_here, some_items, entries_few}
 use Rattle.px_layout.specs.lemmas.PointerLaws.{main_items_are, main_place, entries_of, fields_of, next_of, exif_items_are}
 use Rattle.px_layout.specs.lemmas.PointerLaws.{interop_items_are, thumb_items_are, dir_at_plan, begins_is}
@@ -51,7 +52,7 @@ use Rattle.px_layout.specs.lemmas.PartLaws.{fields_main, fields_exif, fields_thu
 use Rattle.px_layout.specs.lemmas.PartLaws.{offset_size, at_jpeg, at_size, at_strips, at_lengths, chunk_range, strip_ranges_are}
 use Rattle.px_layout.specs.lemmas.PartLaws.{strip_bytes_are, strips_inside_are, strips_near}
 
-module _ (m : Meaning) (plan : Plan) (o : Order) (filler : ℕ) (f : Fits m) (l : Legal m plan) where
+module _ (m : Meaning) (plan : Plan) (o : Order) (filler : ℕ) (f : IsWritable m) (l : Legal m plan) where
   abbrev b : List ℕ
   b = block m plan o filler f l
 
@@ -66,14 +67,14 @@ module _ (m : Meaning) (plan : Plan) (o : Order) (filler : ℕ) (f : Fits m) (l 
 
   -- ---- each directory is in order
 
-  stands_dir : (d : Dir) (xs : List (ℕ × Item)) → items m d ≡ Some xs → IsDirectory b o d (at_plan d)
-  stands_dir d xs is =
-      directory_stands plan o filler b m d xs (items_here m plan o filler f l d xs is) (some_items m plan o filler f l d xs is)
+  placed_dir : (d : Dir) (xs : List (ℕ × Item)) → items m d ≡ Some xs → IsDirectory b o d (at_plan d)
+  placed_dir d xs is =
+      directory_placed plan o filler b m d xs (items_here m plan o filler f l d xs is) (some_items m plan o filler f l d xs is)
       (entries_few m plan o filler f l d xs is) (table_here m plan o filler f l d xs is) (good_dir m plan o filler f l d xs is).rising
 
   in_order : (d : Dir) (x : Option (List (ℕ × Item))) → items m d ≡ x → IfSome (dir_at b o d) (IsDirectory b o d)
   in_order d None is = subst (λ a. IfSome a (IsDirectory b o d)) (sym (not_there d is)) tt
-  in_order d (Some xs) is = subst (λ a. IfSome a (IsDirectory b o d)) (sym (there d xs is)) (stands_dir d xs is)
+  in_order d (Some xs) is = subst (λ a. IfSome a (IsDirectory b o d)) (sym (there d xs is)) (placed_dir d xs is)
 
   -- ---- the footprint of each directory
 
@@ -123,8 +124,8 @@ module _ (m : Meaning) (plan : Plan) (o : Order) (filler : ℕ) (f : Fits m) (l 
     abbrev of : ℕ × Item → Entry
     of i = entry_of plan o filler Thumb i
 
-    fit : FitsThumb t
-    fit = subst (λ x. IfSome x FitsThumb) is f.thumb
+    fit : IsWritableThumb t
+    fit = subst (λ x. IfSome x IsWritableThumb) is f.thumb
 
     items_are : items m Thumb ≡ Some (thumb_items t)
     items_are = thumb_items_are m plan o filler f l t is
@@ -140,7 +141,7 @@ module _ (m : Meaning) (plan : Plan) (o : Order) (filler : ℕ) (f : Fits m) (l 
         each_at (IsHere plan o filler b Thumb) u x (thumb_items t) (items_here m plan o filler f l Thumb (thumb_items t) items_are) e
 
     abbrev Here : Chunk × List ℕ → Type 0
-    Here c = Stands b (place plan c.0) c.1
+    Here c = IsPlaced b (place plan c.0) c.1
 
     parts_here : AllByRecursion Here (jpeg_contents t.jpeg ++ all_strip_contents t.strips)
     unfolding thumb_contents
@@ -153,7 +154,7 @@ module _ (m : Meaning) (plan : Plan) (o : Order) (filler : ℕ) (f : Fits m) (l 
     strips_here = each_right Here (jpeg_contents t.jpeg) _ parts_here
 
     near_chunk : (c : Chunk × List ℕ) → Here c → place plan c.0 < 2 ^ 32
-    near_chunk c h = let n = stands_near m plan o filler f l (place plan c.0) c.1 h in omega arith
+    near_chunk c h = let n = placed_near m plan o filler f l (place plan c.0) c.1 h in omega arith
 
     -- the JPEG
     jpeg_is : (j : Option (List ℕ)) → t.jpeg ≡ j → jpeg_range o es ≡ option_map (λ x. range (place plan Jpeg) (length x)) j
@@ -375,7 +376,7 @@ module _ (m : Meaning) (plan : Plan) (o : Order) (filler : ℕ) (f : Fits m) (l 
   unfolding record_entry item_bytes
   plain_record None q e = ap record_entry (main_found None e)
   plain_record (Some v) q e =
-      let ff : FitsField Main (record_tag, v) = each_at (FitsField Main) record_tag v m.main f.main.each q in
+      let ff : IsWritableField Main (record_tag, v) = each_at (IsWritableField Main) record_tag v m.main f.main.each q in
       let a : Allows Record v = subst (λ r. Allows r v) record_role ff.allowed in
       record_read (Field v) None e (record_turned o (form_in v.kind) v ff.value ∙ a.1)
 
@@ -430,6 +431,6 @@ module _ (m : Meaning) (plan : Plan) (o : Order) (filler : ℕ) (f : Fits m) (l 
   }
 
 -- A legal block of a meaning that fits has that meaning, in either byte order, with any filler.
-pub legal_says : LegalSays
-legal_says m plan o filler f l =
-    record { order = o; is_block = legal_is_exif m plan o filler f l; says = sym (meaning_is m plan o filler f l) }
+pub legal_block_has_meaning : LegalBlockHasMeaning
+legal_block_has_meaning m plan o filler f l =
+    record { order = o; is_block = legal_is_exif m plan o filler f l; means = sym (meaning_is m plan o filler f l) }

@@ -14,7 +14,7 @@ use Rattle.px_meaning.specs.declared.Dir.{Dir}
 use Rattle.px_meaning.specs.declared.Dir.TheVariants.{Main, Exif, Interop, Gps, Thumb}
 use Rattle.px_meaning.specs.Tree.{Meaning}
 use Rattle.px_meaning.specs.Entry.{Rising}
-use Rattle.px_meaning.specs.Fits.{Fits}
+use Rattle.px_meaning.specs.Writable.{IsWritable}
 use Rattle.px_meaning.specs.Roles.{dir_number}
 use Rattle.px_layout.specs.declared.chunks.Chunk.{Chunk}
 use Rattle.px_layout.specs.declared.chunks.Chunk.TheVariants.{Table, Placed, Jpeg, Strip}
@@ -22,7 +22,7 @@ use Rattle.px_layout.specs.Chunks.{chunks, same_chunk}
 use Rattle.px_layout.specs.Plans.{Plan, place, Legal, plan_ranges}
 use Rattle.px_layout.specs.Laid.{contents, header, laid_pieces, byte_at, laid}
 use Rattle.px_layout.specs.Normal.{even, running, padded_size, normal_plan, padded, normal_exif}
-use Rattle.px_layout.specs.lemmas.StandLaws.{piece_range, length_laid, laid_at}
+use Rattle.px_layout.specs.lemmas.PlacementLaws.{piece_range, length_mapped, mapped_at}
 use Rattle.px_layout.specs.lemmas.SizeLaws.{contents_sized, length_header}
 use Rattle.px_layout.specs.lemmas.RankLaws.{chunk_rank, rank, chunks_rise}
 
@@ -74,13 +74,13 @@ module _ {X : Type 0} (name : X → Chunk) (size : X → ℕ) where
   abbrev spot : ℕ → List (Chunk × ℕ) → X → ℕ × X
   spot x ns e = (found x ns (name e), e)
 
-  each_behind : (x : ℕ) (c : X) (cs es : List X) → AllByRecursion (λ u. chunk_rank (name c) < u) (map (λ c. chunk_rank (name c)) es) →
+  each_after : (x : ℕ) (c : X) (cs es : List X) → AllByRecursion (λ u. chunk_rank (name c) < u) (map (λ c. chunk_rank (name c)) es) →
       AllByRecursion (λ e. spot x ((name c, size c) ∷ named cs) e ≡ spot (x + even (size c)) (named cs) e) es
-  each_behind x c cs [] h = tt
-  each_behind x c cs (e ∷ es) h = (
+  each_after x c cs [] h = tt
+  each_after x c cs (e ∷ es) h = (
     ap (λ o. (unwrap_or o 0, e)) (cond-false (same_chunk (name c) (name e)) (Some x) (running (x + even (size c)) (named cs) (name e))
         (other_chunk (name c) (name e) h.0)),
-    each_behind x c cs es h.1,
+    each_after x c cs es h.1,
   )
 
   found_lined : (x : ℕ) (cs : List X) → Rising (map (λ c. chunk_rank (name c)) cs) → map (spot x (named cs)) cs ≡ lined size x cs
@@ -88,7 +88,7 @@ module _ {X : Type 0} (name : X → Chunk) (size : X → ℕ) where
   found_lined x (c ∷ cs) r = ap₂ (λ y ys. y ∷ ys)
       (ap (λ o. (unwrap_or o 0, c)) (cond-true (same_chunk (name c) (name c)) (Some x) (running (x + even (size c)) (named cs) (name c))
       (same_chunk_self (name c))))
-      (map_each (spot x ((name c, size c) ∷ named cs)) (spot (x + even (size c)) (named cs)) cs (each_behind x c cs cs r.0)
+      (map_each (spot x ((name c, size c) ∷ named cs)) (spot (x + even (size c)) (named cs)) cs (each_after x c cs cs r.0)
       ∙ found_lined (x + even (size c)) cs r.1)
 
 -- ---- ranges in a line
@@ -195,7 +195,7 @@ line_byte x k d (c ∷ cs) l =
 
 -- ---- the normal form
 
-module _ (m : Meaning) (f : Fits m) where
+module _ (m : Meaning) (f : IsWritable m) where
   abbrev plan : Plan
   plan = normal_plan m
 
@@ -287,8 +287,8 @@ module _ (m : Meaning) (f : Fits m) where
   -- The normal form is the block that its plan lays out.
   pub laid_in_line : normal_exif m ≡ laid m plan Most 0
   laid_in_line = normal_as ∙ same_lists (head ++ line) (map (byte_at 0 pieces) (range_with_len 0 plan.length))
-      (ap (λ x. length x) (sym normal_as) ∙ length_normal ∙ sym (length_laid (byte_at 0 pieces) plan.length))
-      (λ k d l. each_byte k d l ∙ sym (laid_at (byte_at 0 pieces) plan.length k d
+      (ap (λ x. length x) (sym normal_as) ∙ length_normal ∙ sym (length_mapped (byte_at 0 pieces) plan.length))
+      (λ k d l. each_byte k d l ∙ sym (mapped_at (byte_at 0 pieces) plan.length k d
       (let e = ap (λ x. length x) normal_as in let g = length_normal in omega arith)))
       ∙ sym laid_as
 

@@ -19,15 +19,15 @@ use Rattle.px_meaning.specs.Roles.{exif_tag, gps_tag, record_tag, interop_tag, j
 use Rattle.px_meaning.specs.Roles.{strip_lengths_tag, role, at_tag}
 use Rattle.px_meaning.specs.Entry.{offset, entry_elements}
 use Rattle.px_meaning.specs.Thumbnail.{whole_number, numbers, numbers_in, ranges_of, bytes_of, IsInside}
-use Rattle.px_meaning.specs.Fits.{Item, Iptc, Link, AtJpeg, JpegSize, AtStrips, StripSizes, item_size, put_some, link, field_items}
-use Rattle.px_meaning.specs.Fits.{main_items}
-use Rattle.px_meaning.specs.Fits.{exif_items, thumb_items, FitsThumb}
+use Rattle.px_meaning.specs.Writable.{Item, Iptc, Link, AtJpeg, JpegSize, AtStrips, StripSizes, item_size, put_some, link, field_items}
+use Rattle.px_meaning.specs.Writable.{main_items}
+use Rattle.px_meaning.specs.Writable.{exif_items, thumb_items, IsWritableThumb}
 use Rattle.px_layout.specs.declared.chunks.Chunk.{Chunk}
 use Rattle.px_layout.specs.declared.chunks.Chunk.TheVariants.{Jpeg, Strip}
 use Rattle.px_layout.specs.Chunks.{strip_chunks}
 use Rattle.px_layout.specs.Plans.{Plan, place}
 use Rattle.px_layout.specs.Laid.{item_bytes, last_bytes, strip_contents}
-use Rattle.px_layout.specs.lemmas.StandLaws.{Stands}
+use Rattle.px_layout.specs.lemmas.PlacementLaws.{IsPlaced}
 use Rattle.px_layout.specs.lemmas.ItemLaws.{item_value, item_field, IsHere, entry_of, raw_is}
 use Rattle.px_layout.specs.lemmas.EntryLaws.{no_field, not_put}
 use Rattle.px_layout.specs.lemmas.TagLaws.{at_some_same, at_some_other, fields_some, fields_back}
@@ -106,7 +106,7 @@ module _ (plan : Plan) (o : Order) (filler : ℕ) (b : List ℕ) where
 
 -- ---- the indexes of the thumbnail's parts among its entries
 
-module _ (t : Thumbnail) (f : FitsThumb t) where
+module _ (t : Thumbnail) (f : IsWritableThumb t) where
   abbrev with_lengths : List (ℕ × Item)
   with_lengths = put_some strip_lengths_tag (option_map (λ s. StripSizes (map (λ x. length x) s)) t.strips) (field_items t.fields)
 
@@ -158,13 +158,13 @@ strip_ranges_are plan n [] = refl
 strip_ranges_are plan n (x ∷ s) = ap (λ rs. range (place plan (Strip n)) (length x) ∷ rs) (strip_ranges_are plan (n + 1) s)
 
 pub strip_bytes_are : (plan : Plan) (o : Order) (filler : ℕ) (b : List ℕ) (n : ℕ) (s : List (List ℕ))
-    → AllByRecursion (λ c. Stands b (place plan c.0) c.1) (strip_contents n s)
+    → AllByRecursion (λ c. IsPlaced b (place plan c.0) c.1) (strip_contents n s)
     → map (bytes_of b) (map (chunk_range plan) (strip_chunks n s)) ≡ s
 strip_bytes_are plan o filler b n [] h = refl
 strip_bytes_are plan o filler b n (x ∷ s) h = ap₂ (λ y ys. y ∷ ys) h.0.is (strip_bytes_are plan o filler b (n + 1) s h.1)
 
 pub strips_inside_are : (plan : Plan) (o : Order) (filler : ℕ) (b : List ℕ) (n : ℕ) (s : List (List ℕ))
-    → AllByRecursion (λ c. Stands b (place plan c.0) c.1) (strip_contents n s)
+    → AllByRecursion (λ c. IsPlaced b (place plan c.0) c.1) (strip_contents n s)
     → AllByRecursion (IsInside b) (map (chunk_range plan) (strip_chunks n s))
 strips_inside_are plan o filler b n [] h = tt
 strips_inside_are plan o filler b n (x ∷ s) h = (h.0.inside, strips_inside_are plan o filler b (n + 1) s h.1)

@@ -16,7 +16,7 @@ use Rattle.px_field.specs.declared.Kind.TheVariants.{Of}
 use Rattle.px_field.specs.Forms.{form_of, size}
 use Rattle.px_field.specs.Values.{Value, elements, widened}
 use Rattle.px_field.specs.lemmas.ValueLaws.{length_elements}
-use Rattle.px_iim.specs.lemmas.RecordLaws.{computed_said}
+use Rattle.px_iim.specs.lemmas.RecordLaws.{computed_is_meaning}
 use Rattle.px_iim.specs.lemmas.BoundLaws.{normal_bound as record_bound}
 use Rattle.px_meaning.specs.Iim.{Iim}
 use Rattle.px_meaning.specs.declared.Dir.{Dir}
@@ -28,12 +28,12 @@ use Rattle.px_meaning.specs.declared.Role.TheVariants.{To}
 use Rattle.px_meaning.specs.Roles.{jpeg_offset_tag, jpeg_length_tag, strip_offsets_tag, strip_lengths_tag, exif_tag, gps_tag, interop_tag}
 use Rattle.px_meaning.specs.Roles.{record_tag, role}
 use Rattle.px_meaning.specs.Entry.{Entry, sized, raw_size, is_placed, offset, raw, is_one_long, is_short_or_long, has_form, IsEntry}
-use Rattle.px_meaning.specs.Entry.{entry_elements, widened_value, record_in, unless_record, value_in, field, fields}
+use Rattle.px_meaning.specs.Entry.{entry_elements, widened_value, record_in, unless_record, field_value_in, field, fields}
 use Rattle.px_meaning.specs.Directory.{entries_at, entry_with, is_pointer, pointer, main_at, dir_at}
 use Rattle.px_meaning.specs.Thumbnail.{both, whole_number, numbers_in, numbers, bytes_of, jpeg_range, ranges_of, strip_ranges}
 use Rattle.px_meaning.specs.Says.{record_at, exif_part, thumbnail, meaning}
-use Rattle.px_meaning.specs.Fits.{Item, Field, Iptc, Link, AtJpeg, JpegSize, AtStrips, StripSizes, item_size, put_some, link, field_items}
-use Rattle.px_meaning.specs.Fits.{main_items, exif_items, thumb_items}
+use Rattle.px_meaning.specs.Writable.{Item, Field, Iptc, Link, AtJpeg, JpegSize, AtStrips, StripSizes, item_size, put_some, link}
+use Rattle.px_meaning.specs.Writable.{field_items, main_items, exif_items, thumb_items}
 use Rattle.px_layout.specs.lemmas.EntryLaws.{each_put}
 use Rattle.px_layout.specs.lemmas.CostLaws.{weight, cost, cost_widened, Pays, PayEach, pays_found, found_is, pay_fields}
 
@@ -83,7 +83,7 @@ module _ (b : List ℕ) (o : Order) where
     same_size = let r = raw_is in let l : length (entry_elements b o e f) * size f ≡ e.count * size f = ap (λ n. n * size f) length_is in
         omega arith
 
-    value_size : (r : Role) (v : Value) → value_in b o e r f ≡ Some v → item_size (Field v) ≤ 2 * raw_size e
+    value_size : (r : Role) (v : Value) → field_value_in b o e r f ≡ Some v → item_size (Field v) ≤ 2 * raw_size e
     value_size Plain v h = let j : record { kind = Of f; elements = entry_elements b o e f } ≡ v = cc in
         subst (λ v. item_size (Field v) ≤ 2 * raw_size e) j same_size
     value_size Widened v h = let j : widened_value f (entry_elements b o e f) ≡ v = cc in
@@ -104,14 +104,15 @@ module _ (b : List ℕ) (o : Order) where
     value_size (To d) v h = cc
 
   field_size : (d : Dir) (e : Entry) (v : Value) (f : Option Form) → form_of e.code ≡ f
-      → option_and_then (value_in b o e (role d e.tag)) f ≡ Some v → item_size (Field v) ≤ 2 * raw_size e
+      → option_and_then (field_value_in b o e (role d e.tag)) f ≡ Some v → item_size (Field v) ≤ 2 * raw_size e
   field_size d e v None q h = cc
   field_size d e v (Some f) q h = value_size e f q (role d e.tag) v h
 
   fields_paid : (d : Dir) (a : ℕ) → PayEach (entries_at b o a) (field_items (fields b o d a))
   unfolding fields field
-  fields_paid d a = pay_fields (λ e. option_and_then (value_in b o e (role d e.tag)) (form_of e.code)) (entries_at b o a)
-      (each_all (λ e. (v : Value) → option_and_then (value_in b o e (role d e.tag)) (form_of e.code) ≡ Some v → cost (e.tag, Field v) ≤ 2 *
+  fields_paid d a = pay_fields (λ e. option_and_then (field_value_in b o e (role d e.tag)) (form_of e.code)) (entries_at b o a)
+      (each_all (λ e. (v : Value) → option_and_then (field_value_in b o e (role d e.tag)) (form_of e.code) ≡ Some v
+      → cost (e.tag, Field v) ≤ 2 *
       weight e)
       (λ e v h. cost_widened (e.tag, Field v) e (field_size d e v (form_of e.code) refl h)) (entries_at b o a))
 
@@ -134,11 +135,11 @@ module _ (b : List ℕ) (o : Order) where
 
   -- ---- the record
 
-  said_size : (y : List ℕ) (i : Iim) (f : Form) → record_in f y ≡ Some i → item_size (Iptc i) ≤ 2 * length y
+  meaning_size : (y : List ℕ) (i : Iim) (f : Form) → record_in f y ≡ Some i → item_size (Iptc i) ≤ 2 * length y
   unfolding item_size
-  said_size y i Byte h = let k = record_bound y i (computed_said y i h) in omega arith
-  said_size y i Undefined h = let k = record_bound y i (computed_said y i h) in omega arith
-  said_size y i _ h = cc
+  meaning_size y i Byte h = let k = record_bound y i (computed_is_meaning y i h) in omega arith
+  meaning_size y i Undefined h = let k = record_bound y i (computed_is_meaning y i h) in omega arith
+  meaning_size y i _ h = cc
 
   entry_record : Entry → Option Iim
   entry_record e = option_and_then (λ f. record_in f (raw b o e)) (form_of e.code)
@@ -146,7 +147,7 @@ module _ (b : List ℕ) (o : Order) where
   record_size : (e : Entry) (i : Iim) (f : Option Form) → option_and_then (λ f. record_in f (raw b o e)) f ≡ Some i
       → item_size (Iptc i) ≤ 2 * raw_size e
   record_size e i None h = cc
-  record_size e i (Some f) h = let s = said_size (raw b o e) i f h in let r = raw_short e in omega arith
+  record_size e i (Some f) h = let s = meaning_size (raw b o e) i f h in let r = raw_short e in omega arith
 
   record_pays : (es : List Entry) (i : Iim) (z : Option Entry) → entry_with record_tag es ≡ z → option_and_then entry_record z ≡ Some i
       → Pays record_tag (cost (record_tag, Iptc i)) es

@@ -15,16 +15,16 @@ use Rattle.px_meaning.specs.declared.Dir.TheVariants.{Main, Exif, Interop, Gps, 
 use Rattle.px_meaning.specs.Tree.{Meaning}
 use Rattle.px_meaning.specs.Roles.{role}
 use Rattle.px_meaning.specs.Directory.{dirs}
-use Rattle.px_meaning.specs.Fits.{Item, item_form, item_count, item_size, items, Fits}
+use Rattle.px_meaning.specs.Writable.{Item, item_form, item_count, item_size, items, IsWritable}
 use Rattle.px_layout.specs.declared.chunks.Chunk.{Chunk}
 use Rattle.px_layout.specs.declared.chunks.Chunk.TheVariants.{Table, Placed}
 use Rattle.px_layout.specs.Plans.{Plan, place, Legal}
 use Rattle.px_layout.specs.Laid.{item_bytes, table_bytes, placed_content, contents_of_dir, thumb_contents, contents, header, laid_pieces}
 use Rattle.px_layout.specs.Laid.{laid}
-use Rattle.px_layout.specs.lemmas.StandLaws.{Stands, length_laid}
+use Rattle.px_layout.specs.lemmas.PlacementLaws.{IsPlaced, length_mapped}
 use Rattle.px_layout.specs.lemmas.ItemLaws.{Suits, IsHere, length_is}
 use Rattle.px_layout.specs.lemmas.EntryLaws.{Good, good_items, few_items}
-use Rattle.px_layout.specs.lemmas.SizeLaws.{pieces_stand}
+use Rattle.px_layout.specs.lemmas.SizeLaws.{pieces_placed}
 
 count_le : (f : Form) (n : ℕ) → n ≤ n * size f
 count_le Byte n = omega arith
@@ -51,28 +51,28 @@ each_picked : {X Y : Type 0} (P : Y → Type 0) (h : X → Option Y) (xs : List 
 each_picked P h [] a = tt
 each_picked P h (x ∷ xs) a = let q = all_cons_option P (h x) (filter_map h xs) a in (q.0, each_picked P h xs q.1)
 
-module _ (m : Meaning) (plan : Plan) (o : Order) (filler : ℕ) (f : Fits m) (l : Legal m plan) where
+module _ (m : Meaning) (plan : Plan) (o : Order) (filler : ℕ) (f : IsWritable m) (l : Legal m plan) where
   abbrev pub block : List ℕ
   block = laid m plan o filler
 
   pub length_block : length block ≡ plan.length
   unfolding laid
-  length_block = length_laid _ plan.length
+  length_block = length_mapped _ plan.length
 
   -- a chunk at its offset
   abbrev pub Here : Chunk × List ℕ → Type 0
-  Here c = Stands block (place plan c.0) c.1
+  Here c = IsPlaced block (place plan c.0) c.1
 
-  all_here : AllByRecursion (λ y. Stands block y.0 y.1) (laid_pieces plan o filler m)
-  all_here = pieces_stand plan o filler m f l
+  all_here : AllByRecursion (λ y. IsPlaced block y.0 y.1) (laid_pieces plan o filler m)
+  all_here = pieces_placed plan o filler m f l
 
-  pub header_here : Stands block 0 (header plan o filler)
+  pub header_here : IsPlaced block 0 (header plan o filler)
   unfolding laid_pieces
   header_here = all_here.0
 
   contents_here : AllByRecursion Here (contents plan o filler m)
   unfolding laid_pieces
-  contents_here = each_in_map (λ y. Stands block y.0 y.1) (λ c. (place plan c.0, c.1)) (contents plan o filler m) all_here.1
+  contents_here = each_in_map (λ y. IsPlaced block y.0 y.1) (λ c. (place plan c.0, c.1)) (contents plan o filler m) all_here.1
 
   abbrev of_dir : Dir → List (Chunk × List ℕ)
   of_dir d = contents_of_dir plan o filler m d (items m d)
@@ -101,8 +101,8 @@ module _ (m : Meaning) (plan : Plan) (o : Order) (filler : ℕ) (f : Fits m) (l 
   dir_here Gps = each_left Here (of_dir Gps) _ from_gps
   dir_here Thumb = each_left Here (of_dir Thumb) [] (each_right Here (of_dir Gps) _ from_gps)
 
-  pub stands_near : (x : ℕ) (y : List ℕ) → Stands block x y → x + length y < 2 ^ 32
-  stands_near x y s = let i = s.inside in let b = length_block in let k = l.most in omega arith
+  pub placed_near : (x : ℕ) (y : List ℕ) → IsPlaced block x y → x + length y < 2 ^ 32
+  placed_near x y s = let i = s.inside in let b = length_block in let k = l.most in omega arith
 
   -- a directory of the meaning with its entries
   module _ (d : Dir) (xs : List (ℕ × Item)) (is : items m d ≡ Some xs) where
@@ -112,11 +112,11 @@ module _ (m : Meaning) (plan : Plan) (o : Order) (filler : ℕ) (f : Fits m) (l 
     dir_contents : AllByRecursion Here (contents_of_dir plan o filler m d (Some xs))
     dir_contents = subst (λ x. AllByRecursion Here (contents_of_dir plan o filler m d x)) is (dir_here d)
 
-    pub table_here : Stands block (place plan (Table d)) (table_bytes plan o filler m d xs)
+    pub table_here : IsPlaced block (place plan (Table d)) (table_bytes plan o filler m d xs)
     table_here = dir_contents.0
 
     pub table_near : place plan (Table d) < 2 ^ 32
-    table_near = let n = stands_near (place plan (Table d)) (table_bytes plan o filler m d xs) table_here in omega arith
+    table_near = let n = placed_near (place plan (Table d)) (table_bytes plan o filler m d xs) table_here in omega arith
 
     item_here : (i : ℕ × Item) → i.0 < 2 ^ 16 × Suits (role d i.0) i.1
         → ((c : Chunk × List ℕ) → placed_content plan o filler d i ≡ Some c → Here c) → IsHere plan o filler block d i
@@ -125,21 +125,21 @@ module _ (m : Meaning) (plan : Plan) (o : Order) (filler : ℕ) (f : Fits m) (l 
       tag = g.0;
       suits = g.1;
       count = elim (cases_Bool (nat_lt 4 (item_size i.1))) [
-        | inl t ↦ let n = stands_near (place plan (Placed d i.0)) (item_bytes plan o filler i.1) (stands t) in
+        | inl t ↦ let n = placed_near (place plan (Placed d i.0)) (item_bytes plan o filler i.1) (placed t) in
             let s = length_is plan o filler d i g.1 in let c = count_le (item_form i.1) (item_count i.1) in omega arith
         | inr t ↦ let k = ltb-false 4 (item_size i.1) t in let c = count_le (item_form i.1) (item_count i.1) in omega arith
       ];
       bounded = elim (cases_Bool (nat_lt 4 (item_size i.1))) [
         | inl t ↦ let n =
-            (stands t).inside in let b = length_block in let k = l.most in let s = length_is plan o filler d i g.1 in omega arith
+            (placed t).inside in let b = length_block in let k = l.most in let s = length_is plan o filler d i g.1 in omega arith
         | inr t ↦ let k = ltb-false 4 (item_size i.1) t in omega arith
       ];
-      near = λ t. let n = stands_near (place plan (Placed d i.0)) (item_bytes plan o filler i.1) (stands t) in omega arith;
-      stands = stands;
+      near = λ t. let n = placed_near (place plan (Placed d i.0)) (item_bytes plan o filler i.1) (placed t) in omega arith;
+      placed = placed;
     }
       where
-        stands : nat_lt 4 (item_size i.1) ≡ true → Stands block (place plan (Placed d i.0)) (item_bytes plan o filler i.1)
-        stands t =
+        placed : nat_lt 4 (item_size i.1) ≡ true → IsPlaced block (place plan (Placed d i.0)) (item_bytes plan o filler i.1)
+        placed t =
             h (Placed d i.0, item_bytes plan o filler i.1) (cond-true (nat_lt 4 (item_size i.1))
             (Some (Placed d i.0, item_bytes plan o filler i.1)) None t)
 

@@ -18,7 +18,8 @@ use Rattle.px_meaning.specs.Tree.{ExifPart, Thumbnail, Meaning}
 use Rattle.px_meaning.specs.Roles.{exif_tag, gps_tag, record_tag, interop_tag, role, at_tag}
 use Rattle.px_meaning.specs.Entry.{long, table, next, fields}
 use Rattle.px_meaning.specs.Directory.{magic, pointer, dir_at, unless_zero, entries_at, dirs}
-use Rattle.px_meaning.specs.Fits.{Item, Iptc, link, field_items, main_items, exif_items, thumb_items, items, FitsField, FitsExif, Fits}
+use Rattle.px_meaning.specs.Writable.{Item, Iptc, link, field_items, main_items, exif_items, thumb_items, items, IsWritableField}
+use Rattle.px_meaning.specs.Writable.{IsWritableExif, IsWritable}
 use Rattle.px_layout.specs.Chunks.{thumb_chunks, chunks_of_dir, chunks}
 use Rattle.px_layout.specs.declared.chunks.Chunk.{Chunk}
 use Rattle.px_layout.specs.declared.chunks.Chunk.TheVariants.{Table}
@@ -37,7 +38,7 @@ if_all P (Some x) h = h x refl
 
 -- ---- the entry at a pointer's tag
 
-module _ (m : Meaning) (f : Fits m) where
+module _ (m : Meaning) (f : IsWritable m) where
   pub exif_link : at_tag exif_tag (main_items m) ≡ link Exif m.exif
   unfolding role
   exif_link =
@@ -50,7 +51,8 @@ module _ (m : Meaning) (f : Fits m) where
       ∙ at_some_same gps_tag (link Gps m.gps) _ (not_put gps_tag record_tag (option_map Iptc m.iptc) _ (omega arith)
       (no_field Main gps_tag m.main (λ v a. a) f.main.each))
 
-pub interop_link : (e : ExifPart) → AllByRecursion (FitsField Exif) e.fields → at_tag interop_tag (exif_items e) ≡ link Interop e.interop
+pub interop_link : (e : ExifPart) → AllByRecursion (IsWritableField Exif) e.fields
+    → at_tag interop_tag (exif_items e) ≡ link Interop e.interop
 unfolding role
 interop_link e h = at_some_same interop_tag (link Interop e.interop) _ (no_field Exif interop_tag e.fields (λ v a. a) h)
 
@@ -64,7 +66,7 @@ link_place : {X Y : Type 0} (d : Dir) (o : Option X) (g : X → Y) (n : ℕ)
 link_place d None g n = refl
 link_place d (Some y) g n = refl
 
-module _ (m : Meaning) (plan : Plan) (o : Order) (filler : ℕ) (f : Fits m) (l : Legal m plan) where
+module _ (m : Meaning) (plan : Plan) (o : Order) (filler : ℕ) (f : IsWritable m) (l : Legal m plan) where
   abbrev b : List ℕ
   b = block m plan o filler f l
 
@@ -153,8 +155,8 @@ module _ (m : Meaning) (plan : Plan) (o : Order) (filler : ℕ) (f : Fits m) (l 
   unfolding items
   no_exif q = ap (option_map exif_items) q
 
-  pub exif_fits : (e : ExifPart) → m.exif ≡ Some e → FitsExif e
-  exif_fits e q = subst (λ x. IfSome x FitsExif) q f.exif
+  pub exif_fits : (e : ExifPart) → m.exif ≡ Some e → IsWritableExif e
+  exif_fits e q = subst (λ x. IfSome x IsWritableExif) q f.exif
 
   interop_pointer : (x : Option ExifPart) → m.exif ≡ x → option_and_then (λ a. pointer o interop_tag (entries_at b o a))
       (at_plan Exif) ≡ at_plan Interop

@@ -11,7 +11,7 @@ use Rattle.px_meaning.specs.declared.Dir.TheVariants.{Main, Exif, Interop, Gps, 
 use Rattle.px_meaning.specs.Tree.{Meaning, Thumbnail}
 use Rattle.px_meaning.specs.Entry.{Rising}
 use Rattle.px_meaning.specs.Directory.{dirs}
-use Rattle.px_meaning.specs.Fits.{Item, item_size, items, Fits}
+use Rattle.px_meaning.specs.Writable.{Item, item_size, items, IsWritable}
 use Rattle.px_meaning.specs.Roles.{dir_number}
 use Rattle.px_layout.specs.declared.chunks.Chunk.{Chunk}
 use Rattle.px_layout.specs.declared.chunks.Chunk.TheVariants.{Table, Placed, Jpeg, Strip}
@@ -144,7 +144,7 @@ above_thumb (Some t) = parts t.jpeg t.strips
       (strips s),
     )
 
-pub chunks_rise : (m : Meaning) → Fits m → Rising (map rank (chunks m))
+pub chunks_rise : (m : Meaning) → IsWritable m → Rising (map rank (chunks m))
 unfolding chunks
 chunks_rise m f = subst Rising (sym (map-append rank (flat_map of dirs) (thumb_chunks m.thumb)))
     (rising_append (5 * span) (map rank (flat_map of dirs)) (map rank (thumb_chunks m.thumb)) all.below (above_thumb m.thumb).0 all.rising

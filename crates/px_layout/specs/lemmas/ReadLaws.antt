@@ -10,10 +10,10 @@ use Rattle.px_field.specs.declared.Form.TheVariants.{Byte, Short, Long, Undefine
 use Rattle.px_field.specs.declared.Element.TheVariants as element
 use Rattle.px_field.specs.Forms.{code}
 use Rattle.px_field.specs.declared.Element.{Element}
-use Rattle.px_field.specs.Values.{spell, IsOf, Value, IsValue, form_in, spelled, elements, widened}
+use Rattle.px_field.specs.Values.{encode, IsOf, Value, IsValue, form_in, encoded, elements, widened}
 use Rattle.px_field.specs.declared.Kind.{Kind}
 use Rattle.px_field.specs.declared.Kind.TheVariants.{Of, Whole}
-use Rattle.px_field.specs.lemmas.ValueLaws.{elements_spelled}
+use Rattle.px_field.specs.lemmas.ValueLaws.{elements_encoded}
 use Rattle.px_field.specs.lemmas.FormLaws.{form_of_code}
 use Rattle.px_meaning.specs.Iim.{iim_of}
 use Rattle.px_meaning.specs.declared.Dir.{Dir}
@@ -23,28 +23,29 @@ use Rattle.px_meaning.specs.declared.Role.TheVariants.{StripLengths}
 use Rattle.px_meaning.specs.declared.Role.TheVariants.{To}
 use Rattle.px_meaning.specs.Roles.{role}
 use Rattle.px_meaning.specs.Entry.{Entry, raw, has_form, is_allowed, IsEntry, entry_elements, widened_value, record_in, unless_record}
-use Rattle.px_meaning.specs.Entry.{value_in, field}
-use Rattle.px_meaning.specs.Fits.{Item, Field, Iptc, Link, AtJpeg, JpegSize, AtStrips, StripSizes, item_form, item_count, item_size}
+use Rattle.px_meaning.specs.Entry.{field_value_in, field}
+use Rattle.px_meaning.specs.Writable.{Item, Field, Iptc, Link, AtJpeg, JpegSize, AtStrips, StripSizes, item_form, item_count, item_size}
 use Rattle.px_layout.specs.Plans.{Plan}
 use Rattle.px_layout.specs.Laid.{item_bytes}
 use Rattle.px_layout.specs.lemmas.ItemLaws.{Suits, item_value, item_field, IsHere, entry_of, raw_is, has_raw_is, iim_normal}
 
 -- the bytes of BYTE and UNDEFINED don't turn with the order
-byte_spelled : (o : Order) (es : List Element) → AllByRecursion (IsOf Byte) es → flat_map (spell o) es ≡ flat_map (spell Least) es
-byte_spelled o [] h = refl
-byte_spelled o (element.Byte n ∷ es) h = ap (λ ys. n ∷ ys) (byte_spelled o es h.1)
-byte_spelled o (_ ∷ es) h = absurd h.0
+byte_encoded : (o : Order) (es : List Element) → AllByRecursion (IsOf Byte) es → flat_map (encode o) es ≡ flat_map (encode Least) es
+byte_encoded o [] h = refl
+byte_encoded o (element.Byte n ∷ es) h = ap (λ ys. n ∷ ys) (byte_encoded o es h.1)
+byte_encoded o (_ ∷ es) h = absurd h.0
 
-undefined_spelled : (o : Order) (es : List Element) → AllByRecursion (IsOf Undefined) es → flat_map (spell o) es ≡ flat_map (spell Least) es
-undefined_spelled o [] h = refl
-undefined_spelled o (element.Byte n ∷ es) h = ap (λ ys. n ∷ ys) (undefined_spelled o es h.1)
-undefined_spelled o (_ ∷ es) h = absurd h.0
+undefined_encoded : (o : Order) (es : List Element) → AllByRecursion (IsOf Undefined) es
+    → flat_map (encode o) es ≡ flat_map (encode Least) es
+undefined_encoded o [] h = refl
+undefined_encoded o (element.Byte n ∷ es) h = ap (λ ys. n ∷ ys) (undefined_encoded o es h.1)
+undefined_encoded o (_ ∷ es) h = absurd h.0
 
 pub record_turned : (o : Order) (f : Form) (v : Value) → AllByRecursion (IsOf f) v.elements
-    → record_in f (spelled o v) ≡ record_in f (spelled Least v)
-unfolding spelled
-record_turned o Byte v h = ap iim_of (byte_spelled o v.elements h)
-record_turned o Undefined v h = ap iim_of (undefined_spelled o v.elements h)
+    → record_in f (encoded o v) ≡ record_in f (encoded Least v)
+unfolding encoded
+record_turned o Byte v h = ap iim_of (byte_encoded o v.elements h)
+record_turned o Undefined v h = ap iim_of (undefined_encoded o v.elements h)
 record_turned o _ v h = refl
 
 long_widened : (es : List Element) → AllByRecursion (IsOf Long) es → map widened es ≡ es
@@ -62,26 +63,26 @@ module _ (plan : Plan) (o : Order) (filler : ℕ) (b : List ℕ) where
   elements_are : (v : Value) (e : Entry) → IsValue v → raw b o e ≡ item_bytes plan o filler (Field v) → e.count ≡ length v.elements
       → entry_elements b o e (form_in v.kind) ≡ v.elements
   unfolding entry_elements item_bytes
-  elements_are v e h r c = ap₂ (elements o (form_in v.kind)) c r ∙ elements_spelled o v h
+  elements_are v e h r c = ap₂ (elements o (form_in v.kind)) c r ∙ elements_encoded o v h
 
   plain_is : (k : Kind) (es : List Element) (e : Entry) → (k ≡ Whole → ⊥) → entry_elements b o e (form_in k) ≡ es
-      → value_in b o e Plain (form_in k) ≡ Some (record { kind = k; elements = es })
+      → field_value_in b o e Plain (form_in k) ≡ Some (record { kind = k; elements = es })
   plain_is (Of f) es e n h = ap (λ xs. Some (record { kind = Of f; elements = xs })) h
   plain_is Whole es e n h = absurd (n refl)
 
   widened_is : (k : Kind) (es : List Element) (e : Entry) → (k ≡ Of Short → ⊥) → (k ≡ Of Long → ⊥) → AllByRecursion (IsOf (form_in k)) es
-      → entry_elements b o e (form_in k) ≡ es → value_in b o e Widened (form_in k) ≡ Some (record { kind = k; elements = es })
+      → entry_elements b o e (form_in k) ≡ es → field_value_in b o e Widened (form_in k) ≡ Some (record { kind = k; elements = es })
   widened_is (Of f) es e n m v h = ap (λ xs. Some (widened_value f xs)) h ∙ ap (λ x. Some x) (widened_of f es n m)
   widened_is Whole es e n m v h = ap (λ xs. Some (record { kind = Whole; elements = map widened xs })) h
       ∙ ap (λ xs. Some (record { kind = Whole; elements = xs })) (long_widened es v)
 
   record_is : (k : Kind) (es : List Element) (e : Entry) → (k ≡ Whole → ⊥) → record_in (form_in k) (raw b o e) ≡ None
-      → entry_elements b o e (form_in k) ≡ es → value_in b o e Record (form_in k) ≡ Some (record { kind = k; elements = es })
+      → entry_elements b o e (form_in k) ≡ es → field_value_in b o e Record (form_in k) ≡ Some (record { kind = k; elements = es })
   record_is (Of f) es e n c h = ap₂ (λ i xs. unless_record i (record { kind = Of f; elements = xs })) c h
   record_is Whole es e n c h = absurd (n refl)
 
   value_is : (r : Role) (x : Item) (e : Entry) → Suits r x → item_size x ≤ limit → raw b o e ≡ item_bytes plan o filler x
-      → e.count ≡ item_count x → value_in b o e r (item_form x) ≡ item_value x
+      → e.count ≡ item_count x → field_value_in b o e r (item_form x) ≡ item_value x
   unfolding item_bytes item_size
   value_is Plain (Field v) e h s r c = plain_is v.kind v.elements e h.1 (elements_are v e h.0 r c)
   value_is Widened (Field v) e h s r c = widened_is v.kind v.elements e h.1.0 h.1.1 h.0 (elements_are v e h.0 r c)
@@ -125,7 +126,7 @@ module _ (plan : Plan) (o : Order) (filler : ℕ) (b : List ℕ) where
     pub field_is : field b o d (entry_of plan o filler d i) ≡ item_field i
     unfolding field entry_of
     field_is =
-        ap (λ f. option_map (λ v. (i.0, v)) (option_and_then (value_in b o (entry_of plan o filler d i) (role d i.0)) f))
+        ap (λ f. option_map (λ v. (i.0, v)) (option_and_then (field_value_in b o (entry_of plan o filler d i) (role d i.0)) f))
         (form_of_code (item_form i.1))
         ∙ ap (option_map (λ v. (i.0, v))) (value_is (role d i.0) i.1 (entry_of plan o filler d i) h.suits h.bounded
         (raw_is plan o filler b d i h) refl)

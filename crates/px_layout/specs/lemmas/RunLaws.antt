@@ -11,7 +11,7 @@ use Rattle.px_meaning.specs.Tree.{Meaning, Thumbnail}
 use Rattle.px_meaning.specs.Entry.{Rising, table_size}
 use Rattle.px_meaning.specs.Directory.{dirs}
 use Rattle.px_meaning.specs.Roles.{dir_number}
-use Rattle.px_meaning.specs.Fits.{Item, item_size, items}
+use Rattle.px_meaning.specs.Writable.{Item, item_size, items}
 use Rattle.px_layout.specs.declared.chunks.Chunk.{Chunk}
 use Rattle.px_layout.specs.declared.chunks.Chunk.TheVariants.{Table, Placed, Jpeg, Strip}
 use Rattle.px_layout.specs.Chunks.{same_chunk, placed_chunk, chunks_of_dir, jpeg_chunks, strip_chunks, all_strip_chunks, thumb_chunks}
@@ -31,10 +31,10 @@ run_none x [] c h = refl
 run_none x (y ∷ ys) c h = cond-false (same_chunk y.0 c) (Some x) (running (x + even y.1) ys c) h.0 ∙ run_none (x + even y.1) ys c h.1
 
 -- after a list without it
-pub run_behind : (x : ℕ) (xs ys : List (Chunk × ℕ)) (c : Chunk) → Without c xs → running x (xs ++ ys) c ≡ running (x + padded_size xs) ys c
-run_behind x [] ys c h = ap (λ n. running n ys c) (omega arith)
-run_behind x (y ∷ xs) ys c h = cond-false (same_chunk y.0 c) (Some x) (running (x + even y.1) (xs ++ ys) c) h.0
-    ∙ run_behind (x + even y.1) xs ys c h.1 ∙ ap (λ n. running n ys c) (omega arith)
+pub run_after : (x : ℕ) (xs ys : List (Chunk × ℕ)) (c : Chunk) → Without c xs → running x (xs ++ ys) c ≡ running (x + padded_size xs) ys c
+run_after x [] ys c h = ap (λ n. running n ys c) (omega arith)
+run_after x (y ∷ xs) ys c h = cond-false (same_chunk y.0 c) (Some x) (running (x + even y.1) (xs ++ ys) c) h.0
+    ∙ run_after (x + even y.1) xs ys c h.1 ∙ ap (λ n. running n ys c) (omega arith)
 
 -- before a list that has it not
 pub run_before : (x : ℕ) (xs ys : List (Chunk × ℕ)) (c : Chunk) → Without c ys → running x (xs ++ ys) c ≡ running x xs c
@@ -135,24 +135,24 @@ module _ (m : Meaning) where
       run_before 8 (dir_line m Main) (lines (Exif ∷ Interop ∷ Gps ∷ Thumb ∷ [])) c
       (others Main c h (Exif ∷ Interop ∷ Gps ∷ Thumb ∷ []) (refl, (refl, (refl, (refl, tt)))))
   in_dir Exif c h =
-      run_behind 8 (dir_line m Main) (lines (Exif ∷ Interop ∷ Gps ∷ Thumb ∷ [])) c (other Exif c h Main refl)
+      run_after 8 (dir_line m Main) (lines (Exif ∷ Interop ∷ Gps ∷ Thumb ∷ [])) c (other Exif c h Main refl)
       ∙ run_before (start m Exif) (dir_line m Exif) (lines (Interop ∷ Gps ∷ Thumb ∷ [])) c
       (others Exif c h (Interop ∷ Gps ∷ Thumb ∷ []) (refl, (refl, (refl, tt))))
   in_dir Interop c h =
-      run_behind 8 (dir_line m Main) (lines (Exif ∷ Interop ∷ Gps ∷ Thumb ∷ [])) c (other Interop c h Main refl)
-      ∙ run_behind (start m Exif) (dir_line m Exif) (lines (Interop ∷ Gps ∷ Thumb ∷ [])) c (other Interop c h Exif refl)
+      run_after 8 (dir_line m Main) (lines (Exif ∷ Interop ∷ Gps ∷ Thumb ∷ [])) c (other Interop c h Main refl)
+      ∙ run_after (start m Exif) (dir_line m Exif) (lines (Interop ∷ Gps ∷ Thumb ∷ [])) c (other Interop c h Exif refl)
       ∙ run_before (start m Interop) (dir_line m Interop) (lines (Gps ∷ Thumb ∷ [])) c
       (others Interop c h (Gps ∷ Thumb ∷ []) (refl, (refl, tt)))
   in_dir Gps c h =
-      run_behind 8 (dir_line m Main) (lines (Exif ∷ Interop ∷ Gps ∷ Thumb ∷ [])) c (other Gps c h Main refl)
-      ∙ run_behind (start m Exif) (dir_line m Exif) (lines (Interop ∷ Gps ∷ Thumb ∷ [])) c (other Gps c h Exif refl)
-      ∙ run_behind (start m Interop) (dir_line m Interop) (lines (Gps ∷ Thumb ∷ [])) c (other Gps c h Interop refl)
+      run_after 8 (dir_line m Main) (lines (Exif ∷ Interop ∷ Gps ∷ Thumb ∷ [])) c (other Gps c h Main refl)
+      ∙ run_after (start m Exif) (dir_line m Exif) (lines (Interop ∷ Gps ∷ Thumb ∷ [])) c (other Gps c h Exif refl)
+      ∙ run_after (start m Interop) (dir_line m Interop) (lines (Gps ∷ Thumb ∷ [])) c (other Gps c h Interop refl)
       ∙ run_before (start m Gps) (dir_line m Gps) (lines (Thumb ∷ [])) c (others Gps c h (Thumb ∷ []) (refl, tt))
   in_dir Thumb c h =
-      run_behind 8 (dir_line m Main) (lines (Exif ∷ Interop ∷ Gps ∷ Thumb ∷ [])) c (other Thumb c h Main refl)
-      ∙ run_behind (start m Exif) (dir_line m Exif) (lines (Interop ∷ Gps ∷ Thumb ∷ [])) c (other Thumb c h Exif refl)
-      ∙ run_behind (start m Interop) (dir_line m Interop) (lines (Gps ∷ Thumb ∷ [])) c (other Thumb c h Interop refl)
-      ∙ run_behind (start m Gps) (dir_line m Gps) (lines (Thumb ∷ [])) c (other Thumb c h Gps refl)
+      run_after 8 (dir_line m Main) (lines (Exif ∷ Interop ∷ Gps ∷ Thumb ∷ [])) c (other Thumb c h Main refl)
+      ∙ run_after (start m Exif) (dir_line m Exif) (lines (Interop ∷ Gps ∷ Thumb ∷ [])) c (other Thumb c h Exif refl)
+      ∙ run_after (start m Interop) (dir_line m Interop) (lines (Gps ∷ Thumb ∷ [])) c (other Thumb c h Interop refl)
+      ∙ run_after (start m Gps) (dir_line m Gps) (lines (Thumb ∷ [])) c (other Thumb c h Gps refl)
       ∙ run_before (start m Thumb) (dir_line m Thumb) [] c tt
 
   pub dir_found : (d : Dir) (c : Chunk) → IsOf d c → running 8 (chunks m) c ≡ running (start m d) (dir_line m d) c
@@ -184,7 +184,7 @@ module _ (m : Meaning) where
       → running 8 (chunks m) c ≡ running (thumb_start m) (thumb_chunks m.thumb) c
   unfolding chunks
   thumb_found c h k =
-      run_behind 8 (lines dirs) (thumb_chunks m.thumb) c (no_dirs c h k dirs) ∙ ap (λ n. running n (thumb_chunks m.thumb) c) lines_end
+      run_after 8 (lines dirs) (thumb_chunks m.thumb) c (no_dirs c h k dirs) ∙ ap (λ n. running n (thumb_chunks m.thumb) c) lines_end
 
 -- ---- the values of a directory
 
@@ -223,12 +223,12 @@ tag_at P (y ∷ xs) zero x h e = let q : y ≡ x = cc in subst (λ (z : ℕ × I
 tag_at P (y ∷ xs) (suc i) x h e = tag_at P xs i x h.1 e
 
 -- an entry's value follows the values of the entries before it
-value_behind : (d : Dir) (b : ℕ) (xs : List (ℕ × Item)) (i : ℕ) (x : ℕ × Item) → Rising (map (λ i. i.0) xs) → slice_get xs i ≡ Some x
+value_after : (d : Dir) (b : ℕ) (xs : List (ℕ × Item)) (i : ℕ) (x : ℕ × Item) → Rising (map (λ i. i.0) xs) → slice_get xs i ≡ Some x
     → 4 < item_size x.1 →
     running b (filter_map (placed_chunk d) xs) (Placed d x.0) ≡ Some (b + padded_size (filter_map (placed_chunk d) (take i xs)))
 unfolding placed_chunk
-value_behind d b [] i x r e l = cc
-value_behind d b (y ∷ xs) zero x r e l =
+value_after d b [] i x r e l = cc
+value_after d b (y ∷ xs) zero x r e l =
     let q : x ≡ y = cc in
     let rest : List (Chunk × ℕ) = filter_map (placed_chunk d) xs in
     subst (λ (z : ℕ × Item). running b (filter_map (placed_chunk d) (y ∷ xs)) (Placed d z.0) ≡ Some (b + 0)) (sym q)
@@ -238,7 +238,7 @@ value_behind d b (y ∷ xs) zero x r e l =
     ∙ cond-true (same_chunk (Placed d y.0) (Placed d y.0)) (Some b) (running (b + even (item_size y.1)) rest (Placed d y.0))
     (same_chunk_self (Placed d y.0))
     ∙ ap (λ (n : ℕ). Some n) (omega arith))
-value_behind d b (y ∷ xs) (suc i) x r e l =
+value_after d b (y ∷ xs) (suc i) x r e l =
     let rest : List (Chunk × ℕ) = filter_map (placed_chunk d) xs in
     let before : List (Chunk × ℕ) = filter_map (placed_chunk d) (take i xs) in
     let k : y.0 < x.0 = tag_at (λ u. y.0 < u) xs i x r.0 e in
@@ -246,8 +246,8 @@ value_behind d b (y ∷ xs) (suc i) x r e l =
     (λ o. running b (cons_option o rest) (Placed d x.0) ≡ Some (b + padded_size (cons_option o before)))
     (λ _. cond-false (same_chunk (Placed d y.0) (Placed d x.0)) (Some b) (running (b + even (item_size y.1)) rest (Placed d x.0))
     (other_chunk (Placed d y.0) (Placed d x.0) (omega arith))
-    ∙ value_behind d (b + even (item_size y.1)) xs i x r.1 e l ∙ ap (λ (n : ℕ). Some n) (omega arith))
-    (λ _. value_behind d b xs i x r.1 e l)
+    ∙ value_after d (b + even (item_size y.1)) xs i x r.1 e l ∙ ap (λ (n : ℕ). Some n) (omega arith))
+    (λ _. value_after d b xs i x r.1 e l)
 
 -- the same, by the size of the values from that entry on
 pub value_at : (d : Dir) (b at : ℕ) (xs : List (ℕ × Item)) (i : ℕ) (x : ℕ × Item) → Rising (map (λ i. i.0) xs) → slice_get xs i ≡ Some x
@@ -256,7 +256,7 @@ pub value_at : (d : Dir) (b at : ℕ) (xs : List (ℕ × Item)) (i : ℕ) (x : �
 value_at d b at xs i x r e l h =
     let s = values_split xs i in
     let p = values_padded d (take i xs) in
-    value_behind d b xs i x r e l ∙ ap (λ (n : ℕ). Some n) (omega arith)
+    value_after d b xs i x r e l ∙ ap (λ (n : ℕ). Some n) (omega arith)
 
 -- ---- the strips
 
@@ -345,7 +345,7 @@ strip_place m t s i e f l =
     let k : i ≡ 0 + i = omega arith in
     ap (λ o. unwrap_or o 0) (thumb_found m (Strip i) (λ d. refl) (λ d u. refl)
     ∙ ap (λ y. running (thumb_start m) y (Strip i)) (thumb_parts m.thumb)
-    ∙ run_behind (thumb_start m) (jpeg_part m.thumb) (strips_part m.thumb) (Strip i) (go m.thumb)
+    ∙ run_after (thumb_start m) (jpeg_part m.thumb) (strips_part m.thumb) (Strip i) (go m.thumb)
     ∙ ap (λ y. running (strips_start m) y (Strip i)) (ap strips_part e ∙ ap all_strip_chunks f)
     ∙ ap (λ (j : ℕ). running (strips_start m) (strip_chunks 0 s) (Strip j)) k
     ∙ strip_at (strips_start m) 0 i s l)

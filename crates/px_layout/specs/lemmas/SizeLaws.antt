@@ -18,14 +18,14 @@ use Rattle.px_meaning.specs.Tree.{Meaning, Thumbnail}
 use Rattle.px_meaning.specs.Roles.{role}
 use Rattle.px_meaning.specs.Entry.{table_size}
 use Rattle.px_meaning.specs.Directory.{dirs, magic}
-use Rattle.px_meaning.specs.Fits.{Item, item_size, items, Fits}
+use Rattle.px_meaning.specs.Writable.{Item, item_size, items, IsWritable}
 use Rattle.px_layout.specs.declared.chunks.Chunk.{Chunk}
 use Rattle.px_layout.specs.declared.chunks.Chunk.TheVariants.{Table, Placed, Strip}
 use Rattle.px_layout.specs.Chunks.{placed_chunk, chunks_of_dir, jpeg_chunks, strip_chunks, all_strip_chunks, thumb_chunks, chunks}
 use Rattle.px_layout.specs.Plans.{Plan, place, Legal, plan_ranges}
 use Rattle.px_layout.specs.Laid.{long_bytes, item_bytes, entry_bytes, next_bytes, table_bytes, placed_content, contents_of_dir}
 use Rattle.px_layout.specs.Laid.{jpeg_contents, strip_contents, all_strip_contents, thumb_contents, contents, header, laid_pieces, laid}
-use Rattle.px_layout.specs.lemmas.StandLaws.{Stands, piece_range, each_stands}
+use Rattle.px_layout.specs.lemmas.PlacementLaws.{IsPlaced, piece_range, each_placed}
 use Rattle.px_layout.specs.lemmas.ItemLaws.{Suits, length_is, length_entry}
 use Rattle.px_layout.specs.lemmas.EntryLaws.{Good, good_items}
 
@@ -112,7 +112,7 @@ module _ (plan : Plan) (o : Order) (filler : ℕ) where
       strips None = refl
       strips (Some s) = strips_sized 0 s
 
-  pub contents_sized : (m : Meaning) → Fits m → map sized (contents plan o filler m) ≡ chunks m
+  pub contents_sized : (m : Meaning) → IsWritable m → map sized (contents plan o filler m) ≡ chunks m
   unfolding contents chunks
   contents_sized m f = map-append sized (flat_map (λ d. contents_of_dir plan o filler m d (items m d)) dirs) (thumb_contents m.thumb)
       ∙ ap₂ (λ a b. a ++ b)
@@ -131,7 +131,7 @@ module _ (plan : Plan) (o : Order) (filler : ℕ) where
       eight Least = refl
       eight Most = refl
 
-  pub ranges_are : (m : Meaning) → Fits m → map piece_range (laid_pieces plan o filler m) ≡ plan_ranges m plan
+  pub ranges_are : (m : Meaning) → IsWritable m → map piece_range (laid_pieces plan o filler m) ≡ plan_ranges m plan
   unfolding laid_pieces plan_ranges
   ranges_are m f = ap₂ (λ n rs. range 0 n ∷ rs) length_header
       (map_map piece_range (λ c. (place plan c.0, c.1)) (contents plan o filler m)
@@ -139,10 +139,10 @@ module _ (plan : Plan) (o : Order) (filler : ℕ) where
       ∙ ap (map (λ c. range (place plan c.0) c.1)) (contents_sized m f))
 
   -- each piece is in the block
-  pub pieces_stand : (m : Meaning) → Fits m → Legal m plan → AllByRecursion (λ y. Stands (laid m plan o filler) y.0 y.1)
+  pub pieces_placed : (m : Meaning) → IsWritable m → Legal m plan → AllByRecursion (λ y. IsPlaced (laid m plan o filler) y.0 y.1)
       (laid_pieces plan o filler m)
   unfolding laid
-  pieces_stand m f l = each_stands filler plan.length (laid_pieces plan o filler m)
+  pieces_placed m f l = each_placed filler plan.length (laid_pieces plan o filler m)
       (subst AllApart (sym (ranges_are m f)) l.apart)
       (each_in_map (λ r. r.start + r.size ≤ plan.length) piece_range (laid_pieces plan o filler m)
       (subst (AllByRecursion (λ r. r.start + r.size ≤ plan.length)) (sym (ranges_are m f)) l.inside))

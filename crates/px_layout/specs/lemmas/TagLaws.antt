@@ -14,7 +14,8 @@ use Rattle.px_meaning.specs.declared.Role.TheVariants.{To}
 use Rattle.px_meaning.specs.declared.Role.{Role}
 use Rattle.px_meaning.specs.Entry.{is_one_long, offset}
 use Rattle.px_meaning.specs.Directory.{pointer, entry_with}
-use Rattle.px_meaning.specs.Fits.{Item, Field, Iptc, Link, AtJpeg, JpegSize, AtStrips, StripSizes, item_size, put, put_some, field_items}
+use Rattle.px_meaning.specs.Writable.{Item, Field, Iptc, Link, AtJpeg, JpegSize, AtStrips, StripSizes, item_size, put, put_some}
+use Rattle.px_meaning.specs.Writable.{field_items}
 use Rattle.px_layout.specs.declared.chunks.Chunk.TheVariants.{Table}
 use Rattle.px_layout.specs.Plans.{Plan, place}
 use Rattle.px_layout.specs.Laid.{item_bytes, last_bytes}

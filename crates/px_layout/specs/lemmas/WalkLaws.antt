@@ -9,7 +9,7 @@ use Rattle.std.proofs.lemmas.Option.{slice_get_within, get_or_from_slice_get}
 use Rattle.px_meaning.specs.declared.Dir.{Dir}
 use Rattle.px_meaning.specs.declared.Dir.TheVariants.{Main, Exif, Interop, Gps, Thumb}
 use Rattle.px_meaning.specs.Tree.{Meaning}
-use Rattle.px_meaning.specs.Fits.{Item, items, Fits}
+use Rattle.px_meaning.specs.Writable.{Item, items, IsWritable}
 use Rattle.px_layout.specs.declared.chunks.Chunk.{Chunk}
 use Rattle.px_layout.specs.declared.chunks.Chunk.TheVariants.{Strip}
 use Rattle.px_layout.specs.Chunks.{chunks_of_dir, strip_chunks, thumb_chunks, chunks}
@@ -41,7 +41,7 @@ strips_more xs i x out now e s =
     ∙ ap (λ ys. out ++ strip_chunks i ys) (sym (drop_here xs i x e))
 
 -- a directory has fewer than 65536 entries
-pub few_there : (m : Meaning) (d : Dir) (xs : List (ℕ × Item)) → Fits m → items m d ≡ Some xs → length xs < 2 ^ 16
+pub few_there : (m : Meaning) (d : Dir) (xs : List (ℕ × Item)) → IsWritable m → items m d ≡ Some xs → length xs < 2 ^ 16
 few_there m d xs f e = few_items d xs (subst (λ (o : Option (List (ℕ × Item))). IfSome o (Good d)) e (good_items m f d))
 
 -- all of them

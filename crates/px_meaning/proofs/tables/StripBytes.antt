@@ -31,11 +31,11 @@ get_before [] ys i x h = cc
 get_before (y ∷ xs) ys zero x h = h
 get_before (y ∷ xs) ys (suc i) x h = get_before xs ys i x h
 
-get_behind : (xs ys : List (List ℕ)) (i : ℕ) → length xs ≤ i → slice_get (xs ++ ys) i ≡ slice_get ys (i - length xs)
-get_behind [] ys i h = ap (λ (n : ℕ). slice_get ys n) (omega arith)
-get_behind (y ∷ xs) ys zero h = absurd (omega arith)
-get_behind (y ∷ xs) ys (suc i) h =
-    get_behind xs ys i (omega arith) ∙ (let e : i - length xs ≡ suc i - suc (length xs) = omega arith in ap (λ (n : ℕ). slice_get ys n) e)
+get_after : (xs ys : List (List ℕ)) (i : ℕ) → length xs ≤ i → slice_get (xs ++ ys) i ≡ slice_get ys (i - length xs)
+get_after [] ys i h = ap (λ (n : ℕ). slice_get ys n) (omega arith)
+get_after (y ∷ xs) ys zero h = absurd (omega arith)
+get_after (y ∷ xs) ys (suc i) h =
+    get_after xs ys i (omega arith) ∙ (let e : i - length xs ≡ suc i - suc (length xs) = omega arith in ap (λ (n : ℕ). slice_get ys n) e)
 
 -- what is true of each range is true of the one at i
 pub inside_at : (b : List ℕ) (rs : List Range) (i : ℕ) (r : Range) → AllByRecursion (IsInside b) rs → slice_get rs i ≡ Some r → IsInside b r
@@ -72,4 +72,4 @@ module _ (named : Option StripLists) (l : StripLists) (is : named ≡ Some l) (i
       → slice_get (named_strips named ++ pushed) k ≡ slice_get pushed (k - length l.starts.elements)
   get_pushed pushed k h =
       let e = front_length in
-      get_behind (named_strips named) pushed k (omega arith) ∙ ap (λ (n : ℕ). slice_get pushed (k - n)) e
+      get_after (named_strips named) pushed k (omega arith) ∙ ap (λ (n : ℕ). slice_get pushed (k - n)) e

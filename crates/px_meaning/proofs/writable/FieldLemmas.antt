@@ -8,7 +8,7 @@ use Rattle.std.proofs.lemmas.List.Edits.{length-insert, get_or-insert_below, get
 use Rattle.px_field.specs.Values.{Value}
 use Rattle.px_meaning.specs.Tree.{Fields}
 use Rattle.px_meaning.specs.Roles.{at_tag}
-use Rattle.px_meaning.specs.Fits.{put}
+use Rattle.px_meaning.specs.Writable.{put}
 use Rattle.px_meaning.specs.Entry.{Rising}
 use Rattle.px_meaning.specs.calls.Places.{tags, IsInOrder, IsAt, IsGapFor}
 
@@ -95,13 +95,13 @@ pub in_order_insert : (fields : Fields) (tag at : ℕ) (value : Value) → IsInO
 in_order_insert fields tag at value ok gap i j lt in_range =
     let old = tags fields in
     let new = insert old at tag in
-    let room : at ≤ length old = omega (arith, gap.inside, length_tags fields) in
+    let space : at ≤ length old = omega (arith, gap.inside, length_tags fields) in
     let length_new = length-insert fields at (tag, value) gap.inside in
-    let key_below : (i : ℕ) → i < at → get_or new i 0 ≡ get_or old i 0 = λ i below. get_or-insert_below old at tag 0 i below room in
-    let key_here : (i : ℕ) → i ≡ at → get_or new i 0 ≡ tag = λ i here. rw here (get_or-insert_at old at tag 0 room) in
+    let key_below : (i : ℕ) → i < at → get_or new i 0 ≡ get_or old i 0 = λ i below. get_or-insert_below old at tag 0 i below space in
+    let key_here : (i : ℕ) → i ≡ at → get_or new i 0 ≡ tag = λ i here. rw here (get_or-insert_at old at tag 0 space) in
     let key_above : (i : ℕ) → at < i → get_or new i 0 ≡ get_or old (i - 1) 0 =
     λ i above. subst (λ q. get_or new q 0 ≡ get_or old (i - 1) 0) {x = i - 1 + 1} (omega arith)
-    (get_or-insert_above old at tag 0 (i - 1) (omega arith) room) in
+    (get_or-insert_above old at tag 0 (i - 1) (omega arith) space) in
     let rises : get_or new i 0 < get_or new j 0 =
     grind (
       arith,

@@ -12,8 +12,8 @@ use Rattle.px_field.specs.declared.Kind.{Kind}
 use Rattle.px_field.specs.declared.Kind.TheVariants.{Of, Whole}
 use Rattle.px_field.specs.declared.Element.{Element}
 use Rattle.px_field.specs.Forms.{form_of, size}
-use Rattle.px_field.specs.Values.{Value, elements, spelled, widened}
-use Rattle.px_field.specs.lemmas.ValueLaws.{IsOf_elements, spell_elements, length_spelled, elements_spelled, count_in_times}
+use Rattle.px_field.specs.Values.{Value, elements, encoded, widened}
+use Rattle.px_field.specs.lemmas.ValueLaws.{IsOf_elements, encode_elements, length_encoded, elements_encoded, count_in_times}
 use Rattle.px_meaning.specs.Iim.{Iim}
 use Rattle.px_meaning.specs.declared.roles.Dir.{Dir}
 use Rattle.px_meaning.specs.declared.roles.Role.{Role}
@@ -21,22 +21,22 @@ use Rattle.px_meaning.specs.declared.roles.Role.TheVariants.{Plain, Widened, For
 use Rattle.px_meaning.specs.declared.roles.Role.TheVariants.{StripLengths, To}
 use Rattle.px_meaning.specs.Roles.{role}
 use Rattle.px_meaning.specs.Entry.{Entry, raw, raw_size, sized, has_raw, IsEntry, IsDirectory, entry_elements, widened_value, record_in}
-use Rattle.px_meaning.specs.Entry.{unless_record, value_in, field, fields}
+use Rattle.px_meaning.specs.Entry.{unless_record, field_value_in, field, fields}
 use Rattle.px_meaning.specs.Directory.{entries_at}
-use Rattle.px_meaning.specs.Laws.{Spell, IsTyped, IsWhole, IsWidened, IsValueAt, Means}
+use Rattle.px_meaning.specs.Laws.{Encodes, IsTyped, IsWhole, IsWidened, IsValueAt, Means}
 use Rattle.px_meaning.specs.lemmas.Members.{each_member, Made, made_from, made_into}
 use Rattle.px_meaning.specs.lemmas.FitsBack.{Plausible, entries_plausible, bytes_raw, length_raw}
 
 -- only the elements that are read encode to the bytes
-only_elements : (o : Order) (f : Form) (n : ℕ) (x : List ℕ) (es : List Element) → length x ≡ n * size f → Spell o f es x
+only_elements : (o : Order) (f : Form) (n : ℕ) (x : List ℕ) (es : List Element) → length x ≡ n * size f → Encodes o f es x
     → es ≡ elements o f n x
-unfolding spelled
+unfolding encoded
 only_elements o f n x es l s =
     let v : Value = record { kind = Of f; elements = es } in
-    let e = elements_spelled o v s.each in
-    let k : length x ≡ length es * size f = ap (λ (y : List ℕ). length y) (sym s.spelled_is) ∙ length_spelled o v s.each in
+    let e = elements_encoded o v s.each in
+    let k : length x ≡ length es * size f = ap (λ (y : List ℕ). length y) (sym s.encoded_is) ∙ length_encoded o v s.each in
     let c : length es ≡ n = sym (count_in_times f x (length es) (sym k)) ∙ count_in_times f x n (sym l) in
-    sym e ∙ ap₂ (λ (m : ℕ) (y : List ℕ). elements o f m y) c s.spelled_is
+    sym e ∙ ap₂ (λ (m : ℕ) (y : List ℕ). elements o f m y) c s.encoded_is
 
 module _ (b : List ℕ) (o : Order) (bytes : AreBytes b) (e : Entry) (p : Plausible e) (inside : has_raw b o e ≡ true) (f : Form)
     (known : form_of e.code ≡ Some f) where
@@ -47,31 +47,31 @@ module _ (b : List ℕ) (o : Order) (bytes : AreBytes b) (e : Entry) (p : Plausi
   unfolding raw_size
   size_is = length_raw b o bytes e p.four inside ∙ ap (λ f. sized f e.count) known
 
-  spells : Spell o f read (raw b o e)
+  encodes : Encodes o f read (raw b o e)
   unfolding entry_elements
-  spells = record {
+  encodes = record {
     each = IsOf_elements o f e.count (raw b o e) (bytes_raw b o bytes e p.bytes);
-    spelled_is = spell_elements o f e.count (raw b o e) size_is (bytes_raw b o bytes e p.bytes);
+    encoded_is = encode_elements o f e.count (raw b o e) size_is (bytes_raw b o bytes e p.bytes);
   }
 
-  only_read : (es : List Element) → Spell o f es (raw b o e) → es ≡ read
+  only_read : (es : List Element) → Encodes o f es (raw b o e) → es ≡ read
   unfolding entry_elements
   only_read es s = only_elements o f e.count (raw b o e) es size_is s
 
   typed : IsTyped b o e f (record { kind = Of f; elements = read })
-  typed = record { kind = refl; spell = spells }
+  typed = record { kind = refl; encode = encodes }
 
   only_typed : (v : Value) → IsTyped b o e f v → record { kind = Of f; elements = read } ≡ v
   only_typed v t =
-      ap₂ (λ (k : Kind) (es : List Element). record { kind = k; elements = es }) (sym t.kind) (sym (only_read v.elements t.spell))
+      ap₂ (λ (k : Kind) (es : List Element). record { kind = k; elements = es }) (sym t.kind) (sym (only_read v.elements t.encode))
 
   whole : IsWhole b o e f (record { kind = Whole; elements = map widened read })
-  whole = record { kind = refl; numbers = read; spell = spells; widened_is = refl }
+  whole = record { kind = refl; numbers = read; encode = encodes; widened_is = refl }
 
   only_whole : (v : Value) → IsWhole b o e f v → record { kind = Whole; elements = map widened read } ≡ v
   only_whole v t =
       ap₂ (λ (k : Kind) (es : List Element). record { kind = k; elements = es }) (sym t.kind)
-      (ap (map widened) (sym (only_read t.numbers t.spell)) ∙ sym t.widened_is)
+      (ap (map widened) (sym (only_read t.numbers t.encode)) ∙ sym t.widened_is)
 
   -- ---- by role
 
@@ -101,7 +101,7 @@ wide_from b o e Long v t w h = w h
 wide_from b o e f v t w h = t h
 
 module _ (b : List ℕ) (o : Order) (bytes : AreBytes b) (e : Entry) (p : Plausible e) (inside : has_raw b o e ≡ true) where
-  value_to : (r : Role) (f : Form) (v : Value) → form_of e.code ≡ Some f → value_in b o e r f ≡ Some v → IsValueAt b o e r f v
+  value_to : (r : Role) (f : Form) (v : Value) → form_of e.code ≡ Some f → field_value_in b o e r f ≡ Some v → IsValueAt b o e r f v
   value_to Plain f v k h = let j : record { kind = Of f; elements = entry_elements b o e f } ≡ v = cc in
       subst (IsTyped b o e f) j (typed b o bytes e p inside f k)
   value_to Widened f v k h = let j : widened_value f (entry_elements b o e f) ≡ v = cc in
@@ -114,7 +114,7 @@ module _ (b : List ℕ) (o : Order) (bytes : AreBytes b) (e : Entry) (p : Plausi
   value_to StripLengths f v k h = cc
   value_to (To d) f v k h = cc
 
-  value_from : (r : Role) (f : Form) (v : Value) → form_of e.code ≡ Some f → IsValueAt b o e r f v → value_in b o e r f ≡ Some v
+  value_from : (r : Role) (f : Form) (v : Value) → form_of e.code ≡ Some f → IsValueAt b o e r f v → field_value_in b o e r f ≡ Some v
   value_from Plain f v k h = ap Some (only_typed b o bytes e p inside f k v h)
   value_from Widened f v k h =
       ap Some (wide_from b o e f v (only_typed b o bytes e p inside f k v) (only_whole b o bytes e p inside f k v) h)
@@ -132,7 +132,7 @@ module _ (b : List ℕ) (o : Order) (bytes : AreBytes b) (e : Entry) (p : Plausi
   abbrev MeansAt : Dir → ℕ → Value → Type 0
   MeansAt d t v = (f : Form) × (e.tag ≡ t) × (form_of e.code ≡ Some f) × IsValueAt b o e (role d t) f v
 
-  pair_to : (d : Dir) (t : ℕ) (v : Value) (f : Form) (w : Option Value) → form_of e.code ≡ Some f → value_in b o e (role d e.tag) f ≡ w
+  pair_to : (d : Dir) (t : ℕ) (v : Value) (f : Form) (w : Option Value) → form_of e.code ≡ Some f → field_value_in b o e (role d e.tag) f ≡ w
       → ◌≡◌ {A = Option (ℕ × Value)} (option_map (λ v. (e.tag, v)) w) (Some (t, v)) → MeansAt d t v
   pair_to d t v f None k q h = cc
   pair_to d t v f (Some u) k q h =
@@ -146,16 +146,16 @@ module _ (b : List ℕ) (o : Order) (bytes : AreBytes b) (e : Entry) (p : Plausi
   field_to d t v h = go (form_of e.code) refl h
     where
       go : (z : Option Form) → form_of e.code ≡ z → ◌≡◌ {A = Option (ℕ × Value)}
-          (option_map (λ v. (e.tag, v)) (option_and_then (value_in b o e (role d e.tag)) z)) (Some (t, v)) → MeansAt d t v
+          (option_map (λ v. (e.tag, v)) (option_and_then (field_value_in b o e (role d e.tag)) z)) (Some (t, v)) → MeansAt d t v
       go None k q = cc
-      go (Some f) k q = pair_to d t v f (value_in b o e (role d e.tag) f) k refl q
+      go (Some f) k q = pair_to d t v f (field_value_in b o e (role d e.tag) f) k refl q
 
   field_from : (d : Dir) (t : ℕ) (v : Value) (f : Form) → e.tag ≡ t → form_of e.code ≡ Some f → IsValueAt b o e (role d t) f v
       → ◌≡◌ {A = Option (ℕ × Value)} (field b o d e) (Some (t, v))
   unfolding field
   field_from d t v f at k m =
       let pair : ℕ → Option (ℕ × Value) = λ (s : ℕ). Some (s, v) in
-      ap (λ (z : Option Form). option_map {U = ℕ × Value} (λ v. (e.tag, v)) (option_and_then (value_in b o e (role d e.tag)) z)) k
+      ap (λ (z : Option Form). option_map {U = ℕ × Value} (λ v. (e.tag, v)) (option_and_then (field_value_in b o e (role d e.tag)) z)) k
       ∙ ap (option_map {U = ℕ × Value} (λ v. (e.tag, v))) (value_from (role d e.tag) f v k
       (subst (λ (s : ℕ). IsValueAt b o e (role d s) f v) (sym at) m))
       ∙ ap pair at

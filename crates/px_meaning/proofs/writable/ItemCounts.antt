@@ -9,9 +9,9 @@ use Rattle.px_meaning.specs.Tree.{Fields, ExifPart, Thumbnail, Meaning}
 use Rattle.px_meaning.specs.declared.roles.Dir.TheVariants.{Exif, Interop, Gps}
 use Rattle.px_meaning.specs.Roles.{exif_tag, gps_tag, interop_tag, record_tag, jpeg_offset_tag, jpeg_length_tag, strip_offsets_tag}
 use Rattle.px_meaning.specs.Roles.{strip_lengths_tag}
-use Rattle.px_meaning.specs.Fits.{Iptc, Link, AtJpeg, JpegSize, AtStrips, StripSizes, put, put_some, link, field_items, main_items}
-use Rattle.px_meaning.specs.Fits.{exif_items}
-use Rattle.px_meaning.specs.Fits.{thumb_items}
+use Rattle.px_meaning.specs.Writable.{Iptc, Link, AtJpeg, JpegSize, AtStrips, StripSizes, put, put_some, link, field_items, main_items}
+use Rattle.px_meaning.specs.Writable.{exif_items}
+use Rattle.px_meaning.specs.Writable.{thumb_items}
 
 pub length_put : {X : Type 0} (t : ℕ) (x : X) (xs : List (ℕ × X)) → length (put t x xs) ≡ suc (length xs)
 length_put t x [] = refl

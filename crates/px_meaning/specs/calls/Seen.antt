@@ -1,21 +1,21 @@
 -- The meaning that contracts see of the program's: the view doesn't follow a reference in a field by itself.
 use Rattle.std.specs.Prelude.{option_map}
-use Rattle.px_meaning.specs.Tree as said
+use Rattle.px_meaning.specs.Tree as meaning
 use Rattle.px_meaning.specs.declared.meanings.Meaning.{Meaning}
 use Rattle.px_meaning.specs.declared.meanings.ExifPart.{ExifPart}
 use Rattle.px_meaning.specs.declared.meanings.Thumb.{Thumb}
 
-abbrev pub exif_of : ExifPart → said.ExifPart
+abbrev pub exif_of : ExifPart → meaning.ExifPart
 exif_of e = record { fields = e.fields; interop = e.interop }
 
-abbrev pub thumb_of : Thumb → said.Thumbnail
+abbrev pub thumb_of : Thumb → meaning.Thumbnail
 thumb_of t = record {
   fields = t.fields;
   jpeg = option_map (λ x. x.now) t.jpeg;
   strips = t.strips;
 }
 
-abbrev pub meaning_of : Meaning → said.Meaning
+abbrev pub meaning_of : Meaning → meaning.Meaning
 meaning_of m = record {
   main = m.main;
   iptc = m.iptc;

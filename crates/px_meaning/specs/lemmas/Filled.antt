@@ -22,7 +22,7 @@ use Rattle.px_field.specs.lemmas.ElementLaws.{size_pos}
 use Rattle.px_field.specs.lemmas.PieceLaws.{length_pieces}
 use Rattle.px_field.specs.lemmas.ValueLaws.{length_elements}
 use Rattle.px_iim.specs.Record.{SaysIim}
-use Rattle.px_iim.specs.lemmas.RecordLaws.{computed_said, said_is_record}
+use Rattle.px_iim.specs.lemmas.RecordLaws.{computed_is_meaning, meaning_is_record}
 use Rattle.px_iim.specs.lemmas.BoundLaws.{normal_bound}
 use Rattle.px_meaning.specs.Iim.{Iim, iim_of, IsRecord, normal_iim}
 use Rattle.px_meaning.specs.declared.roles.Dir.{Dir}
@@ -35,22 +35,22 @@ use Rattle.px_meaning.specs.Tree.{Fields, Meaning}
 use Rattle.px_meaning.specs.Entry.{short, Entry, entry, table, entries, sized, raw_size, is_placed, offset, raw, has_raw, is_one_long}
 use Rattle.px_meaning.specs.Entry.{has_form, is_allowed, IsEntry, Rising, IsDirectory, entry_elements, widened_value, record_in}
 use Rattle.px_meaning.specs.Entry.{unless_record}
-use Rattle.px_meaning.specs.Entry.{value_in, field, fields}
+use Rattle.px_meaning.specs.Entry.{field_value_in, field, fields}
 use Rattle.px_meaning.specs.Directory.{entries_at, entry_with, pointer, main_at, dir_at, fields_at}
 use Rattle.px_meaning.specs.Thumbnail.{both, are_paired, whole_number, numbers_in, numbers, bytes_of, jpeg_range, ranges_of, strip_ranges}
 use Rattle.px_meaning.specs.Thumbnail.{IsThumbnail}
 use Rattle.px_meaning.specs.Says.{record_at, exif_part, thumbnail, meaning, IsExif, SaysExif}
-use Rattle.px_meaning.specs.Fits.{Item, Iptc, AtJpeg, JpegSize, AtStrips, StripSizes, put, put_some, link, field_items, main_items}
-use Rattle.px_meaning.specs.Fits.{exif_items}
-use Rattle.px_meaning.specs.Fits.{thumb_items, items, FitsFields, FitsExif, FitsThumb, IsBytes, Fits}
+use Rattle.px_meaning.specs.Writable.{Item, Iptc, AtJpeg, JpegSize, AtStrips, StripSizes, put, put_some, link, field_items, main_items}
+use Rattle.px_meaning.specs.Writable.{exif_items}
+use Rattle.px_meaning.specs.Writable.{thumb_items, items, AreWritableFields, IsWritableExif, IsWritableThumb, IsBytes, IsWritable}
 use Rattle.px_meaning.specs.lemmas.TagLaws.{each_at}
 use Rattle.px_meaning.specs.lemmas.InRange.{bytes_part}
 use Rattle.px_meaning.specs.lemmas.FitsBack.{entry_whole, count_is, Plausible, entries_plausible}
 use Rattle.px_meaning.specs.lemmas.FitsBack.{bytes_raw, length_raw, value_of, fields_fit}
 
 -- the facts about records that are used: bytes have a valid one, with a normal form no longer than twice the bytes
-iim_said : (x : List ℕ) (i : Iim) → AreBytes x → iim_of x ≡ Some i → IsRecord i × (length (normal_iim i) ≤ 2 * length x)
-iim_said x i h e = let s : SaysIim x i = computed_said x i e in (said_is_record x i h s, normal_bound x i s)
+iim_has_meaning : (x : List ℕ) (i : Iim) → AreBytes x → iim_of x ≡ Some i → IsRecord i × (length (normal_iim i) ≤ 2 * length x)
+iim_has_meaning x i h e = let s : SaysIim x i = computed_is_meaning x i e in (meaning_is_record x i h s, normal_bound x i s)
 
 -- a role by its table
 role_cases : (d : Dir) (t : ℕ) (P : Role → Type 0) → AllByRecursion (λ x. x.0 ≡ t → P x.1) (special d) → P Forbidden → P Plain
@@ -159,7 +159,7 @@ module _ (b : List ℕ) (o : Order) (bytes : AreBytes b) (x : IsExif b o) where
     is : IsDirectory b o d a
     is = subst (λ z. IfSome z (IsDirectory b o d)) at (in_order d)
 
-    fit : FitsFields d (fields b o d a)
+    fit : AreWritableFields d (fields b o d a)
     fit = fields_fit b o bytes d a is
 
     both_each : AllByRecursion (IsBoth d) (entries_at b o a)
@@ -178,21 +178,21 @@ module _ (b : List ℕ) (o : Order) (bytes : AreBytes b) (x : IsExif b o) where
   record_entry : Entry → Option Iim
   record_entry e = option_and_then (λ f. record_in f (raw b o e)) (form_of e.code)
 
-  record_said : (f : Form) (y : List ℕ) (i : Iim) → AreBytes y → record_in f y ≡ Some i
+  record_has_meaning : (f : Form) (y : List ℕ) (i : Iim) → AreBytes y → record_in f y ≡ Some i
       → IsRecord i × (length (normal_iim i) ≤ 2 * length y)
-  record_said Byte y i h e = iim_said y i h e
-  record_said Undefined y i h e = iim_said y i h e
-  record_said Ascii y i h e = cc
-  record_said Short y i h e = cc
-  record_said Long y i h e = cc
-  record_said Rational y i h e = cc
-  record_said SByte y i h e = cc
-  record_said SShort y i h e = cc
-  record_said SLong y i h e = cc
-  record_said SRational y i h e = cc
-  record_said Float y i h e = cc
-  record_said Double y i h e = cc
-  record_said Utf8 y i h e = cc
+  record_has_meaning Byte y i h e = iim_has_meaning y i h e
+  record_has_meaning Undefined y i h e = iim_has_meaning y i h e
+  record_has_meaning Ascii y i h e = cc
+  record_has_meaning Short y i h e = cc
+  record_has_meaning Long y i h e = cc
+  record_has_meaning Rational y i h e = cc
+  record_has_meaning SByte y i h e = cc
+  record_has_meaning SShort y i h e = cc
+  record_has_meaning SLong y i h e = cc
+  record_has_meaning SRational y i h e = cc
+  record_has_meaning Float y i h e = cc
+  record_has_meaning Double y i h e = cc
+  record_has_meaning Utf8 y i h e = cc
 
   record_fits : (z : Option Entry) → IfSome z Plausible → IfSome (option_and_then record_entry z)
       (λ i. IsRecord i × (length (normal_iim i) ≤ 2 * limit))
@@ -200,15 +200,16 @@ module _ (b : List ℕ) (o : Order) (bytes : AreBytes b) (x : IsExif b o) where
   record_fits None h = tt
   record_fits (Some e) h = go (form_of e.code)
     where
-      said : (f : Form) (c : Option Iim) → record_in f (raw b o e) ≡ c → IfSome c (λ i. IsRecord i × (length (normal_iim i) ≤ 2 * limit))
-      said f None q = tt
-      said f (Some i) q = let r = record_said f (raw b o e) i (bytes_raw b o bytes e h.bytes) q in
+      raw_record_fits : (f : Form) (c : Option Iim) → record_in f (raw b o e) ≡ c
+          → IfSome c (λ i. IsRecord i × (length (normal_iim i) ≤ 2 * limit))
+      raw_record_fits f None q = tt
+      raw_record_fits f (Some i) q = let r = record_has_meaning f (raw b o e) i (bytes_raw b o bytes e h.bytes) q in
           (r.0, (let s = short_raw e in let l = r.1 in omega arith))
 
       go : (f : Option Form) → IfSome (option_and_then (λ f. record_in f (raw b o e)) f)
           (λ i. IsRecord i × (length (normal_iim i) ≤ 2 * limit))
       go None = tt
-      go (Some f) = said f (record_in f (raw b o e)) refl
+      go (Some f) = raw_record_fits f (record_in f (raw b o e)) refl
 
   iptc_fits : IfSome (record_at b o main) (λ i. IsRecord i × (length (normal_iim i) ≤ 2 * limit))
   unfolding record_at record_entry
@@ -225,10 +226,11 @@ module _ (b : List ℕ) (o : Order) (bytes : AreBytes b) (x : IsExif b o) where
       → ⊥
   unfolding record_entry
   no_field_value e i t c v h =
-      go (form_of e.code) c (subst (λ r. option_and_then (value_in b o e r) (form_of e.code) ≡ Some v) (ap (role Main) t ∙ record_role) h)
+      go (form_of e.code) c (subst (λ r. option_and_then (field_value_in b o e r) (form_of e.code) ≡ Some v) (ap (role Main) t
+      ∙ record_role) h)
     where
       go : (f : Option Form) → option_and_then (λ f. record_in f (raw b o e)) f ≡ Some i
-          → option_and_then (value_in b o e Record) f ≡ Some v → ⊥
+          → option_and_then (field_value_in b o e Record) f ≡ Some v → ⊥
       go None p q = cc
       go (Some f) p q =
           let k : unless_record (record_in f (raw b o e)) (record { kind = Of f; elements = entry_elements b o e f }) ≡ Some v = q in
@@ -264,11 +266,11 @@ module _ (b : List ℕ) (o : Order) (bytes : AreBytes b) (x : IsExif b o) where
 
   -- ---- the directories
 
-  opt_fit : (d : Dir) (z : Option ℕ) → dir_at b o d ≡ z → IfSome (option_map (fields b o d) z) (FitsFields d)
+  opt_fit : (d : Dir) (z : Option ℕ) → dir_at b o d ≡ z → IfSome (option_map (fields b o d) z) (AreWritableFields d)
   opt_fit d None q = tt
   opt_fit d (Some a) q = fit d a q
 
-  exif_fit : (z : Option ℕ) → dir_at b o Exif ≡ z → IfSome (option_map (exif_part b o) z) FitsExif
+  exif_fit : (z : Option ℕ) → dir_at b o Exif ≡ z → IfSome (option_map (exif_part b o) z) IsWritableExif
   unfolding exif_part
   exif_fit None q = tt
   exif_fit (Some a) q = record { fields = fit Exif a q; interop = opt_fit Interop (dir_at b o Interop) refl }
@@ -314,7 +316,7 @@ module _ (b : List ℕ) (o : Order) (bytes : AreBytes b) (x : IsExif b o) where
       let k : length (numbers b o u) ≤ limit = few_numbers u h.0.four h.1.inside in
       (omega arith, strips_fit (ranges_of (numbers b o u) (numbers b o w)))
 
-  thumb_fit : (z : Option ℕ) → dir_at b o Thumb ≡ z → IfSome (option_map (thumbnail b o) z) FitsThumb
+  thumb_fit : (z : Option ℕ) → dir_at b o Thumb ≡ z → IfSome (option_map (thumbnail b o) z) IsWritableThumb
   unfolding thumbnail strip_ranges
   thumb_fit None q = tt
   thumb_fit (Some a) q = record {
@@ -384,12 +386,12 @@ module _ (b : List ℕ) (o : Order) (bytes : AreBytes b) (x : IsExif b o) where
   plain_field : (d : Dir) (a : ℕ) (e : Entry) (es : List Entry) → First d a e es → role d e.tag ≡ Plain → 1 ≤ length (fields b o d a)
   plain_field d a e es f r =
       known_form e _ f.1.known (λ g q. field_of d a e es f (record { kind = Of g; elements = entry_elements b o e g })
-      (ap₂ (λ r z. option_and_then (value_in b o e r) z) r q))
+      (ap₂ (λ r z. option_and_then (field_value_in b o e r) z) r q))
 
   wide_field : (d : Dir) (a : ℕ) (e : Entry) (es : List Entry) → First d a e es → role d e.tag ≡ Widened → 1 ≤ length (fields b o d a)
   wide_field d a e es f r =
       known_form e _ f.1.known (λ g q. field_of d a e es f (widened_value g (entry_elements b o e g))
-      (ap₂ (λ r z. option_and_then (value_in b o e r) z) r q))
+      (ap₂ (λ r z. option_and_then (field_value_in b o e r) z) r q))
 
   one_long : (d : Dir) (e : Entry) (d' : Dir) → IsEntry b o d e → role d e.tag ≡ To d' → is_one_long e ≡ true
   one_long d e d' i r = subst (λ r. has_form r e ≡ true) r i.formed
@@ -410,7 +412,7 @@ module _ (b : List ℕ) (o : Order) (bytes : AreBytes b) (x : IsExif b o) where
           (option_and_then (λ e. option_and_then (λ f. record_in f (raw b o e)) (form_of e.code))
           (entry_with record_tag (entries_at b o main))) ≡ true)
       go g q None c = inl (field_of Main main e es f (record { kind = Of g; elements = entry_elements b o e g })
-          (ap₂ (λ r z. option_and_then (value_in b o e r) z) r q
+          (ap₂ (λ r z. option_and_then (field_value_in b o e r) z) r q
           ∙ ap (λ c. unless_record c (record { kind = Of g; elements = entry_elements b o e g })) c))
       go g q (Some i) c =
           inr (λ t. ap is_some (ap (option_and_then (λ e. option_and_then (λ f. record_in f (raw b o e)) (form_of e.code)))
@@ -592,9 +594,9 @@ module _ (b : List ℕ) (o : Order) (bytes : AreBytes b) (x : IsExif b o) where
       go None q = tt
       go (Some a) q = let w = not_empty Thumb a q in filled_thumb a q w.0 w.1 w.2
 
-  pub meaning_fits : Fits M
+  pub tree_fits : IsWritable M
   unfolding meaning
-  meaning_fits = record {
+  tree_fits = record {
     main = fit Main main main_is;
     iptc = iptc_fits;
     no_second = no_second_is (record_at b o main) refl;
@@ -604,6 +606,6 @@ module _ (b : List ℕ) (o : Order) (bytes : AreBytes b) (x : IsExif b o) where
     filled = (filled_is Main, (filled_is Exif, (filled_is Interop, (filled_is Gps, (filled_is Thumb, tt)))));
   }
 
--- The meaning of a block of bytes fits.
-pub said_fits : (b : List ℕ) (m : Meaning) → AreBytes b → SaysExif b m → Fits m
-said_fits b m h s = subst Fits (sym s.says) (meaning_fits b s.order h s.is_block)
+-- The meaning of a block of bytes can be written.
+pub meaning_is_writable : (b : List ℕ) (m : Meaning) → AreBytes b → SaysExif b m → IsWritable m
+meaning_is_writable b m h s = subst IsWritable (sym s.means) (tree_fits b s.order h s.is_block)

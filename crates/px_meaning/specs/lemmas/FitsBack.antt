@@ -17,7 +17,7 @@ use Rattle.px_field.specs.declared.Kind.TheVariants.{Of}
 use Rattle.px_field.specs.declared.Element.{Element}
 use Rattle.px_field.specs.declared.Element.TheVariants as element
 use Rattle.px_field.specs.Forms.{form_of, size}
-use Rattle.px_field.specs.Values.{Value, IsOf, IsValue, spelled, widened}
+use Rattle.px_field.specs.Values.{Value, IsOf, IsValue, encoded, widened}
 use Rattle.px_field.specs.lemmas.PieceLaws.{bytes_take, bytes_drop, each_piece}
 use Rattle.px_field.specs.lemmas.ValueLaws.{IsOf_elements}
 use Rattle.px_meaning.specs.Iim.{Iim, iim_of}
@@ -27,10 +27,11 @@ use Rattle.px_meaning.specs.declared.roles.Role.TheVariants.{Plain, Widened, For
 use Rattle.px_meaning.specs.declared.roles.Role.TheVariants.{StripLengths, To}
 use Rattle.px_meaning.specs.Roles.{role}
 use Rattle.px_meaning.specs.Entry.{short, Entry, entry, table_size, has_table, table, entries, sized, raw_size, is_placed, offset, raw}
-use Rattle.px_meaning.specs.Entry.{has_raw, IsEntry, Rising, IsDirectory, entry_elements, widened_value, record_in, unless_record, value_in}
+use Rattle.px_meaning.specs.Entry.{has_raw, IsEntry, Rising, IsDirectory, entry_elements, widened_value, record_in, unless_record}
+use Rattle.px_meaning.specs.Entry.{field_value_in}
 use Rattle.px_meaning.specs.Entry.{field, fields}
 use Rattle.px_meaning.specs.Directory.{entries_at}
-use Rattle.px_meaning.specs.Fits.{Allows, FitsField, FitsFields}
+use Rattle.px_meaning.specs.Writable.{Allows, IsWritableField, AreWritableFields}
 use Rattle.px_meaning.specs.lemmas.InRange.{bytes_part, below_16, bytes_back, undefined_back}
 
 -- ---- entries
@@ -149,8 +150,8 @@ module _ (b : List ℕ) (o : Order) (bytes : AreBytes b) where
     length_bytes f one q = length_raw e p.four inside ∙ ap (λ f. sized f e.count) q ∙ ap (λ k. e.count * k) one ∙ omega arith
 
     record_stays : (f : Form) → form_of e.code ≡ Some f → record_in f (raw b o e) ≡ None
-        → record_in f (spelled Least (record { kind = Of f; elements = es f })) ≡ None
-    unfolding spelled entry_elements
+        → record_in f (encoded Least (record { kind = Of f; elements = es f })) ≡ None
+    unfolding encoded entry_elements
     record_stays Byte q h = ap iim_of (bytes_back o e.count (raw b o e) (length_bytes Byte refl q)) ∙ h
     record_stays Undefined q h = ap iim_of (undefined_back o e.count (raw b o e) (length_bytes Undefined refl q)) ∙ h
     record_stays _ q h = refl
@@ -161,7 +162,7 @@ module _ (b : List ℕ) (o : Order) (bytes : AreBytes b) where
         subst (λ v. IsValue v × Allows Record v) j (of_form f, ((λ e. cc), record_stays f q k))
     record_fits f (Some i) v q k h = cc
 
-    value_fits : (r : Role) (f : Form) (v : Value) → form_of e.code ≡ Some f → value_in b o e r f ≡ Some v → IsValue v × Allows r v
+    value_fits : (r : Role) (f : Form) (v : Value) → form_of e.code ≡ Some f → field_value_in b o e r f ≡ Some v → IsValue v × Allows r v
     value_fits Plain f v q h =
         let j : record { kind = Of f; elements = es f } ≡ v = cc in subst (λ v. IsValue v × Allows Plain v) j (of_form f, (λ e. cc))
     value_fits Widened f v q h =
@@ -176,12 +177,13 @@ module _ (b : List ℕ) (o : Order) (bytes : AreBytes b) where
 
   -- the value of an entry, if it is a field
   abbrev pub value_of : Dir → Entry → Option Value
-  value_of d e = option_and_then (value_in b o e (role d e.tag)) (form_of e.code)
+  value_of d e = option_and_then (field_value_in b o e (role d e.tag)) (form_of e.code)
 
-  entry_fits : (d : Dir) (e : Entry) → Plausible e → IsEntry b o d e → (v : Value) → value_of d e ≡ Some v → FitsField d (e.tag, v)
+  entry_fits : (d : Dir) (e : Entry) → Plausible e → IsEntry b o d e → (v : Value) → value_of d e ≡ Some v → IsWritableField d (e.tag, v)
   entry_fits d e p i v h = known (form_of e.code) refl h
     where
-      known : (f : Option Form) → form_of e.code ≡ f → option_and_then (value_in b o e (role d e.tag)) f ≡ Some v → FitsField d (e.tag, v)
+      known : (f : Option Form) → form_of e.code ≡ f → option_and_then (field_value_in b o e (role d e.tag)) f ≡ Some v
+          → IsWritableField d (e.tag, v)
       known None q h = cc
       known (Some f) q h = let r = value_fits e p i.inside (role d e.tag) f v q h in record { tag = p.tag; allowed = r.1; value = r.0 }
 
@@ -221,11 +223,12 @@ module _ (b : List ℕ) (o : Order) (bytes : AreBytes b) where
       go None q k = k
       go (Some v) q k = (h.0 v q, k)
 
-  pub fields_fit : (d : Dir) (a : ℕ) → IsDirectory b o d a → FitsFields d (fields b o d a)
+  pub fields_fit : (d : Dir) (a : ℕ) → IsDirectory b o d a → AreWritableFields d (fields b o d a)
   unfolding fields field
   fields_fit d a is = record {
     rising = rising_made (value_of d) (entries_at b o a) is.rising;
-    each = each_made (FitsField d) (value_of d) (entries_at b o a) (each_map₂ Plausible (IsEntry b o d)
-        (λ e. (v : Value) → value_of d e ≡ Some v → FitsField d (e.tag, v)) (entry_fits d) (entries_at b o a) (entries_plausible d a is)
+    each = each_made (IsWritableField d) (value_of d) (entries_at b o a) (each_map₂ Plausible (IsEntry b o d)
+        (λ e. (v : Value) → value_of d e ≡ Some v → IsWritableField d (e.tag, v)) (entry_fits d) (entries_at b o a)
+        (entries_plausible d a is)
         is.each);
   }

@@ -7,13 +7,13 @@ use Rattle.px_meaning.specs.Directory.{magic}
 use Rattle.px_meaning.specs.Says.{meaning, SaysExif}
 
 -- the first bytes determine the byte order
-pub magic_tells : (o p : Order) → magic o ≡ magic p → o ≡ p
-magic_tells Least Least e = refl
-magic_tells Least Most e = cc
-magic_tells Most Least e = cc
-magic_tells Most Most e = refl
+pub magic_decides : (o p : Order) → magic o ≡ magic p → o ≡ p
+magic_decides Least Least e = refl
+magic_decides Least Most e = cc
+magic_decides Most Least e = cc
+magic_decides Most Most e = refl
 
 pub one_meaning : (b : List ℕ) (s t : Meaning) → SaysExif b s → SaysExif b t → s ≡ t
 one_meaning b s t x y =
-    let same : x.order ≡ y.order = magic_tells x.order y.order (sym x.is_block.begins ∙ y.is_block.begins) in
-    x.says ∙ ap (meaning b) same ∙ sym y.says
+    let same : x.order ≡ y.order = magic_decides x.order y.order (sym x.is_block.begins ∙ y.is_block.begins) in
+    x.means ∙ ap (meaning b) same ∙ sym y.means

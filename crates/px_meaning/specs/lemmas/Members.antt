@@ -27,12 +27,12 @@ module _ {X Y : Type 0} (g : X → Option Y) (y : Y) where
   made_from [] (k, l, e) = absurd (omega arith)
   made_from (x ∷ xs) c = made_first x xs (made_from xs) (g x) refl c
 
-  behind : (o : Option Y) (ys : List Y) → Contains ys y → Contains (cons_option o ys) y
-  behind None ys c = c
-  behind (Some z) ys (k, l, e) = (suc k, omega arith, e)
+  after : (o : Option Y) (ys : List Y) → Contains ys y → Contains (cons_option o ys) y
+  after None ys c = c
+  after (Some z) ys (k, l, e) = (suc k, omega arith, e)
 
   pub made_into : (xs : List X) (x : X) → Contains xs x → g x ≡ Some y → Contains (filter_map g xs) y
   made_into [] x (k, l, e) q = absurd (omega arith)
   made_into (z ∷ xs) x (zero, l, e) q =
       subst (λ (o : Option Y). Contains (cons_option o (filter_map g xs)) y) (sym (ap g e ∙ q)) (0, omega arith, refl)
-  made_into (z ∷ xs) x (suc k, l, e) q = behind (g z) (filter_map g xs) (made_into xs x (k, omega arith, e) q)
+  made_into (z ∷ xs) x (suc k, l, e) q = after (g z) (filter_map g xs) (made_into xs x (k, omega arith, e) q)

@@ -1,31 +1,31 @@
 -- What judging and comparing the blocks of pictures returns.
 use Rattle.std.specs.Prelude.{◌≡◌, ◌≤◌, ◌<◌, ◌+◌, ◌^◌, ◌↔◌, ◌⊎◌, ℕ, Bool, true, false, IsTrue, Some, None, List, length}
-use Rattle.px_bytes.specs.Lacking.{Taken, AsksAtMost}
+use Rattle.px_bytes.specs.Allocations.{MemoryCounts, AsksAtMost}
 use Rattle.px_iim.specs.Record.{SaysIim}
 use Rattle.px_jpeg.specs.Head.{Picture}
 use Rattle.px_meaning.specs.Says.{SaysExif}
 use Rattle.px_bytes.specs.declared.Refusal.{Refusal}
 use Rattle.px_bytes.specs.declared.Refusal.TheVariants as refusal
-use Rattle.px_tree.specs.Refused.{IsFaulty as IsFaultyExif}
-use Rattle.px_pictures.specs.declared.faults.BlockKind.{BlockKind}
-use Rattle.px_pictures.specs.declared.faults.BlockKind.TheVariants as kind
+use Rattle.px_tree.specs.Refused.{IsFaultyExif}
+use Rattle.px_pictures.specs.declared.faults.MetadataKind.{MetadataKind}
+use Rattle.px_pictures.specs.declared.faults.MetadataKind.TheVariants as kind
 use Rattle.px_pictures.specs.declared.faults.Comparison.{Comparison}
 use Rattle.px_pictures.specs.declared.faults.Comparison.TheVariants.{Same, Different, NotRead}
-use Rattle.px_pictures.specs.declared.faults.Fault.{Fault}
-use Rattle.px_pictures.specs.declared.faults.Fault.TheVariants.{Head, TooLong, Block, OutOfMemory}
-use Rattle.px_pictures.specs.declared.faults.Side.{Side}
-use Rattle.px_pictures.specs.declared.faults.Side.TheVariants.{First, Second}
+use Rattle.px_pictures.specs.declared.faults.MetadataFault.{MetadataFault}
+use Rattle.px_pictures.specs.declared.faults.MetadataFault.TheVariants.{Head, TooLong, Block, OutOfMemory}
+use Rattle.px_pictures.specs.declared.faults.PictureSide.{PictureSide}
+use Rattle.px_pictures.specs.declared.faults.PictureSide.TheVariants.{First, Second}
 use Rattle.px_pictures.specs.Asking.{join_request, blocks_request}
-use Rattle.px_pictures.specs.Metadata.{Blocks, blocks_of, HasBlocks, SayAll}
+use Rattle.px_pictures.specs.Metadata.{Blocks, blocks_of, HasBlocks, MeanAll}
 use Rattle.px_pictures.specs.Faults.{AllExif, AllIptc, AllRead, FaultAt, IsFaultyIptc, IsHeadFault, IsBlockFault}
 use Rattle.px_pictures.specs.Unread.{IsUnread}
 
-abbrev pub fault_of : BlockKind → ℕ → Refusal → Fault
+abbrev pub fault_of : MetadataKind → ℕ → Refusal → MetadataFault
 fault_of k n (refusal.Content cause place) = Block k n cause place
 fault_of k n refusal.OutOfMemory = OutOfMemory
 
 -- one of the Exif blocks is faulty, or an allocation failed
-abbrev pub ExifFails : List (List ℕ) → ℕ → Fault → Type 0
+abbrev pub ExifFails : List (List ℕ) → ℕ → MetadataFault → Type 0
 ExifFails bs refused (Block kind.Exif n c p) = FaultAt AllExif IsFaultyExif bs n c p
 ExifFails bs refused (Block kind.Iptc n c p) = ⊥
 ExifFails bs refused OutOfMemory = 0 < refused
@@ -33,7 +33,7 @@ ExifFails bs refused (Head e) = ⊥
 ExifFails bs refused TooLong = ⊥
 
 -- one of the IPTC blocks is faulty
-abbrev pub IptcFails : List (List ℕ) → Fault → Type 0
+abbrev pub IptcFails : List (List ℕ) → MetadataFault → Type 0
 IptcFails bs (Block kind.Iptc n c p) = FaultAt AllIptc IsFaultyIptc bs n c p
 IptcFails bs (Block kind.Exif n c p) = ⊥
 IptcFails bs OutOfMemory = ⊥
@@ -49,37 +49,37 @@ IsFew x = AreFew x.exif × AreFew x.iptc
 
 -- two lists of blocks have the same meanings
 abbrev pub MeanSame : {M : Type 0} → (List ℕ → M → Type 0) → List (List ℕ) → List (List ℕ) → Type 0
-MeanSame {M} Says xs ys = (ms : List M) × SayAll Says xs ms × SayAll Says ys ms
+MeanSame {M} Says xs ys = (ms : List M) × MeanAll Says xs ms × MeanAll Says ys ms
 
 -- the blocks have meanings, and these are the same or not
-abbrev pub SaysSameBlocks : Blocks → Blocks → Bool → Type 0
-SaysSameBlocks x y same =
+abbrev pub AreSameBlocks : Blocks → Blocks → Bool → Type 0
+AreSameBlocks x y same =
     AllRead x × AllRead y × (IsTrue same ↔ (MeanSame SaysExif x.exif y.exif × MeanSame SaysIim x.iptc y.iptc))
 
-abbrev pub SaysSameSecond : Blocks → List ℕ → Bool → Type 0
-SaysSameSecond x g same = (y : Blocks) × HasBlocks g y × SaysSameBlocks x y same
+abbrev pub AreSameAsFirst : Blocks → List ℕ → Bool → Type 0
+AreSameAsFirst x g same = (y : Blocks) × HasBlocks g y × AreSameBlocks x y same
 
 -- the answer for two pictures, of which all blocks have meanings
-abbrev pub IsAnswer : Picture → Picture → Comparison → Type 0
-IsAnswer p q Different = SaysSameBlocks (blocks_of p) (blocks_of q) false
-IsAnswer p q Same = SaysSameBlocks (blocks_of p) (blocks_of q) true × IsUnread p.octets None × IsUnread q.octets None
-IsAnswer p q (NotRead First u) = SaysSameBlocks (blocks_of p) (blocks_of q) true × IsUnread p.octets (Some u)
-IsAnswer p q (NotRead Second u) =
-    SaysSameBlocks (blocks_of p) (blocks_of q) true × IsUnread p.octets None × IsUnread q.octets (Some u)
+abbrev pub AreCompared : Picture → Picture → Comparison → Type 0
+AreCompared p q Different = AreSameBlocks (blocks_of p) (blocks_of q) false
+AreCompared p q Same = AreSameBlocks (blocks_of p) (blocks_of q) true × IsUnread p.octets None × IsUnread q.octets None
+AreCompared p q (NotRead First u) = AreSameBlocks (blocks_of p) (blocks_of q) true × IsUnread p.octets (Some u)
+AreCompared p q (NotRead Second u) =
+    AreSameBlocks (blocks_of p) (blocks_of q) true × IsUnread p.octets None × IsUnread q.octets (Some u)
 
-abbrev pub AnswersSecond : Picture → List ℕ → Comparison → Type 0
-AnswersSecond p g c = (q : Picture) × (q.octets ≡ g) × HasBlocks g (blocks_of q) × IsAnswer p q c
+abbrev pub IsComparedWith : Picture → List ℕ → Comparison → Type 0
+IsComparedWith p g c = (q : Picture) × (q.octets ≡ g) × HasBlocks g (blocks_of q) × AreCompared p q c
 
 -- a block of the first or of the second is faulty
-abbrev pub BlocksFail : Side → Blocks → Blocks → ℕ → Fault → Type 0
+abbrev pub BlocksFail : PictureSide → Blocks → Blocks → ℕ → MetadataFault → Type 0
 BlocksFail First x y refused e = IsBlockFault x refused e
 BlocksFail Second x y refused e = AllRead x × IsBlockFault y refused e
 
 -- the same, or the second picture has no head
-abbrev pub SecondFails : Side → Blocks → List ℕ → ℕ → Fault → Type 0
+abbrev pub SecondFails : PictureSide → Blocks → List ℕ → ℕ → MetadataFault → Type 0
 SecondFails First x g refused e = (y : Blocks) × HasBlocks g y × IsBlockFault x refused e
 SecondFails Second x g refused e = IsHeadFault g refused e ⊎ ((y : Blocks) × HasBlocks g y × AllRead x × IsBlockFault y refused e)
 
-abbrev pub AsksForSecond : ℕ → List ℕ → Taken → Taken → Type 0
+abbrev pub AsksForSecond : ℕ → List ℕ → MemoryCounts → MemoryCounts → Type 0
 AsksForSecond first g old new = (other : ℕ) → ((y : Blocks) → HasBlocks g y → blocks_request y ≤ other)
     → AsksAtMost (join_request (length g) + first + other) old new

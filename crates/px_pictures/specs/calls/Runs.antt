@@ -4,7 +4,7 @@ use Rattle.std.specs.Prelude.{filter_map, flat_map}
 use Rattle.std.specs.List.{AllByRecursion}
 use Rattle.px_jpeg.specs.declared.Piece.{Piece}
 use Rattle.px_jpeg.specs.declared.Resource.{Resource}
-use Rattle.px_jpeg.specs.Blocks.{Block, piece_octets, iptc_in}
+use Rattle.px_jpeg.specs.Blocks.{JoinedBlock, piece_octets, iptc_in}
 use Rattle.px_jpeg.specs.Pieces.{range}
 use Rattle.px_pictures.specs.declared.runs.Run.{Run}
 use Rattle.px_pictures.specs.Metadata.{has_octets, next_begins, joined_pieces}
@@ -35,7 +35,7 @@ AreSized b ps = AllByRecursion (λ p. length (piece_octets b p) ≡ p.size) ps
 abbrev pub CanCut : List ℕ → List ℕ → List Piece → Type 0
 CanCut b x ps = (next_begins ps ≡ true) × AreSized b ps × (x ≡ joined_octets b ps)
 
-abbrev pub block_of : Run → Block
+abbrev pub block_of : Run → JoinedBlock
 block_of r = record { kind = r.kind; octets = r.octets.now }
 
 -- the IPTC in resources of the bytes x
@@ -46,5 +46,5 @@ abbrev pub records : List ℕ → List Resource → List (List ℕ)
 records x rs = filter has_octets (filter_map (iptc_at x) rs)
 
 -- the IPTC in a block, without what is empty
-abbrev pub records_in : Block → List (List ℕ)
+abbrev pub records_in : JoinedBlock → List (List ℕ)
 records_in k = filter has_octets (iptc_in k)

@@ -7,12 +7,12 @@ use Rattle.std.specs.List.{slice_get}
 use Rattle.std.proofs.lemmas.Bool.{cases_lt, both_ways}
 use Rattle.std.proofs.lemmas.List.{length-take}
 use Rattle.std.proofs.Math.Nat.{mul-le-mul_right}
-use Rattle.px_bytes.specs.Lacking.{enlarged}
+use Rattle.px_bytes.specs.Allocations.{enlarged}
 use Rattle.px_bytes.specs.Devices.{Calls, Writes, Counts}
 use Rattle.px_bytes.specs.calls.Grown.{Grown, grown_bytes}
 use Rattle.px_meaning.specs.declared.Dir.TheVariants.{Main, Exif, Interop, Gps, Thumb}
 use Rattle.px_meaning.specs.Tree.{Meaning}
-use Rattle.px_meaning.specs.Fits.{items}
+use Rattle.px_meaning.specs.Writable.{items}
 use Rattle.px_layout.specs.declared.chunks.Chunk.TheVariants.{Strip}
 use Rattle.px_layout.specs.Chunks.{chunks_of_dir, strip_chunks, thumb_chunks, chunks}
 use Rattle.px_layout.specs.lemmas.WalkLaws.{values_more, strips_more, chunks_gathered}
@@ -83,7 +83,7 @@ chunks_counted m =
 -- ---- a piece in memory
 
 abbrev calls_of : Grown → Calls
-calls_of g = record { failed = g.refusals; flushes = g.flushes }
+calls_of g = record { failed = g.failed_allocations; flushes = g.flushes }
 
 piece_within : {A E : Type 0} (r : Result A E) (old new piece : List ℕ) → length old ≡ 0 → Writes r (Some old) (Some new) piece
     → length new ≤ length piece
@@ -99,7 +99,8 @@ one_failure (Ok x) old new e = let failed = ap (λ (calls : Calls). calls.failed
 one_failure (Err x) old new e = let failed = ap (λ (calls : Calls). calls.failed) e in omega arith
 
 module _ {A E : Type 0} (r : Result A E) (old new : Grown) (piece : List ℕ)
-    (start : old ≡ record { taken = []; refusals = 0; flushes = 0; since = 0 }) (wrote : Writes r (Some old.taken) (Some new.taken) piece)
+    (start : old ≡ record { taken = []; failed_allocations = 0; flushes = 0; since = 0 })
+    (wrote : Writes r (Some old.taken) (Some new.taken) piece)
     (counted : Counts r (calls_of old) (calls_of new)) where
   within : length new.taken ≤ length piece
   within = piece_within r old.taken new.taken piece (ap (λ (g : Grown). length g.taken) start) wrote
@@ -107,16 +108,16 @@ module _ {A E : Type 0} (r : Result A E) (old new : Grown) (piece : List ℕ)
   pub piece_asks : grown_bytes new ≤ 6 * length piece + 131072
   piece_asks =
       let few = one_failure r (calls_of old) (calls_of new) counted in
-      let zero = ap (λ (g : Grown). g.refusals) start in
-      let failed = mul-le-mul_right {m = new.refusals} {n = 1} (2 * (length new.taken + 65536)) (omega arith) in
+      let zero = ap (λ (g : Grown). g.failed_allocations) start in
+      let failed = mul-le-mul_right {m = new.failed_allocations} {n = 1} (2 * (length new.taken + 65536)) (omega arith) in
       omega (arith, within, failed)
 
-  pub piece_pays : {B D : Type 0} (s : Result B D) (asked asked_now : ℕ) → (IsErr s ↔ 0 < new.refusals)
+  pub piece_pays : {B D : Type 0} (s : Result B D) (asked asked_now : ℕ) → (IsErr s ↔ 0 < new.failed_allocations)
       → asked_now ≤ asked + grown_bytes new → OnOk s (asked_now ≤ asked + 6 * length piece)
-  piece_pays (Ok x) asked asked_now which most = elim (cases_lt 0 new.refusals) [
+  piece_pays (Ok x) asked asked_now which most = elim (cases_lt 0 new.failed_allocations) [
     | inl l ↦ absurd (both_ways false refl (which.1 l))
     | inr l ↦
-        let none = mul-le-mul_right {m = new.refusals} {n = 0} (2 * (length new.taken + 65536)) l in
+        let none = mul-le-mul_right {m = new.failed_allocations} {n = 0} (2 * (length new.taken + 65536)) l in
         omega (arith, within, none, most)
   ]
   piece_pays (Err e) asked asked_now which most = tt

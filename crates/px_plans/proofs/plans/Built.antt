@@ -9,7 +9,7 @@ use Rattle.std.proofs.lemmas.List.{take_all, take-append-le}
 use Rattle.std.proofs.lemmas.Option.{slice_get_within, get_or_from_slice_get}
 use borrow.Rule.Slice.PartMut.{put_mid}
 use Rattle.px_layout.specs.Laid.{byte_at}
-use Rattle.px_layout.specs.lemmas.StandLaws.{length_laid, laid_at}
+use Rattle.px_layout.specs.lemmas.PlacementLaws.{length_mapped, mapped_at}
 use Rattle.px_plans.specs.calls.Building.{made, PutsOver}
 
 -- ---- one piece
@@ -40,7 +40,7 @@ module _ (f : ℕ) (x : ℕ) (b : List ℕ) (ys : List (ℕ × List ℕ)) where
     new = take x old ++ (b ++ drop (x + length b) old)
 
     length_old : length old ≡ n
-    length_old = length_laid (byte_at f ys) n
+    length_old = length_mapped (byte_at f ys) n
 
     length_front : length (take x old) ≡ x
     length_front = length-take-le x old (let e = length_old in omega arith)
@@ -55,14 +55,14 @@ module _ (f : ℕ) (x : ℕ) (b : List ℕ) (ys : List (ℕ × List ℕ)) where
 
     each : (k d : ℕ) → k < n → get_or (made n f ((x, b) ∷ ys)) k d ≡ get_or new k d
     each k d l =
-        laid_at (byte_at f ((x, b) ∷ ys)) n k d l ∙ elim (cases_lt k x) [
-          | inl a ↦ outside k (λ h. absurd (omega arith)) ∙ sym (laid_at (byte_at f ys) n k d l) ∙ sym (get_or-take x old k d a)
+        mapped_at (byte_at f ((x, b) ∷ ys)) n k d l ∙ elim (cases_lt k x) [
+          | inl a ↦ outside k (λ h. absurd (omega arith)) ∙ sym (mapped_at (byte_at f ys) n k d l) ∙ sym (get_or-take x old k d a)
               ∙ sym (get_or_append_left (take x old) (b ++ drop (x + length b) old) d k (let g = length_front in omega arith))
           | inr a ↦ elim (cases_lt k (x + length b)) [
             | inl c ↦ inside k a c ∙ default b (k - x) d (omega arith)
                 ∙ sym (get_or_append_left b (drop (x + length b) old) d (k - x) (omega arith))
                 ∙ sym (get_or-append_right (take x old) (b ++ drop (x + length b) old) x k d length_front a)
-            | inr c ↦ outside k (λ h j. absurd (omega arith)) ∙ sym (laid_at (byte_at f ys) n k d l)
+            | inr c ↦ outside k (λ h j. absurd (omega arith)) ∙ sym (mapped_at (byte_at f ys) n k d l)
                 ∙ ap (λ i. get_or old i d) (omega arith)
                 ∙ sym (get_or-drop (x + length b) old (k - x - length b) d)
                 ∙ sym (get_or-append_right b (drop (x + length b) old) (length b) (k - x) d refl (omega arith))
@@ -71,8 +71,8 @@ module _ (f : ℕ) (x : ℕ) (b : List ℕ) (ys : List (ℕ × List ℕ)) where
         ]
 
     pub one_over : made n f ((x, b) ∷ ys) ≡ take x (made n f ys) ++ (b ++ drop (x + length b) (made n f ys))
-    one_over = same_lists (made n f ((x, b) ∷ ys)) new (length_laid (byte_at f ((x, b) ∷ ys)) n ∙ sym length_new)
-        (λ k d l. each k d (let e = length_laid (byte_at f ((x, b) ∷ ys)) n in omega arith))
+    one_over = same_lists (made n f ((x, b) ∷ ys)) new (length_mapped (byte_at f ((x, b) ∷ ys)) n ∙ sym length_new)
+        (λ k d l. each k d (let e = length_mapped (byte_at f ((x, b) ∷ ys)) n in omega arith))
 
 -- bytes that replaced others are a piece that was written over them
 pub puts_one : (old : List ℕ) (x : ℕ) (b : List ℕ) → x + length b ≤ length old

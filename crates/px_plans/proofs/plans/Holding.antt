@@ -15,19 +15,19 @@ module _ (plan : Plan) where
   Left xs claimed b = (now : List Range) × Agrees now claimed × (all_placed plan now xs ≡ b)
 
   -- the result of one call: whether the chunk is legal, and what is claimed then
-  abbrev pub Holds : Bool → Chunk × ℕ → List Range → List (ℕ × ℕ) → Type 0
-  Holds b c taken new = (b ≡ is_placed plan taken c) × (b ≡ true → Agrees (range (place plan c.0) c.1 ∷ taken) new)
+  abbrev pub IsClaimed : Bool → Chunk × ℕ → List Range → List (ℕ × ℕ) → Type 0
+  IsClaimed b c taken new = (b ≡ is_placed plan taken c) × (b ≡ true → Agrees (range (place plan c.0) c.1 ∷ taken) new)
 
   -- ---- one chunk
 
-  pub not_placed : (c : Chunk × ℕ) (taken : List Range) (new : List (ℕ × ℕ)) → plan.offset c.0 ≡ None → Holds false c taken new
+  pub not_placed : (c : Chunk × ℕ) (taken : List Range) (new : List (ℕ × ℕ)) → plan.offset c.0 ≡ None → IsClaimed false c taken new
   not_placed c taken new e = (
     ap (λ o. is_some o && nat_le (unwrap_or o 0 + c.1) plan.length && is_free taken (range (unwrap_or o 0) c.1)) (sym e),
     λ q. cc,
   )
 
   pub chunk_beyond : (c : Chunk × ℕ) (x : ℕ) (taken : List Range) (new : List (ℕ × ℕ)) → plan.offset c.0 ≡ Some x → plan.length < x + c.1
-      → Holds false c taken new
+      → IsClaimed false c taken new
   chunk_beyond c x taken new e l = (
     ap (λ b. b && is_free taken (range x c.1)) (sym (lt-leb (x + c.1) plan.length l))
         ∙ ap (λ o. is_some o && nat_le (unwrap_or o 0 + c.1) plan.length && is_free taken (range (unwrap_or o 0) c.1)) (sym e),
@@ -37,7 +37,7 @@ module _ (plan : Plan) where
   pub chunk_within : {E : Type 0} (c : Chunk × ℕ) (x : ℕ) (taken : List Range) (new : List (ℕ × ℕ)) → plan.offset c.0 ≡ Some x
       → x + c.1 ≤ plan.length → (r : Result Bool E)
       → IfOk r (λ free. (free ≡ is_free taken (range x c.1)) × (free ≡ true → Agrees (range x c.1 ∷ taken) new))
-      → IfOk r (λ free. Holds free c taken new)
+      → IfOk r (λ free. IsClaimed free c taken new)
   chunk_within c x taken new e l (Ok free) h = (
     h.0 ∙ ap (λ b. b && is_free taken (range x c.1)) (sym (le-leb (x + c.1) plan.length l))
         ∙ ap (λ o. is_some o && nat_le (unwrap_or o 0 + c.1) plan.length && is_free taken (range (unwrap_or o 0) c.1)) (sym e),
@@ -55,7 +55,7 @@ module _ (plan : Plan) where
   -- the next chunk is legal, and claimed
   pub left_more : (cs : List (Chunk × ℕ)) (i : ℕ) (c d : Chunk × ℕ) (old new : List (ℕ × ℕ)) (b free : Bool) → i < length cs
       → c ≡ get_or cs i d
-      → free ≡ true → ((taken : List Range) → Agrees taken old → Holds free c taken new) → Left (drop i cs) old b
+      → free ≡ true → ((taken : List Range) → Agrees taken old → IsClaimed free c taken new) → Left (drop i cs) old b
       → Left (drop (i + 1) cs) new b
   left_more cs i c d old new b free l e t f w =
       let g = f w.0 w.1 in (
@@ -68,7 +68,7 @@ module _ (plan : Plan) where
   -- the next chunk isn't legal
   pub left_stop : (cs : List (Chunk × ℕ)) (i : ℕ) (c d : Chunk × ℕ) (old new : List (ℕ × ℕ)) (b free : Bool) → i < length cs
       → c ≡ get_or cs i d
-      → free ≡ false → ((taken : List Range) → Agrees taken old → Holds free c taken new) → Left (drop i cs) old b → false ≡ b
+      → free ≡ false → ((taken : List Range) → Agrees taken old → IsClaimed free c taken new) → Left (drop i cs) old b → false ≡ b
   left_stop cs i c d old new b free l e t f w =
       ap (λ a. a && all_placed plan (range (place plan c.0) c.1 ∷ w.0) (drop (i + 1) cs)) (sym t ∙ (f w.0 w.1).0)
       ∙ sym (ap (all_placed plan w.0) (here cs i c d l e)) ∙ w.2

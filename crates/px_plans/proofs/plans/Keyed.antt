@@ -71,13 +71,13 @@ in_order_insert : (pairs : List (ℕ × ℕ)) (key at offset : ℕ) → IsInOrde
 in_order_insert pairs key at offset ok gap i j lt in_range =
     let old = keys pairs in
     let new = insert old at key in
-    let room : at ≤ length old = omega (arith, gap.inside, length_keys pairs) in
+    let capacity : at ≤ length old = omega (arith, gap.inside, length_keys pairs) in
     let length_new = length-insert pairs at (key, offset) gap.inside in
-    let key_below : (i : ℕ) → i < at → get_or new i 0 ≡ get_or old i 0 = λ i below. get_or-insert_below old at key 0 i below room in
-    let key_here : (i : ℕ) → i ≡ at → get_or new i 0 ≡ key = λ i here. rw here (get_or-insert_at old at key 0 room) in
+    let key_below : (i : ℕ) → i < at → get_or new i 0 ≡ get_or old i 0 = λ i below. get_or-insert_below old at key 0 i below capacity in
+    let key_here : (i : ℕ) → i ≡ at → get_or new i 0 ≡ key = λ i here. rw here (get_or-insert_at old at key 0 capacity) in
     let key_above : (i : ℕ) → at < i → get_or new i 0 ≡ get_or old (i - 1) 0 =
     λ i above. subst (λ q. get_or new q 0 ≡ get_or old (i - 1) 0) {x = i - 1 + 1} (omega arith)
-    (get_or-insert_above old at key 0 (i - 1) (omega arith) room) in
+    (get_or-insert_above old at key 0 (i - 1) (omega arith) capacity) in
     let rises : get_or new i 0 < get_or new j 0 =
     grind (
       arith,

@@ -9,9 +9,9 @@ use Rattle.std.proofs.lemmas.Option.{slice_get-get_or}
 use Rattle.px_bytes.specs.declared.WriteRefusal.{WriteRefusal}
 use Rattle.px_bytes.specs.declared.WriteRefusal.TheVariants.{NormalTooLong, OutOfMemory, WriteFailed}
 use Rattle.px_bytes.specs.Parts.{limit}
-use Rattle.px_bytes.specs.calls.Writing.{LacksWriteBy}
+use Rattle.px_bytes.specs.calls.Writing.{CountsAllocFailureInWriteBy}
 use Rattle.px_meaning.specs.Tree.{Meaning}
-use Rattle.px_meaning.specs.Fits.{Fits}
+use Rattle.px_meaning.specs.Writable.{IsWritable}
 use Rattle.px_layout.specs.declared.chunks.Chunk.{Chunk}
 use Rattle.px_layout.specs.Chunks.{same_chunk, chunks}
 use Rattle.px_layout.specs.Plans.{Plan, Legal}
@@ -86,7 +86,7 @@ part_fits (d ∷ cs) zero c e = let q : c ≡ d = cc in let r = ap (λ (x : Chun
 part_fits (d ∷ cs) (suc i) c e = let h = part_fits cs i c e in omega arith
 
 -- all of them
-pub placed_planned : (m : Meaning) → Fits m → (p q : Plan) (end : ℕ) → Placed p end (chunks m) → q ≡ with_length p end
+pub placed_planned : (m : Meaning) → IsWritable m → (p q : Plan) (end : ℕ) → Placed p end (chunks m) → q ≡ with_length p end
     → (q ≡ normal_plan m) × (length (normal_exif m) ≤ limit) × Legal m q
 unfolding normal_plan
 placed_planned m f p q end h e =
@@ -108,7 +108,7 @@ placed_stopped NormalTooLong old new x i cs c d p l q h =
 placed_stopped OutOfMemory old new x i cs c d p l q h = tt
 placed_stopped WriteFailed old new x i cs c d p l q h = h
 
-pub plan_refused : (m : Meaning) → Fits m → (e : WriteRefusal) (plan : Plan) (cs : List (Chunk × ℕ)) → cs ≡ chunks m
+pub plan_refused : (m : Meaning) → IsWritable m → (e : WriteRefusal) (plan : Plan) (cs : List (Chunk × ℕ)) → cs ≡ chunks m
     → AllResult (Err e) plan cs → PlanResult (Err e) m
 unfolding normal_plan
 plan_refused m f NormalTooLong plan cs s h =
@@ -118,8 +118,8 @@ plan_refused m f OutOfMemory plan cs s h = tt
 plan_refused m f WriteFailed plan cs s h = h
 
 -- the failed allocations of a refusal, if none failed before
-pub write_lacks : (X Y : Type 0) (e : WriteRefusal) (a b c : ℕ) → b ≡ a → LacksWriteBy {X = X} (Err e) b c
-    → LacksWriteBy {X = Y} (Err e) a c
-write_lacks X Y NormalTooLong a b c e h = h ∙ e
-write_lacks X Y OutOfMemory a b c e h = h ∙ ap (λ (n : ℕ). n + 1) e
-write_lacks X Y WriteFailed a b c e h = h ∙ e
+pub write_alloc_failure : (X Y : Type 0) (e : WriteRefusal) (a b c : ℕ) → b ≡ a → CountsAllocFailureInWriteBy {X = X} (Err e) b c
+    → CountsAllocFailureInWriteBy {X = Y} (Err e) a c
+write_alloc_failure X Y NormalTooLong a b c e h = h ∙ e
+write_alloc_failure X Y OutOfMemory a b c e h = h ∙ ap (λ (n : ℕ). n + 1) e
+write_alloc_failure X Y WriteFailed a b c e h = h ∙ e

@@ -11,14 +11,14 @@ use Rattle.px_meaning.specs.declared.Dir.{Dir}
 use Rattle.px_meaning.specs.declared.Dir.TheVariants.{Main, Exif, Interop, Gps, Thumb}
 use Rattle.px_meaning.specs.Tree.{Thumbnail, Meaning}
 use Rattle.px_meaning.specs.Directory.{dirs}
-use Rattle.px_meaning.specs.Fits.{Item, item_size, items, Fits}
+use Rattle.px_meaning.specs.Writable.{Item, item_size, items, IsWritable}
 use Rattle.px_layout.specs.declared.chunks.Chunk.{Chunk}
 use Rattle.px_layout.specs.declared.chunks.Chunk.TheVariants.{Table, Placed, Strip}
 use Rattle.px_plans.specs.declared.layout.Layout.{Layout}
 use Rattle.px_layout.specs.Plans.{Plan, place, Legal}
 use Rattle.px_layout.specs.Laid.{item_bytes, table_bytes, placed_content, contents_of_dir, contents, jpeg_contents, strip_contents}
 use Rattle.px_layout.specs.Laid.{all_strip_contents, thumb_contents, header, laid_pieces, laid}
-use Rattle.px_layout.specs.lemmas.StandLaws.{piece_range}
+use Rattle.px_layout.specs.lemmas.PlacementLaws.{piece_range}
 use Rattle.px_layout.specs.lemmas.EntryLaws.{Good, good_items, few_items}
 use Rattle.px_layout.specs.lemmas.SizeLaws.{ranges_are}
 use Rattle.px_plans.specs.calls.Building.{made, AreInside, PutsOver, at_places, value_pieces, dir_pieces}
@@ -131,7 +131,7 @@ module _ (l : Layout) where
 
     -- ---- inside
 
-    module _ (fits : Fits m) (legal : Legal m P) where
+    module _ (fits : IsWritable m) (legal : Legal m P) where
       all_inside : AreInside P.length (laid_pieces P o f m)
       all_inside = each_in_map (λ r. r.start + r.size ≤ P.length) piece_range (laid_pieces P o f m)
           (subst (AllByRecursion (λ r. r.start + r.size ≤ P.length)) (sym (ranges_are P o f m fits)) legal.inside)

@@ -6,11 +6,11 @@ use Rattle.px_meaning.specs.declared.Dir.{Dir}
 use Rattle.px_meaning.specs.declared.Dir.TheVariants.{Main, Exif, Interop, Gps, Thumb}
 use Rattle.px_meaning.specs.Tree.{Meaning}
 use Rattle.px_meaning.specs.Directory.{dirs}
-use Rattle.px_meaning.specs.Fits.{Item, item_size, items, Fits}
+use Rattle.px_meaning.specs.Writable.{Item, item_size, items, IsWritable}
 use Rattle.px_layout.specs.declared.chunks.Chunk.{Chunk}
 use Rattle.px_layout.specs.Plans.{Plan, plan_ranges, Legal}
 use Rattle.px_layout.specs.Laid.{item_bytes, table_bytes, contents_of_dir, thumb_contents, header, laid_pieces}
-use Rattle.px_layout.specs.lemmas.StandLaws.{piece_range}
+use Rattle.px_layout.specs.lemmas.PlacementLaws.{piece_range}
 use Rattle.px_layout.specs.lemmas.SizeLaws.{ranges_are}
 use Rattle.px_plans.specs.declared.layout.Layout.{Layout}
 use Rattle.px_plans.specs.calls.Building.{at_places, value_pieces, dir_pieces, pieces_size}
@@ -75,7 +75,8 @@ module _ (l : Layout) where
         omega arith
 
     -- the pieces of a legal plan have no more bytes than its block, because no two share one
-    pub size_within : Fits m → Legal m P → length (header P l.order l.filler) + pieces_size (at_places l (dir_contents dirs)) ≤ P.length
+    pub size_within : IsWritable m → Legal m P → length (header P l.order l.filler) + pieces_size (at_places l (dir_contents dirs)) ≤
+        P.length
     size_within fits legal =
         let all = total_le P.length (plan_ranges m P) legal.apart legal.inside in
         let same = ap total (sym (ranges_are P l.order l.filler m fits)) ∙ size_ranges (laid_pieces P l.order l.filler m)

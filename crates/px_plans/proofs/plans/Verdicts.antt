@@ -11,7 +11,7 @@ use Rattle.px_bytes.specs.Range.{Range, range, Apart, AllApart, shares, is_free}
 use Rattle.px_bytes.specs.lemmas.ApartLaws.{apart_from_test, test_from_apart}
 use Rattle.px_meaning.specs.Tree.{Meaning}
 use Rattle.px_meaning.specs.Entry.{Rising}
-use Rattle.px_meaning.specs.Fits.{Fits}
+use Rattle.px_meaning.specs.Writable.{IsWritable}
 use Rattle.px_layout.specs.declared.chunks.Chunk.{Chunk}
 use Rattle.px_layout.specs.Chunks.{same_chunk, chunks}
 use Rattle.px_layout.specs.Plans.{Plan, place, plan_ranges, Legal}
@@ -76,7 +76,7 @@ module _ (plan : Plan) where
 
   -- ---- the tests, one by one
 
-  record Standing (taken : List Range) (cs : List (Chunk × ℕ)) : Type 0 where
+  record Placing (taken : List Range) (cs : List (Chunk × ℕ)) : Type 0 where
     there : AllByRecursion There (names cs)
     inside : AllByRecursion (λ r. r.start + r.size ≤ plan.length) (map at cs)
     free : AllByRecursion (λ r. is_free taken r ≡ true) (map at cs)
@@ -85,12 +85,12 @@ module _ (plan : Plan) where
   turned : (r s : Range) → Apart r s → Apart s r
   turned r s a p i j = a p j i
 
-  behind : (taken : List Range) (x : Range) (rs : List Range) → AllByRecursion (λ r. is_free (x ∷ taken) r ≡ true) rs
+  after : (taken : List Range) (x : Range) (rs : List Range) → AllByRecursion (λ r. is_free (x ∷ taken) r ≡ true) rs
       → AllByRecursion (Apart x) rs × AllByRecursion (λ r. is_free taken r ≡ true) rs
-  behind taken x [] h = (tt, tt)
-  behind taken x (r ∷ rs) h =
+  after taken x [] h = (tt, tt)
+  after taken x (r ∷ rs) h =
       let p = and_parts (not (shares r x)) (is_free taken r) h.0 in
-      let q = behind taken x rs h.1 in
+      let q = after taken x rs h.1 in
       ((turned r x (apart_from_test r x p.0), q.0), (p.1, q.1))
 
   before : (taken : List Range) (x : Range) (rs : List Range) → AllByRecursion (Apart x) rs
@@ -99,17 +99,17 @@ module _ (plan : Plan) where
   before taken x (r ∷ rs) a h =
       (and_from (not (shares r x)) (is_free taken r) (test_from_apart r x (turned x r a.0)) h.0, before taken x rs a.1 h.1)
 
-  standing : (taken : List Range) (cs : List (Chunk × ℕ)) → all_placed plan taken cs ≡ true → Standing taken cs
-  standing taken [] h = record { there = tt; inside = tt; free = tt; apart = tt }
-  standing taken (c ∷ cs) h =
+  placing : (taken : List Range) (cs : List (Chunk × ℕ)) → all_placed plan taken cs ≡ true → Placing taken cs
+  placing taken [] h = record { there = tt; inside = tt; free = tt; apart = tt }
+  placing taken (c ∷ cs) h =
       let p = and_parts (is_placed plan taken c) (all_placed plan (at c ∷ taken) cs) h in
       let q = and_parts (is_some (plan.offset c.0) && nat_le (place plan c.0 + c.1) plan.length) (is_free taken (at c)) p.0 in
       let r = and_parts (is_some (plan.offset c.0)) (nat_le (place plan c.0 + c.1) plan.length) q.0 in
-      let s = standing (at c ∷ taken) cs p.1 in
-      let t = behind taken (at c) (map at cs) s.free in
+      let s = placing (at c ∷ taken) cs p.1 in
+      let t = after taken (at c) (map at cs) s.free in
       record { there = (r.0, s.there); inside = (leb-true _ _ r.1, s.inside); free = (q.1, t.1); apart = (t.0, s.apart) }
 
-  stood : (taken : List Range) (cs : List (Chunk × ℕ)) → Standing taken cs → all_placed plan taken cs ≡ true
+  stood : (taken : List Range) (cs : List (Chunk × ℕ)) → Placing taken cs → all_placed plan taken cs ≡ true
   stood taken [] s = refl
   stood taken (c ∷ cs) s =
       and_from (is_placed plan taken c) (all_placed plan (at c ∷ taken) cs)
@@ -128,7 +128,7 @@ module _ (plan : Plan) where
 
 -- ---- legal plans
 
-module _ (m : Meaning) (f : Fits m) (plan : Plan) (n : ℕ) (count : IsCount n plan.offset) where
+module _ (m : Meaning) (f : IsWritable m) (plan : Plan) (n : ℕ) (count : IsCount n plan.offset) where
   abbrev all : List Chunk
   all = names (chunks m)
 
@@ -143,7 +143,7 @@ module _ (m : Meaning) (f : Fits m) (plan : Plan) (n : ℕ) (count : IsCount n p
       → Legal m plan
   unfolding plan_ranges
   plan_judged least most same h =
-      let s = standing plan (range 0 8 ∷ []) (chunks m) h in
+      let s = placing plan (range 0 8 ∷ []) (chunks m) h in
       record {
         exactly = λ c. (
           λ p. elim (cases_Bool (list_any (same_chunk c) all)) [
@@ -156,7 +156,7 @@ module _ (m : Meaning) (f : Fits m) (plan : Plan) (n : ℕ) (count : IsCount n p
         least = least;
         most = most;
         inside = (omega arith, s.inside);
-        apart = ((behind plan [] (range 0 8) (map (at plan) (chunks m)) s.free).0, s.apart);
+        apart = ((after plan [] (range 0 8) (map (at plan) (chunks m)) s.free).0, s.apart);
       }
     where
       differ : (c : Chunk) (ds : List Chunk) → list_any (same_chunk c) ds ≡ false → AllByRecursion (λ y. same_chunk c y ≡ false) ds

@@ -3,12 +3,12 @@ use Rattle.std.specs.Prelude.{◌≡◌, ℕ, ◌+◌, ◌≤◌, ◌<◌, ◌^�
 use Rattle.std.specs.List.{AllByRecursion, range_with_len}
 use Rattle.px_meaning.specs.declared.Dir.{Dir}
 use Rattle.px_meaning.specs.Tree.{Meaning}
-use Rattle.px_meaning.specs.Fits.{Item, items}
+use Rattle.px_meaning.specs.Writable.{Item, items}
 use Rattle.px_layout.specs.declared.chunks.Chunk.{Chunk}
 use Rattle.px_plans.specs.declared.layout.Layout.{Layout}
 use Rattle.px_plans.specs.declared.building.Piece.{Piece}
 use Rattle.px_plans.specs.declared.building.Piece.TheVariants.{Header, Table, Value}
-use Rattle.px_layout.specs.calls.Items.{item_of, IsCounted}
+use Rattle.px_layout.specs.calls.Items.{item_of, CountsFit}
 use Rattle.px_layout.specs.Plans.{place}
 use Rattle.px_plans.specs.calls.Layouts.{plan_of_layout, meaning_of_layout, header_in, item_in, table_in}
 use Rattle.px_layout.specs.Laid.{placed_content, contents_of_dir, byte_at}
@@ -40,7 +40,7 @@ piece_bytes l (Value x) = item_in l (item_of x)
 abbrev pub IsPiece : Piece → Type 0
 IsPiece Header = ⊤
 IsPiece (Table d xs) = length xs.now < 2 ^ 16
-IsPiece (Value x) = IsCounted (item_of x)
+IsPiece (Value x) = CountsFit (item_of x)
 
 -- chunks with their offsets
 abbrev pub at_places : Layout → List (Chunk × List ℕ) → List (ℕ × List ℕ)

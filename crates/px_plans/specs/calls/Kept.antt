@@ -38,7 +38,7 @@ size_in o =
     dir_size o.main + dir_size o.exif + dir_size o.interop + dir_size o.gps + dir_size
     o.thumb + (if is_some o.jpeg then 1 else 0) + keyed_size o.strips
 
--- ---- the bytes that they have paid for, and that the allocator wasn't asked for yet: of a list that doubles, as in `Spent`
+-- ---- the bytes that they have paid for, and that the allocator wasn't asked for yet: of a list that doubles, as in `AskedAndPaid`
 
 abbrev pub keyed_paid : KeyedOffsets → ℕ
 keyed_paid o = 8 * (4 * vec_len o.list - 2 * vec_capacity o.list)

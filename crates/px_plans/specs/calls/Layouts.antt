@@ -3,7 +3,7 @@ use Rattle.std.specs.Prelude.{ℕ, List}
 use Rattle.px_meaning.specs.declared.Dir.{Dir}
 use Rattle.px_meaning.specs.Tree.{Meaning}
 use Rattle.px_meaning.specs.calls.Seen.{meaning_of}
-use Rattle.px_meaning.specs.Fits.{Item}
+use Rattle.px_meaning.specs.Writable.{Item}
 use Rattle.px_plans.specs.declared.layout.Layout.{Layout}
 use Rattle.px_layout.specs.Laid.{header, item_bytes, last_bytes, entry_bytes, next_bytes, table_bytes}
 use Rattle.px_layout.specs.Plans.{Plan}

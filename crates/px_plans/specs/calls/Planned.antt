@@ -9,7 +9,7 @@ use Rattle.px_plans.specs.calls.Kept.{offset_in, paid_in}
 unfoldable pub plan_of : Plan → spec.Plan
 plan_of p = record { length = p.len; offset = offset_in p.offsets }
 
--- the bytes that its chunks have paid for, and that the allocator wasn't asked for yet (`Spent`); none in a new plan
+-- the bytes that its chunks have paid for, and that the allocator wasn't asked for yet (`AskedAndPaid`); none in a new plan
 unfoldable pub paid_of : Plan → ℕ
 paid_of p = paid_in p.offsets
 

@@ -21,9 +21,9 @@ use Rattle.px_meaning.specs.Thumbnail.{both, numbers, ranges_of, jpeg_range, str
 use Rattle.px_meaning.specs.Footprint.{listed, placed_range}
 use Rattle.px_tree.specs.Checks.{named_at, place_of, place_with, pointer_place, checks}
 use Rattle.px_tree.specs.FaultLaws.{FaultsBounded}
-use Rattle.px_tree.specs.Faults.{Begins, EntryAt, value_owners, dir_owners, owners_at, thumb_owners, owners, Fault}
+use Rattle.px_tree.specs.Faults.{Begins, EntryAt, value_owners, dir_owners, owners_at, thumb_owners, owners, ExifFault}
 use Rattle.px_tree.specs.calls.Reading.{HasTable}
-use Rattle.px_tree.proofs.faulting.ReportedAll.{first_stands}
+use Rattle.px_tree.proofs.faulting.ReportedAll.{first_is_fault}
 use Rattle.px_tree.proofs.reading.Pointers.{length_is}
 
 none_entries : (o : Order) → entries o [] ≡ []
@@ -195,7 +195,7 @@ module _ (b : List ℕ) (o : Order) where
         (listed (option_map (thumb_owners b o) (dir_at b o Thumb))) (near_dirs g dirs) (near_thumb_at (dir_at b o Thumb)),
   )
 
-pub fault_bounded : (b : List ℕ) (c : Cause) (p : ℕ) → length b ≤ limit → Fault b c p → p ≤ limit
+pub fault_bounded : (b : List ℕ) (c : Cause) (p : ℕ) → length b ≤ limit → ExifFault b c p → p ≤ limit
 fault_bounded b cause.TooLong p l f = let e = f.0 in omega arith
 fault_bounded b cause.UnknownKind p l f = let e = f.0 in omega arith
 fault_bounded b cause.HeaderCut p l f = let e = f.0 in omega arith
@@ -221,7 +221,7 @@ fault_bounded b cause.DataSetCut p l f = absurd f
 pub faults_bounded : FaultsBounded
 unfolding checks
 faults_bounded b c p h = elim (cases_Bool (nat_le (length b) limit)) [
-  | inl t ↦ fault_bounded b c p (leb-true (length b) limit t) (first_stands b c p h)
+  | inl t ↦ fault_bounded b c p (leb-true (length b) limit t) (first_is_fault b c p h)
   | inr f ↦
       let e : ◌≡◌ {A = Option (Cause × ℕ)} (Some (cause.TooLong, limit)) (Some (c, p)) = sym (cond-false _ _ _ f) ∙ h in
       let q : ◌≡◌ {A = Cause × ℕ} (cause.TooLong, limit) (c, p) = cc in

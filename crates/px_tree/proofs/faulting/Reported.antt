@@ -13,21 +13,21 @@ use Rattle.px_bytes.specs.Checks.{Check, first_false}
 use Rattle.px_bytes.specs.lemmas.EachLaws.{each_map, each_append}
 use Rattle.px_meaning.specs.Thumbnail.{IsInside}
 use Rattle.px_tree.specs.Checks.{is_free_value}
-use Rattle.px_tree.specs.Faults.{At, Begins, owners, Fault}
-use Rattle.px_tree.proofs.saying.Owned.{ranges}
+use Rattle.px_tree.specs.Faults.{At, Begins, owners, ExifFault}
+use Rattle.px_tree.proofs.assembling.Owned.{ranges}
 use Rattle.px_tree.proofs.lists.At.{From, from_head, from_tail}
-use Rattle.px_tree.proofs.saying.Judged.{AllHold}
+use Rattle.px_tree.proofs.assembling.Judged.{AllHold}
 
 abbrev pub FaultsOf : List ℕ → List Check → Type 0
 FaultsOf b [] = Unit {0}
-FaultsOf b (k ∷ ks) = (k.holds ≡ false → Fault b k.cause k.place) × (k.holds ≡ true → FaultsOf b ks)
+FaultsOf b (k ∷ ks) = (k.holds ≡ false → ExifFault b k.cause k.place) × (k.holds ≡ true → FaultsOf b ks)
 
 pub faults_append : (b : List ℕ) (xs ys : List Check) → FaultsOf b xs → (AllHold xs → FaultsOf b ys) → FaultsOf b (xs ++ ys)
 faults_append b [] ys h f = f tt
 faults_append b (k ∷ xs) ys h f = (h.0, λ t. faults_append b xs ys (h.1 t) (λ a. f (t, a)))
 
 -- the first check that fails is its fault
-pub first_reported : (b : List ℕ) (cs : List Check) (c : Cause) (p : ℕ) → FaultsOf b cs → first_false cs ≡ Some (c, p) → Fault b c p
+pub first_reported : (b : List ℕ) (cs : List Check) (c : Cause) (p : ℕ) → FaultsOf b cs → first_false cs ≡ Some (c, p) → ExifFault b c p
 first_reported b [] c p h e = cc
 first_reported b (k ∷ cs) c p h e = elim (cases_Bool k.holds) [
   | inl t ↦ first_reported b cs c p (h.1 t) (sym (cond-true k.holds (first_false cs) (Some (k.cause, k.place)) t) ∙ e)
@@ -35,7 +35,7 @@ first_reported b (k ∷ cs) c p h e = elim (cases_Bool k.holds) [
       let q : ◌≡◌ {A = Option (Cause × ℕ)} (Some (k.cause, k.place)) (Some (c, p)) =
       sym (cond-false k.holds (first_false cs) (Some (k.cause, k.place)) t) ∙ e in
       let r : ◌≡◌ {A = Cause × ℕ} (k.cause, k.place) (c, p) = cc in
-      subst (λ (f : Cause × ℕ). Fault b f.0 f.1) r (h.0 t)
+      subst (λ (f : Cause × ℕ). ExifFault b f.0 f.1) r (h.0 t)
 ]
 
 -- ---- the claimed ranges
@@ -85,7 +85,7 @@ module _ (b : List ℕ) (o : Order) where
 
   -- an owner whose range is not free shares a byte with one before it
   pub overlap_reported : Begins b o → (k p : ℕ) (s : Range) (claimed : List Range) → At (owners b o) k (p, s) → Claimed k claimed → IsInside b s
-      → is_free claimed s ≡ false → Fault b Overlap p
+      → is_free claimed s ≡ false → ExifFault b Overlap p
   overlap_reported g k p s [] a h i e = cc
   overlap_reported g k p s (r ∷ claimed) a h i e = elim (and_cases (not (shares s r)) (is_free claimed s) e) [
     | inl q ↦
@@ -101,7 +101,7 @@ module _ (b : List ℕ) (o : Order) where
     Next z = From (owners b o) k (cons_option (option_map (λ r. (p, r)) z) rest)
 
     pub value_reported : Begins b o → (z : Option Range) (claimed : List Range) → Next z → Claimed k claimed → IfSome z (IsInside b)
-        → is_free_value claimed z ≡ false → Fault b Overlap p
+        → is_free_value claimed z ≡ false → ExifFault b Overlap p
     value_reported g None claimed f h i e = cc
     value_reported g (Some r) claimed f h i e = overlap_reported g k p r claimed (from_head (owners b o) k (p, r) rest f) h i e
 

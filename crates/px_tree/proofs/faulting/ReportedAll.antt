@@ -14,17 +14,17 @@ use Rattle.px_meaning.specs.Entry.{IsDirectory}
 use Rattle.px_meaning.specs.Directory.{magic, dirs, dir_at}
 use Rattle.px_meaning.specs.Footprint.{listed}
 use Rattle.px_tree.specs.Checks.{same_bytes, order_of, begins_header, header_checks, dirs_checks, dirs_claimed, thumb_checks_at, tree_checks}
-use Rattle.px_tree.specs.Checks.{checks_in, checks, FirstFault}
-use Rattle.px_tree.specs.Faults.{Begins, owners_at, thumb_owners, owners, Fault}
+use Rattle.px_tree.specs.Checks.{checks_in, checks, FirstExifFault}
+use Rattle.px_tree.specs.Faults.{Begins, owners_at, thumb_owners, owners, ExifFault}
 use Rattle.px_tree.proofs.lists.At.{From, from_all, from_head, from_tail, from_left, from_right}
-use Rattle.px_tree.proofs.saying.Judged.{dirs_facts, bytes_self, header_begun, order_reported}
+use Rattle.px_tree.proofs.assembling.Judged.{dirs_facts, bytes_self, header_begun, order_reported}
 use Rattle.px_tree.proofs.faulting.Reported.{FaultsOf, faults_append, first_reported, Claimed}
 use Rattle.px_tree.proofs.faulting.ReportedDirs.{dirs_decide, dirs_kept}
 use Rattle.px_tree.proofs.faulting.ReportedThumb.{thumb_decides}
 
 -- ---- the header
 
-kind_reported : (b : List ℕ) → begins_header b ≡ false → Fault b cause.UnknownKind 0
+kind_reported : (b : List ℕ) → begins_header b ≡ false → ExifFault b cause.UnknownKind 0
 kind_reported b h =
     elim (and_cases (nat_lt 0 (length b)) (same_bytes (take 4 b) (take (length b) (magic Least)) || same_bytes (take 4 b)
     (take (length b) (magic Most))) h) [
@@ -110,5 +110,5 @@ checks_decide b = faults_append b (header_checks b) (checks_in b (order_of b)) (
     subst (λ z. FaultsOf b (checks_in b z)) (sym (order_reported b o.0 o.1)) (tree_decides b o.0 (least, o.1)))
 
 -- The first fault is a fault of the block.
-pub first_stands : (b : List ℕ) (c : Cause) (p : ℕ) → FirstFault b c p → Fault b c p
-first_stands b c p h = first_reported b (checks b) c p (checks_decide b) h
+pub first_is_fault : (b : List ℕ) (c : Cause) (p : ℕ) → FirstExifFault b c p → ExifFault b c p
+first_is_fault b c p h = first_reported b (checks b) c p (checks_decide b) h

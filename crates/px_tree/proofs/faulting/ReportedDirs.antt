@@ -23,10 +23,10 @@ use Rattle.px_meaning.specs.Footprint.{listed, placed_range, table_range, dir_ra
 use Rattle.px_tree.specs.Checks.{is_not_below, differs, entry_checks, entries_checks, is_earlier_at, opening_checks, dir_checks, named_at}
 use Rattle.px_tree.specs.Checks.{checks_at, dirs_checks, dirs_claimed}
 use Rattle.px_meaning.specs.Roles.{dir_number}
-use Rattle.px_tree.specs.Faults.{At, Begins, Reached, EntryAt, value_owners, dir_owners, owners_at, owners, Fault}
-use Rattle.px_tree.proofs.saying.Owned.{ranges_owners_at}
+use Rattle.px_tree.specs.Faults.{At, Begins, Reached, EntryAt, value_owners, dir_owners, owners_at, owners, ExifFault}
+use Rattle.px_tree.proofs.assembling.Owned.{ranges_owners_at}
 use Rattle.px_tree.proofs.lists.At.{From, from_all, from_head, from_tail, from_left, from_right}
-use Rattle.px_tree.proofs.saying.Judged.{AllHold, at_facts}
+use Rattle.px_tree.proofs.assembling.Judged.{AllHold, at_facts}
 use Rattle.px_tree.proofs.faulting.Reported.{FaultsOf, faults_append, Claimed, claimed_later, claimed_cons, claimed_append, overlap_reported, value_reported}
 use Rattle.px_tree.proofs.faulting.Reported.{after_value}
 
@@ -54,14 +54,14 @@ module _ (b : List ℕ) (o : Order) (begins : Begins b o) where
     Previous (Some t) n = (i : ℕ) × (e : Entry) × At (entries_at b o a) i e × (n ≡ i + 1) × (e.tag ≡ t)
 
     unsorted_reported : (u : Option ℕ) (n p : ℕ) (f : Entry) → Previous u n → EntryAt b o d n p f → is_not_below u f.tag ≡ false
-        → Fault b cause.Unsorted p
+        → ExifFault b cause.Unsorted p
     unsorted_reported None n p f w x h = cc
     unsorted_reported (Some t) n p f (i, e, k, q, g) x h =
         let l : f.tag < t = leb-false t f.tag h in
         (o, d, i, a + 2 + 12 * i, e, f, (a, reached, k, refl), subst (λ n. EntryAt b o d n p f) q x, (omega arith))
 
     doubled_reported : (u : Option ℕ) (n p : ℕ) (f : Entry) → Previous u n → EntryAt b o d n p f → differs u f.tag ≡ false
-        → Fault b cause.Doubled p
+        → ExifFault b cause.Doubled p
     doubled_reported None n p f w x h = cc
     doubled_reported (Some t) n p f (i, e, k, q, g) x h =
         let l : t ≡ f.tag = eqb-true t f.tag (not-false (t == f.tag) h) in
@@ -119,7 +119,7 @@ module _ (b : List ℕ) (o : Order) (begins : Begins b o) where
 
     -- ---- one directory
 
-    loop_reported : (earlier : List ℕ) → Before (dir_number d) earlier → is_earlier_at earlier a ≡ true → Fault b cause.Loop (named_at b o d)
+    loop_reported : (earlier : List ℕ) → Before (dir_number d) earlier → is_earlier_at earlier a ≡ true → ExifFault b cause.Loop (named_at b o d)
     loop_reported [] w h = cc
     loop_reported (x ∷ xs) w h = elim (or_cases (x == a) (is_earlier_at xs a) h) [
       | inl t ↦ let e = w.0 in (o, d, e.0, a, reached, (begins, e.2 ∙ ap (λ y. Some y) (eqb-true x a t)), e.1, refl)

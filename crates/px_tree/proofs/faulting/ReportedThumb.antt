@@ -15,10 +15,10 @@ use Rattle.px_meaning.specs.Directory.{entries_at, entry_with}
 use Rattle.px_meaning.specs.Thumbnail.{both, are_paired, numbers, jpeg_range, ranges_of, strip_ranges, IsInside}
 use Rattle.px_meaning.specs.Footprint.{listed}
 use Rattle.px_tree.specs.Checks.{place_with, pair_place, same_count, pair_checks, end_checks, range_checks, part_checks, thumb_checks}
-use Rattle.px_tree.specs.Faults.{At, Reached, EntryAt, thumb_owners, owners, partners, PartAt, Fault}
-use Rattle.px_tree.proofs.saying.Owned.{ranges_placed}
+use Rattle.px_tree.specs.Faults.{At, Reached, EntryAt, thumb_owners, owners, partners, PartAt, ExifFault}
+use Rattle.px_tree.proofs.assembling.Owned.{ranges_placed}
 use Rattle.px_tree.proofs.lists.At.{From, from_head, from_tail, from_left, from_right, each_from_at, contains_at}
-use Rattle.px_tree.proofs.saying.Judged.{ranges_facts}
+use Rattle.px_tree.proofs.assembling.Judged.{ranges_facts}
 use Rattle.px_tree.proofs.faulting.Reported.{FaultsOf, faults_append, Claimed, claimed_cons, claimed_append, overlap_reported}
 
 -- an entry that is found is at its offset
@@ -70,31 +70,31 @@ module _ (b : List ℕ) (o : Order) (a : ℕ) (reached : Reached b o Thumb a) (e
     -- ---- pairs
 
     alone_reported : (t u : ℕ) (e : Entry) → at_tag t partners ≡ Some u → entry_with t es ≡ Some e → entry_with u es ≡ None
-        → Fault b cause.ThumbnailPair (place_with t (a + 2) es)
+        → ExifFault b cause.ThumbnailPair (place_with t (a + 2) es)
     alone_reported t u e q h n =
         (o, a, (found t e h).index, e, reached, entry_there t e h, inl (u, ap (λ t. at_tag t partners) (found t e h).tag ∙ q, n))
 
     pair_reported : (t u : ℕ) → at_tag t partners ≡ Some u → at_tag u partners ≡ Some t → are_paired (entry_with t es) (entry_with u es) ≡ false
-        → Fault b cause.ThumbnailPair (pair_place t u (a + 2) es)
+        → ExifFault b cause.ThumbnailPair (pair_place t u (a + 2) es)
     pair_reported t u q r h = go (entry_with t es) (entry_with u es) refl refl h
       where
         go : (y z : Option Entry) → entry_with t es ≡ y → entry_with u es ≡ z → are_paired y z ≡ false
-            → Fault b cause.ThumbnailPair (pair_place t u (a + 2) es)
+            → ExifFault b cause.ThumbnailPair (pair_place t u (a + 2) es)
         go None None k l h = cc
         go (Some y) (Some z) k l h = cc
         go (Some y) None k l h =
-            subst (λ p. Fault b cause.ThumbnailPair p) (sym (cond-true (is_some (entry_with t es)) (place_with t (a + 2) es)
+            subst (λ p. ExifFault b cause.ThumbnailPair p) (sym (cond-true (is_some (entry_with t es)) (place_with t (a + 2) es)
             (place_with u (a + 2) es) (ap is_some k))) (alone_reported t u y q k l)
         go None (Some z) k l h =
-            subst (λ p. Fault b cause.ThumbnailPair p) (sym (cond-false (is_some (entry_with t es)) (place_with t (a + 2) es)
+            subst (λ p. ExifFault b cause.ThumbnailPair p) (sym (cond-false (is_some (entry_with t es)) (place_with t (a + 2) es)
             (place_with u (a + 2) es) (ap is_some k))) (alone_reported u t z r l k)
 
     count_reported : same_count (entry_with strip_offsets_tag es) (entry_with strip_lengths_tag es) ≡ false
-        → Fault b cause.ThumbnailPair (place_with strip_offsets_tag (a + 2) es)
+        → ExifFault b cause.ThumbnailPair (place_with strip_offsets_tag (a + 2) es)
     count_reported h = go (entry_with strip_offsets_tag es) (entry_with strip_lengths_tag es) refl refl h
       where
         go : (y z : Option Entry) → entry_with strip_offsets_tag es ≡ y → entry_with strip_lengths_tag es ≡ z → same_count y z ≡ false
-            → Fault b cause.ThumbnailPair (place_with strip_offsets_tag (a + 2) es)
+            → ExifFault b cause.ThumbnailPair (place_with strip_offsets_tag (a + 2) es)
         go None z k l h = cc
         go (Some y) None k l h = cc
         go (Some y) (Some z) k l h = (

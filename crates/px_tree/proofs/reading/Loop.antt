@@ -13,7 +13,7 @@ use Rattle.px_bytes.specs.Parts.{part}
 use Rattle.px_meaning.specs.Tree.{Fields}
 use Rattle.px_meaning.specs.Roles.{role}
 use Rattle.px_field.specs.Values.{Value}
-use Rattle.px_meaning.specs.Entry.{Entry, entry, field, value_in}
+use Rattle.px_meaning.specs.Entry.{Entry, entry, field, field_value_in}
 use Rattle.px_bytes.specs.Range.{Range, Agrees}
 use Rattle.px_bytes.specs.calls.Freed.{SameFree}
 use Rattle.px_meaning.specs.Footprint.{placed_range}
@@ -97,11 +97,11 @@ module _ (b : List ℕ) (o : Order) (d : Dir) where
       cons_is (Some x) xs = refl
 
   -- the field of an entry by its shape
-  pub field_is : (s : Shape) (e : Entry) → IsShape o d s e → field b o d e ≡ option_map (λ v. (e.tag, v)) (value_in b o e s.role s.form)
+  pub field_is : (s : Shape) (e : Entry) → IsShape o d s e → field b o d e ≡ option_map (λ v. (e.tag, v)) (field_value_in b o e s.role s.form)
   unfolding field
   field_is s e i =
-      ap (λ (x : Option Form). option_map (λ (v : Value). (e.tag, v)) (option_and_then (value_in b o e (role d e.tag)) x)) i.form
-      ∙ ap (λ (r : Role). option_map (λ (v : Value). (e.tag, v)) (value_in b o e r s.form)) (sym i.role_is)
+      ap (λ (x : Option Form). option_map (λ (v : Value). (e.tag, v)) (option_and_then (field_value_in b o e (role d e.tag)) x)) i.form
+      ∙ ap (λ (r : Role). option_map (λ (v : Value). (e.tag, v)) (field_value_in b o e r s.form)) (sym i.role_is)
 
   -- if none is left
   pub so_far_end : (taken : List Range) (all : List Entry) (start : ℕ) (claimed : List (ℕ × ℕ)) (at : ℕ) (before : Option ℕ) (n : ℕ) → n ≡ 0

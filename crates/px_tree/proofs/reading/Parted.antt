@@ -7,7 +7,7 @@ use Rattle.px_bytes.specs.declared.Cause.{Cause}
 use Rattle.px_bytes.specs.declared.Cause.TheVariants.{ThumbnailPair}
 use Rattle.px_bytes.specs.Range.{Range, range}
 use Rattle.px_bytes.specs.Checks.{Check, check, first_false, Refuses}
-use Rattle.px_bytes.specs.lemmas.CheckLaws.{Refuses_more, Refuses_behind, Refuses_same, all_true}
+use Rattle.px_bytes.specs.lemmas.CheckLaws.{Refuses_more, Refuses_after, Refuses_same, all_true}
 use Rattle.px_tree.specs.declared.links.Found.{Found}
 use Rattle.px_tree.specs.declared.uses.Uses.{Uses}
 use Rattle.px_meaning.specs.Roles.{jpeg_offset_tag, jpeg_length_tag, strip_offsets_tag, strip_lengths_tag}
@@ -17,7 +17,7 @@ use Rattle.px_meaning.specs.Thumbnail.{both, are_paired, numbers, ranges_of, jpe
 use Rattle.px_meaning.specs.Footprint.{listed}
 use Rattle.px_tree.specs.Checks.{place_with, same_count, pair_checks, end_checks, range_checks, thumb_checks}
 use Rattle.px_tree.specs.calls.Uses.{AreUses}
-use Rattle.px_tree.specs.calls.Parts.{Finds, AreEven, entry_here, place_in, pair_check, count_check, pairs_checks, jpeg_of, strips_of}
+use Rattle.px_tree.specs.calls.Parts.{Finds, HaveSameCount, entry_here, place_in, pair_check, count_check, pairs_checks, jpeg_of, strips_of}
 
 -- the first of two faults
 abbrev or_else : Option (Cause × ℕ) → Option (Cause × ℕ) → Option (Cause × ℕ)
@@ -174,7 +174,7 @@ module _ (b : List ℕ) (o : Order) (a : ℕ) where
       module _ (paired : first_false (pairs_checks p) ≡ None) where
         after_pairs : (r : Refusal) → Refuses r (end_checks b o a ++ (jpeg_part ++ strip_part)) → Refuses r (thumb_checks b o taken a)
         after_pairs r h =
-            subst (Refuses r) (sym thumb_checks-parts) (Refuses_behind r (pair_checks (a + 2) es)
+            subst (Refuses r) (sym thumb_checks-parts) (Refuses_after r (pair_checks (a + 2) es)
             (end_checks b o a ++ (jpeg_part ++ strip_part)) (sym pairs_is ∙ paired) h)
 
         pub end_refuses : (r : Refusal) → Refuses r (end_checks b o a) → Refuses r (thumb_checks b o taken a)
@@ -185,7 +185,7 @@ module _ (b : List ℕ) (o : Order) (a : ℕ) where
               (range_checks b (place_in p.jpeg_offset) taken (option_to_list (jpeg_of p.jpeg_offset p.jpeg_length)))
               → Refuses r (thumb_checks b o taken a)
           jpeg_refuses r h =
-              after_pairs r (Refuses_behind r (end_checks b o a) (jpeg_part ++ strip_part) ended
+              after_pairs r (Refuses_after r (end_checks b o a) (jpeg_part ++ strip_part) ended
               (Refuses_more r jpeg_part strip_part (subst (Refuses r) (jpeg_checks_is taken) h)))
 
           module _ (jpeg_good : first_false (range_checks b (place_in p.jpeg_offset) taken
@@ -204,8 +204,8 @@ module _ (b : List ℕ) (o : Order) (a : ℕ) where
 
             pub strips_refuse : (r : Refusal) → Refuses r strips_now → Refuses r (thumb_checks b o taken a)
             strips_refuse r h =
-                after_pairs r (Refuses_behind r (end_checks b o a) (jpeg_part ++ strip_part) ended
-                (Refuses_behind r jpeg_part strip_part jpeg_true (subst (Refuses r) strips_now-is h)))
+                after_pairs r (Refuses_after r (end_checks b o a) (jpeg_part ++ strip_part) ended
+                (Refuses_after r jpeg_part strip_part jpeg_true (subst (Refuses r) strips_now-is h)))
 
             pub thumb_true : first_false strips_now ≡ None → first_false (thumb_checks b o taken a) ≡ None
             thumb_true h = ap first_false thumb_checks-parts
@@ -214,7 +214,7 @@ module _ (b : List ℕ) (o : Order) (a : ℕ) where
                 (all_true jpeg_part strip_part jpeg_true (subst (λ (cs : List Check). first_false cs ≡ None) strips_now-is h)))
 
 -- as many offsets as lengths, if the checks pass
-even_from : (x y : Option Found) → first_false (count_check x y) ≡ None → AreEven x y
+even_from : (x y : Option Found) → first_false (count_check x y) ≡ None → HaveSameCount x y
 even_from (Some f) (Some g) h = even_by (f.head.count == g.head.count) f.head.count g.head.count f.place refl h
   where
     even_by : (t : Bool) (n m p : ℕ) → (n == m) ≡ t → first_false (check ThumbnailPair p t ∷ []) ≡ None → n ≡ m
@@ -231,7 +231,7 @@ or_none (Some f) y h = cc
 none_right : (xs ys : List Check) → first_false (xs ++ ys) ≡ None → first_false ys ≡ None
 none_right xs ys h = or_none (first_false xs) (first_false ys) (sym (first_append xs ys) ∙ h)
 
-pub even_parts : (p : Uses) → first_false (pairs_checks p) ≡ None → AreEven p.strip_offsets p.strip_lengths
+pub even_parts : (p : Uses) → first_false (pairs_checks p) ≡ None → HaveSameCount p.strip_offsets p.strip_lengths
 even_parts p h = even_from p.strip_offsets p.strip_lengths
     (none_right (pair_check p.strip_offsets p.strip_lengths) (count_check p.strip_offsets p.strip_lengths)
     (none_right (pair_check p.jpeg_offset p.jpeg_length) (pair_check p.strip_offsets p.strip_lengths

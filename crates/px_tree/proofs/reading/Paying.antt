@@ -1,7 +1,7 @@
 -- What newly claimed bytes pay for.
 use Rattle.std.proofs.Common.{◌≡◌, ◌≤◌, ◌<◌, ◌+◌, ℕ, List, [], ◌∷◌, max, inl, inr, refl, ap, ◌∙◌, arith}
 use Rattle.std.proofs.lemmas.Bool.{cases_lt}
-use Rattle.px_bytes.specs.Held.{Claims, reach, claimed_bytes}
+use Rattle.px_bytes.specs.Claimed.{Claims, reach, claimed_bytes}
 use Rattle.px_tree.specs.Asking.{fields_request}
 use Rattle.px_tree.specs.calls.Paying.{paid, extent}
 

@@ -10,7 +10,7 @@ use Rattle.px_meaning.specs.Entry.{Entry, entry, long, next, table, table_size}
 use Rattle.px_meaning.specs.Directory.{entries_at, is_pointer}
 use Rattle.px_tree.specs.Checks.{place_of}
 use Rattle.px_tree.specs.calls.Reading.{HasTable, Shows, bare, entries_from}
-use Rattle.px_tree.proofs.reading.Standing.{entries_at_is, table_is, count_is}
+use Rattle.px_tree.proofs.reading.Faulted.{entries_at_is, table_is, count_is}
 
 pub test_same : (o : Order) (t : ℕ) (h : Head) (e : Entry) → Shows o h e → is_pointer t (bare h) ≡ is_pointer t e
 test_same o t h e s = ap (λ (x : ℕ). (x == t) && ((h.code == 4) && (h.count == 1))) s.tag

@@ -2,7 +2,7 @@
 use Rattle.std.proofs.Common.{◌≡◌, ℕ, ◌+◌, ◌≤◌, true, not, List, [], ◌∷◌, length, None, nat_le, min, max, refl, arith, ◌∙◌, le-leb}
 use Rattle.std.specs.List.{AllByRecursion}
 use Rattle.std.proofs.lemmas.Bool.{and_from}
-use Rattle.px_bytes.specs.Held.{IsFree}
+use Rattle.px_bytes.specs.Claimed.{IsFree}
 use Rattle.px_bytes.specs.Range.{Range, range, shares, is_free, Agrees}
 use Rattle.px_bytes.specs.Checks.{first_false}
 use Rattle.px_bytes.specs.lemmas.CheckLaws.{first_false_true}

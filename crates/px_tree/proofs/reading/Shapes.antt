@@ -5,7 +5,7 @@ use Rattle.px_bytes.specs.declared.Cause.TheVariants.{Unsorted, Doubled, Unknown
 use Rattle.px_bytes.specs.declared.Refusal.{Refusal}
 use Rattle.px_bytes.specs.Range.{Range}
 use Rattle.px_bytes.specs.Checks.{Check, check, first_false, Refuses}
-use Rattle.px_bytes.specs.lemmas.CheckLaws.{Refuses_more, Refuses_behind, all_true}
+use Rattle.px_bytes.specs.lemmas.CheckLaws.{Refuses_more, Refuses_after, all_true}
 use Rattle.px_field.specs.declared.Form.{Form}
 use Rattle.px_field.specs.Forms.{form_of, size}
 use Rattle.px_tree.specs.declared.entries.Head.{Head}
@@ -92,7 +92,7 @@ module _ (b : List ℕ) (o : Order) (d : Dir) (taken : List Range) (p : ℕ) (u 
 
     pub value_refuses : (r : Refusal) → Refuses r (span_checks b taken p t.head.offset len) → Refuses r (entry_checks b o d taken p u e)
     value_refuses r k = subst (Refuses r) (sym (entry_checks_parts b o d taken p u e))
-        (Refuses_behind r (shape_checks d p u e) (span_checks b taken p (offset o e) (raw_size e)) (shape_true good)
+        (Refuses_after r (shape_checks d p u e) (span_checks b taken p (offset o e) (raw_size e)) (shape_true good)
         (subst (Refuses r) value_same k))
 
     pub entry_true : first_false (span_checks b taken p t.head.offset len) ≡ None → first_false (entry_checks b o d taken p u e) ≡ None

@@ -65,9 +65,10 @@ abbrev pub pairs_checks : Uses → List Check
 pairs_checks p =
     pair_check p.jpeg_offset p.jpeg_length ++ (pair_check p.strip_offsets p.strip_lengths ++ count_check p.strip_offsets p.strip_lengths)
 
-abbrev pub AreEven : Option Found → Option Found → Type 0
-AreEven (Some f) (Some g) = f.head.count ≡ g.head.count
-AreEven _ _ = ⊤
+-- if both entries are there, they have the same count
+abbrev pub HaveSameCount : Option Found → Option Found → Type 0
+HaveSameCount (Some f) (Some g) = f.head.count ≡ g.head.count
+HaveSameCount _ _ = ⊤
 
 -- ---- the ranges
 

@@ -10,8 +10,8 @@ use Rattle.clap.proofs.OnLiterals.{clap_on_literals}
 use Rattle.px_words.specs.declared.words.Words.{Words}
 use Rattle.px_words.specs.declared.words.Words.TheVariants as words
 use Rattle.px_words.specs.Words.{AreTaken, Asks, AsksFiles, IsFor, exifnorm}
-use Rattle.px_words.specs.calls.Met.{TellsKind, IsTold, AsksIn, IsMet}
-use Rattle.px_words.proofs.WordLaws.{matched_files, of_error, of_match, of_none, of_told}
+use Rattle.px_words.specs.calls.Met.{IsTextForKind, IsText, AsksIn, IsMet}
+use Rattle.px_words.proofs.WordLaws.{matched_files, of_error, of_match, of_none, of_text}
 use Rattle.px_words.proofs.matching.Whole.{requirement_met}
 
 -- the command is one whose matches and errors are specified
@@ -28,8 +28,8 @@ filter_not f (x ∷ xs) w some other = (λ none. cc, λ is. absurd (other is))
 pub asks_no_filter : (met : Option (Text × List Row)) (w : Words) → AsksFiles met w → w ≡ words.Filter → ⊥
 asks_no_filter met w asks is = subst (AsksFiles met) is asks
 
-pub tells_no_filter : (w : Words) → IsTold w → w ≡ words.Filter → ⊥
-tells_no_filter w told is = subst IsTold is told
+pub decides_no_filter : (w : Words) → IsText w → w ≡ words.Filter → ⊥
+decides_no_filter w reported is = subst IsText is reported
 
 -- what clap states of the command that it got, of the command by its definition
 module _ (ws : List Text) (app : App) (is : app ≡ exifnorm) where
@@ -49,11 +49,11 @@ module _ (ws : List Text) where
         (subst (λ r. Asks r w) same asks.0, of_match (fault_of exifnorm ws) (subcommand_of exifnorm ws) w none files, files)
 
   -- an error
-  pub parse_failed : (e : Error) (w : Words) → HasKind (fault_of exifnorm ws) e → IsTold w → TellsKind (kind_of e) w
+  pub parse_failed : (e : Error) (w : Words) → HasKind (fault_of exifnorm ws) e → IsText w → IsTextForKind (kind_of e) w
       → (kind_of e ≡ kind.OutOfMemory → w ≡ words.Unread)
       → Asks (subcommand_of exifnorm ws) w × IsFor (fault_of exifnorm ws) w × (AreTaken ws → AsksFiles (subcommand_of exifnorm ws) w)
-  parse_failed e w has told tells memory = (
-    of_told (subcommand_of exifnorm ws) w told,
-    of_error (fault_of exifnorm ws) e w has memory told tells,
+  parse_failed e w has reported reports memory = (
+    of_text (subcommand_of exifnorm ws) w reported,
+    of_error (fault_of exifnorm ws) e w has memory reported reports,
     λ taken. subst (AsksFiles (subcommand_of exifnorm ws)) (sym (memory (of_none (fault_of exifnorm ws) e taken has))) tt,
   )

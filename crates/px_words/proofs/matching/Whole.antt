@@ -146,8 +146,8 @@ requirement_met words none =
     let settles = settle_fault a.top.rules a.top.args_override_self end.held in
     let defaults = defaults_fault (settled a.top.rules end.held).rows a.top.rules in
     let checks = check_fault a.top (finished a.top.rules end.held) has in
-    let behind = or_else settles (or_else defaults checks) in
-    let past = none_then (walk_fault a.top (names_of a) (walk_from nothing_held) words) (or_else below behind) none in
-    let last = none_then defaults checks (none_then settles (or_else defaults checks) (none_then below behind past)) in
+    let after = or_else settles (or_else defaults checks) in
+    let past = none_then (walk_fault a.top (names_of a) (walk_from nothing_held) words) (or_else below after) none in
+    let last = none_then defaults checks (none_then settles (or_else defaults checks) (none_then below after past)) in
     entered_met a each_whole end.stopped (one_met has false (sym (last_checks (finished a.top.rules end.held) has) ∙ last))
-    (none_first below behind past)
+    (none_first below after past)

@@ -35,15 +35,15 @@ abbrev pub AsksIn : Option (Text × List Row) → Words → Type 0
 AsksIn met w = Asks met w × AsksMatched met w
 
 -- a text, or out of memory
-abbrev pub IsTold : Words → Type 0
-IsTold (words.Help text) = ⊤
-IsTold (words.Refused text) = ⊤
-IsTold words.NoMemory = ⊤
-IsTold words.Unread = ⊤
-IsTold _ = ⊥
+abbrev pub IsText : Words → Type 0
+IsText (words.Help text) = ⊤
+IsText (words.Refused text) = ⊤
+IsText words.NoMemory = ⊤
+IsText words.Unread = ⊤
+IsText _ = ⊥
 
 -- help or the version for an error of that kind, and a refusal for any other
-abbrev pub TellsKind : ErrorKind → Words → Type 0
-TellsKind k (words.Help text) = IsShown k
-TellsKind k (words.Refused text) = IsShown k → ⊥
-TellsKind k _ = ⊤
+abbrev pub IsTextForKind : ErrorKind → Words → Type 0
+IsTextForKind k (words.Help text) = IsShown k
+IsTextForKind k (words.Refused text) = IsShown k → ⊥
+IsTextForKind k _ = ⊤

@@ -7,7 +7,7 @@ invariant-loop-part l = record {
   counted : l.n + length l.left ≡ length l.initial.left;
   long : length l.out ≡ length l.initial.out;
   stored : take l.n l.out ++ map seen_part l.left ≡ map seen_part l.initial.left;
-  behind : drop l.n l.out ≡ drop l.n l.initial.out;
+  after : drop l.n l.out ≡ drop l.n l.initial.out;
 }
 
 abbrev pub decreases-loop-part : goal.decreases-loop-part

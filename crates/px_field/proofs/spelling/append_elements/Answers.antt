@@ -8,8 +8,8 @@ use Rattle.std.proofs.lemmas.List.{take_all}
 use Rattle.std.proofs.lemmas.Option.{slice_get-get_or}
 use Rattle.px_field.specs.declared.forms.Element.{Element}
 use Rattle.px_field.specs.declared.forms.Element.TheVariants as element
-use Rattle.px_field.specs.Values.{form_in, spell, spelled}
-use Rattle.px_field.specs.lemmas.ValueLaws.{spell_take}
+use Rattle.px_field.specs.Values.{form_in, encode, encoded}
+use Rattle.px_field.specs.lemmas.ValueLaws.{encode_take}
 use Rattle.px_field.proofs.spelling.append_elements.Goals as goal
 
 pub loop-i-preserved : goal.loop-i-preserved
@@ -34,24 +34,24 @@ loop-i-preserved c =
     record {
       items = c.in_ok-extend_from_slice.ensures.items
           ∙ ap (λ (l : List ℕ). l ++ piece) c.loop-i.invariant.items
-          ∙ append_assoc c.args.out.now.items (flat_map (spell o) (take i es)) piece
-          ∙ ap (λ (l : List ℕ). c.args.out.now.items ++ l) (ap (λ (l : List ℕ). flat_map (spell o) (take i es) ++ l)
-          (c.spell_at-width.ensures.front e here) ∙ sym (spell_take o es i (i + 1) e here (omega arith)));
+          ∙ append_assoc c.args.out.now.items (flat_map (encode o) (take i es)) piece
+          ∙ ap (λ (l : List ℕ). c.args.out.now.items ++ l) (ap (λ (l : List ℕ). flat_map (encode o) (take i es) ++ l)
+          (c.spell_at-width.ensures.front e here) ∙ sym (encode_take o es i (i + 1) e here (omega arith)));
       len = longer;
-      room = omega (arith, c.loop-i.invariant.room, c.in_ok-extend_from_slice.ensures.capacity);
+      space = omega (arith, c.loop-i.invariant.space, c.in_ok-extend_from_slice.ensures.capacity);
       memory = c.in_ok-extend_from_slice.ensures.memory ∙ c.loop-i.invariant.memory;
       asked = c.in_ok-extend_from_slice.ensures.fits (omega (
         arith,
         longer,
         wide,
         c.in_ok-extend_from_slice.ensures.len,
-        c.loop-i.invariant.room,
+        c.loop-i.invariant.space,
       )) ∙ c.loop-i.invariant.asked;
     }
 
 pub returns-clause-done : goal.returns-clause-done
-unfolding spelled
+unfolding encoded
 returns-clause-done c =
     let es = c.args.value.now.elements in
     let all : take c.loop-i.i es ≡ es = take_all c.loop-i.i es (omega arith) in
-    c.loop-i.invariant.items ∙ ap (λ (l : List Element). c.args.out.now.items ++ flat_map (spell c.args.order) l) all
+    c.loop-i.invariant.items ∙ ap (λ (l : List Element). c.args.out.now.items ++ flat_map (encode c.args.order) l) all

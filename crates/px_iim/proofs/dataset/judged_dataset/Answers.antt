@@ -1,5 +1,5 @@
 use Rattle.std.proofs.Common.{arith}
-use Rattle.px_iim.specs.lemmas.SpellingLaws.{dataset_holds}
+use Rattle.px_iim.specs.lemmas.EncodingLaws.{dataset_holds}
 use Rattle.px_iim.proofs.reading.Octets.{dataset_value}
 use Rattle.px_iim.proofs.dataset.judged_dataset.Goals as goal
 

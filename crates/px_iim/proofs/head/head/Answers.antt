@@ -28,14 +28,14 @@ normal_head_of_count : (rec number n : ℕ) (xs : List ℕ) → xs ≡ normal_co
 unfolding normal_head
 normal_head_of_count rec number n xs e = ap (λ (ys : List ℕ). marker ∷ rec ∷ number ∷ ys) e
 
-pub returns-then-count-lt-TOP_BIT-clause-spelled : goal.returns-then-count-lt-TOP_BIT-clause-spelled
-returns-then-count-lt-TOP_BIT-clause-spelled c =
+pub returns-then-count-lt-TOP_BIT-clause-encoded : goal.returns-then-count-lt-TOP_BIT-clause-encoded
+returns-then-count-lt-TOP_BIT-clause-encoded c =
     normal_head_of_count c.args.rec c.args.number c.args.count _
     (normal_count_standard c.args.count c.two_octets.result c.if-count-lt-TOP_BIT.true
     c.two_octets.ensures)
 
-pub returns-clause-spelled : goal.returns-clause-spelled
-returns-clause-spelled c =
+pub returns-clause-encoded : goal.returns-clause-encoded
+returns-clause-encoded c =
     normal_head_of_count c.args.rec c.args.number c.args.count _
     (normal_count_extended c.args.count c.two_octets-2.result c.four_octets.result
     c.if-count-lt-TOP_BIT.false c.two_octets-2.ensures c.four_octets.ensures)

@@ -9,8 +9,8 @@ use Rattle.px_iim.specs.calls.View.{dataset_view}
 use Rattle.px_iim.specs.Writing.{within}
 use Rattle.px_iim.specs.declared.dataset.Found.{Found}
 use Rattle.px_iim.specs.declared.group.Item.{Item}
-use Rattle.px_iim.proofs.reading.Steps.{datasets, dataset_inside, dataset_size_ge, octets_within, said_last, said_more}
-use Rattle.px_iim.proofs.reading.Walked.{behind, datasets_is, none_read, one_left, last_left, more_left, one_all, rest_is}
+use Rattle.px_iim.proofs.reading.Steps.{datasets, dataset_inside, dataset_size_ge, octets_within, meaning_last, meaning_more}
+use Rattle.px_iim.proofs.reading.Walked.{after, datasets_is, none_read, one_left, last_left, more_left, one_all, rest_is}
 use Rattle.px_iim.proofs.reading.RunSteps.{longer_form}
 use Rattle.px_iim.proofs.writing.Writes.{within_counted}
 use Rattle.px_iim.proofs.ordered.put_all.Goals as goal
@@ -20,7 +20,7 @@ unfolding gather
 loop-form_len-init c = record {
   inside = omega arith;
   reading = λ all e. (
-    ap (λ (xs : List Item). behind (map dataset_view xs) (datasets c.args.bytes.now)) c.requires.none
+    ap (λ (xs : List Item). after (map dataset_view xs) (datasets c.args.bytes.now)) c.requires.none
         ∙ none_read (datasets c.args.bytes.now) ∙ e,
     ap (λ (xs : List Item). within (length (normal_iim (gather [] (map dataset_view xs))))) (sym c.requires.none),
   );
@@ -29,7 +29,7 @@ loop-form_len-init c = record {
 
 pub judged_dataset-found-requires : goal.judged_dataset-found-requires
 judged_dataset-found-requires c =
-    let (ds, s, n) = c.requires.said in
+    let (ds, s, n) = c.requires.meaning in
     let (h, q) = c.loop-form_len.invariant.reading ds (datasets_is c.args.bytes.now ∙ s) in
     ap is_dataset c.rest.ensures ∙ one_left (map dataset_view c.loop-form_len.items.items) ds (drop c.loop-form_len.at c.args.bytes.now) h
 
@@ -38,7 +38,7 @@ push_reserved-requires c =
     let x = c.args.bytes.now in
     let f : Found = c.judged_dataset-found.result in
     let r : Reads (drop c.loop-form_len.at x) f = subst (λ (y : List ℕ). Reads y f) c.rest.ensures c.judged_dataset-found.ensures in
-    let (ds, s, n) = c.requires.said in
+    let (ds, s, n) = c.requires.meaning in
     let (h, q) = c.loop-form_len.invariant.reading ds (datasets_is x ∙ s) in
     let (left, w) = rest_is x c.loop-form_len.at f r (map dataset_view c.loop-form_len.items.items) ds h in
     omega (
@@ -53,7 +53,7 @@ push_reserved-requires c =
 
 pub longer-form_len-requires-clause-counted : goal.longer-form_len-requires-clause-counted
 longer-form_len-requires-clause-counted c =
-    let (ds, s, n) = c.requires.said in
+    let (ds, s, n) = c.requires.meaning in
     let (h, q) = c.loop-form_len.invariant.reading ds (datasets_is c.args.bytes.now ∙ s) in
     within_counted c.loop-form_len.form_len _ q
 
@@ -93,7 +93,7 @@ returns-then-is_end-clause-items c = λ ds e.
     let (h, q) = c.loop-form_len.invariant.reading ds (datasets_is x ∙ e) in
     let front = map dataset_view c.loop-form_len.items.items in
     let whole : ds ≡ front ++ found_view f ∷ [] =
-    one_all (front ++ found_view f ∷ []) ds (last_left front (found_view f) (datasets (drop at x)) (Some ds) (said_last x at f r ends) h) in
+    one_all (front ++ found_view f ∷ []) ds (last_left front (found_view f) (datasets (drop at x)) (Some ds) (meaning_last x at f r ends) h) in
     one_more c.loop-form_len.items.items _ _ c.push_reserved.ensures.items ∙ sym whole
 
 pub returns-then-is_end-clause-form : goal.returns-then-is_end-clause-form
@@ -106,7 +106,7 @@ returns-then-is_end-clause-form c = λ ds e.
     let (h, q) = c.loop-form_len.invariant.reading ds (datasets_is x ∙ e) in
     let front = map dataset_view c.loop-form_len.items.items in
     let whole : ds ≡ front ++ found_view f ∷ [] =
-    one_all (front ++ found_view f ∷ []) ds (last_left front (found_view f) (datasets (drop at x)) (Some ds) (said_last x at f r ends) h) in
+    one_all (front ++ found_view f ∷ []) ds (last_left front (found_view f) (datasets (drop at x)) (Some ds) (meaning_last x at f r ends) h) in
     longer_form c.longer-form_len.result front (found_view f) (λ n k. c.longer-form_len.ensures n (q ∙ k))
     ∙ ap (λ (y : List DataSet). within (length (normal_iim (gather [] y)))) (sym whole)
 
@@ -124,8 +124,8 @@ loop-form_len-preserved c =
       inside = dataset_inside x at f r c.loop-form_len.invariant.inside;
       reading = λ all e.
           let (h, q) = c.loop-form_len.invariant.reading all e in (
-            ap (λ (y : List DataSet). behind y (datasets (drop (at + f.size) x))) grown
-                ∙ more_left front d (datasets (drop at x)) (datasets (drop (at + f.size) x)) (Some all) (said_more x at f r ends) h,
+            ap (λ (y : List DataSet). after y (datasets (drop (at + f.size) x))) grown
+                ∙ more_left front d (datasets (drop at x)) (datasets (drop (at + f.size) x)) (Some all) (meaning_more x at f r ends) h,
             longer_form c.longer-form_len.result front d (λ n k. c.longer-form_len.ensures n (q ∙ k))
                 ∙ ap (λ (y : List DataSet). within (length (normal_iim (gather [] y)))) (sym grown),
           );

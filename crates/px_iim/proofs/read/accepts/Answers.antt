@@ -2,8 +2,8 @@ use Rattle.std.proofs.Common.{◌≡◌, ℕ, ◌+◌, true, false, is_some, Non
 use Rattle.px_iim.specs.Record.{is_end}
 use Rattle.px_iim.specs.calls.Reading.{Reads, found_view}
 use Rattle.px_iim.proofs.reading.Steps.{datasets, iim_of_past, iim_of_within, some_mapped, some_more}
-use Rattle.px_iim.proofs.reading.Steps.{refused_says, dataset_size_ge, dataset_inside, said_last}
-use Rattle.px_iim.proofs.reading.Steps.{said_more}
+use Rattle.px_iim.proofs.reading.Steps.{refused_means, dataset_size_ge, dataset_inside, meaning_last}
+use Rattle.px_iim.proofs.reading.Steps.{meaning_more}
 use Rattle.px_iim.proofs.read.accepts.Goals as goal
 
 pub returns-then-bytes : goal.returns-then-bytes
@@ -12,13 +12,13 @@ returns-then-bytes c = sym (ap is_some (iim_of_past c.args.bytes.now c.if-bytes.
 pub loop-found-init : goal.loop-found-init
 loop-found-init c = record {
   inside = omega arith;
-  said = sym (ap is_some (iim_of_within c.args.bytes.now c.if-bytes.false) ∙ some_mapped [] (datasets c.args.bytes.now));
+  meaning = sym (ap is_some (iim_of_within c.args.bytes.now c.if-bytes.false) ∙ some_mapped [] (datasets c.args.bytes.now));
 }
 
 pub returns-in_default : goal.returns-in_default
 returns-in_default c =
-    let none : datasets c.rest.result.now ≡ None = refused_says 0 c.rest.result.now _ (c.in_default.ensures 0) in
-    sym (ap is_some none) ∙ ap (λ (x : List ℕ). is_some (datasets x)) c.rest.ensures ∙ c.loop-found.invariant.said
+    let none : datasets c.rest.result.now ≡ None = refused_means 0 c.rest.result.now _ (c.in_default.ensures 0) in
+    sym (ap is_some none) ∙ ap (λ (x : List ℕ). is_some (datasets x)) c.rest.ensures ∙ c.loop-found.invariant.meaning
 
 pub overflow_add-at : goal.overflow_add-at
 overflow_add-at c =
@@ -39,7 +39,7 @@ returns-then-is_end c =
     let r : Reads (drop c.loop-found.at x) c.in-Ok.found = subst (λ (y : List ℕ). Reads y c.in-Ok.found) c.rest.ensures c.in-Ok.ensures in
     let e : is_end (drop (c.loop-found.at + c.in-Ok.found.size) x) ≡ true =
     sym (ap is_end c.rest-in-loop-found.ensures) ∙ sym c.if-is_end.ensures in
-    sym (ap is_some (said_last x c.loop-found.at c.in-Ok.found r e)) ∙ c.loop-found.invariant.said
+    sym (ap is_some (meaning_last x c.loop-found.at c.in-Ok.found r e)) ∙ c.loop-found.invariant.meaning
 
 pub loop-found-preserved : goal.loop-found-preserved
 loop-found-preserved c =
@@ -49,8 +49,8 @@ loop-found-preserved c =
     sym (ap is_end c.rest-in-loop-found.ensures) ∙ sym c.if-is_end.ensures in
     record {
       inside = dataset_inside x c.loop-found.at c.in-Ok.found r c.loop-found.invariant.inside;
-      said = sym (ap is_some (said_more x c.loop-found.at c.in-Ok.found r e)
-          ∙ some_more (found_view c.in-Ok.found) (datasets (drop (c.loop-found.at + c.in-Ok.found.size) x))) ∙ c.loop-found.invariant.said;
+      meaning = sym (ap is_some (meaning_more x c.loop-found.at c.in-Ok.found r e)
+          ∙ some_more (found_view c.in-Ok.found) (datasets (drop (c.loop-found.at + c.in-Ok.found.size) x))) ∙ c.loop-found.invariant.meaning;
     }
 
 pub loop-found-smaller : goal.loop-found-smaller

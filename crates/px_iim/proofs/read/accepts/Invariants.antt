@@ -6,7 +6,7 @@ use Rattle.px_iim.proofs.read.accepts.Given as goal
 abbrev pub invariant-loop-found : goal.invariant-loop-found
 invariant-loop-found l = record {
   inside : l.at ≤ length l.bytes;
-  said : is_some (datasets (drop l.at l.bytes)) ≡ is_some (iim_of l.bytes);
+  meaning : is_some (datasets (drop l.at l.bytes)) ≡ is_some (iim_of l.bytes);
 }
 
 abbrev pub decreases-loop-found : goal.decreases-loop-found

@@ -13,9 +13,9 @@ use Rattle.px_iim.proofs.read.read_put.Given as goal
 abbrev pub invariant-loop-record : goal.invariant-loop-record
 invariant-loop-record l = record {
   inside : l.at ≤ length l.bytes;
-  said : option_map (gather l.record) (datasets (drop l.at l.bytes)) ≡ iim_of l.bytes;
+  meaning : option_map (gather l.record) (datasets (drop l.at l.bytes)) ≡ iim_of l.bytes;
   faults : first_false (checks_left l.at (drop l.at l.bytes)) ≡ first_false (iim_checks l.bytes);
-  memory : l.memory.refusals ≡ l.initial.memory.refusals;
+  memory : l.memory.failed_allocations ≡ l.initial.memory.failed_allocations;
   asked : l.memory.asked ≤ l.initial.memory.asked + dataset_count l.record * put_request 64;
 }
 

@@ -14,8 +14,8 @@ use Rattle.px_iim.specs.calls.Reading.{Reads, JudgesAt, found_view}
 use Rattle.px_iim.specs.calls.Runs.{key_of, InOrder}
 use Rattle.px_iim.specs.declared.dataset.Found.{Found}
 use Rattle.px_iim.specs.lemmas.ScanLaws.{checks_left, iim_left}
-use Rattle.px_iim.proofs.reading.Steps.{datasets, dataset_inside, dataset_size_ge, said_last}
-use Rattle.px_iim.proofs.reading.Steps.{said_more, fault_last, fault_more, refused_fault}
+use Rattle.px_iim.proofs.reading.Steps.{datasets, dataset_inside, dataset_size_ge, meaning_last}
+use Rattle.px_iim.proofs.reading.Steps.{meaning_more, fault_last, fault_more, refused_fault}
 use Rattle.px_iim.proofs.reading.Walked.{datasets_is, none_read, last_left, more_left}
 use Rattle.px_iim.proofs.reading.Sorted.{all_append, all_weaker, order_more}
 use Rattle.px_iim.proofs.survey.survey.Goals as goal
@@ -81,7 +81,7 @@ returns-then-is_end-clause-judged c =
       sym c.loop-found.invariant.faults ∙ fault_last x at f r e,
       (
         front ++ d ∷ [],
-        sym (datasets_is x) ∙ last_left front d (datasets (drop at x)) (datasets x) (said_last x at f r e) h,
+        sym (datasets_is x) ∙ last_left front d (datasets (drop at x)) (datasets x) (meaning_last x at f r e) h,
         omega arith,
         keys_below front d c.loop-found.keys c.past-keys.result c.key_of-key.result c.key_of-key.ensures.value
             (omega (arith, c.past-keys.ensures)) (omega (arith, c.past-keys.ensures)) a,
@@ -105,7 +105,7 @@ loop-found-preserved c =
       inside = dataset_inside x at f r c.loop-found.invariant.inside;
       read = (
         front ++ d ∷ [],
-        more_left front d (datasets (drop at x)) (datasets (drop (at + f.size) x)) (datasets x) (said_more x at f r e) h,
+        more_left front d (datasets (drop at x)) (datasets (drop (at + f.size) x)) (datasets x) (meaning_more x at f r e) h,
         omega arith,
         keys_below front d c.loop-found.keys c.past-keys.result c.key_of-key.result c.key_of-key.ensures.value
             (omega (arith, c.past-keys.ensures)) (omega (arith, c.past-keys.ensures)) a,

@@ -17,37 +17,37 @@ returns-in_err-append_item-clause-grown c =
     rw p.1 (grows_stop c.args.out.now.items c.loop-item.out.items c.append_item.new.out.items _ c.loop-item.invariant.grown
     c.in_err-append_item.ensures.grown)
 
-pub append_item-requires-clause-room : goal.append_item-requires-clause-room
-append_item-requires-clause-room c =
+pub append_item-requires-clause-space : goal.append_item-requires-clause-space
+append_item-requires-clause-space c =
     let f = normal_dataset c.args.rec in
     let xs = map item_view c.args.items.now in
     let i = c.loop-item.item-index in
     omega (
       arith,
-      c.requires.room,
-      c.loop-item.invariant.room,
+      c.requires.space,
+      c.loop-item.invariant.space,
       length_more f xs i (item_view (get_or c.args.items.now i no_item)) (item_read c.args.items.now i no_item c.loop-item-test.true),
       length_parts f xs (i + 1),
     )
 
-pub returns-in_err-append_item-clause-room : goal.returns-in_err-append_item-clause-room
-returns-in_err-append_item-clause-room c =
+pub returns-in_err-append_item-clause-space : goal.returns-in_err-append_item-clause-space
+returns-in_err-append_item-clause-space c =
     let f = normal_dataset c.args.rec in
     let xs = map item_view c.args.items.now in
     let i = c.loop-item.item-index in
     omega (
       arith,
-      c.loop-item.invariant.room,
-      c.in_err-append_item.ensures.room,
+      c.loop-item.invariant.space,
+      c.in_err-append_item.ensures.space,
       length_more f xs i (item_view (get_or c.args.items.now i no_item)) (item_read c.args.items.now i no_item c.loop-item-test.true),
       length_parts f xs (i + 1),
     )
 
-pub returns-clause-room : goal.returns-clause-room
-returns-clause-room c =
+pub returns-clause-space : goal.returns-clause-space
+returns-clause-space c =
     omega (
       arith,
-      c.loop-item.invariant.room,
+      c.loop-item.invariant.space,
       length_parts (normal_dataset c.args.rec) (map item_view c.args.items.now) c.loop-item.item-index,
     )
 
@@ -58,10 +58,10 @@ loop-item-preserved c = record {
       c.args.out.now.items c.loop-item.out.items c.append_item.new.out.items c.loop-item.invariant.grown c.in_ok-append_item.ensures.grown;
   memory = c.in_ok-append_item.ensures.memory ∙ c.loop-item.invariant.memory;
   asked = c.in_ok-append_item.ensures.asked ∙ c.loop-item.invariant.asked;
-  room = omega (
+  space = omega (
     arith,
-    c.loop-item.invariant.room,
-    c.in_ok-append_item.ensures.room,
+    c.loop-item.invariant.space,
+    c.in_ok-append_item.ensures.space,
     length_more (normal_dataset c.args.rec) (map item_view c.args.items.now) c.loop-item.item-index
         (item_view (get_or c.args.items.now c.loop-item.item-index no_item))
         (item_read c.args.items.now c.loop-item.item-index no_item c.loop-item-test.true),

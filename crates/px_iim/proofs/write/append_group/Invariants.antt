@@ -7,8 +7,8 @@ use Rattle.px_iim.proofs.write.append_group.Given as goal
 abbrev pub invariant-loop-item : goal.invariant-loop-item
 invariant-loop-item l = record {
   grown : l.out.items ≡ l.initial.out.items ++ flat_map (normal_dataset l.rec) (take l.item-index (map item_view l.items));
-  memory : l.memory.refusals ≡ l.initial.memory.refusals;
+  memory : l.memory.failed_allocations ≡ l.initial.memory.failed_allocations;
   asked : l.memory.asked ≡ l.initial.memory.asked;
-  room : vec_len l.out + vec_capacity l.initial.out ≤ vec_len l.initial.out + vec_capacity l.out
+  space : vec_len l.out + vec_capacity l.initial.out ≤ vec_len l.initial.out + vec_capacity l.out
       + length (flat_map (normal_dataset l.rec) (take l.item-index (map item_view l.items)));
 }

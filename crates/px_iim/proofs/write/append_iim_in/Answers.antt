@@ -7,4 +7,4 @@ pub append_record-result-requires : goal.append_record-result-requires
 append_record-result-requires c =
     let n = within_number c.normal_len.result (length (normal_iim c.args.iim.now)) c.unwrap_or.result c.normal_len.ensures
     c.unwrap_or.ensures c.requires in
-    omega (arith, n, c.in_ok-reserve.ensures.room, c.in_ok-reserve.ensures.len)
+    omega (arith, n, c.in_ok-reserve.ensures.space, c.in_ok-reserve.ensures.len)

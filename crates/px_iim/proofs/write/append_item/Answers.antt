@@ -14,20 +14,20 @@ returns-clause-grown c =
     grows_item c.extend_from_slice-2.result c.args.out.now.items c.extend_from_slice.new.list.items c.extend_from_slice-2.new.list.items
     head octets _
     c.in_ok-extend_from_slice.ensures.items c.extend_from_slice-2.ensures.items
-    (head_and_data c.args.rec c.args.item.now.number octets head c.head-len.ensures.spelled)
+    (head_and_data c.args.rec c.args.item.now.number octets head c.head-len.ensures.encoded)
 
 pub returns-in_err-extend_from_slice-clause-asked : goal.returns-in_err-extend_from_slice-clause-asked
 returns-in_err-extend_from_slice-clause-asked c =
     let head = take c.head-len.result.1 c.head-len.result.0 in
     let octets = c.args.item.now.octets.now in
-    let whole = ap length (head_and_data c.args.rec c.args.item.now.number octets head c.head-len.ensures.spelled) in
-    c.in_err-extend_from_slice.ensures.fits (omega (arith, c.requires.room, whole, length-append head octets))
+    let whole = ap length (head_and_data c.args.rec c.args.item.now.number octets head c.head-len.ensures.encoded) in
+    c.in_err-extend_from_slice.ensures.fits (omega (arith, c.requires.space, whole, length-append head octets))
 
-pub returns-in_err-extend_from_slice-clause-room : goal.returns-in_err-extend_from_slice-clause-room
-returns-in_err-extend_from_slice-clause-room c =
+pub returns-in_err-extend_from_slice-clause-space : goal.returns-in_err-extend_from_slice-clause-space
+returns-in_err-extend_from_slice-clause-space c =
     let head = take c.head-len.result.1 c.head-len.result.0 in
     let octets = c.args.item.now.octets.now in
-    let whole = ap length (head_and_data c.args.rec c.args.item.now.number octets head c.head-len.ensures.spelled) in
+    let whole = ap length (head_and_data c.args.rec c.args.item.now.number octets head c.head-len.ensures.encoded) in
     let same = c.in_err-extend_from_slice.ensures.len in
     let wider = c.in_err-extend_from_slice.ensures.capacity in
     omega arith
@@ -36,17 +36,17 @@ pub returns-clause-asked : goal.returns-clause-asked
 returns-clause-asked c =
     let head = take c.head-len.result.1 c.head-len.result.0 in
     let octets = c.args.item.now.octets.now in
-    let whole = ap length (head_and_data c.args.rec c.args.item.now.number octets head c.head-len.ensures.spelled) in
-    let first = c.in_ok-extend_from_slice.ensures.fits (omega (arith, c.requires.room, whole, length-append head octets)) in
+    let whole = ap length (head_and_data c.args.rec c.args.item.now.number octets head c.head-len.ensures.encoded) in
+    let first = c.in_ok-extend_from_slice.ensures.fits (omega (arith, c.requires.space, whole, length-append head octets)) in
     let len = c.in_ok-extend_from_slice.ensures.len in
     let wider = c.in_ok-extend_from_slice.ensures.capacity in
-    c.extend_from_slice-2.ensures.fits (omega (arith, c.requires.room, whole, length-append head octets, len, wider)) ∙ first
+    c.extend_from_slice-2.ensures.fits (omega (arith, c.requires.space, whole, length-append head octets, len, wider)) ∙ first
 
-pub returns-clause-room : goal.returns-clause-room
-returns-clause-room c =
+pub returns-clause-space : goal.returns-clause-space
+returns-clause-space c =
     let head = take c.head-len.result.1 c.head-len.result.0 in
     let octets = c.args.item.now.octets.now in
-    let whole = ap length (head_and_data c.args.rec c.args.item.now.number octets head c.head-len.ensures.spelled) in
+    let whole = ap length (head_and_data c.args.rec c.args.item.now.number octets head c.head-len.ensures.encoded) in
     let len = c.in_ok-extend_from_slice.ensures.len in
     let wider = c.in_ok-extend_from_slice.ensures.capacity in
     let last = at_most c.extend_from_slice-2.result _ _ c.extend_from_slice-2.ensures.len in

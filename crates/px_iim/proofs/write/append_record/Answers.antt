@@ -15,15 +15,15 @@ loop-rec-init c =
       grown = ([], sym (append-nil c.args.out.now.items), ap normal_iim all);
       memory = refl;
       asked = refl;
-      room = omega (arith, c.requires, ap (λ (i : Record). length (normal_iim i)) all);
+      space = omega (arith, c.requires, ap (λ (i : Record). length (normal_iim i)) all);
     }
 
-pub append_group-requires-clause-room : goal.append_group-requires-clause-room
-append_group-requires-clause-room c =
+pub append_group-requires-clause-space : goal.append_group-requires-clause-space
+append_group-requires-clause-space c =
     let x = part_view (c.in-Some.rec, c.in-Some.field-0-1, c.in-Some.items) in
     omega (
       arith,
-      c.loop-rec.invariant.room,
+      c.loop-rec.invariant.space,
       length_next c.loop-rec.rec-iterator c.next.new.self x c.in-Some.ensures.steps [],
     )
 
@@ -48,10 +48,10 @@ loop-rec-preserved c =
           c.append_group.new.out.items o.0 o.1 o.2 c.in_ok-append_group.ensures.grown;
       memory = c.in_ok-append_group.ensures.memory ∙ c.loop-rec.invariant.memory;
       asked = c.in_ok-append_group.ensures.asked ∙ c.loop-rec.invariant.asked;
-      room = omega (
+      space = omega (
         arith,
-        c.loop-rec.invariant.room,
-        c.in_ok-append_group.ensures.room,
+        c.loop-rec.invariant.space,
+        c.in_ok-append_group.ensures.space,
         length_next c.loop-rec.rec-iterator c.next.new.self x c.in-Some.ensures.steps [],
       );
     }

@@ -9,7 +9,7 @@ abbrev pub invariant-loop-rec : goal.invariant-loop-rec
 invariant-loop-rec l = record {
   whole : AllByRecursion IsGroup l.rec-iterator;
   grown : (parts : List ℕ) × (l.out.items ≡ l.initial.out.items ++ parts) × (parts ++ normal_iim l.rec-iterator ≡ normal_iim l.iim);
-  memory : l.memory.refusals ≡ l.initial.memory.refusals;
+  memory : l.memory.failed_allocations ≡ l.initial.memory.failed_allocations;
   asked : l.memory.asked ≡ l.initial.memory.asked;
-  room : vec_len l.out + length (normal_iim l.rec-iterator) ≤ vec_capacity l.out;
+  space : vec_len l.out + length (normal_iim l.rec-iterator) ≤ vec_capacity l.out;
 }

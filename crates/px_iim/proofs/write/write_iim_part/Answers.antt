@@ -63,18 +63,18 @@ returns-then-len-gt-LIMIT-clause-once g c = λ short.
 pub returns-in_err-put_iim-clause-once : goal.returns-in_err-put_iim-clause-once
 returns-in_err-put_iim-clause-once g c = λ short.
     absurd (c.in_err-put_iim.ensures.waits (fits_new c.new-pending.result (normal_iim c.args.iim.now) c.new-pending.ensures.none
-    c.new-pending.ensures.room short.1))
+    c.new-pending.ensures.capacity short.1))
 
 pub returns-in_err-send-clause-once : goal.returns-in_err-send-clause-once
 returns-in_err-send-clause-once g c = λ short.
     let h = c.new-pending.result in
     let form = normal_iim c.args.iim.now in
-    let put = c.in_ok-put_iim.ensures.waits (fits_new h form c.new-pending.ensures.none c.new-pending.ensures.room short.1) in
+    let put = c.in_ok-put_iim.ensures.waits (fits_new h form c.new-pending.ensures.none c.new-pending.ensures.capacity short.1) in
     sent_once g.W.Sink.wrote h c.put_iim.new.pending form _ _ _ c.new-pending.ensures.none put.0 put.1 short.0 c.in_err-send.ensures.first
 
 pub returns-clause-once : goal.returns-clause-once
 returns-clause-once g c = λ short.
     let h = c.new-pending.result in
     let form = normal_iim c.args.iim.now in
-    let put = c.in_ok-put_iim.ensures.waits (fits_new h form c.new-pending.ensures.none c.new-pending.ensures.room short.1) in
+    let put = c.in_ok-put_iim.ensures.waits (fits_new h form c.new-pending.ensures.none c.new-pending.ensures.capacity short.1) in
     sent_once g.W.Sink.wrote h c.put_iim.new.pending form _ _ _ c.new-pending.ensures.none put.0 put.1 short.0 c.in_ok-send.ensures.first

@@ -2,4 +2,4 @@ use Rattle.px_jobs.proofs.Headlines as reported
 use Rattle.px_jobs.proofs.laws.comparison_decides.Goals as goal
 
 pub returns : goal.returns
-returns c = reported.comparison_decides c.comparing_tells.ensures
+returns c = reported.comparison_decides c.comparing_decides.ensures

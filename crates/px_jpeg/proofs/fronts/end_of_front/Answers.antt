@@ -51,8 +51,8 @@ returns-in_default-clause-front c =
 
 -- ---- one more part
 
-pub range-requires : goal.range-requires
-range-requires c =
+pub bytes_at-requires : goal.bytes_at-requires
+bytes_at-requires c =
     part_inside c.args.bytes.now c.loop-part.at c.rest.result.now c.in-Ok.part c.rest.ensures c.in-Ok.ensures.0 c.in-Ok.ensures.1
     c.loop-part.invariant.inside
 
@@ -101,8 +101,8 @@ loop-part-preserved c =
             begun = c.loop-part.invariant.inside;
             walked =
                 walk_begins c.args.bytes.now c.loop-part.at c.loop-part.begun c.loop-part.last c.loop-part.invariant.walked
-                c.rest.result.now c.in-Ok.part c.rest.ensures c.in-Ok.ensures.0 c.in-Ok.ensures.1 c.range.result.now c.range.ensures
-                c.kind_of-kind.result c.kind_of-kind.ensures.value (sym c.is_last.ensures ∙ c.if-is_last.false) c.begins_block.result
+                c.rest.result.now c.in-Ok.part c.rest.ensures c.in-Ok.ensures.0 c.in-Ok.ensures.1 c.bytes_at.result.now c.bytes_at.ensures
+                c.segment_kind-kind.result c.segment_kind-kind.ensures.value (sym c.is_last.ensures ∙ c.if-is_last.false) c.begins_block.result
                 c.begins_block.ensures w.if-begins_block.true;
           })
       | else-begins_block w ↦
@@ -111,8 +111,8 @@ loop-part-preserved c =
             begun = c.loop-part.invariant.begun;
             walked =
                 walk_continues c.args.bytes.now c.loop-part.at c.loop-part.begun c.loop-part.last c.loop-part.invariant.walked
-                c.rest.result.now c.in-Ok.part c.rest.ensures c.in-Ok.ensures.0 c.in-Ok.ensures.1 c.range.result.now c.range.ensures
-                c.kind_of-kind.result c.kind_of-kind.ensures.value (sym c.is_last.ensures ∙ c.if-is_last.false) c.begins_block.result
+                c.rest.result.now c.in-Ok.part c.rest.ensures c.in-Ok.ensures.0 c.in-Ok.ensures.1 c.bytes_at.result.now c.bytes_at.ensures
+                c.segment_kind-kind.result c.segment_kind-kind.ensures.value (sym c.is_last.ensures ∙ c.if-is_last.false) c.begins_block.result
                 c.begins_block.ensures w.if-begins_block.false;
           })
     ]

@@ -9,8 +9,8 @@ returns-in_default-clause-steps c = (
   c.in_default.ensures.steps.1,
 )
 
-pub range-requires : goal.range-requires
-range-requires c =
+pub bytes_at-requires : goal.bytes_at-requires
+bytes_at-requires c =
     (first_inside c.args.bytes.now c.loop-part.parts c.next.new.self c.in-Some.part c.in-Some.ensures.steps c.loop-part.invariant.inside).0
 
 pub piece_of-requires-clause-inside : goal.piece_of-requires-clause-inside
@@ -19,23 +19,23 @@ piece_of-requires-clause-inside c =
 
 pub piece_of-requires-clause-marked : goal.piece_of-requires-clause-marked
 piece_of-requires-clause-marked c =
-    let l = ap length c.range.ensures ∙ length-take c.in-Some.part.size (drop c.in-Some.part.start c.args.bytes.now) in
-    omega (arith, c.in-Some-kind_of.ensures.few)
+    let l = ap length c.bytes_at.ensures ∙ length-take c.in-Some.part.size (drop c.in-Some.part.start c.args.bytes.now) in
+    omega (arith, c.in-Some-segment_kind.ensures.few)
 
-pub returns-in-Some-kind_of-clause-inside : goal.returns-in-Some-kind_of-clause-inside
-returns-in-Some-kind_of-clause-inside c =
+pub returns-in-Some-segment_kind-clause-inside : goal.returns-in-Some-segment_kind-clause-inside
+returns-in-Some-segment_kind-clause-inside c =
     (first_inside c.args.bytes.now c.loop-part.parts c.next.new.self c.in-Some.part c.in-Some.ensures.steps c.loop-part.invariant.inside).1
 
-pub returns-in-Some-kind_of-clause-steps : goal.returns-in-Some-kind_of-clause-steps
-returns-in-Some-kind_of-clause-steps c =
+pub returns-in-Some-segment_kind-clause-steps : goal.returns-in-Some-segment_kind-clause-steps
+returns-in-Some-segment_kind-clause-steps c =
     rw c.piece_of.ensures (sym c.loop-part.invariant.left
-    ∙ piece_first c.args.bytes.now c.loop-part.before c.loop-part.parts c.next.new.self c.in-Some.part c.range.result.now
-    c.in-Some-kind_of.kind c.in-Some.ensures.steps c.range.ensures c.in-Some-kind_of.ensures.value)
+    ∙ piece_first c.args.bytes.now c.loop-part.before c.loop-part.parts c.next.new.self c.in-Some.part c.bytes_at.result.now
+    c.in-Some-segment_kind.kind c.in-Some.ensures.steps c.bytes_at.ensures c.in-Some-segment_kind.ensures.value)
 
 pub loop-part-preserved : goal.loop-part-preserved
 loop-part-preserved c = record {
   inside = (first_inside c.args.bytes.now c.loop-part.parts c.next.new.self c.in-Some.part c.in-Some.ensures.steps
       c.loop-part.invariant.inside).1;
-  left = sym (piece_none c.args.bytes.now c.loop-part.before c.loop-part.parts c.next.new.self c.in-Some.part c.range.result.now
-      c.in-Some.ensures.steps c.range.ensures c.in-None.ensures.value) ∙ c.loop-part.invariant.left;
+  left = sym (piece_none c.args.bytes.now c.loop-part.before c.loop-part.parts c.next.new.self c.in-Some.part c.bytes_at.result.now
+      c.in-Some.ensures.steps c.bytes_at.ensures c.in-None.ensures.value) ∙ c.loop-part.invariant.left;
 }

@@ -1,5 +1,5 @@
 use Rattle.std.proofs.Common.{◌+◌, ◌-◌, ◌/◌, arith}
-use Rattle.px_layout.proofs.plans.EntryLists.{rank_le, rank_behind, rank_before, rank_fields}
+use Rattle.px_layout.proofs.plans.EntryLists.{rank_le, rank_after, rank_before, rank_fields}
 use Rattle.px_layout.proofs.entries.fields_before.Goals as goal
 
 pub loop-low-init : goal.loop-low-init
@@ -11,7 +11,7 @@ loop-low-init c =
 pub loop-low-preserved-then-here-tag : goal.loop-low-preserved-then-here-tag
 loop-low-preserved-then-here-tag c =
     let m = c.loop-low.low + (c.loop-low.high - c.loop-low.low) / 2 in
-    let r = rank_behind c.args.tag c.args.fields.now m _ c.len-high.ensures.order c.at-here.ensures c.if-here-tag.true in
+    let r = rank_after c.args.tag c.args.fields.now m _ c.len-high.ensures.order c.at-here.ensures c.if-here-tag.true in
     let i = c.loop-low.invariant in
     let t = c.loop-low-test.true in
     record { order = omega arith; inside = i.inside; least = r; most = i.most }

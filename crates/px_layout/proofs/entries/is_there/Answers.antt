@@ -1,5 +1,5 @@
 use Rattle.std.proofs.Common.{option_map, is_some, ◌∙◌, sym, ap}
-use Rattle.px_meaning.specs.Fits.{exif_items, thumb_items, field_items}
+use Rattle.px_meaning.specs.Writable.{exif_items, thumb_items, field_items}
 use Rattle.px_meaning.specs.calls.Seen.{exif_of, thumb_of, meaning_of}
 use Rattle.px_layout.proofs.plans.EntryLists.{items_are, option_map_is_some}
 use Rattle.px_layout.proofs.entries.is_there.Goals as goal

@@ -1,6 +1,6 @@
 use Rattle.std.proofs.Common.{◌-◌, arith}
 use Rattle.px_layout.specs.declared.entries.Step.TheVariants.{Here, Under}
-use Rattle.px_layout.proofs.plans.EntryLists.{passes_some, pass_before, pass_here, pass_behind}
+use Rattle.px_layout.proofs.plans.EntryLists.{passes_some, pass_before, pass_here, pass_after}
 use Rattle.px_layout.proofs.entries.pass.Goals as goal
 
 pub returns-then-i-extra : goal.returns-then-i-extra
@@ -11,7 +11,7 @@ returns-then-i-extra c =
 pub returns : goal.returns
 returns c =
     passes_some (Under (c.args.i - 1)) c.args.extra.now c.in-Some.extra c.args.i c.in-Some.is
-    (λ xs. pass_behind c.in-Some.extra xs c.args.i (let a = c.if-i-extra.false in let b = c.if-i-extra-2.false in omega arith))
+    (λ xs. pass_after c.in-Some.extra xs c.args.i (let a = c.if-i-extra.false in let b = c.if-i-extra-2.false in omega arith))
 
 pub returns-then-i-extra-2 : goal.returns-then-i-extra-2
 returns-then-i-extra-2 c =

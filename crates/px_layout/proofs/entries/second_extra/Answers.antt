@@ -1,5 +1,5 @@
 use Rattle.std.proofs.Common.{arith}
-use Rattle.px_meaning.specs.Fits.{field_items}
+use Rattle.px_meaning.specs.Writable.{field_items}
 use Rattle.px_layout.proofs.plans.EntryLists.{counted_in}
 use Rattle.px_layout.proofs.entries.second_extra.Goals as goal
 

@@ -1,6 +1,6 @@
 use Rattle.std.proofs.Common.{arith}
-use Rattle.px_meaning.specs.Fits.{field_items}
-use Rattle.px_layout.specs.calls.Layers.{over}
+use Rattle.px_meaning.specs.Writable.{field_items}
+use Rattle.px_layout.specs.calls.Layers.{with_extra}
 use Rattle.px_layout.proofs.plans.EntryLists.{counted_in}
 use Rattle.px_layout.proofs.entries.third_extra.Goals as goal
 
@@ -8,5 +8,5 @@ pub returns-in-Some-clause-at_rank : goal.returns-in-Some-clause-at_rank
 returns-in-Some-clause-at_rank c =
     let f = c.fields_before.ensures.rank in
     let a = c.adds.ensures.added (field_items c.args.fields.now) in
-    let b = c.adds-in-Some.ensures.added (over c.args.first.now (field_items c.args.fields.now)) in
+    let b = c.adds-in-Some.ensures.added (with_extra c.args.first.now (field_items c.args.fields.now)) in
     (omega arith, counted_in c.args.item c.in-Some.item c.in-Some.is c.requires.counted)

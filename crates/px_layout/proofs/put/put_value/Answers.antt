@@ -1,8 +1,8 @@
 use Rattle.std.proofs.Common.{rules}
-use Rattle.px_field.specs.Values.{spelled}
+use Rattle.px_field.specs.Values.{encoded}
 use Rattle.px_layout.proofs.put.put_value.Goals as goal
 
 pub returns : goal.returns
-unfolding spelled
+unfolding encoded
 returns g c =
     (c.put_elements.ensures.0, search rules)

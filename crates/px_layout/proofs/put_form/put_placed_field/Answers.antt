@@ -6,15 +6,15 @@ use Rattle.px_layout.specs.lemmas.PutLaws.{puts_as, has_as}
 use Rattle.px_layout.proofs.writing.FieldBytes.{field_size, field_eight, field_placed, field_inside}
 use Rattle.px_layout.proofs.put_form.put_placed_field.Goals as goal
 
-pub put_eight-requires-clause-spelled : goal.put_eight-requires-clause-spelled
-put_eight-requires-clause-spelled g c = sym (c.size-size.ensures.spelled Most) ∙ c.if-size-eq8.true
+pub put_eight-requires-clause-encoded : goal.put_eight-requires-clause-encoded
+put_eight-requires-clause-encoded g c = sym (c.size-size.ensures.encoded Most) ∙ c.if-size-eq8.true
 
 pub returns-then-size-eq8 : goal.returns-then-size-eq8
 returns-then-size-eq8 g c =
     let v = c.args.value.now in
     let n = c.size-size.result in (
       puts_as g.W.Sink.bytes_taken c.put_eight.result _ _ c.args.pending.now c.put_eight.new.pending _ _
-          (field_eight v n (field_size v n c.size-size.ensures.elements) (c.size-size.ensures.spelled Most) c.if-size-eq8.true)
+          (field_eight v n (field_size v n c.size-size.ensures.elements) (c.size-size.ensures.encoded Most) c.if-size-eq8.true)
           c.put_eight.ensures.0,
       search rules,
     )

@@ -5,7 +5,7 @@ use Rattle.px_bytes.specs.declared.Order.TheVariants.{Most}
 use Rattle.px_bytes.specs.lemmas.NumberLaws.{length_spelling}
 use Rattle.px_layout.specs.Laid.{long_bytes}
 use Rattle.px_layout.specs.calls.Given.{strip_places}
-use Rattle.px_layout.specs.lemmas.PutLaws.{spelled_more}
+use Rattle.px_layout.specs.lemmas.PutLaws.{encoded_more}
 use Rattle.px_layout.proofs.writing.Runs.{place_read, strips_next}
 use Rattle.px_layout.proofs.writing.StripPieces.{piece_is, number_here, bytes_next, length_put}
 use Rattle.px_layout.proofs.put_running.encode_offsets.Goals as goal
@@ -17,12 +17,12 @@ pub loop-i-init : goal.loop-i-init
 loop-i-init c =
     let none : 4 * (c.args.start - c.args.start) ≡ 0 = omega arith in
     record {
-      behind = omega arith;
+      after = omega arith;
       left = refl;
-      spelled = λ first h.
+      encoded = λ first h.
           let before = flat_map (long_bytes Most) (take c.args.start (strip_places first c.args.strips.now)) in
           sym (append-nil before) ∙ ap (λ (n : ℕ). before ++ take n c.encode_lengths.new.into) (sym none);
-      long = (let h = c.encode_lengths.auto.into in let r = c.requires.room in omega arith);
+      long = (let h = c.encode_lengths.auto.into in let r = c.requires.space in omega arith);
       rest = ap (λ (n : ℕ). drop n c.encode_lengths.new.into) none
           ∙ piece_is (long_bytes Most) (map size c.args.strips.now) c.args.start c.args.end c.encode_lengths.new.into c.requires.rising
           c.encode_lengths.ensures;
@@ -30,7 +30,7 @@ loop-i-init c =
 
 pub slice_bounds-get32-end : goal.slice_bounds-get32-end
 slice_bounds-get32-end c =
-    let low = c.loop-i.invariant.behind in let long = c.loop-i.invariant.long in let below = c.loop-i-test.true in omega arith
+    let low = c.loop-i.invariant.after in let long = c.loop-i.invariant.long in let below = c.loop-i-test.true in omega arith
 
 pub overflow_add-next : goal.overflow_add-next
 overflow_add-next c =
@@ -52,8 +52,8 @@ overflow_add-next-in-loop-i c =
 
 pub loop-i-preserved : goal.loop-i-preserved
 loop-i-preserved c =
-    let low = c.loop-i.invariant.behind in
-    let room = c.loop-i.invariant.long in
+    let low = c.loop-i.invariant.after in
+    let space = c.loop-i.invariant.long in
     let below = c.loop-i-test.true in
     let at = 4 * (c.loop-i.i - c.args.start) in
     let four : length c.put32.new.bytes ≡ 4 = ap length c.put32.ensures ∙ length_spelling Most 4 c.loop-i.next in
@@ -62,13 +62,13 @@ loop-i-preserved c =
     let s = strips_next c.args.strips.now c.loop-i.i c.get32-size.result read in
     let l = c.loop-i.invariant.left in
     record {
-      behind = omega arith;
+      after = omega arith;
       left = omega arith;
-      spelled = λ first h. spelled_more (long_bytes Most) (strip_places first c.args.strips.now) c.args.start c.loop-i.i c.loop-i.next
+      encoded = λ first h. encoded_more (long_bytes Most) (strip_places first c.args.strips.now) c.args.start c.loop-i.i c.loop-i.next
           _ _ _ c.loop-i.into c.put32.new.bytes
           (place_read first c.args.strips.now c.loop-i.i c.loop-i.next (let b = c.requires.inside in omega arith) (omega (arith, l, h)))
-          c.put32.ensures (c.loop-i.invariant.spelled first h) (omega arith) (omega arith);
-      long = length_put at (at + 4 - at) c.loop-i.into c.put32.new.bytes (omega arith) (omega arith) ∙ room;
+          c.put32.ensures (c.loop-i.invariant.encoded first h) (omega arith) (omega arith);
+      long = length_put at (at + 4 - at) c.loop-i.into c.put32.new.bytes (omega arith) (omega arith) ∙ space;
       rest = bytes_next c.args.strips.now c.loop-i.i c.args.end at c.loop-i.into below c.requires.inside c.requires.short
           c.loop-i.invariant.rest (4 * (c.loop-i.i + 1 - c.args.start)) _ (omega arith)
           (drop-put_mid at (at + 4 - at) c.loop-i.into c.put32.new.bytes (4 * (c.loop-i.i + 1 - c.args.start)) (omega arith) (omega arith)
@@ -76,10 +76,10 @@ loop-i-preserved c =
     }
 
 pub shape_of-into : goal.shape_of-into
-shape_of-into c = let l = c.loop-i.invariant.long in let r = c.requires.room in omega arith
+shape_of-into c = let l = c.loop-i.invariant.long in let r = c.requires.space in omega arith
 
-pub returns-clause-spelled : goal.returns-clause-spelled
-returns-clause-spelled c = λ first h.
+pub returns-clause-encoded : goal.returns-clause-encoded
+returns-clause-encoded c = λ first h.
     let long = c.loop-i.invariant.long in
     let last = c.loop-i.auto.i-end in
     let over = c.loop-i-test.false in
@@ -87,5 +87,5 @@ returns-clause-spelled c = λ first h.
     let places = strip_places first c.args.strips.now in
     let all : take (4 * (c.loop-i.i - c.args.start)) c.loop-i.into ≡ c.loop-i.into =
     take_all (4 * (c.loop-i.i - c.args.start)) c.loop-i.into (omega arith) in
-    ap (λ (n : ℕ). flat_map (long_bytes Most) (take n places)) (sym same) ∙ c.loop-i.invariant.spelled first h
+    ap (λ (n : ℕ). flat_map (long_bytes Most) (take n places)) (sym same) ∙ c.loop-i.invariant.encoded first h
     ∙ ap (λ (x : List ℕ). flat_map (long_bytes Most) (take c.args.start places) ++ x) all

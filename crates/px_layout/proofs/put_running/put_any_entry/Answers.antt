@@ -1,5 +1,5 @@
 use Rattle.std.proofs.Common.{◌≡◌, ◌∙◌, ◌≤◌, ℕ, refl, sym, ltb-true, ltb-false, rules}
-use Rattle.px_meaning.specs.Fits.{Item, item_size}
+use Rattle.px_meaning.specs.Writable.{Item, item_size}
 use Rattle.px_layout.specs.Plans.{Plan}
 use Rattle.px_layout.specs.calls.Forms.{plan_in}
 use Rattle.px_layout.specs.calls.Given.{head_bytes, near_given, entry_given}

@@ -17,7 +17,7 @@ returns-then-needs_place g c =
 pub field_with-requires : goal.field_with-requires
 field_with-requires g c =
     let l = ltb-false 4 c.size.result (sym c.needs_place.ensures ∙ c.if-needs_place.false) in
-    let s = c.size.ensures.spelled Most in
+    let s = c.size.ensures.encoded Most in
     omega arith
 
 pub returns : goal.returns
@@ -25,7 +25,7 @@ returns g c =
     let v = c.args.value.now in
     let n = c.size.result in (
       puts_as g.W.Sink.bytes_taken c.put-2.result _ _ c.args.pending.now c.put-2.new.self _ _
-          (c.field_with.ensures ∙ field_near c.args.at c.args.tag n v (field_size v n c.size.ensures.elements) (c.size.ensures.spelled Most)
+          (c.field_with.ensures ∙ field_near c.args.at c.args.tag n v (field_size v n c.size.ensures.elements) (c.size.ensures.encoded Most)
           (ltb-false 4 n (sym c.needs_place.ensures ∙ c.if-needs_place.false))) (c.put-2.ensures.bytes, c.put-2.ensures.waits),
       search rules,
     )

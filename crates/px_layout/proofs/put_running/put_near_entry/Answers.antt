@@ -2,7 +2,7 @@ use Rattle.std.proofs.Common.{◌≡◌, ◌∙◌, ◌-◌, ◌++◌, ℕ, List
 use Rattle.std.proofs.lemmas.Result.{err_from_is_err_and}
 use Rattle.px_bytes.specs.lemmas.WaitingLaws.{puts_to_both}
 use Rattle.px_bytes.specs.declared.Order.TheVariants.{Most}
-use Rattle.px_meaning.specs.Fits.{Item, item_size}
+use Rattle.px_meaning.specs.Writable.{Item, item_size}
 use Rattle.px_layout.specs.Laid.{item_bytes}
 use Rattle.px_layout.specs.Plans.{Plan}
 use Rattle.px_layout.specs.calls.Forms.{plan_in}

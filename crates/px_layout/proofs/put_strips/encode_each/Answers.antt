@@ -3,7 +3,7 @@ use Rattle.px_bytes.specs.Parts.{limit}
 use Rattle.px_bytes.specs.lemmas.EachLaws.{all_at}
 use Rattle.px_bytes.specs.lemmas.NumberLaws.{length_spelling}
 use Rattle.px_layout.specs.Laid.{long_bytes}
-use Rattle.px_layout.specs.lemmas.PutLaws.{spelled_more}
+use Rattle.px_layout.specs.lemmas.PutLaws.{encoded_more}
 use Rattle.px_layout.proofs.put_strips.encode_each.Goals as goal
 
 abbrev size : List ℕ → ℕ
@@ -20,10 +20,10 @@ overflow_cast-len_at c =
 pub loop-i-preserved : goal.loop-i-preserved
 loop-i-preserved c =
     let long : length c.put32.new.bytes ≡ 4 = ap length c.put32.ensures ∙ length_spelling c.args.order 4 _ in
-    let low = c.loop-i.invariant.behind in
+    let low = c.loop-i.invariant.after in
     record {
-      behind = omega arith;
-      spelled = spelled_more (long_bytes c.args.order) (map size c.args.strips.now) c.args.start c.loop-i.i c.len_at.result
+      after = omega arith;
+      encoded = encoded_more (long_bytes c.args.order) (map size c.args.strips.now) c.args.start c.loop-i.i c.len_at.result
           _ _ _ c.loop-i.into c.put32.new.bytes c.len_at.ensures c.put32.ensures
-          c.loop-i.invariant.spelled (omega arith) (let room = c.requires.room in let same = c.loop-i.auto.into in omega arith);
+          c.loop-i.invariant.encoded (omega arith) (let space = c.requires.space in let same = c.loop-i.auto.into in omega arith);
     }

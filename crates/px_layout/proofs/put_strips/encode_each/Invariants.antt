@@ -5,7 +5,7 @@ use Rattle.px_layout.proofs.put_strips.encode_each.Given as goal
 -- the lengths so far are encoded
 abbrev pub invariant-loop-i : goal.invariant-loop-i
 invariant-loop-i l = record {
-  behind : l.start ≤ l.i;
-  spelled : flat_map (long_bytes l.order) (take l.i (map (λ x. length x) l.strips))
+  after : l.start ≤ l.i;
+  encoded : flat_map (long_bytes l.order) (take l.i (map (λ x. length x) l.strips))
       ≡ flat_map (long_bytes l.order) (take l.start (map (λ x. length x) l.strips)) ++ take (4 * (l.i - l.start)) l.into;
 }

@@ -2,8 +2,8 @@ use Rattle.std.proofs.Common.{◌≡◌, ◌∙◌, ◌++◌, ℕ, List, length,
 use Rattle.std.proofs.lemmas.List.{length-map}
 use Rattle.px_field.specs.declared.Element.TheVariants.{Long}
 use Rattle.px_field.specs.Forms.{size}
-use Rattle.px_field.specs.Values.{Value, form_in, spell}
-use Rattle.px_layout.proofs.writing.Longs.{spell_first}
+use Rattle.px_field.specs.Values.{Value, form_in, encode}
+use Rattle.px_layout.proofs.writing.Longs.{encode_first}
 use Rattle.px_layout.proofs.put_strips.encode_lengths.Goals as goal
 
 abbrev count : List ℕ → ℕ
@@ -26,7 +26,7 @@ returns-in-Some c =
     let o = c.args.order in
     let ns = map count c.args.strips.now in
     let bytes = c.encode_longs.new.into in
-    sym (spell_first o c.args.end ns)
-    ∙ subst (λ (v : Value). flat_map (spell o) (take c.args.end v.elements) ≡ flat_map (spell o) (take c.args.start v.elements) ++ bytes)
+    sym (encode_first o c.args.end ns)
+    ∙ subst (λ (v : Value). flat_map (encode o) (take c.args.end v.elements) ≡ flat_map (encode o) (take c.args.start v.elements) ++ bytes)
     c.in-Some.ensures c.encode_longs.ensures
-    ∙ ap (λ (x : List ℕ). x ++ bytes) (spell_first o c.args.start ns)
+    ∙ ap (λ (x : List ℕ). x ++ bytes) (encode_first o c.args.start ns)

@@ -3,7 +3,7 @@ use Rattle.std.proofs.lemmas.List.{take_all, length-map}
 use Rattle.std.proofs.lemmas.Result.{err_from_is_err_and}
 use Rattle.px_bytes.specs.lemmas.WaitingLaws.{HasPut}
 use Rattle.px_layout.specs.Laid.{long_bytes}
-use Rattle.px_layout.specs.lemmas.PutLaws.{more_behind, stop_behind}
+use Rattle.px_layout.specs.lemmas.PutLaws.{more_after, stop_after}
 use Rattle.px_layout.proofs.put_strips.put_each_length.Goals as goal
 
 abbrev size : List ℕ → ℕ
@@ -13,7 +13,7 @@ pub returns-in_err-put : goal.returns-in_err-put
 returns-in_err-put g c =
     let p = err_from_is_err_and c.from_residual.result c.from_residual.ensures.1 in
     rw p.1 (
-      stop_behind g.W.Sink.bytes_taken (long_bytes c.args.order) (map size c.args.strips.now) c.loop-i.i _ _ c.encode_each.ensures
+      stop_after g.W.Sink.bytes_taken (long_bytes c.args.order) (map size c.args.strips.now) c.loop-i.i _ _ c.encode_each.ensures
           _ _ _ c.args.pending.now c.loop-i.pending c.loop-i.invariant.put (c.in_err-put.ensures.bytes, c.in_err-put.ensures.waits),
       search rules,
     )
@@ -21,7 +21,7 @@ returns-in_err-put g c =
 pub loop-i-preserved : goal.loop-i-preserved
 loop-i-preserved g c = record {
   inside = omega (arith, c.min-count.ensures, c.loop-i.invariant.inside);
-  put = more_behind g.W.Sink.bytes_taken (long_bytes c.args.order) (map size c.args.strips.now) c.loop-i.i _ _ c.encode_each.ensures
+  put = more_after g.W.Sink.bytes_taken (long_bytes c.args.order) (map size c.args.strips.now) c.loop-i.i _ _ c.encode_each.ensures
       _ _ _ c.args.pending.now c.loop-i.pending c.put.new.self c.loop-i.invariant.put
       (c.in_ok-put.ensures.bytes, c.in_ok-put.ensures.waits);
   count = c.in_ok-put.ensures.count ∙ c.loop-i.invariant.count;

@@ -1,7 +1,7 @@
 use Rattle.std.proofs.Common.{subst, sym, ◌%◌, length, replicate}
 use Rattle.px_bytes.specs.lemmas.WaitingLaws.{fails_first, puts_to_both}
 use Rattle.std.proofs.lemmas.Result.{err_from_is_err_and}
-use Rattle.px_bytes.specs.Devices.{Calls, CanFail, Counts}
+use Rattle.px_bytes.specs.Devices.{Calls, CanCountFailure, Counts}
 use Rattle.px_layout.proofs.put_thumb.put_padded.Goals as goal
 
 pub returns : goal.returns
@@ -23,4 +23,4 @@ returns-in_err-put g c =
     )
 
 pub put_padding-requires : goal.put_padding-requires
-put_padding-requires g c = subst CanFail (sym c.in_ok-put.ensures.count) c.requires
+put_padding-requires g c = subst CanCountFailure (sym c.in_ok-put.ensures.count) c.requires

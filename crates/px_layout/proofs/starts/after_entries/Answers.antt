@@ -14,7 +14,7 @@ table_len-requires c =
 pub returns : goal.returns
 returns c =
     let d = dir_there (meaning_of c.args.m.now) c.args.dir c.args.at c.in-Some.entries (sym c.in-Some.ensures) in
-    let v = c.in-Some-behind.ensures.0 in
+    let v = c.in-Some-end_padded.ensures.0 in
     let t = c.table_len.ensures in
     let n = c.len.ensures in
     let k : even c.table_len.result ≡ even (table_size (length c.in-Some.entries)) = ap even (t ∙ ap table_size n) in

@@ -1,5 +1,5 @@
 use Rattle.std.proofs.Common.{refl, arith}
-use Rattle.px_meaning.proofs.writable.FitLemmas.{fits_one_more, fits_all}
+use Rattle.px_meaning.proofs.writable.WritableLemmas.{fits_one_more, fits_all}
 use Rattle.px_meaning.proofs.fitting.fits_fields.Goals as goal
 
 pub loop-i-preserved : goal.loop-i-preserved

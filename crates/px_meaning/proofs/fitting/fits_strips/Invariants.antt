@@ -1,5 +1,5 @@
 use Rattle.std.proofs.Common.{◌≡◌, ◌<◌, ℕ, slice_get, Some, List}
-use Rattle.px_meaning.specs.Fits.{IsBytes}
+use Rattle.px_meaning.specs.Writable.{IsBytes}
 use Rattle.px_meaning.proofs.fitting.fits_strips.Given as goal
 
 -- the strips so far are not too long

@@ -1,4 +1,4 @@
-use Rattle.px_meaning.proofs.writable.FitLemmas.{stands_alone_lem}
+use Rattle.px_meaning.proofs.writable.WritableLemmas.{stands_alone_lem}
 use Rattle.px_meaning.proofs.fitting.is_alone.Goals as goal
 
 pub returns-in-Some : goal.returns-in-Some

@@ -15,10 +15,10 @@ loop-j-preserved c =
     let e : x ≡ c.loop-j.end = omega arith in
     let q : n % 2 ≡ 0 = omega arith in
     let v = c.loop-j.invariant in
-    let low = v.behind in
+    let low = v.after in
     let rising = v.rising in
     record {
-      behind = omega arith;
+      after = omega arith;
       rising = omega arith;
       inside = ends_inside l a c.loop-j.j x n h k;
       even = even_more l a c.loop-j.j x n h k c.args.i c.args.start c.loop-j.end e v.rising v.inside v.even q;

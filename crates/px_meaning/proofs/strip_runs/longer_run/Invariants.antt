@@ -6,7 +6,7 @@ use Rattle.px_meaning.proofs.strip_runs.longer_run.Given as goal
 -- the strips so far are from the start up to the end
 abbrev pub invariant-loop-j : goal.invariant-loop-j
 invariant-loop-j l = record {
-  behind : l.i + 1 ≤ l.j;
+  after : l.i + 1 ≤ l.j;
   rising : l.start ≤ l.end;
   inside : l.end ≤ length l.lists.block.now;
   even : (l.end - l.start) % 2 ≡ 0;

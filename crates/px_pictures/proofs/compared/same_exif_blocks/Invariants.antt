@@ -8,9 +8,9 @@ use Rattle.px_pictures.proofs.compared.same_exif_blocks.Given as goal
 abbrev pub invariant-loop-block : goal.invariant-loop-block
 invariant-loop-block l = record {
   same : MeanSame SaysExif l.left l.others ↔ MeanSame SaysExif l.initial.left l.initial.others;
-  left_said : AllExif l.left;
-  others_said : AllExif l.others;
-  refusals : l.memory.refusals ≡ l.initial.memory.refusals;
+  left_has_meaning : AllExif l.left;
+  others_has_meaning : AllExif l.others;
+  failed_allocations : l.memory.failed_allocations ≡ l.initial.memory.failed_allocations;
   asked : l.memory.asked + (exif_requests l.left + exif_requests l.others)
       ≤ l.initial.memory.asked + (exif_requests l.initial.left + exif_requests l.initial.others);
 }

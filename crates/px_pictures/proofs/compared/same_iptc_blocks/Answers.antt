@@ -3,7 +3,7 @@ use Rattle.px_iim.specs.Group.{Record}
 use Rattle.px_iim.specs.Record.{SaysIim}
 use Rattle.px_iim.specs.lemmas.RecordLaws.{one_record}
 use Rattle.px_pictures.specs.Asking.{iptc_requests}
-use Rattle.px_pictures.proofs.PairLaws.{say_first, same_pair, other_pair, not_same}
+use Rattle.px_pictures.proofs.PairLaws.{mean_first, same_pair, other_pair, not_same}
 use Rattle.px_pictures.proofs.compared.same_iptc_blocks.Goals as goal
 
 pub loop-block-preserved : goal.loop-block-preserved
@@ -16,11 +16,11 @@ loop-block-preserved c =
     (subst (λ (k : Record). SaysIim c.in-Some-next.other.now k) (sym (e.0 t)) u) in
     record {
       same = (λ h. c.loop-block.invariant.same.0 (pair.1 h), λ h. pair.0 (c.loop-block.invariant.same.1 h));
-      left_said = (say_first Record SaysIim c.loop-block.left c.next.new.self c.in-Some.block.now c.in-Some.ensures.steps
-          c.loop-block.invariant.left_said).1;
-      others_said = (say_first Record SaysIim c.loop-block.others c.next-in-loop-block.new.self c.in-Some-next.other.now
-          c.in-Some-next.ensures.steps c.loop-block.invariant.others_said).1;
-      refusals = c.in_ok-same_iptc.ensures.memory ∙ c.loop-block.invariant.refusals;
+      left_has_meaning = (mean_first Record SaysIim c.loop-block.left c.next.new.self c.in-Some.block.now c.in-Some.ensures.steps
+          c.loop-block.invariant.left_has_meaning).1;
+      others_has_meaning = (mean_first Record SaysIim c.loop-block.others c.next-in-loop-block.new.self c.in-Some-next.other.now
+          c.in-Some-next.ensures.steps c.loop-block.invariant.others_has_meaning).1;
+      failed_allocations = c.in_ok-same_iptc.ensures.memory ∙ c.loop-block.invariant.failed_allocations;
       asked = omega (
         arith,
         c.loop-block.invariant.asked,

@@ -8,9 +8,9 @@ use Rattle.px_pictures.proofs.compared.same_iptc_blocks.Given as goal
 abbrev pub invariant-loop-block : goal.invariant-loop-block
 invariant-loop-block l = record {
   same : MeanSame SaysIim l.left l.others ↔ MeanSame SaysIim l.initial.left l.initial.others;
-  left_said : AllIptc l.left;
-  others_said : AllIptc l.others;
-  refusals : l.memory.refusals ≡ l.initial.memory.refusals;
+  left_has_meaning : AllIptc l.left;
+  others_has_meaning : AllIptc l.others;
+  failed_allocations : l.memory.failed_allocations ≡ l.initial.memory.failed_allocations;
   asked : l.memory.asked + (iptc_requests l.left + iptc_requests l.others)
       ≤ l.initial.memory.asked + (iptc_requests l.initial.left + iptc_requests l.initial.others);
 }

@@ -6,8 +6,8 @@ use Rattle.px_pictures.proofs.joining.join_in.Given as goal
 abbrev pub invariant-loop-piece : goal.invariant-loop-piece
 invariant-loop-piece l = record {
   joined : l.octets.items ++ joined_octets l.bytes l.left ≡ joined_octets l.bytes l.initial.left;
-  refusals : l.memory.refusals ≡ l.initial.memory.refusals;
-  room : vec_len l.octets + sizes (joined_pieces l.left) ≤ vec_capacity l.octets;
+  failed_allocations : l.memory.failed_allocations ≡ l.initial.memory.failed_allocations;
+  space : vec_len l.octets + sizes (joined_pieces l.left) ≤ vec_capacity l.octets;
   asked : l.memory.asked ≡ l.initial.memory.asked;
 }
 

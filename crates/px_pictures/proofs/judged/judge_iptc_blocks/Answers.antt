@@ -3,17 +3,17 @@ use Rattle.px_pictures.specs.Faults.{AllIptc, FaultAt, IsFaultyIptc}
 use Rattle.px_pictures.proofs.JudgeLaws.{iptc_none, iptc_more, iptc_fails, fault_later}
 use Rattle.px_pictures.proofs.judged.judge_iptc_blocks.Goals as goal
 
-pub returns-in_default-clause-said : goal.returns-in_default-clause-said
-returns-in_default-clause-said c = c.loop-block.invariant.said (iptc_none c.loop-block.left c.in_default.ensures.steps.0)
+pub returns-in_default-clause-meaning : goal.returns-in_default-clause-meaning
+returns-in_default-clause-meaning c = c.loop-block.invariant.meaning (iptc_none c.loop-block.left c.in_default.ensures.steps.0)
 
 pub returns-in-Err-clause-fault : goal.returns-in-Err-clause-fault
 returns-in-Err-clause-fault c =
     iptc_fails c.args.blocks c.loop-block.left c.next.new.self c.in-Some.block.now c.loop-block.number c.in-Err.refusal c.fault_of.result
-    c.fault_of.ensures c.in-Some.ensures.steps c.in-Err.ensures.judged (c.in-Err.ensures.stands 0) c.loop-block.invariant.fault
+    c.fault_of.ensures c.in-Some.ensures.steps c.in-Err.ensures.judged (c.in-Err.ensures.is_fault 0) c.loop-block.invariant.fault
 
 pub loop-block-preserved : goal.loop-block-preserved
 loop-block-preserved c = record {
-  said = λ h. c.loop-block.invariant.said
+  meaning = λ h. c.loop-block.invariant.meaning
       (iptc_more c.loop-block.left c.next.new.self c.in-Some.block.now c.in-Some.ensures.steps c.in-Ok.ensures.judged.1 h);
   fault = λ n d p h.
       let same : c.loop-block.number + (1 + n) ≡ c.loop-block.number + 1 + n = omega arith in

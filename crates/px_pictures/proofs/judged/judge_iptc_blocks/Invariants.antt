@@ -5,7 +5,7 @@ use Rattle.px_pictures.proofs.judged.judge_iptc_blocks.Given as goal
 
 abbrev pub invariant-loop-block : goal.invariant-loop-block
 invariant-loop-block l = record {
-  said : AllIptc l.left → AllIptc l.initial.left;
+  meaning : AllIptc l.left → AllIptc l.initial.left;
   fault : (n : ℕ) (c : Cause) (p : ℕ) → FaultAt AllIptc IsFaultyIptc l.left n c p
       → FaultAt AllIptc IsFaultyIptc l.initial.left (l.number + n) c p;
   few : l.number + length l.left ≡ length l.initial.left;

@@ -1,7 +1,7 @@
 use Rattle.std.proofs.Common.{◌≤◌, ◌+◌, ◌-◌, ℕ, List, ap, ap₂, arith, length}
 use Rattle.px_jpeg.specs.declared.Piece.{Piece}
 use Rattle.px_pictures.specs.calls.Runs.{joined_octets}
-use Rattle.px_pictures.proofs.PlaceLaws.{length_more, put_at, put_front, put_behind}
+use Rattle.px_pictures.proofs.PlaceLaws.{length_more, put_at, put_front, put_after}
 use Rattle.px_pictures.proofs.places.put_joined.Goals as goal
 
 pub loop-piece-preserved : goal.loop-piece-preserved
@@ -27,5 +27,5 @@ loop-piece-preserved c =
       long = omega (arith, put.long, c.loop-piece.invariant.long);
       put = put_front b at c.loop-piece.out _ x _ c.in-Some.piece c.next_joined.new.left c.loop-piece.left put c.range-octets.ensures
           c.in-Some.ensures c.loop-piece.invariant.put;
-      behind = put_behind at c.args.out.now c.loop-piece.out _ x put c.loop-piece.invariant.behind;
+      later = put_after at c.args.out.now c.loop-piece.out _ x put c.loop-piece.invariant.later;
     }

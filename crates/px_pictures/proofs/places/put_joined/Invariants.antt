@@ -8,7 +8,7 @@ invariant-loop-piece l = record {
   counted : l.at + length (joined_octets l.bytes l.left) ≡ length (joined_octets l.bytes l.initial.left);
   long : length l.out ≡ length l.initial.out;
   put : take l.at l.out ++ joined_octets l.bytes l.left ≡ joined_octets l.bytes l.initial.left;
-  behind : drop l.at l.out ≡ drop l.at l.initial.out;
+  later : drop l.at l.out ≡ drop l.at l.initial.out;
 }
 
 abbrev pub decreases-loop-piece : goal.decreases-loop-piece

@@ -1,5 +1,5 @@
 use Rattle.std.proofs.Common.{◌<◌, sym, ◌∙◌, arith, ltb-true, ltb-false}
-use Rattle.px_meaning.specs.Fits.{item_size}
+use Rattle.px_meaning.specs.Writable.{item_size}
 use Rattle.px_layout.specs.calls.Items.{entry_of}
 use Rattle.px_plans.proofs.plans.Pieces.{value_none, value_over, value_space}
 use Rattle.px_plans.proofs.plans.Sizes.{size_placed}

@@ -6,6 +6,6 @@ use Rattle.px_plans.proofs.building.lay_values.Given as goal
 abbrev pub invariant-loop-i : goal.invariant-loop-i
 invariant-loop-i l = record {
   bytes : PutsOver l.initial.block l.block (value_pieces l.layout l.dir (drop l.i l.entries));
-  memory : l.memory.refusals ≡ l.initial.memory.refusals;
+  memory : l.memory.failed_allocations ≡ l.initial.memory.failed_allocations;
   paid : l.memory.asked ≤ l.initial.memory.asked + 6 * pieces_size (value_pieces l.layout l.dir (drop l.i l.entries));
 }

@@ -8,7 +8,7 @@ use Rattle.px_plans.proofs.plans.Holding.{left_more, left_stop, left_done}
 use Rattle.px_plans.proofs.legal.claim_all.Goals as goal
 
 pub loop-i-init : goal.loop-i-init
-loop-i-init c = record { left = λ taken a. (taken, a, refl); memory = refl; room = omega arith; fits = λ h. refl }
+loop-i-init c = record { left = λ taken a. (taken, a, refl); memory = refl; capacity = omega arith; fits = λ h. refl }
 
 pub returns-in_err-claim-clause-free : goal.returns-in_err-claim-clause-free
 returns-in_err-claim-clause-free c =
@@ -27,8 +27,8 @@ loop-i-preserved c = record {
       c.loop-i.claimed.ranges c.claim.new.claimed.ranges (all_placed (plan_of c.args.plan.now) taken c.args.chunks.now) c.in_ok-claim.field-0
       c.loop-i-test.true refl c.if-not-branch.false c.in_ok-claim.ensures.free (c.loop-i.invariant.left taken a);
   memory = c.in_ok-claim.ensures.memory ∙ c.loop-i.invariant.memory;
-  room = omega (arith, c.loop-i.invariant.room, c.in_ok-claim.ensures.room);
-  fits = λ h. c.in_ok-claim.ensures.fits (omega (arith, h, c.loop-i.invariant.room)) ∙ c.loop-i.invariant.fits h;
+  capacity = omega (arith, c.loop-i.invariant.capacity, c.in_ok-claim.ensures.capacity);
+  fits = λ h. c.in_ok-claim.ensures.fits (omega (arith, h, c.loop-i.invariant.capacity)) ∙ c.loop-i.invariant.fits h;
 }
 
 pub returns-clause-free : goal.returns-clause-free
@@ -39,11 +39,11 @@ returns-clause-free c = λ taken a.
 
 pub returns-in_err-claim-clause-fits : goal.returns-in_err-claim-clause-fits
 returns-in_err-claim-clause-fits c = λ h.
-    c.in_err-claim.ensures.fits (omega (arith, h, c.loop-i.invariant.room)) ∙ c.loop-i.invariant.fits h
+    c.in_err-claim.ensures.fits (omega (arith, h, c.loop-i.invariant.capacity)) ∙ c.loop-i.invariant.fits h
 
 pub returns-then-not-branch-clause-fits : goal.returns-then-not-branch-clause-fits
 returns-then-not-branch-clause-fits c = λ h.
-    c.in_ok-claim.ensures.fits (omega (arith, h, c.loop-i.invariant.room)) ∙ c.loop-i.invariant.fits h
+    c.in_ok-claim.ensures.fits (omega (arith, h, c.loop-i.invariant.capacity)) ∙ c.loop-i.invariant.fits h
 
 pub returns-clause-fits : goal.returns-clause-fits
 returns-clause-fits c = c.loop-i.invariant.fits

@@ -9,7 +9,7 @@ abbrev pub invariant-loop-i : goal.invariant-loop-i
 invariant-loop-i l = record {
   left : (taken : List Range) → Agrees taken l.initial.claimed.ranges → (now : List Range) × Agrees now l.claimed.ranges ×
       (all_placed (plan_of l.plan) now (drop l.i l.chunks) ≡ all_placed (plan_of l.plan) taken l.chunks);
-  memory : l.memory.refusals ≡ l.initial.memory.refusals;
-  room : l.initial.claimed.room ≤ l.claimed.room;
-  fits : (plan_of l.plan).length ≤ l.initial.claimed.room → l.memory.asked ≡ l.initial.memory.asked;
+  memory : l.memory.failed_allocations ≡ l.initial.memory.failed_allocations;
+  capacity : l.initial.claimed.capacity ≤ l.claimed.capacity;
+  fits : (plan_of l.plan).length ≤ l.initial.claimed.capacity → l.memory.asked ≡ l.initial.memory.asked;
 }

@@ -6,7 +6,7 @@ use Rattle.px_layout.specs.declared.chunks.Chunk.TheVariants.{Table}
 use Rattle.px_layout.specs.Plans.{Plan}
 use Rattle.px_plans.specs.calls.Planned.{plan_of}
 use Rattle.px_plans.specs.calls.PlanningNormal.{Placed}
-use Rattle.px_plans.proofs.plans.Lines.{placed_stopped, write_lacks}
+use Rattle.px_plans.proofs.plans.Lines.{placed_stopped, write_alloc_failure}
 use Rattle.px_plans.proofs.normal.place_all.Goals as goal
 
 pub loop-i-init : goal.loop-i-init
@@ -26,8 +26,8 @@ returns-in_err-at-clause-all c =
 pub returns-in_err-at-clause-memory : goal.returns-in_err-at-clause-memory
 returns-in_err-at-clause-memory c =
     let p = err_from_is_err_and c.from_residual.result c.from_residual.ensures.1 in
-    rw (p.1, p.2) (write_lacks ℕ ℕ c.in_err-at.field-0.0 c.args.memory.now.refusals c.loop-i.memory.refusals
-    c.place_next.new.memory.refusals c.loop-i.invariant.memory c.in_err-at.ensures.memory)
+    rw (p.1, p.2) (write_alloc_failure ℕ ℕ c.in_err-at.field-0.0 c.args.memory.now.failed_allocations c.loop-i.memory.failed_allocations
+    c.place_next.new.memory.failed_allocations c.loop-i.invariant.memory c.in_err-at.ensures.memory)
 
 pub loop-i-preserved : goal.loop-i-preserved
 loop-i-preserved c = record {

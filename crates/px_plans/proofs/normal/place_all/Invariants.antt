@@ -8,6 +8,6 @@ use Rattle.px_plans.proofs.normal.place_all.Given as goal
 abbrev pub invariant-loop-i : goal.invariant-loop-i
 invariant-loop-i l = record {
   placed : Placed (plan_of l.plan) l.at (take l.i l.chunks);
-  memory : l.memory.refusals ≡ l.initial.memory.refusals;
+  memory : l.memory.failed_allocations ≡ l.initial.memory.failed_allocations;
   paid : l.memory.asked + paid_of l.plan ≤ l.initial.memory.asked + paid_of l.initial.plan + place_request l.i;
 }

@@ -5,7 +5,7 @@ use Rattle.px_layout.specs.Chunks.{chunks}
 use Rattle.px_plans.specs.declared.plan.Plan as program
 use Rattle.px_plans.specs.calls.Planned.{plan_of}
 use Rattle.px_plans.specs.calls.PlanningNormal.{Placed}
-use Rattle.px_plans.proofs.plans.Lines.{placed_planned, plan_refused, write_lacks}
+use Rattle.px_plans.proofs.plans.Lines.{placed_planned, plan_refused, write_alloc_failure}
 use Rattle.px_plans.proofs.normal.plan_normal_in.Goals as goal
 
 pub returns-in_err-len-clause-plan : goal.returns-in_err-len-clause-plan
@@ -25,5 +25,6 @@ returns-clause-plan c =
 pub returns-in_err-len-clause-memory : goal.returns-in_err-len-clause-memory
 returns-in_err-len-clause-memory c =
     let p = err_from_is_err_and c.from_residual-in_err-len.result c.from_residual-in_err-len.ensures.1 in
-    rw (p.1, p.2) (write_lacks ℕ program.Plan c.in_err-len.field-0.0 c.args.memory.now.refusals
-    c.chunk_sizes.new.memory.refusals c.place_all.new.memory.refusals c.in_ok-chunks.ensures.memory c.in_err-len.ensures.memory)
+    rw (p.1, p.2) (write_alloc_failure ℕ program.Plan c.in_err-len.field-0.0 c.args.memory.now.failed_allocations
+    c.chunk_sizes.new.memory.failed_allocations c.place_all.new.memory.failed_allocations c.in_ok-chunks.ensures.memory
+    c.in_err-len.ensures.memory)

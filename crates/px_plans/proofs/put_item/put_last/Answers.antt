@@ -2,7 +2,7 @@ use Rattle.std.proofs.Common.{subst, sym, ◌∙◌, ltb-false}
 use Rattle.std.proofs.lemmas.Result.{err_from_is_err_and}
 use Rattle.px_layout.specs.calls.Items.{entry_of}
 use Rattle.px_plans.specs.calls.Layouts.{plan_of_layout}
-use Rattle.px_bytes.specs.Devices.{Calls, CanFail, Counts}
+use Rattle.px_bytes.specs.Devices.{Calls, CanCountFailure, Counts}
 use Rattle.px_layout.specs.lemmas.PutLaws.{both_as, first_as}
 use Rattle.px_layout.specs.lemmas.EntryBytes.{last_inside}
 use Rattle.px_plans.proofs.put_item.put_last.Goals as goal
@@ -29,4 +29,4 @@ returns g c = (
 )
 
 pub put_filler-requires-clause-few : goal.put_filler-requires-clause-few
-put_filler-requires-clause-few g c = subst CanFail (sym c.in_ok-put_item.ensures.1) c.requires.few
+put_filler-requires-clause-few g c = subst CanCountFailure (sym c.in_ok-put_item.ensures.1) c.requires.few

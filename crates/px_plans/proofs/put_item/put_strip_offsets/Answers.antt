@@ -7,7 +7,7 @@ use Rattle.px_layout.specs.declared.chunks.Chunk.TheVariants.{Strip}
 use Rattle.px_layout.specs.Laid.{long_bytes}
 use Rattle.px_plans.specs.calls.Layouts.{plan_of_layout}
 use Rattle.px_layout.specs.Plans.{place}
-use Rattle.px_layout.specs.lemmas.StandLaws.{length_range}
+use Rattle.px_layout.specs.lemmas.PlacementLaws.{length_range}
 use Rattle.px_layout.specs.lemmas.PutLaws.{slice_get_range}
 use Rattle.px_plans.proofs.put_item.put_strip_offsets.Goals as goal
 

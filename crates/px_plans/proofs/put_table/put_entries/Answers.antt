@@ -2,8 +2,8 @@ use Rattle.std.proofs.Common.{◌≤◌, ℕ, List, length, flat_map, refl, subs
 use Rattle.std.proofs.lemmas.List.{take_all}
 use Rattle.std.proofs.lemmas.Result.{err_from_is_err_and}
 use Rattle.px_bytes.specs.lemmas.WaitingLaws.{HasPut, put_none, loop_more, loop_stop}
-use Rattle.px_bytes.specs.Devices.{CanFail}
-use Rattle.px_meaning.specs.Fits.{Item}
+use Rattle.px_bytes.specs.Devices.{CanCountFailure}
+use Rattle.px_meaning.specs.Writable.{Item}
 use Rattle.px_layout.specs.Laid.{entry_bytes}
 use Rattle.px_plans.specs.calls.Layouts.{plan_of_layout}
 use Rattle.px_plans.proofs.put_table.put_entries.Goals as goal
@@ -12,7 +12,7 @@ pub loop-i-init : goal.loop-i-init
 loop-i-init g c = record { put = put_none g.W.Sink.bytes_taken c.args.writer.now c.args.pending.now; count = refl }
 
 pub put_entry-requires-clause-few : goal.put_entry-requires-clause-few
-put_entry-requires-clause-few g c = subst CanFail (sym c.loop-i.invariant.count) c.requires
+put_entry-requires-clause-few g c = subst CanCountFailure (sym c.loop-i.invariant.count) c.requires
 
 pub returns-in_err-put_entry : goal.returns-in_err-put_entry
 returns-in_err-put_entry g c =

@@ -1,5 +1,5 @@
 use Rattle.std.proofs.Common.{ℕ, subst, ◌∙◌, arith}
-use Rattle.px_bytes.specs.Lacking.{LacksBy}
+use Rattle.px_bytes.specs.Allocations.{CountsAllocFailureBy}
 use Rattle.px_meaning.specs.calls.Seen.{meaning_of}
 use Rattle.px_plans.proofs.plans.Pieces.{on_ok}
 use Rattle.px_layout.specs.lemmas.WalkLaws.{chunks_gathered}
@@ -16,7 +16,7 @@ returns-clause-chunks c =
 
 pub returns-clause-memory : goal.returns-clause-memory
 returns-clause-memory c =
-    subst (λ (b : ℕ). LacksBy c.push_thumb.result b c.push_thumb.new.memory.refusals)
+    subst (λ (b : ℕ). CountsAllocFailureBy c.push_thumb.result b c.push_thumb.new.memory.failed_allocations)
     (c.in_ok-push_dir-5.ensures.memory ∙ c.in_ok-push_dir-4.ensures.memory ∙ c.in_ok-push_dir-3.ensures.memory
     ∙ c.in_ok-push_dir-2.ensures.memory ∙ c.in_ok-push_dir.ensures.memory) c.push_thumb.ensures.memory
 

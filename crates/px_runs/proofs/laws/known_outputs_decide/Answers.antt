@@ -1,11 +1,11 @@
 use Rattle.px_runs.proofs.laws.known_outputs_decide.Goals as goal
 
 pub returns : goal.returns
-returns g c f h file out other_file other_out files files_now other_files other_files_now taken taken_now other_taken other_taken_now
+returns g c f h file out other_file other_out files files_now other_files other_files_now allocs allocs_now other_allocs other_allocs_now
     lines other_lines has other_has x y =
     let known = g.met.O.KnownFiles in
-    let t = c.outputs_decide.ensures f h file out other_file other_out files files_now other_files other_files_now taken taken_now other_taken
-    other_taken_now lines other_lines (λ reader opened o. known.opened files opened file f reader has o)
+    let t = c.outputs_decide.ensures f h file out other_file other_out files files_now other_files other_files_now allocs allocs_now other_allocs
+    other_allocs_now lines other_lines (λ reader opened o. known.opened files opened file f reader has o)
     (λ reader opened o. known.opened other_files opened other_file h reader other_has o) x y in
     let r = t.2 in
     let s = t.3 in (

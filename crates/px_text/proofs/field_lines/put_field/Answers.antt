@@ -13,22 +13,22 @@ pub returns-in_err-put_head : goal.returns-in_err-put_head
 unfolding field_line
 returns-in_err-put_head g c =
     let p = err_from_is_err_and c.from_residual.result c.from_residual.ensures.1 in
-    let held = c.args.pending.now in
+    let buffer = c.args.pending.now in
     let first = encode_lower (spelling Most 2 c.args.tag) ++ codes " " ++ type_word c.args.value.now.kind ++ codes " " ++ decimal (length
     c.args.value.now.elements) ++ codes ":" in
     let second = shown_elements c.args.value.now.kind c.args.value.now.elements in
-    rw p.1 (puts_first _ _ held (first ++ second) (codes "\n") (puts_first _ _ held first second c.in_err-put_head.ensures.0), search rules)
+    rw p.1 (puts_first _ _ buffer (first ++ second) (codes "\n") (puts_first _ _ buffer first second c.in_err-put_head.ensures.0), search rules)
 
 pub returns-in_err-put_value : goal.returns-in_err-put_value
 unfolding field_line
 returns-in_err-put_value g c =
     let p = err_from_is_err_and c.from_residual-in_err-put_value.result c.from_residual-in_err-put_value.ensures.1 in
-    let held = c.args.pending.now in
+    let buffer = c.args.pending.now in
     let first = encode_lower (spelling Most 2 c.args.tag) ++ codes " " ++ type_word c.args.value.now.kind ++ codes " " ++ decimal (length
     c.args.value.now.elements) ++ codes ":" in
     let second = shown_elements c.args.value.now.kind c.args.value.now.elements in
     rw p.1 (
-      puts_first _ _ held (first ++ second) (codes "\n") (owes_prefix _ _ _ held c.put_head.new.pending first second
+      puts_first _ _ buffer (first ++ second) (codes "\n") (owes_prefix _ _ _ buffer c.put_head.new.pending first second
           c.in_ok-put_head.ensures.0 c.in_err-put_value.ensures.0),
       search rules,
     )
@@ -36,11 +36,11 @@ returns-in_err-put_value g c =
 pub returns : goal.returns
 unfolding field_line
 returns g c =
-    let held = c.args.pending.now in
+    let buffer = c.args.pending.now in
     let first = encode_lower (spelling Most 2 c.args.tag) ++ codes " " ++ type_word c.args.value.now.kind ++ codes " " ++ decimal (length
     c.args.value.now.elements) ++ codes ":" in
     let second = shown_elements c.args.value.now.kind c.args.value.now.elements in (
-      puts_both c.put.result _ _ _ held c.put_value.new.pending c.put.new.self (first ++ second) (codes "\n") (owes_append _ _ _ held
+      puts_both c.put.result _ _ _ buffer c.put_value.new.pending c.put.new.self (first ++ second) (codes "\n") (owes_append _ _ _ buffer
           c.put_head.new.pending c.put_value.new.pending first second c.in_ok-put_head.ensures.0 c.in_ok-put_value.ensures.0)
           c.put.ensures.bytes,
       search rules,

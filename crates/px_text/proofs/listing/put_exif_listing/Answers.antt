@@ -11,14 +11,14 @@ pub returns-in_err-put_main : goal.returns-in_err-put_main
 unfolding exif_listing
 returns-in_err-put_main g c =
     let p = err_from_is_err_and c.from_residual.result c.from_residual.ensures.1 in
-    let held = c.args.pending.now in
+    let buffer = c.args.pending.now in
     let first = codes "exif\n[main]\n" ++ field_lines (meaning_of c.args.meaning.now).main ++ record_lines (meaning_of
     c.args.meaning.now).iptc in
     let second = exif_lines (meaning_of c.args.meaning.now).exif in
     let third = directory_lines (codes "[gps]\n") (meaning_of c.args.meaning.now).gps in
     let fourth = thumb_lines (meaning_of c.args.meaning.now).thumb in
     rw p.1 (
-      puts_first _ _ held (first ++ second ++ third) fourth (puts_first _ _ held (first ++ second) third (puts_first _ _ held first
+      puts_first _ _ buffer (first ++ second ++ third) fourth (puts_first _ _ buffer (first ++ second) third (puts_first _ _ buffer first
           second c.in_err-put_main.ensures.0)),
       search rules,
     )
@@ -27,14 +27,14 @@ pub returns-in_err-put_exif : goal.returns-in_err-put_exif
 unfolding exif_listing
 returns-in_err-put_exif g c =
     let p = err_from_is_err_and c.from_residual-in_err-put_exif.result c.from_residual-in_err-put_exif.ensures.1 in
-    let held = c.args.pending.now in
+    let buffer = c.args.pending.now in
     let first = codes "exif\n[main]\n" ++ field_lines (meaning_of c.args.meaning.now).main ++ record_lines (meaning_of
     c.args.meaning.now).iptc in
     let second = exif_lines (meaning_of c.args.meaning.now).exif in
     let third = directory_lines (codes "[gps]\n") (meaning_of c.args.meaning.now).gps in
     let fourth = thumb_lines (meaning_of c.args.meaning.now).thumb in
     rw p.1 (
-      puts_first _ _ held (first ++ second ++ third) fourth (puts_first _ _ held (first ++ second) third (owes_prefix _ _ _ held
+      puts_first _ _ buffer (first ++ second ++ third) fourth (puts_first _ _ buffer (first ++ second) third (owes_prefix _ _ _ buffer
           c.put_main.new.pending first second c.in_ok-put_main.ensures.0 c.in_err-put_exif.ensures.0)),
       search rules,
     )
@@ -43,16 +43,16 @@ pub returns-in_err-put_directory : goal.returns-in_err-put_directory
 unfolding exif_listing
 returns-in_err-put_directory g c =
     let p = err_from_is_err_and c.from_residual-in_err-put_directory.result c.from_residual-in_err-put_directory.ensures.1 in
-    let held = c.args.pending.now in
+    let buffer = c.args.pending.now in
     let first = codes "exif\n[main]\n" ++ field_lines (meaning_of c.args.meaning.now).main ++ record_lines (meaning_of
     c.args.meaning.now).iptc in
     let second = exif_lines (meaning_of c.args.meaning.now).exif in
     let third = directory_lines (codes "[gps]\n") (meaning_of c.args.meaning.now).gps in
     let fourth = thumb_lines (meaning_of c.args.meaning.now).thumb in
     rw p.1 (
-      puts_first _ _ held (first ++ second ++ third) fourth (owes_prefix _ _ _ held c.put_exif.new.pending (first ++ second) third
+      puts_first _ _ buffer (first ++ second ++ third) fourth (owes_prefix _ _ _ buffer c.put_exif.new.pending (first ++ second) third
           (owes_append _
-          _ _ held c.put_main.new.pending c.put_exif.new.pending first second c.in_ok-put_main.ensures.0 c.in_ok-put_exif.ensures.0)
+          _ _ buffer c.put_main.new.pending c.put_exif.new.pending first second c.in_ok-put_main.ensures.0 c.in_ok-put_exif.ensures.0)
           c.in_err-put_directory.ensures.0),
       search rules,
     )
@@ -60,15 +60,15 @@ returns-in_err-put_directory g c =
 pub returns : goal.returns
 unfolding exif_listing
 returns g c =
-    let held = c.args.pending.now in
+    let buffer = c.args.pending.now in
     let first = codes "exif\n[main]\n" ++ field_lines (meaning_of c.args.meaning.now).main ++ record_lines (meaning_of
     c.args.meaning.now).iptc in
     let second = exif_lines (meaning_of c.args.meaning.now).exif in
     let third = directory_lines (codes "[gps]\n") (meaning_of c.args.meaning.now).gps in
     let fourth = thumb_lines (meaning_of c.args.meaning.now).thumb in (
-      puts_both c.put_thumb.result _ _ _ held c.put_directory.new.pending c.put_thumb.new.pending (first ++ second ++ third) fourth
+      puts_both c.put_thumb.result _ _ _ buffer c.put_directory.new.pending c.put_thumb.new.pending (first ++ second ++ third) fourth
           (owes_append _
-          _ _ held c.put_exif.new.pending c.put_directory.new.pending (first ++ second) third (owes_append _ _ _ held c.put_main.new.pending
+          _ _ buffer c.put_exif.new.pending c.put_directory.new.pending (first ++ second) third (owes_append _ _ _ buffer c.put_main.new.pending
           c.put_exif.new.pending first second c.in_ok-put_main.ensures.0 c.in_ok-put_exif.ensures.0)
           c.in_ok-put_directory.ensures.0) c.put_thumb.ensures.0,
       search rules,

@@ -9,16 +9,16 @@ pub returns-in_err-put : goal.returns-in_err-put
 unfolding iim_listing
 returns-in_err-put g c =
     let p = err_from_is_err_and c.from_residual.result c.from_residual.ensures.1 in
-    let held = c.args.pending.now in
+    let buffer = c.args.pending.now in
     let second = dataset_lines c.args.iim.now in
-    rw p.1 (puts_first _ _ held (codes "iim\n") second c.in_err-put.ensures.bytes, search rules)
+    rw p.1 (puts_first _ _ buffer (codes "iim\n") second c.in_err-put.ensures.bytes, search rules)
 
 pub returns : goal.returns
 unfolding iim_listing
 returns g c =
-    let held = c.args.pending.now in
+    let buffer = c.args.pending.now in
     let second = dataset_lines c.args.iim.now in (
-      puts_both c.put_datasets.result _ _ _ held c.put.new.self c.put_datasets.new.pending (codes "iim\n") second c.in_ok-put.ensures.bytes
+      puts_both c.put_datasets.result _ _ _ buffer c.put.new.self c.put_datasets.new.pending (codes "iim\n") second c.in_ok-put.ensures.bytes
           c.put_datasets.ensures.0,
       search rules,
     )

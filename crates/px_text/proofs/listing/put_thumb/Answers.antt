@@ -10,11 +10,11 @@ use Rattle.px_text.proofs.listing.put_thumb.Goals as goal
 pub returns-in_err-put_titled : goal.returns-in_err-put_titled
 returns-in_err-put_titled g c =
     let p = err_from_is_err_and c.from_residual.result c.from_residual.ensures.1 in
-    let held = c.args.pending.now in
+    let buffer = c.args.pending.now in
     let first = codes "[thumb]\n" ++ field_lines c.in-Some.thumb.fields in
     let second = jpeg_lines (thumb_of c.in-Some.thumb).jpeg in
     let third = strips_lines c.in-Some.thumb.strips in (
-      rw c.in-Some.is (rw p.1 (puts_first _ _ held (first ++ second) third (puts_first _ _ held first second
+      rw c.in-Some.is (rw p.1 (puts_first _ _ buffer (first ++ second) third (puts_first _ _ buffer first second
           c.in_err-put_titled.ensures.0))),
       search rules,
     )
@@ -22,23 +22,23 @@ returns-in_err-put_titled g c =
 pub returns-in_err-put_jpeg : goal.returns-in_err-put_jpeg
 returns-in_err-put_jpeg g c =
     let p = err_from_is_err_and c.from_residual-in_err-put_jpeg.result c.from_residual-in_err-put_jpeg.ensures.1 in
-    let held = c.args.pending.now in
+    let buffer = c.args.pending.now in
     let first = codes "[thumb]\n" ++ field_lines c.in-Some.thumb.fields in
     let second = jpeg_lines (thumb_of c.in-Some.thumb).jpeg in
     let third = strips_lines c.in-Some.thumb.strips in (
-      rw c.in-Some.is (rw p.1 (puts_first _ _ held (first ++ second) third (owes_prefix _ _ _ held c.put_titled.new.pending first second
+      rw c.in-Some.is (rw p.1 (puts_first _ _ buffer (first ++ second) third (owes_prefix _ _ _ buffer c.put_titled.new.pending first second
           c.in_ok-put_titled.ensures.0 c.in_err-put_jpeg.ensures.0))),
       search rules,
     )
 
 pub returns : goal.returns
 returns g c =
-    let held = c.args.pending.now in
+    let buffer = c.args.pending.now in
     let first = codes "[thumb]\n" ++ field_lines c.in-Some.thumb.fields in
     let second = jpeg_lines (thumb_of c.in-Some.thumb).jpeg in
     let third = strips_lines c.in-Some.thumb.strips in (
-      rw c.in-Some.is (puts_both c.put_strips.result _ _ _ held c.put_jpeg.new.pending c.put_strips.new.pending (first ++ second) third
-          (owes_append _ _ _ held c.put_titled.new.pending c.put_jpeg.new.pending first second
+      rw c.in-Some.is (puts_both c.put_strips.result _ _ _ buffer c.put_jpeg.new.pending c.put_strips.new.pending (first ++ second) third
+          (owes_append _ _ _ buffer c.put_titled.new.pending c.put_jpeg.new.pending first second
           c.in_ok-put_titled.ensures.0 c.in_ok-put_jpeg.ensures.0)
           c.put_strips.ensures.0),
       search rules,

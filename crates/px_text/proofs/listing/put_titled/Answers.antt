@@ -6,9 +6,9 @@ use Rattle.px_text.proofs.listing.put_titled.Goals as goal
 
 pub returns : goal.returns
 returns g c =
-    let held = c.args.pending.now in
+    let buffer = c.args.pending.now in
     let second = field_lines c.args.fields.now in (
-      puts_both c.put_fields.result _ _ _ held c.put.new.self c.put_fields.new.pending c.args.name.now second c.in_ok-put.ensures.bytes
+      puts_both c.put_fields.result _ _ _ buffer c.put.new.self c.put_fields.new.pending c.args.name.now second c.in_ok-put.ensures.bytes
           c.put_fields.ensures.0,
       counts_from_eq c.put_fields.result _ _ _ c.in_ok-put.ensures.count c.put_fields.ensures.1,
     )

@@ -1,4 +1,4 @@
-use Rattle.px_tree.proofs.saying.Footprint as footprint
+use Rattle.px_tree.proofs.assembling.Footprint as footprint
 use Rattle.px_tree.proofs.fault_laws.footprint_counts.Goals as goal
 
 pub returns : goal.returns

@@ -1,4 +1,4 @@
-use Rattle.px_tree.proofs.saying.Owned as owned
+use Rattle.px_tree.proofs.assembling.Owned as owned
 use Rattle.px_tree.proofs.fault_laws.owners_own.Goals as goal
 
 pub returns : goal.returns

@@ -6,7 +6,7 @@ use Rattle.px_bytes.specs.Parts.{part}
 use Rattle.px_field.specs.Forms.{form_of}
 use Rattle.px_field.specs.Values.{Value}
 use Rattle.px_meaning.specs.Tree.{Fields}
-use Rattle.px_meaning.specs.Entry.{entry, field, value_in, Rising}
+use Rattle.px_meaning.specs.Entry.{entry, field, field_value_in, Rising}
 use Rattle.px_meaning.specs.calls.Places.{tags}
 use Rattle.px_tree.specs.calls.Reading.{entries_from, if_kept}
 use Rattle.px_tree.proofs.reading.Kept.{rising_kept, precede_kept}
@@ -33,7 +33,7 @@ loop-init c =
           (uses_start b o c.args.start c.args.count c.no_uses-uses.result c.no_uses-uses.ensures);
       memory = refl;
       len = omega (arith, c.in_ok-list.ensures.len);
-      room = c.in_ok-list.ensures.room;
+      capacity = c.in_ok-list.ensures.capacity;
       asked = omega arith;
       below = omega arith;
       wide = omega arith;
@@ -59,9 +59,9 @@ keep_field-requires-clause-claimed c =
       whole = c.in_ok-shape.ensures.inside;
     }
 
-pub keep_field-requires-clause-room : goal.keep_field-requires-clause-room
-keep_field-requires-clause-room c = λ keeps.
-    let room = c.loop.invariant.room keeps in
+pub keep_field-requires-clause-capacity : goal.keep_field-requires-clause-capacity
+keep_field-requires-clause-capacity c = λ keeps.
+    let capacity = c.loop.invariant.capacity keeps in
     let len = c.loop.invariant.len in
     omega arith
 
@@ -75,7 +75,7 @@ loop-preserved c =
     let shape = c.in_ok-shape.ensures.shape in
     let rest = filter_map (field b o d) (entries_from b o (c.loop.at + 12) (c.args.count - (c.loop.counter + 1))) in
     let e = entry o (part b c.loop.at 12) in
-    let v = value_in b o e s.role s.form in
+    let v = field_value_in b o e s.role s.form in
     let x = if_kept c.args.source.now.keeps_fields v in
     let kept = c.keep_field.ensures.kept in
     let asked_before = c.loop.invariant.asked in
@@ -102,10 +102,10 @@ loop-preserved c =
           c.in_ok-shape.ensures.follows c.loop.uses _ c.loop.invariant.uses c.keep_use.ensures;
       memory = c.in_ok-shape.ensures.memory ∙ c.loop.invariant.memory;
       len = omega (arith, c.loop.invariant.len, c.keep_field.ensures.len);
-      room = λ keeps. let room = c.loop.invariant.room keeps in let same = c.keep_field.ensures.capacity in omega arith;
+      capacity = λ keeps. let capacity = c.loop.invariant.capacity keeps in let same = c.keep_field.ensures.capacity in omega arith;
       asked = omega arith;
       below = omega arith;
-      wide = omega (arith, c.loop.invariant.wide, c.in_ok-shape.ensures.room);
+      wide = omega (arith, c.loop.invariant.wide, c.in_ok-shape.ensures.capacity);
     }
 
 pub returns-clause-judged : goal.returns-clause-judged

@@ -5,8 +5,8 @@ use Rattle.px_tree.specs.declared.tables.Directory.{Directory}
 use Rattle.px_meaning.specs.Directory.{dirs}
 use Rattle.px_tree.specs.Checks.{dirs_claimed}
 use Rattle.px_tree.specs.calls.ReadTree.{main_claimed}
-use Rattle.px_tree.proofs.saying.Started.{main_refuses_tree, others_refuse_tree, whole_dirs, main_is_alone, alone_true}
-use Rattle.px_tree.proofs.saying.Assembled.{thumb_read, thumb_refuses_tree, tree_true, all_in_order}
+use Rattle.px_tree.proofs.assembling.Started.{main_refuses_tree, others_refuse_tree, whole_dirs, main_is_alone, alone_true}
+use Rattle.px_tree.proofs.assembling.Assembled.{thumb_read, thumb_refuses_tree, tree_true, all_in_order}
 use Rattle.px_tree.proofs.reading.Paying.{paid_most, paid_none, extent_none}
 use Rattle.px_tree.proofs.judging.judge_tree.Goals as goal
 

@@ -5,7 +5,7 @@ use Rattle.px_meaning.specs.Entry.{IsEntry}
 use Rattle.px_meaning.specs.Directory.{entries_at}
 use Rattle.px_meaning.specs.Says.{record_at}
 use Rattle.px_tree.proofs.reading.Named.{main_directory_found}
-use Rattle.px_tree.proofs.saying.Started.{alone_meaning}
+use Rattle.px_tree.proofs.assembling.Started.{alone_meaning}
 use Rattle.px_tree.proofs.read.read_alone.Goals as goal
 
 pub read_record-requires-clause-found : goal.read_record-requires-clause-found

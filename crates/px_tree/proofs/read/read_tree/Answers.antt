@@ -6,8 +6,8 @@ use Rattle.px_meaning.specs.Directory.{dirs}
 use Rattle.px_meaning.specs.Says.{record_at}
 use Rattle.px_tree.specs.Checks.{dirs_claimed}
 use Rattle.px_tree.specs.calls.ReadTree.{main_claimed}
-use Rattle.px_tree.proofs.saying.Started.{main_refuses_tree, others_refuse_tree, whole_dirs, main_is_alone, alone_dirs, alone_true}
-use Rattle.px_tree.proofs.saying.Assembled.{thumb_read, main_each, thumb_refuses_tree, tree_true, all_in_order, meaning_is}
+use Rattle.px_tree.proofs.assembling.Started.{main_refuses_tree, others_refuse_tree, whole_dirs, main_is_alone, alone_dirs, alone_true}
+use Rattle.px_tree.proofs.assembling.Assembled.{thumb_read, main_each, thumb_refuses_tree, tree_true, all_in_order, meaning_is}
 use Rattle.px_tree.proofs.reading.Paying.{paid_most, paid_none, extent_none}
 use Rattle.px_tree.proofs.read.read_tree.Goals as goal
 

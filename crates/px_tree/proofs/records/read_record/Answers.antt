@@ -6,7 +6,7 @@ use Rattle.px_meaning.specs.Roles.{record_tag}
 use Rattle.px_meaning.specs.Iim.{Iim}
 use Rattle.px_tree.specs.calls.Parts.{Finds, entry_here}
 use Rattle.px_tree.proofs.lists.Listed.{has_value}
-use Rattle.px_tree.proofs.saying.Assembled.{record_is}
+use Rattle.px_tree.proofs.assembling.Assembled.{record_is}
 use Rattle.px_tree.proofs.records.read_record.Goals as goal
 
 pub record_found-requires : goal.record_found-requires

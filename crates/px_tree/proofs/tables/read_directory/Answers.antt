@@ -2,13 +2,13 @@ use Rattle.std.proofs.Common.{◌+◌, ◌∷◌, None, sym, ap, subst, ◌∙�
 use Rattle.std.proofs.lemmas.Result.{err_from_is_err_and}
 use Rattle.px_bytes.specs.Range.{range}
 use Rattle.px_bytes.specs.Checks.{first_false, Refuses}
-use Rattle.px_bytes.specs.lemmas.CheckLaws.{Refuses_more, Refuses_behind, all_true}
+use Rattle.px_bytes.specs.lemmas.CheckLaws.{Refuses_more, Refuses_after, all_true}
 use Rattle.px_meaning.specs.Entry.{table_size}
 use Rattle.px_meaning.specs.Directory.{entries_at}
 use Rattle.px_meaning.specs.Footprint.{table_range}
 use Rattle.px_tree.specs.Checks.{opening_checks, entries_checks}
 use Rattle.px_tree.specs.calls.Linked.{offsets_of}
-use Rattle.px_tree.proofs.reading.Standing.{entries_checks_is, fields_is, ranges_is, uses_is, dir_checks_parts}
+use Rattle.px_tree.proofs.reading.Faulted.{entries_checks_is, fields_is, ranges_is, uses_is, dir_checks_parts}
 use Rattle.std.proofs.Common.{arith}
 use Rattle.px_tree.proofs.tables.read_directory.Goals as goal
 
@@ -37,7 +37,7 @@ returns-in_err-entries-clause-judged c = λ taken a.
     let k = c.in_ok-count.ensures.judged taken a in
     let r = c.in_err-entries.field-0.0 in
     rw (p.1, p.2) (subst (Refuses r) (sym (dir_checks_parts b o d es taken l.place l.at))
-    (Refuses_behind r (opening_checks b o es taken l.place l.at) _ k.0
+    (Refuses_after r (opening_checks b o es taken l.place l.at) _ k.0
     (subst (Refuses r) (sym (entries_checks_is b o l.at n t d taken))
     (c.in_err-entries.ensures.judged (range l.at (table_size n) ∷ taken) k.1))))
 

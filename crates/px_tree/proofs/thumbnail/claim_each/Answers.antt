@@ -40,7 +40,7 @@ loop-i-preserved c =
       memory = c.in_ok-claim.ensures.memory ∙ c.loop-i.invariant.memory;
       asked = omega arith;
       below = omega arith;
-      room = omega (arith, c.loop-i.invariant.room, c.in_ok-claim.ensures.room);
+      capacity = omega (arith, c.loop-i.invariant.capacity, c.in_ok-claim.ensures.capacity);
     }
 
 pub returns-in_err-claim-clause-asked : goal.returns-in_err-claim-clause-asked

@@ -3,7 +3,7 @@ use Rattle.std.specs.List.{AllByRecursion}
 use Rattle.px_bytes.specs.Range.{Range, Agrees}
 use Rattle.px_meaning.specs.Thumbnail.{whole_number, ranges_of, IsInside}
 use Rattle.px_meaning.specs.calls.Strips.{ranges_in}
-use Rattle.px_tree.specs.calls.Paying.{paid, StaysBelow}
+use Rattle.px_tree.specs.calls.Paying.{paid, ClaimsBelow}
 use Rattle.px_tree.proofs.reading.StripRanges.{RangesSoFar}
 use Rattle.px_tree.proofs.thumbnail.claim_each.Given as goal
 
@@ -15,8 +15,8 @@ invariant-loop-i l = record {
   inside : AllByRecursion (IsInside l.lists.block.now)
       (ranges_of (drop l.i (map whole_number l.lists.starts.elements)) (drop l.i (map whole_number l.lists.sizes.elements)))
       → AllByRecursion (IsInside l.lists.block.now) (ranges_in l.lists);
-  memory : l.memory.refusals ≡ l.initial.memory.refusals;
+  memory : l.memory.failed_allocations ≡ l.initial.memory.failed_allocations;
   asked : l.memory.asked + paid l.initial.claimed ≤ l.initial.memory.asked + paid l.claimed;
-  below : StaysBelow (length l.lists.block.now) l.initial.claimed l.claimed;
-  room : l.initial.claimed.room ≤ l.claimed.room;
+  below : ClaimsBelow (length l.lists.block.now) l.initial.claimed l.claimed;
+  capacity : l.initial.claimed.capacity ≤ l.claimed.capacity;
 }

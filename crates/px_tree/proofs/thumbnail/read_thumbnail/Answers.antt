@@ -7,7 +7,7 @@ use Rattle.px_tree.specs.calls.Parts.{jpeg_of}
 use Rattle.px_tree.proofs.lists.Listed.{have_numbers, offsets_form, lengths_form}
 use Rattle.px_tree.proofs.reading.Parted.{even_parts, pairs_refuse, end_refuses, jpeg_refuses, strips_refuse, thumb_true, jpeg_is}
 use Rattle.px_tree.proofs.reading.Parted.{strips_is}
-use Rattle.px_tree.proofs.saying.Assembled.{thumbnail_is}
+use Rattle.px_tree.proofs.assembling.Assembled.{thumbnail_is}
 use Rattle.std.proofs.Common.{arith}
 use Rattle.px_tree.proofs.thumbnail.read_thumbnail.Goals as goal
 

@@ -10,7 +10,7 @@ use Rattle.px_meaning.specs.Footprint.{dir_ranges}
 use Rattle.px_tree.specs.declared.tables.Directory.{Directory}
 use Rattle.px_tree.specs.Checks.{dir_checks}
 use Rattle.px_bytes.specs.lemmas.CheckLaws.{Refuses_none}
-use Rattle.px_tree.proofs.saying.Started.{main_judged}
+use Rattle.px_tree.proofs.assembling.Started.{main_judged}
 use Rattle.px_tree.proofs.tree.read_main.Goals as goal
 
 pub returns-in_err-claim_range-clause-judged : goal.returns-in_err-claim_range-clause-judged

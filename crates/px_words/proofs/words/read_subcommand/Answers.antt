@@ -11,10 +11,10 @@ read_one-requires c =
 pub returns-then-eq : goal.returns-then-eq
 returns-then-eq c =
     let rows = rows_of (found_of c.args.inner.now) in
-    let told = c.read_one in
+    let reported = c.read_one in
     record {
-      asked = asked_as c.args.name.now (codes "show") rows told.result c.if-eq.ensures told.ensures.asked;
-      memory = told.ensures.memory;
+      asked = asked_as c.args.name.now (codes "show") rows reported.result c.if-eq.ensures reported.ensures.asked;
+      memory = reported.ensures.memory;
     }
 
 pub read_one-requires-then-eq-2 : goal.read_one-requires-then-eq-2
@@ -25,10 +25,10 @@ read_one-requires-then-eq-2 c =
 pub returns-then-eq-2 : goal.returns-then-eq-2
 returns-then-eq-2 c =
     let rows = rows_of (found_of c.args.inner.now) in
-    let told = c.read_one-then-eq-2 in
+    let reported = c.read_one-then-eq-2 in
     record {
-      asked = asked_as c.args.name.now (codes "check") rows told.result c.if-eq-2.ensures told.ensures.asked;
-      memory = told.ensures.memory;
+      asked = asked_as c.args.name.now (codes "check") rows reported.result c.if-eq-2.ensures reported.ensures.asked;
+      memory = reported.ensures.memory;
     }
 
 pub read_one-requires-then-eq-3 : goal.read_one-requires-then-eq-3
@@ -39,10 +39,10 @@ read_one-requires-then-eq-3 c =
 pub returns-then-eq-3 : goal.returns-then-eq-3
 returns-then-eq-3 c =
     let rows = rows_of (found_of c.args.inner.now) in
-    let told = c.read_one-then-eq-3 in
+    let reported = c.read_one-then-eq-3 in
     record {
-      asked = asked_as c.args.name.now (codes "captions") rows told.result c.if-eq-3.ensures told.ensures.asked;
-      memory = told.ensures.memory;
+      asked = asked_as c.args.name.now (codes "captions") rows reported.result c.if-eq-3.ensures reported.ensures.asked;
+      memory = reported.ensures.memory;
     }
 
 pub read_normalise-requires : goal.read_normalise-requires
@@ -54,10 +54,10 @@ read_normalise-requires c =
 pub returns-then-eq-4 : goal.returns-then-eq-4
 returns-then-eq-4 c =
     let rows = rows_of (found_of c.args.inner.now) in
-    let told = c.read_normalise in
+    let reported = c.read_normalise in
     record {
-      asked = asked_as c.args.name.now (codes "normalise") rows told.result c.if-eq-4.ensures told.ensures.asked;
-      memory = told.ensures.memory;
+      asked = asked_as c.args.name.now (codes "normalise") rows reported.result c.if-eq-4.ensures reported.ensures.asked;
+      memory = reported.ensures.memory;
     }
 
 pub read_compare-requires : goal.read_compare-requires
@@ -69,10 +69,10 @@ read_compare-requires c =
 pub returns-then-eq-5 : goal.returns-then-eq-5
 returns-then-eq-5 c =
     let rows = rows_of (found_of c.args.inner.now) in
-    let told = c.read_compare in
+    let reported = c.read_compare in
     record {
-      asked = asked_as c.args.name.now (codes "compare") rows told.result c.if-eq-5.ensures told.ensures.asked;
-      memory = told.ensures.memory;
+      asked = asked_as c.args.name.now (codes "compare") rows reported.result c.if-eq-5.ensures reported.ensures.asked;
+      memory = reported.ensures.memory;
     }
 
 pub unreachable-requires : goal.unreachable-requires

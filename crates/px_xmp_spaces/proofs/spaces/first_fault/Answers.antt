@@ -13,15 +13,15 @@ returns-in_default c =
       scope = c.loop-at.scope;
       marked = c.loop-at.invariant.read.1;
       leads = c.loop-at.invariant.read.2;
-      wrong = nothing_here c.marks_are_read.ensures y c.loop-at.scope (ap mark_len (sym c.split_at.ensures.back) ∙ sym c.in_default.ensures.value);
+      wrong = nothing_here c.marks_are_read.ensures y c.loop-at.scope (ap mark_len (sym c.split_at.ensures.back) ∙ sym c.in_default.ensures.size);
     }
 
 pub returns-in-Some-pass : goal.returns-in-Some-pass
 returns-in-Some-pass c =
     let y = drop c.loop-at.at c.args.octets.now in
-    let n = c.in-Some.len in
+    let n = c.in-Some.mark.size in
     let back = c.split_at.ensures.back in
-    let e : mark_len y ≡ Some n = ap mark_len (sym back) ∙ sym c.in-Some.ensures.value in
+    let e : mark_len y ≡ Some n = ap mark_len (sym back) ∙ sym c.in-Some.ensures.size in
     let here : Found y n =
     mark_found c.marks_are_read.ensures c.only_marks_are_read.ensures c.start_tags_are_read.ensures c.only_start_tags_are_read.ensures
     c.end_tags_are_read.ensures c.only_end_tags_are_read.ensures y n e in
@@ -39,11 +39,11 @@ loop-at-preserved c =
     let x = c.args.octets.now in
     let at = c.loop-at.at in
     let y = drop at x in
-    let n = c.in-Some.len in
+    let n = c.in-Some.mark.size in
     let s = c.loop-at.scope in
     let t = c.pass.new.self in
     let back = c.split_at.ensures.back in
-    let e : mark_len y ≡ Some n = ap mark_len (sym back) ∙ sym c.in-Some.ensures.value in
+    let e : mark_len y ≡ Some n = ap mark_len (sym back) ∙ sym c.in-Some.ensures.size in
     let here : Found y n =
     mark_found c.marks_are_read.ensures c.only_marks_are_read.ensures c.start_tags_are_read.ensures c.only_start_tags_are_read.ensures
     c.end_tags_are_read.ensures c.only_end_tags_are_read.ensures y n e in

@@ -9,6 +9,6 @@ invariant-loop-octet l = record {
   len : vec_len l.out + length (normal_text (drop l.octet-index l.octets)) ≡ vec_len l.fn.out + length (normal_text l.octets);
   room : vec_len l.out + length (normal_text (drop l.octet-index l.octets)) ≤ vec_capacity l.out;
   capacity : vec_capacity l.fn.out ≤ vec_capacity l.out;
-  refusals : l.memory.refusals ≡ l.fn.memory.refusals;
+  failed_allocations : l.memory.failed_allocations ≡ l.fn.memory.failed_allocations;
   asked : l.memory.asked ≡ l.fn.memory.asked;
 }

@@ -35,7 +35,7 @@ loop-at-preserved c =
             push_more _ _ v.part v.later rest _ v.appended v.joined joined,
           );
       room = omega (arith, c.append_part-at.ensures.bound, c.append_part-at.ensures.room, c.loop-at.invariant.room, c.loop-at-test.true);
-      refusals = c.append_part-at.ensures.refusals ∙ c.loop-at.invariant.refusals;
+      failed_allocations = c.append_part-at.ensures.failed_allocations ∙ c.loop-at.invariant.failed_allocations;
       asked = c.append_part-at.ensures.asked ∙ c.loop-at.invariant.asked;
     }
 

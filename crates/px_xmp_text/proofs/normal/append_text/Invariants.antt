@@ -9,7 +9,7 @@ invariant-loop-at l = record {
   left : (t : List ℕ) → text_of l.kind l.octets ≡ Some t → (m : ℕ) × (rest : List ℕ) × (text_in m l.kind (drop l.at l.octets) ≡ Some rest)
       × (l.out.items ++ normal_text rest ≡ l.fn.out.items ++ normal_text t);
   room : vec_len l.out + 5 * (length l.octets - l.at) ≤ vec_capacity l.out;
-  refusals : l.memory.refusals ≡ l.fn.memory.refusals;
+  failed_allocations : l.memory.failed_allocations ≡ l.fn.memory.failed_allocations;
   asked : l.memory.asked ≡ l.fn.memory.asked;
 }
 

@@ -1,6 +1,6 @@
 use Rattle.std.proofs.Common.{◌+◌, ℕ, List, length, drop, option_map, sym, ap, ◌∙◌, arith, drop-drop, length-drop}
 use Rattle.px_xmp_text.specs.Texts.{piece, fault_in}
-use Rattle.px_xmp_text.proofs.PieceLaws.{fault_on, fault_here, fault_none}
+use Rattle.px_xmp_text.proofs.PieceLaws.{fault_on, fault_here, fault_none, no_fault}
 use Rattle.px_xmp_text.proofs.pieces.first_fault.Goals as goal
 
 pub loop-at-preserved : goal.loop-at-preserved
@@ -19,6 +19,11 @@ loop-at-preserved c =
       omega (arith, c.in-Some.ensures.bound, c.loop-at-test.true),
       (j, omega (arith, c.loop-at-test.true), ap (λ (x : List ℕ). fault_in j (at + n) k x) (sym (drop-drop n at xs)) ∙ sym more ∙ same),
     )
+
+pub returns-then-not-contains : goal.returns-then-not-contains
+returns-then-not-contains c =
+    let xs = c.args.octets.now in
+    sym (no_fault (length xs) 0 c.args.kind xs (omega arith) (sym c.contains.ensures.value ∙ c.if-not-contains.true))
 
 pub returns-in-None : goal.returns-in-None
 returns-in-None c =

@@ -1,7 +1,7 @@
 use Rattle.std.proofs.Common.{◌≡◌, ◌*◌, length, sym, ap, ◌∙◌, arith}
 use Rattle.px_field.specs.Forms.{size}
 use Rattle.px_field.specs.Values.{Value, IsValue, form_in}
-use Rattle.px_field.specs.lemmas.ValueLaws.{length_spelled, count_in_bound}
+use Rattle.px_field.specs.lemmas.ValueLaws.{length_encoded, count_in_bound}
 use Rattle.px_field.proofs.ViewLemmas.{size_shown, size_whole, length_shown, IsValue_shown}
 use Rattle.px_field.specs.calls.Views.{shown}
 use Rattle.px_field.proofs.values.Value.size.Goals as goal
@@ -19,19 +19,19 @@ returns-else-self-clause-elements c =
     sym (size_shown v.widened v.order v.form v.raw.now c.self.invariant.whole c.if-self.false)
     ∙ ap (λ (w : Value). length w.elements * size (form_in w.kind)) c.self.view_is
 
-pub returns-then-self-clause-spelled : goal.returns-then-self-clause-spelled
-returns-then-self-clause-spelled c o =
+pub returns-then-self-clause-encoded : goal.returns-then-self-clause-encoded
+returns-then-self-clause-encoded c o =
     let v = c.self.inside in
     let is : IsValue c.args.self.now =
     rw (← c.self.view_is) (IsValue_shown v.widened v.order v.form v.raw.now c.self.invariant.width c.self.invariant.bytes) in
-    returns-then-self-clause-elements c ∙ sym (length_spelled o c.args.self.now is)
+    returns-then-self-clause-elements c ∙ sym (length_encoded o c.args.self.now is)
 
-pub returns-else-self-clause-spelled : goal.returns-else-self-clause-spelled
-returns-else-self-clause-spelled c o =
+pub returns-else-self-clause-encoded : goal.returns-else-self-clause-encoded
+returns-else-self-clause-encoded c o =
     let v = c.self.inside in
     let is : IsValue c.args.self.now =
     rw (← c.self.view_is) (IsValue_shown v.widened v.order v.form v.raw.now c.self.invariant.width c.self.invariant.bytes) in
-    returns-else-self-clause-elements c ∙ sym (length_spelled o c.args.self.now is)
+    returns-else-self-clause-elements c ∙ sym (length_encoded o c.args.self.now is)
 
 pub returns-then-self-clause-bounded : goal.returns-then-self-clause-bounded
 returns-then-self-clause-bounded c =

@@ -23,12 +23,12 @@ put_in : (ss seen new : List Item) (at key : ℕ) (x : Item) → seen ≡ ss →
     → InOrder (map dataset_view ss) → AreNumbers (map dataset_view ss)
     → InOrder (map dataset_view new) × AreNumbers (map dataset_view new)
     × (runs (map dataset_view new) ≡ put (dataset_view x) (runs (map dataset_view ss)))
-put_in ss seen new at key x s q e byte front behind o w =
+put_in ss seen new at key x s q e byte front after o w =
     let f : (k : ℕ) (d : Item) → k < at → key_of (dataset_view (get_or ss k d)) ≤ key_of (dataset_view x) = λ k d l.
     subst (λ (l : List Item). key_of (dataset_view (get_or l k d)) ≤ key_of (dataset_view x)) s (omega (arith, front k d l, e)) in
     let b : (k : ℕ) (d : Item) → at ≤ k → k < length ss → key_of (dataset_view x) < key_of (dataset_view (get_or ss k d)) = λ k d l j.
     subst (λ (l : List Item). key_of (dataset_view x) < key_of (dataset_view (get_or l k d))) s
-    (omega (arith, behind k d l (subst (λ (l : List Item). k < length l) (sym s) j), e)) in (
+    (omega (arith, after k d l (subst (λ (l : List Item). k < length l) (sym s) j), e)) in (
       subst (λ (l : List Item). InOrder (map dataset_view l)) (sym q) (inserted_order ss at x f b o w byte),
       subst (λ (l : List Item). AreNumbers (map dataset_view l)) (sym q) (inserted_numbers ss at x f b o w byte),
       ap (λ (l : List Item). runs (map dataset_view l)) q ∙ inserted_put ss at x f b o w byte,
@@ -46,7 +46,7 @@ invariant_of-self-2 c =
     let (order, numbers, e) =
     put_in ss c.deref.result.now c.put_at.new.list.items c.index_after-at.result c.key_of.result x
     c.deref.ensures.value c.in_ok-put_at.ensures.done c.key_of.ensures.value c.key_of.ensures.byte
-    (λ k y l. c.index_after-at.ensures.front k y l) (λ k y l j. c.index_after-at.ensures.behind k y l j) c.self.invariant.0
+    (λ k y l. c.index_after-at.ensures.front k y l) (λ k y l j. c.index_after-at.ensures.after k y l j) c.self.invariant.0
     c.self.invariant.1 in
     let whole =
     whole_put d (
@@ -73,7 +73,7 @@ returns-clause-done c =
     let (order, numbers, e) =
     put_in c.self.inside.items.items c.deref.result.now c.put_at.new.list.items c.index_after-at.result
     c.key_of.result x c.deref.ensures.value c.in_ok-put_at.ensures.done c.key_of.ensures.value
-    c.key_of.ensures.byte (λ k y l. c.index_after-at.ensures.front k y l) (λ k y l j. c.index_after-at.ensures.behind k y l j)
+    c.key_of.ensures.byte (λ k y l. c.index_after-at.ensures.front k y l) (λ k y l j. c.index_after-at.ensures.after k y l j)
     c.self.invariant.0 c.self.invariant.1 in
     e ∙ ap (put (dataset_view x)) c.self.view_is
 

@@ -1,6 +1,6 @@
 use Rattle.std.proofs.Common.{◌<◌, ℕ, List, length, slice_get, ap, option_map, ◌∙◌, subst, sym}
 use Rattle.px_field.specs.Values.{Value}
-use Rattle.px_meaning.specs.Fits.{Item, Field}
+use Rattle.px_meaning.specs.Writable.{Item, Field}
 use Rattle.px_layout.proofs.plans.EntryLists.{clear_through}
 use Rattle.px_layout.proofs.entries.Entries.at.Goals as goal
 

@@ -1,6 +1,6 @@
 use Rattle.std.proofs.Common.{◌<◌, ℕ, List, length, slice_get, ap, option_map, ◌∙◌, subst, sym}
 use Rattle.px_field.specs.Values.{Value}
-use Rattle.px_meaning.specs.Fits.{Item, Field, field_items}
+use Rattle.px_meaning.specs.Writable.{Item, Field, field_items}
 use Rattle.px_layout.specs.declared.entries.Step.TheVariants.{Here, Under}
 use Rattle.px_layout.specs.calls.Layers.{under_third, entries_of}
 use Rattle.px_layout.proofs.plans.EntryLists.{both_twice, field_found}

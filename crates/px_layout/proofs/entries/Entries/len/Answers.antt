@@ -1,7 +1,7 @@
 use Rattle.std.proofs.Common.{◌≡◌, ℕ, List, length, ap, arith}
 use Rattle.std.proofs.lemmas.List.{length-map}
 use Rattle.px_field.specs.Values.{Value}
-use Rattle.px_meaning.specs.Fits.{Item, Field, field_items}
+use Rattle.px_meaning.specs.Writable.{Item, Field, field_items}
 use Rattle.px_layout.specs.calls.Layers.{under_second, under_third, under_fourth}
 use Rattle.px_layout.proofs.entries.Entries.len.Goals as goal
 

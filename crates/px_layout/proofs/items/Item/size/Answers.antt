@@ -1,6 +1,6 @@
 use Rattle.std.proofs.Common.{◌*◌, ap, ap₂, ◌∙◌}
 use Rattle.px_field.specs.Forms.{size}
-use Rattle.px_meaning.specs.Fits.{item_size}
+use Rattle.px_meaning.specs.Writable.{item_size}
 use Rattle.px_layout.proofs.items.Item.size.Goals as goal
 
 pub returns-in-Field : goal.returns-in-Field

@@ -16,7 +16,7 @@ index-requires-2 c =
     let mapped = length-map list.items (λ x. x.now) in
     let items = list.ok.0 in
     let count = c.count-count.ensures.count in
-    let behind = c.if-i-count.false in
+    let after = c.if-i-count.false in
     omega arith
 
 pub returns-then-i-count : goal.returns-then-i-count
@@ -33,7 +33,7 @@ returns c =
     let all = strips_length c.self.inside.named c.in-Some.lists c.in-Some.is c.self.invariant pushed in
     let mapped = length-map list.items (λ x. x.now) in
     let count = c.count-count.ensures.count in
-    let behind = c.if-i-count.false in
+    let after = c.if-i-count.false in
     let k = c.args.i - c.count-count.result in
     let inside : k < length list.items = omega arith in
     rw (← c.self.view_is) (

@@ -1,10 +1,10 @@
 use Rattle.std.proofs.Common.{ℕ, List, ◌++◌, sym, ap, ap₂, ◌∙◌}
 use Rattle.std.specs.Prelude.{flat_map}
-use Rattle.px_jpeg.specs.Blocks.{Block}
+use Rattle.px_jpeg.specs.Blocks.{JoinedBlock}
 use Rattle.px_pictures.specs.calls.Runs.{records, records_in}
 use Rattle.px_pictures.proofs.blocks.IptcBlocksIterator.next.Goals as goal
 
-abbrev joined : List (List ℕ) → List Block → List (List ℕ)
+abbrev joined : List (List ℕ) → List JoinedBlock → List (List ℕ)
 joined xs ks = xs ++ flat_map records_in ks
 
 pub returns-in_default-next_run-clause-steps : goal.returns-in_default-next_run-clause-steps

@@ -1,6 +1,6 @@
 use Rattle.std.proofs.Common.{ℕ, List, ◌++◌, ap, ap₂, ◌∙◌}
 use Rattle.std.specs.Prelude.{flat_map}
-use Rattle.px_jpeg.specs.Blocks.{Block, blocks}
+use Rattle.px_jpeg.specs.Blocks.{JoinedBlock, blocks}
 use Rattle.px_jpeg.specs.Head.{Picture}
 use Rattle.px_pictures.specs.Metadata.{blocks_of}
 use Rattle.px_pictures.specs.calls.Runs.{records, records_in}
@@ -15,7 +15,7 @@ runs_of-requires-clause-inside c =
 
 pub returns : goal.returns
 returns c =
-    ap₂ (λ (xs : List (List ℕ)) (ks : List Block). xs ++ flat_map records_in ks)
+    ap₂ (λ (xs : List (List ℕ)) (ks : List JoinedBlock). xs ++ flat_map records_in ks)
     (ap (records c.split_at.result.0.now) c.find_resources.ensures.computed ∙ no_records c.split_at.result.0.now c.split_at.ensures.front)
     c.runs_of.ensures
     ∙ records_all (blocks c.self.inside.front.octets c.self.inside.front.parts)

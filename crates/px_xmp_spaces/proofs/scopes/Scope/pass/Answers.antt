@@ -1,4 +1,4 @@
-use Rattle.std.proofs.Common.{Ok, sym, ap, subst, ◌∙◌}
+use Rattle.std.proofs.Common.{Ok, option_map, sym, ap, subst, ◌∙◌}
 use Rattle.px_xmp_marks.specs.Reading.{start_tag_view}
 use Rattle.px_xmp_spaces.specs.Pieces.{Piece}
 use Rattle.px_xmp_spaces.specs.Tags.{passed}
@@ -10,12 +10,12 @@ pub returns-in-Some : goal.returns-in-Some
 returns-in-Some c p m rest i w =
     let (attributes, listed, same) =
     start_is c.marks_are_read.ensures c.start_tags_are_read.ensures c.only_start_tags_are_read.ensures c.args.octets.now
-    (start_tag_view c.in-Some.tag) (sym c.in-Some.ensures.value) p m rest i w in
+    (start_tag_view c.in-Some.tag) (sym c.requires ∙ ap (option_map start_tag_view) c.in-Some.is) p m rest i w in
     subst (λ (q : Piece). Gives c.pass_start.result c.pass_start.new.self (passed q c.args.self.now)) (sym same)
     (c.pass_start.ensures attributes listed)
 
 pub returns : goal.returns
 returns c p m rest i w =
     other_is c.marks_are_read.ensures c.start_tags_are_read.ensures c.end_tags_are_read.ensures c.only_end_tags_are_read.ensures
-    c.args.octets.now (sym c.in_default.ensures.value) c.args.self.now p m rest i w
+    c.args.octets.now (sym c.requires ∙ ap (option_map start_tag_view) c.in_default.is) c.args.self.now p m rest i w
     ∙ ap Ok (sym c.pass_other.ensures)

@@ -1,5 +1,0 @@
-use Rattle.px_bytes.proofs.ranges.ClaimedOnce.{no_ranges}
-use Rattle.px_bytes.proofs.held.Ranges.new_in.Goals as goal
-
-pub invariant_of-result : goal.invariant_of-result
-invariant_of-result c = no_ranges _ _ c.new.ensures c.list.ensures.items

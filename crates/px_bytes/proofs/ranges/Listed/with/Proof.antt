@@ -1,0 +1,45 @@
+-- `with` makes the empty struct, with the list of its clause: no code computes that list. Assumes `Logic`.
+use Rattle.std.proofs.Common.{[], ◌∷◌, refl, w32}
+use Rattle.std.proofs.raw_atomic.Walks.{proved}
+use mir.Syntax.{named}
+use mir.Val.{vstruct, vnil}
+use types.Kit.{‵, raw, ◌⊛◌, ◌$◌, ◌∵◌, !, qed, move, keep, split, join, suffices, done}
+use types.Run.{enter, returns, no_more}
+use types.Part.{agg}
+use types.ByLocal.{alloc_all, pass_all, free_all, look_at, sets}
+use denote.RattleType.{owns}
+use denote.Builtin.{RefOf, u32}
+use denote.Exit.{yes}
+use denote.Plain.{uint_vals, uint_Tells}
+use denote.Ref.{shr_vals, shr_Tells}
+use denote.Shadow.{pure_i}
+use denote.Signature.{plain, types_at}
+use denote.Steps.{nothing}
+use denote.Triple.Entry.{alive}
+use denote.Triple.Walked.{Stays, walk_of, says, stay_dropped, Goes-dropped, ends_at}
+use Rattle.px_bytes.specs.contracts.ranges.Listed as listed
+use Rattle.px_bytes.specs.contracts.ranges.Listed.with as f
+use Rattle.px_bytes.proofs.ranges.Listed.with.Statement.{statement}
+use Rattle.px_bytes.proofs.ranges.Listed.with.Code as code
+
+abbrev stayed : Stays f.ended.signature.params f.ended.kept
+stayed = (stay_dropped _ yes, (stay_dropped _ yes, (stay_dropped _ yes, tt)))
+
+pub with_spec : {M : Type 1} → statement M
+with_spec 𝓤 𝓛 𝓜 𝓡 wired =
+    let c = f.clauses 𝓛 𝓜.mem 𝓡.returns in
+    let W = walk_of 𝓛 f.ended stayed c in
+    let number = Goes-dropped 𝓛 1 (plain (λ _. u32)) yes (λ κs x w. refl) in
+    proved 𝓛 f.ended stayed c 𝓜 𝓡
+    (Goes-dropped 𝓛 1 (RefOf (0 ∷ []) tt (plain (λ _. listed.the_row)) (λ _. tt)) yes (λ κs x w. refl), (number, (number, tt)))
+    f.Key.name code.function (code.unfolded 𝓤 𝓛.H 𝓜 𝓡 wired) (λ κs. (shr_vals, (uint_vals w32, (uint_vals w32, tt))))
+    (λ κs. (shr_Tells (named 0) κs.0 listed.the_row, (uint_Tells w32, (uint_Tells w32, tt)))) (λ κs qs bounds a _ are.
+    let y : W.Ghost = ((κs, qs, bounds, a, (shr_vals a.0, (uint_vals w32 a.1.0, (uint_vals w32 a.1.1.0, tt)))), tt) in
+    let made : (listed.the_row).Denot = record { ranges = (a.1.0, a.1.1.0) ∷ a.0.now.ranges } in
+    qed 𝓛 ((raw (alive 𝓛 f.signature κs qs) ⊛ ‵ (owns (types_at f.signature.params κs) a y.0.4)) ∷ raw ((c κs a).requires tt) ∷ []) ∵
+    keep ! (0 ∷ []) $ split ! $ keep ! (0 ∷ []) $ enter ! _ _ _ _ _ $
+    alloc_all ! (λ l. pass_all ! refl ((tt, tt), ((tt, record { fits = are.1.0.1 }), ((tt, record { fits = are.1.1.0.1 }), tt))) $
+    sets ! (agg ! (no_more !)) refl (tt, tt) $ returns ! (look_at ! 0 refl) $ free_all ! refl $
+    suffices ! _ (ends_at 𝓛 f.ended stayed c y (vstruct vnil) made (tt, (tt, (tt, tt))) (tt, (tt, (tt, tt)))) $ says ! refl $
+    pure_i ! (listed.the_row.own_val made (vstruct vnil ∷ [])) ((λ vss. (tt, tt)), tt) ((tt, (refl, tt)), tt) $
+    nothing ! $ nothing ! $ join ! $ nothing ! $ join ! $ nothing ! $ join ! $ move ! (2 ∷ 0 ∷ 1 ∷ []) $ done !))

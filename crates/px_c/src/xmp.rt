@@ -1,0 +1,102 @@
+// XMP packets. The calls are over memory: each returns `NO_MEMORY` exactly if an allocation failed in that call.
+ghost use Rattle.std.specs.Prelude.{◌≡◌, ◌≢◌, ◌⊎◌, ◌≤◌, ◌+◌};
+ghost use Rattle.px_bytes.specs.Parts.{limit};
+ghost use Rattle.px_engine.specs.declared.normal.Given.TheVariants.{Whole, Needs};
+ghost use Rattle.px_c.specs.Numbers as status;
+ghost use Rattle.px_c.specs.Xmp.{xmp_cause, PutsXmp, RefusesXmp, LeavesXmp};
+
+use crate::faults::ExifnormFault;
+use crate::giving::give;
+use crate::statuses::{DONE, NO_MEMORY, RARE, REFUSED};
+use px_bytes::Memory;
+use px_xmp::{Cause, LIMIT, Refusal};
+
+// A cause as a number. Those of packets that are left to another reader follow 250.
+fn xmp_cause(cause: Cause) -> u32
+    ensures { result ≡ xmp_cause cause }
+{
+    match cause {
+        Cause::TooLong => 201,
+        Cause::BadCharacter => 202,
+        Cause::BadMarkup => 203,
+        Cause::BadReference => 204,
+        Cause::DocumentType => 205,
+        Cause::OtherEnd => 206,
+        Cause::AttributeTwice => 207,
+        Cause::BadPrefix => 208,
+        Cause::NoRoot => 209,
+        Cause::TooDeep => 210,
+        Cause::NoRdf => 211,
+        Cause::SeveralSubjects => 212,
+        Cause::RareEncoding => 251,
+        Cause::RareName => 252,
+        Cause::RareNamespace => 253,
+        Cause::RareCount => 254,
+        Cause::RareElement => 255,
+        Cause::RareAttribute => 256,
+        Cause::RareText => 257,
+        Cause::RareLanguage => 258,
+        Cause::RareResource => 259,
+        Cause::RareRepeated => 260,
+        Cause::RareLength => 261,
+    }
+}
+
+// Stores a refusal. Returns its status.
+fn refuse(cause: Cause, place: usize, fault: &mut ExifnormFault) -> u32
+    ensures known { (result ≡ status.refused) ⊎ (result ≡ status.rare) }
+    ensures refused { result ≡ status.refused → RefusesXmp fault.new }
+    ensures rare { result ≡ status.rare → LeavesXmp fault.new }
+{
+    *fault = ExifnormFault {
+        cause: xmp_cause(cause),
+        place: place.min(LIMIT) as u32,
+    };
+    if cause.is_rare() {
+        return RARE;
+    }
+    REFUSED
+}
+
+// Whether a packet has a normal form.
+pub(crate) fn xmp_check_in(memory: &mut Memory, packet: &[u8], fault: &mut ExifnormFault) -> u32
+    ensures known { (result ≡ status.done) ⊎ (result ≡ status.refused) ⊎ (result ≡ status.rare) ⊎ (result ≡ status.no_memory) }
+    ensures refused { result ≡ status.refused → RefusesXmp fault.new }
+    ensures rare { result ≡ status.rare → LeavesXmp fault.new }
+    ensures fault { result ≢ status.refused → result ≢ status.rare → fault.new ≡ fault.old }
+    ensures lacking { result ≡ status.no_memory → memory.new.failed_allocations ≡ memory.old.failed_allocations + 1 }
+    ensures memory { result ≢ status.no_memory → memory.new.failed_allocations ≡ memory.old.failed_allocations }
+{
+    match px_xmp::check_in(memory, packet) {
+        Ok(_) => DONE,
+        Err(Refusal::Content { cause, place }) => refuse(cause, place, fault),
+        Err(Refusal::OutOfMemory) => NO_MEMORY,
+    }
+}
+
+// Writes the normal form of a packet to the start of `out`.
+pub(crate) fn xmp_normalise_in(
+    memory: &mut Memory,
+    packet: &[u8],
+    out: &mut [u8],
+    written: &mut usize,
+    fault: &mut ExifnormFault,
+) -> u32
+    ensures known { (result ≡ status.done) ⊎ (result ≡ status.refused) ⊎ (result ≡ status.rare) ⊎ (result ≡ status.no_memory)
+        ⊎ (result ≡ status.too_little_room) }
+    ensures done { result ≡ status.done → PutsXmp (Whole written.new) out.old out.new }
+    ensures refused { result ≡ status.refused → RefusesXmp fault.new }
+    ensures rare { result ≡ status.rare → LeavesXmp fault.new }
+    ensures short { result ≡ status.too_little_room → PutsXmp (Needs written.new) out.old out.new }
+    ensures out { result ≢ status.done → out.new ≡ out.old }
+    ensures written { result ≢ status.done → result ≢ status.too_little_room → written.new ≡ written.old }
+    ensures fault { result ≢ status.refused → result ≢ status.rare → fault.new ≡ fault.old }
+    ensures lacking { result ≡ status.no_memory → memory.new.failed_allocations ≡ memory.old.failed_allocations + 1 }
+    ensures memory { result ≢ status.no_memory → memory.new.failed_allocations ≡ memory.old.failed_allocations }
+{
+    match px_xmp::normal_form_in(memory, packet) {
+        Ok(form) => give(form.as_slice(), out, written),
+        Err(Refusal::Content { cause, place }) => refuse(cause, place, fault),
+        Err(Refusal::OutOfMemory) => NO_MEMORY,
+    }
+}

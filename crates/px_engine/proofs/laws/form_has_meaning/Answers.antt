@@ -1,0 +1,5 @@
+use Rattle.px_engine.specs.lemmas.FileLaws as file
+use Rattle.px_engine.proofs.laws.form_has_meaning.Goals as goal
+
+pub returns : goal.returns
+returns c = file.form_has_meaning

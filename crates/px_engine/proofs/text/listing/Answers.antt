@@ -1,0 +1,9 @@
+use Rattle.std.proofs.Common.{arith}
+use Rattle.px_engine.proofs.Asked.{text_asks}
+use Rattle.px_engine.proofs.text.listing.Goals as goal
+
+pub returns-clause-asked : goal.returns-clause-asked
+returns-clause-asked c =
+    let sent = c.send_listing.ensures.text in
+    let most = text_asks c.send_listing.result c.new-writer.result c.send_listing.new.writer _ c.new-writer.ensures sent.0 sent.1 in
+    omega (arith, most, c.finish_in.ensures.asked)

@@ -1,6 +1,0 @@
-use Rattle.std.proofs.Common.{sym}
-use Rattle.px_jpeg.proofs.PieceLaws.{other_marker}
-use Rattle.px_jpeg.proofs.pieces.kind_of.Goals as goal
-
-pub returns-clause-value : goal.returns-clause-value
-returns-clause-value c = sym (other_marker c.args.code c.args.octets.now c.if-code-eq-APP1.false c.if-code-eq-APP13.false)

@@ -1,0 +1,310 @@
+// A packet: its document, and what is around it.
+ghost use Rattle.std.specs.Prelude.{◌≡◌, ◌≤◌, length, take, drop, true, IfOk, OnOk};
+ghost use Rattle.px_bytes.specs.Parts.{limit};
+ghost use Rattle.px_xmp_marks.specs.Declarations.{every};
+ghost use Rattle.px_xmp_document.specs.Document.{IsFile};
+ghost use Rattle.px_xmp_forms.specs.Forms.{IsNormal};
+ghost use Rattle.px_xmp_forms.specs.Allocations.{CountsAllocFailureInPacket};
+ghost use Rattle.px_xmp.specs.Packet.{is_padding, is_around, IsPacket};
+
+use crate::causes::cause_of;
+use crate::marks::read_mark;
+use crate::reader::Reader;
+use px_bytes::Memory;
+use px_xmp_document::first_fault;
+use px_xmp_forms::{Cause, LIMIT, Refusal};
+use px_xmp_marks::{StartTag, next_attribute, read_declaration};
+
+// No tag has more attributes.
+const ATTRIBUTE_LIMIT: usize = 256;
+
+// Whether an octet is padding.
+fn is_padding(octet: u8) -> bool
+    ensures { result ≡ is_padding octet }
+{
+    octet == 0 || octet == b' ' || octet == b'\t' || octet == b'\n' || octet == b'\r'
+}
+
+// Whether an octet is padding, or one of a byte order mark.
+fn is_around(octet: u8) -> bool
+    ensures { result ≡ is_around octet }
+{
+    is_padding(octet) || octet == 0xEF || octet == 0xBB || octet == 0xBF
+}
+
+// Whether each octet is padding.
+fn are_padding(octets: &[u8]) -> bool
+    ensures { result ≡ every is_padding octets.now }
+{
+    for octet in octets {
+        if !is_padding(*octet) {
+            return false;
+        }
+    }
+    true
+}
+
+// Whether each octet is padding, or one of a byte order mark.
+fn are_around(octets: &[u8]) -> bool
+    ensures { result ≡ every is_around octets.now }
+{
+    for octet in octets {
+        if !is_around(*octet) {
+            return false;
+        }
+    }
+    true
+}
+
+// The octets after the byte order marks at the start.
+fn after_order_marks(packet: &[u8]) -> &[u8] {
+    let mut rest = packet;
+    while rest.starts_with(b"\xEF\xBB\xBF") {
+        rest = rest.split_at(3).1;
+    }
+    rest
+}
+
+// The number of octets of padding at the start.
+fn padding_len(octets: &[u8]) -> usize {
+    for (n, octet) in octets.iter().enumerate() {
+        if !is_padding(*octet) {
+            return n;
+        }
+    }
+    octets.len()
+}
+
+// The number of octets up to the last one that is no padding.
+fn last_len(octets: &[u8]) -> usize {
+    let mut len = octets.len();
+    while len > 0 {
+        if !is_padding(octets[len - 1]) {
+            return len;
+        }
+        len -= 1;
+    }
+    0
+}
+
+// The number of octets at the start that are byte order marks and padding.
+fn around_len(packet: &[u8]) -> usize
+    ensures within { result ≤ length packet.now }
+    ensures around { every is_around (take result packet.now) ≡ true }
+{
+    let rest = after_order_marks(packet);
+    let left = rest.len().saturating_sub(padding_len(rest));
+    let len = packet.len().saturating_sub(left);
+    if are_around(packet.split_at(len).0) {
+        return len;
+    }
+    0
+}
+
+// The number of octets before the padding at the end.
+fn unpadded_len(octets: &[u8]) -> usize
+    ensures within { result ≤ length octets.now }
+    ensures padding { every is_padding (drop result octets.now) ≡ true }
+{
+    let len = last_len(octets).min(octets.len());
+    if are_padding(octets.split_at(len).1) {
+        return len;
+    }
+    octets.len()
+}
+
+// Whether a packet begins as UTF-16 or UTF-32 does.
+fn is_wide(packet: &[u8]) -> bool {
+    packet.starts_with(b"\xFF\xFE")
+        || packet.starts_with(b"\xFE\xFF")
+        || packet.starts_with(b"\x00\x00\xFE\xFF")
+        || packet.starts_with(b"<\x00")
+        || packet.starts_with(b"\x00<")
+        || packet.starts_with(b"\x00\x00\x00<")
+}
+
+// Reads the marks of a document without a declaration, which begins at an offset of the packet.
+fn read_marks<'a>(
+    memory: &mut Memory,
+    reader: &mut Reader<'a>,
+    octets: &'a [u8],
+    start: usize,
+) -> Result<(), Refusal>
+    ensures memory { CountsAllocFailureInPacket result memory.old memory.new }
+{
+    let mut at = 0;
+    while at < octets.len() {
+        let place = start.saturating_add(at);
+        let Some(mark) = read_mark(octets.split_at(at).1) else {
+            return Err(Cause::BadMarkup.at(place));
+        };
+        reader.read(memory, mark.kind, place)?;
+        at += mark.size;
+    }
+    Ok(())
+}
+
+// Reads a document that begins at an offset of the packet.
+fn read_document<'a>(
+    memory: &mut Memory,
+    reader: &mut Reader<'a>,
+    document: &'a [u8],
+    start: usize,
+) -> Result<(), Refusal>
+    ensures memory { CountsAllocFailureInPacket result memory.old memory.new }
+{
+    let size = declaration_len(document);
+    read_marks(
+        memory,
+        reader,
+        document.split_at(size).1,
+        start.saturating_add(size),
+    )
+}
+
+// The length of the XML declaration at the start.
+fn declaration_len(document: &[u8]) -> usize
+    ensures { result ≤ length document.now }
+{
+    match read_declaration(document) {
+        Some(declaration) => declaration.size,
+        None => 0,
+    }
+}
+
+// An attribute has five octets or more, with the space before it. So a tag with more of them than this reader judges covers such
+// windows, one after another from the start, and outside of those it has no room for all of its equals signs.
+const WINDOW: usize = 640;
+
+// Whether a window has an equals sign and no `<`.
+fn has_long_run(octets: &[u8]) -> bool {
+    let mut rest = octets;
+    while rest.len() >= WINDOW {
+        let (window, more) = rest.split_at(WINDOW);
+        if !window.contains(&b'<') && window.contains(&b'=') {
+            return true;
+        }
+        rest = more;
+    }
+    false
+}
+
+// Whether a tag can have more attributes than this reader judges. Each has an equals sign, and a tag has no second `<`.
+fn can_be_crowded(octets: &[u8]) -> bool {
+    if !has_long_run(octets) {
+        return false;
+    }
+    let mut left = ATTRIBUTE_LIMIT;
+    for octet in octets {
+        if *octet == b'<' {
+            left = ATTRIBUTE_LIMIT;
+        }
+        if *octet == b'=' {
+            if left == 0 {
+                return true;
+            }
+            left -= 1;
+        }
+    }
+    false
+}
+
+// Whether a tag has more attributes than this reader judges.
+fn has_many(tag: Option<StartTag>) -> bool {
+    let Some(tag) = tag else {
+        return false;
+    };
+    let mut left = ATTRIBUTE_LIMIT;
+    let mut rest = tag.rest;
+    while let Some(next) = next_attribute(rest) {
+        if left == 0 {
+            return true;
+        }
+        left -= 1;
+        rest = next.rest;
+    }
+    false
+}
+
+// The offset of the first tag with so many attributes, of the marks up to the first place where none is.
+fn first_crowded(octets: &[u8]) -> Option<usize> {
+    if !can_be_crowded(octets) {
+        return None;
+    }
+    let mut at = 0;
+    while at < octets.len() {
+        let Some(mark) = px_xmp_marks::read_mark(octets.split_at(at).1) else {
+            return None;
+        };
+        if has_many(mark.tag) {
+            return Some(at);
+        }
+        at += mark.size;
+    }
+    None
+}
+
+// The length of the byte order mark and the declaration at the start.
+fn head_len(document: &[u8]) -> usize
+    ensures { result ≤ length document.now }
+{
+    let mark = if document.starts_with(b"\xEF\xBB\xBF") {
+        3
+    } else {
+        0
+    };
+    let mark = mark.min(document.len());
+    mark + declaration_len(document.split_at(mark).1)
+}
+
+// The normal form of a document that begins at an offset of the packet.
+fn document_form(memory: &mut Memory, document: &[u8], start: usize) -> Result<Vec<u8>, Refusal>
+    ensures document { OnOk result (IsFile document.now) }
+    ensures memory { CountsAllocFailureInPacket result memory.old memory.new }
+    ensures normal { IfOk result (λ form. IsNormal form.items) }
+    ensures bound { IfOk result (λ form. length form.items ≤ limit) }
+{
+    let head = head_len(document);
+    if let Some(at) = first_crowded(document.split_at(head).1) {
+        return Err(Cause::RareCount.at(start.saturating_add(head).saturating_add(at)));
+    }
+    if let Some(fault) = first_fault(document) {
+        return Err(cause_of(document, fault).at(start.saturating_add(fault.offset)));
+    }
+    let mut reader = Reader::new(memory);
+    read_document(memory, &mut reader, document, start)?;
+    if let Some(place) = reader.other_subject() {
+        return Err(Cause::SeveralSubjects.at(place));
+    }
+    reader.output.whole(memory)
+}
+
+/// The normal form of a packet.
+///
+/// `Content`: the first fault, of the length, the document or RDF. If `Cause::is_rare`, the packet may have a meaning, which
+/// this crate does not read. `OutOfMemory`, exactly if an allocation failed in this call.
+pub fn normal_form_in(memory: &mut Memory, packet: &[u8]) -> Result<Vec<u8>, Refusal>
+    ensures packet { OnOk result (IsPacket packet.now) }
+    ensures memory { CountsAllocFailureInPacket result memory.old memory.new }
+    ensures normal { IfOk result (λ form. IsNormal form.items) }
+    ensures bound { IfOk result (λ form. length form.items ≤ limit) }
+{
+    if packet.len() > LIMIT {
+        return Err(Cause::TooLong.at(LIMIT));
+    }
+    if is_wide(packet) {
+        return Err(Cause::RareEncoding.at(0));
+    }
+    let (before, rest) = packet.split_at(around_len(packet));
+    let document = rest.split_at(unpadded_len(rest)).0;
+    document_form(memory, document, before.len())
+}
+
+/// Judges a packet as `normal_form_in` does, with the same errors.
+pub fn check_in(memory: &mut Memory, packet: &[u8]) -> Result<(), Refusal>
+    ensures packet { OnOk result (IsPacket packet.now) }
+    ensures memory { CountsAllocFailureInPacket result memory.old memory.new }
+{
+    normal_form_in(memory, packet)?;
+    Ok(())
+}

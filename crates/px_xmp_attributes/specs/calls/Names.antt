@@ -1,0 +1,16 @@
+-- Names that are there twice, as a test of stored names.
+use Rattle.std.specs.Prelude.{◌==◌, ◌&&◌, ◌||◌, Bool, false, nat_eq, List, [], ◌∷◌}
+use Rattle.std.specs.Cmp.Lexicographic.{pointwise}
+use Rattle.px_xmp_marks.specs.Reading.{Named}
+
+abbrev pub are_same : Named → Named → Bool
+are_same n m = (n.size == m.size) && pointwise nat_eq n.local m.local && pointwise nat_eq n.prefix m.prefix
+
+-- one of these names is n
+abbrev pub is_among : Named → List Named → Bool
+is_among n [] = false
+is_among n (m ∷ more) = are_same n m || is_among n more
+
+abbrev pub has_twice : List Named → Bool
+has_twice [] = false
+has_twice (n ∷ more) = is_among n more || has_twice more

@@ -1,0 +1,4 @@
+pub mod Causes
+pub mod Labels
+pub mod Allocations
+pub mod Forms

@@ -1,0 +1,99 @@
+// Octets and texts, appended to a form.
+ghost use Rattle.std.specs.Prelude.{◌≡◌, ◌++◌, List, ℕ, Some, OnOk};
+ghost use Rattle.px_xmp_text.specs.Texts.{text_of, normal_text};
+ghost use Rattle.px_xmp_forms.specs.Allocations.{CountsAllocFailureInPacket};
+
+use crate::faults::{Cause, Refusal};
+use px_bytes::Memory;
+use px_xmp_text::{TextKind, append_normal_in, first_fault};
+
+/// The most octets of a packet, and of a normal form.
+pub const LIMIT: usize = 16777216;
+
+// The most octets of a form that is not finished. White space between elements is among them, until the next element.
+const MOST: usize = 33554432;
+
+// Whether so many octets may be followed by so many more.
+fn has_space(len: usize, more: usize) -> bool {
+    len <= MOST && more <= MOST - len
+}
+
+// Makes space for so many octets more, which then are appended without growing again.
+pub(crate) fn reserve(memory: &mut Memory, out: &mut Vec<u8>, more: usize) -> Result<(), Refusal>
+    ensures items { OnOk result (out.new.items ≡ out.old.items) }
+    ensures memory { CountsAllocFailureInPacket result memory.old memory.new }
+{
+    memory.reserve(out, more.min(MOST))?;
+    Ok(())
+}
+
+/// Appends octets. `Content`: the form is too long.
+pub fn append(memory: &mut Memory, out: &mut Vec<u8>, octets: &[u8]) -> Result<(), Refusal>
+    ensures items { OnOk result (out.new.items ≡ out.old.items ++ octets.now) }
+    ensures memory { CountsAllocFailureInPacket result memory.old memory.new }
+{
+    if !has_space(out.len(), octets.len()) {
+        return Err(Cause::RareLength.at(LIMIT));
+    }
+    memory.extend_from_slice(out, octets)?;
+    Ok(())
+}
+
+/// Appends the normal form of the text of octets. `Content`: they have none, or the form is too long.
+pub fn append_text(
+    memory: &mut Memory,
+    out: &mut Vec<u8>,
+    octets: &[u8],
+    kind: TextKind,
+) -> Result<(), Refusal>
+    ensures items { OnOk result ((t : List ℕ) × (text_of kind octets.now ≡ Some t) × (out.new.items ≡ out.old.items ++ normal_text t)) }
+    ensures memory { CountsAllocFailureInPacket result memory.old memory.new }
+{
+    px_xmp_text::laws::fault_or_text();
+    if octets.len() > LIMIT {
+        return Err(Cause::TooLong.at(LIMIT));
+    }
+    if first_fault(octets, kind).is_some() {
+        return Err(Cause::BadReference.at(0));
+    }
+    append_normal_in(memory, out, octets, kind)?;
+    if out.len() > MOST {
+        return Err(Cause::RareLength.at(LIMIT));
+    }
+    Ok(())
+}
+
+/// Whether two values of attributes have the same text.
+pub fn same_text(memory: &mut Memory, a: &[u8], b: &[u8]) -> Result<bool, Refusal>
+    ensures memory { CountsAllocFailureInPacket result memory.old memory.new }
+{
+    if a == b {
+        return Ok(true);
+    }
+    let mut first = memory.list();
+    append_text(memory, &mut first, a, TextKind::AttributeValue)?;
+    let mut second = memory.list();
+    append_text(memory, &mut second, b, TextKind::AttributeValue)?;
+    Ok(first.as_slice() == second.as_slice())
+}
+
+// Whether an octet is white space.
+fn is_space(octet: u8) -> bool {
+    octet == b' ' || octet == b'\t' || octet == b'\n' || octet == b'\r'
+}
+
+/// Whether the normal form of a text is white space, or nothing.
+pub fn is_blank(form: &[u8]) -> bool {
+    let mut rest = form;
+    while !rest.is_empty() {
+        if is_space(rest[0]) {
+            rest = rest.split_at(1).1;
+        } else {
+            if !rest.starts_with(b"&#13;") {
+                return false;
+            }
+            rest = rest.split_at(5).1;
+        }
+    }
+    true
+}

@@ -1,0 +1,165 @@
+// The elements of the normal form: a property or a member with its value.
+ghost use Rattle.std.specs.Prelude.{◌≡◌, ◌≤◌, ◌++◌, ℕ, List, length, OnOk};
+ghost use Rattle.px_xmp_text.specs.Values.{IsLabel, Without};
+ghost use Rattle.px_xmp_forms.specs.Forms.{language_octets};
+ghost use Rattle.px_xmp_forms.specs.Labels.{label_view};
+ghost use Rattle.px_xmp_forms.specs.Allocations.{CountsAllocFailureInPacket};
+
+use crate::appending::{LIMIT, append, reserve};
+use crate::faults::{Cause, Refusal};
+use crate::labels::{
+    Container, Content, Label, append_label, append_label_end, append_start, append_stop, has,
+    is_label, label_size,
+};
+use crate::pieces::{Piece, TextForm};
+use px_bytes::Memory;
+
+// An element, and the number of its octets that have its name.
+#[derive(Drop)]
+pub(crate) struct Element {
+    pub(crate) piece: Piece,
+    pub(crate) label_len: usize,
+}
+
+// No attribute for a language has more octets besides the language, with the end of the start tag, and no attribute for a
+// resource besides the URI, and what is around members or properties is no longer.
+const MARKUP: usize = 26;
+
+// The space for the element of a label and so many octets.
+fn element_size(label: Label, more: usize) -> usize {
+    label_size(label)
+        .saturating_add(MARKUP)
+        .saturating_add(more)
+}
+
+// A language in lower case.
+fn lower(memory: &mut Memory, language: &[u8]) -> Result<Vec<u8>, Refusal>
+    ensures memory { CountsAllocFailureInPacket result memory.old memory.new }
+{
+    let mut octets = memory.list();
+    reserve(memory, &mut octets, language.len())?;
+    for octet in language {
+        memory.push(&mut octets, octet.to_ascii_lowercase())?;
+    }
+    Ok(octets)
+}
+
+// Appends the attribute for a language, and the end of the start tag.
+fn append_attribute(memory: &mut Memory, out: &mut Vec<u8>, language: &[u8]) -> Result<(), Refusal>
+    requires { 1 ≤ length language.now }
+    ensures items { OnOk result (out.new.items ≡ out.old.items ++ language_octets language.now) }
+    ensures memory { CountsAllocFailureInPacket result memory.old memory.new }
+{
+    append(memory, out, b" xml:lang=\"")?;
+    append(memory, out, language)?;
+    append(memory, out, b"\">")
+}
+
+// Appends the attribute for a language in lower case, if there is one, and the end of the start tag.
+fn append_language(memory: &mut Memory, out: &mut Vec<u8>, language: &[u8]) -> Result<(), Refusal>
+    ensures items { OnOk result ((y : List ℕ) × Without 34 y × (out.new.items ≡ out.old.items ++ language_octets y)) }
+    ensures memory { CountsAllocFailureInPacket result memory.old memory.new }
+{
+    let octets = lower(memory, language)?;
+    let language = octets.as_slice();
+    if language.len() == 0 {
+        return append(memory, out, b">");
+    }
+    if has(language, b'"') {
+        return Err(Cause::RareLanguage.at(LIMIT));
+    }
+    append_attribute(memory, out, language)
+}
+
+// The element of a text.
+fn literal_element(
+    memory: &mut Memory,
+    label: Label,
+    language: &[u8],
+    text: &TextForm,
+) -> Result<Element, Refusal>
+    requires { IsLabel (label_view label) }
+    ensures memory { CountsAllocFailureInPacket result memory.old memory.new }
+{
+    let mut octets = memory.list();
+    let content = text.octets();
+    let size = element_size(label, language.len().saturating_add(content.len()));
+    reserve(memory, &mut octets, size)?;
+    append_label(memory, &mut octets, label)?;
+    let label_len = octets.len();
+    append_language(memory, &mut octets, language)?;
+    append(memory, &mut octets, content)?;
+    append_label_end(memory, &mut octets, label)?;
+    Ok(Element {
+        piece: Piece::of(octets),
+        label_len,
+    })
+}
+
+// The element of a resource.
+fn resource_element(memory: &mut Memory, label: Label, uri: &TextForm) -> Result<Element, Refusal>
+    requires { IsLabel (label_view label) }
+    ensures memory { CountsAllocFailureInPacket result memory.old memory.new }
+{
+    let uri = uri.octets();
+    if has(uri, b'"') {
+        return Err(Cause::RareResource.at(LIMIT));
+    }
+    let mut octets = memory.list();
+    reserve(memory, &mut octets, element_size(label, uri.len()))?;
+    append_label(memory, &mut octets, label)?;
+    let label_len = octets.len();
+    append(memory, &mut octets, b" rdf:resource=\"")?;
+    append(memory, &mut octets, uri)?;
+    append(memory, &mut octets, b"\"/>")?;
+    Ok(Element {
+        piece: Piece::of(octets),
+        label_len,
+    })
+}
+
+// The element of a container or, without one, of a structure.
+fn nested_element(
+    memory: &mut Memory,
+    label: Label,
+    container: Option<Container>,
+    inner: &Piece,
+) -> Result<Element, Refusal>
+    requires { IsLabel (label_view label) }
+    ensures memory { CountsAllocFailureInPacket result memory.old memory.new }
+{
+    let mut octets = memory.list();
+    let content = inner.octets();
+    reserve(memory, &mut octets, element_size(label, content.len()))?;
+    append_label(memory, &mut octets, label)?;
+    let label_len = octets.len();
+    append_start(memory, &mut octets, container)?;
+    append(memory, &mut octets, content)?;
+    append_stop(memory, &mut octets, container)?;
+    append_label_end(memory, &mut octets, label)?;
+    Ok(Element {
+        piece: Piece::of(octets),
+        label_len,
+    })
+}
+
+// The element of a value: its text or resource, or what is inside it. `Content`: it cannot be written.
+pub(crate) fn write_element(
+    memory: &mut Memory,
+    label: Label,
+    content: Content,
+    text: &TextForm,
+    inner: &Piece,
+) -> Result<Element, Refusal>
+    ensures memory { CountsAllocFailureInPacket result memory.old memory.new }
+{
+    if !is_label(label) {
+        return Err(Cause::RareNamespace.at(LIMIT));
+    }
+    match content {
+        Content::Text(language) => literal_element(memory, label, language, text),
+        Content::Resource => resource_element(memory, label, text),
+        Content::Structure => nested_element(memory, label, None, inner),
+        Content::Members(container) => nested_element(memory, label, Some(container), inner),
+    }
+}

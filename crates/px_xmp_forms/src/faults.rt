@@ -1,0 +1,111 @@
+// Why a packet is refused.
+ghost use Rattle.std.specs.Prelude.{◌≡◌};
+ghost use Rattle.px_xmp_forms.specs.Causes.{is_rare};
+ghost use Rattle.px_xmp_forms.specs.declared.faults.Refusal.TheVariants.{Content};
+
+use px_bytes::AllocFailed;
+
+/// The cause of a refusal. Each is reported with one byte offset, which counts from the packet's first byte.
+#[derive(Clone, Copy, Debug, PartialEq, Eq)]
+pub enum Cause {
+    /// The packet is longer than `LIMIT`. The offset is `LIMIT`.
+    TooLong,
+    /// No character that XML allows is here, in UTF-8.
+    BadCharacter,
+    /// A tag, a comment, a section or a processing instruction is none of XML's, or is cut.
+    BadMarkup,
+    /// A text or a tag has an `&` that begins no reference to a character or to one of XML's five entities.
+    BadReference,
+    /// There is a document type.
+    DocumentType,
+    /// An end tag has another name than its element.
+    OtherEnd,
+    /// A tag has an attribute twice.
+    AttributeTwice,
+    /// A prefix is not declared, or a declaration is not allowed.
+    BadPrefix,
+    /// There is text or a second element beside the root, or no root.
+    NoRoot,
+    /// An element is inside 100 others.
+    TooDeep,
+    /// The root is not `x:xmpmeta` around one `rdf:RDF`, nor `rdf:RDF`.
+    NoRdf,
+    /// The packet has properties of several subjects.
+    SeveralSubjects,
+    /// Rare: another encoding than UTF-8.
+    RareEncoding,
+    /// Rare: a name that is not of ASCII.
+    RareName,
+    /// Rare: a namespace that has odd characters, could be part of a name, or begins as one of XML's own.
+    RareNamespace,
+    /// Rare: more than 256 attributes of a tag, or too many prefixes in scope.
+    RareCount,
+    /// Rare: an element where the usual forms of RDF/XML have none.
+    RareElement,
+    /// Rare: an attribute that the usual forms do not have.
+    RareAttribute,
+    /// Rare: text between elements.
+    RareText,
+    /// Rare: a language that is none, or has more than 100 characters.
+    RareLanguage,
+    /// Rare: a resource that is no absolute URI of ASCII.
+    RareResource,
+    /// Rare: a property stands twice in one place.
+    RareRepeated,
+    /// Rare: the normal form would be longer than `LIMIT`. The offset is `LIMIT`.
+    RareLength,
+}
+
+impl Cause {
+    /// The refusal by this cause at a byte offset.
+    pub fn at(self, place: usize) -> Refusal
+        ensures { result ≡ Content self place }
+    {
+        Refusal::Content { cause: self, place }
+    }
+
+    /// Whether the packet may have a meaning that these crates do not read, so that another reader can be asked.
+    pub fn is_rare(self) -> bool
+        ensures { result ≡ is_rare self }
+    {
+        match self {
+            Cause::RareEncoding
+            | Cause::RareName
+            | Cause::RareNamespace
+            | Cause::RareCount
+            | Cause::RareElement
+            | Cause::RareAttribute
+            | Cause::RareText
+            | Cause::RareLanguage
+            | Cause::RareResource
+            | Cause::RareRepeated
+            | Cause::RareLength => true,
+            _ => false,
+        }
+    }
+}
+
+/// Why no normal form is made of a packet.
+#[derive(Clone, Copy, Debug, PartialEq, Eq)]
+pub enum Refusal {
+    /// The packet is wrong or rare: one cause, at one byte offset.
+    Content {
+        /// What is wrong.
+        cause: Cause,
+        /// The byte offset.
+        place: usize,
+    },
+    /// An allocation failed.
+    OutOfMemory,
+}
+
+impl From<AllocFailed> for Refusal {
+    ghost use Rattle.std.specs.Prelude.{◌≡◌};
+    ghost use Rattle.px_xmp_forms.specs.declared.faults.Refusal.TheVariants.{OutOfMemory};
+
+    ghost from_gives = { λ _ e. e ≡ OutOfMemory };
+
+    fn from(_: AllocFailed) -> Refusal {
+        Refusal::OutOfMemory
+    }
+}

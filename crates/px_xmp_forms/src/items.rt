@@ -1,0 +1,125 @@
+// Properties and members, and their order.
+ghost use Rattle.std.specs.Prelude.{◌≡◌, Some, refl, bytes_eq};
+ghost use Rattle.std.specs.Cmp.Lexicographic.{slice_cmp, nat_list_eq_equiv, nat_list_cmp_total, texts_ties, texts_po};
+ghost use Rattle.std.specs.Cmp.{on_equiv, on_total, on_po, on_per, partial_equiv_from_equiv};
+ghost use Rattle.std.specs.List.Sorted.{IsPermutation, IsSorted};
+ghost use Rattle.std.specs.Ordering.{nat_cmp};
+ghost use Rattle.px_xmp_forms.specs.Allocations.{CountsAllocFailureInPacket};
+
+use crate::appending::{append, reserve};
+use crate::elements::Element;
+use crate::faults::Refusal;
+use crate::pieces::Piece;
+use px_bytes::Memory;
+use std::cmp::Ordering;
+use std::collections::BinaryHeap;
+
+// A property or a member.
+#[derive(Drop)]
+pub(crate) struct Item {
+    pub(crate) element: Element,
+    // The offset of its tag in the packet.
+    pub(crate) place: usize,
+}
+
+impl Item {
+    fn octets(&self) -> &[u8]
+        ensures { result.now ≡ self.now.element.piece }
+    {
+        self.element.piece.octets()
+    }
+
+    // The octets that have its name.
+    fn name(&self) -> &[u8] {
+        let octets = self.octets();
+        octets.split_at(self.element.label_len.min(octets.len())).0
+    }
+}
+
+// The order of items is that of their octets.
+impl PartialEq for Item {
+    ghost eq = { λ a b. bytes_eq a.element.piece b.element.piece };
+
+    ghost laws = { on_per (λ i. i.element.piece) (partial_equiv_from_equiv nat_list_eq_equiv) };
+
+    fn eq(&self, other: &Item) -> bool {
+        self.octets() == other.octets()
+    }
+}
+
+impl Eq for Item {
+    ghost laws = { on_equiv (λ i. i.element.piece) nat_list_eq_equiv };
+}
+
+impl PartialOrd for Item {
+    ghost partial_cmp = { λ a b. Some (slice_cmp nat_cmp a.element.piece b.element.piece) };
+
+    ghost laws = { on_po (λ i. i.element.piece) texts_po };
+
+    fn partial_cmp(&self, other: &Item) -> Option<Ordering> {
+        Some(self.cmp(other))
+    }
+}
+
+impl Ord for Item {
+    ghost cmp = { λ a b. slice_cmp nat_cmp a.element.piece b.element.piece };
+
+    ghost total = { on_total (λ i. i.element.piece) nat_list_cmp_total };
+
+    ghost matches_partial_cmp = { λ a b. refl };
+
+    ghost matches_eq = { λ a b. texts_ties a.element.piece b.element.piece };
+
+    fn cmp(&self, other: &Item) -> Ordering {
+        self.octets().cmp(other.octets())
+    }
+}
+
+// The items in order. A heap sorts them, since std's own sorts call themselves, and the C source has
+// no function that does.
+pub(crate) fn sort_items(items: Vec<Item>) -> Vec<Item>
+    ensures permutation { IsPermutation items.items result.items }
+    ensures sorted { IsSorted (λ a b. slice_cmp nat_cmp a.element.piece b.element.piece) result.items }
+{
+    BinaryHeap::from(items).into_sorted_vec()
+}
+
+// The lesser place.
+fn earlier(place: Option<usize>, other: usize) -> Option<usize> {
+    match place {
+        Some(place) => Some(place.min(other)),
+        None => Some(other),
+    }
+}
+
+// The first place where a name stands again, of items in order.
+pub(crate) fn first_repeated(items: &[Item]) -> Option<usize> {
+    let mut place = None;
+    for n in 1..items.len() {
+        if items[n - 1].name() == items[n].name() {
+            place = earlier(place, items[n - 1].place.max(items[n].place));
+        }
+    }
+    place
+}
+
+// The number of octets of some items.
+fn items_len(items: &[Item]) -> usize {
+    let mut len: usize = 0;
+    for item in items {
+        len = len.saturating_add(item.octets().len());
+    }
+    len
+}
+
+// The items in a row.
+pub(crate) fn join_items(memory: &mut Memory, items: &[Item]) -> Result<Piece, Refusal>
+    ensures memory { CountsAllocFailureInPacket result memory.old memory.new }
+{
+    let mut joined = memory.list();
+    reserve(memory, &mut joined, items_len(items))?;
+    for item in items {
+        append(memory, &mut joined, item.element.piece.octets())?;
+    }
+    Ok(Piece::of(joined))
+}

@@ -1,0 +1,282 @@
+// The output: of each element that is open what was read of it.
+ghost use Rattle.std.specs.Prelude.{◌≡◌, ◌≤◌, length, IfOk};
+ghost use Rattle.px_bytes.specs.Parts.{limit};
+ghost use Rattle.px_xmp_forms.specs.Forms.{IsNormal};
+ghost use Rattle.px_xmp_forms.specs.Allocations.{CountsAllocFailureInPacket};
+
+use crate::appending::{LIMIT, append, is_blank, reserve};
+use crate::elements::write_element;
+use crate::faults::{Cause, Refusal};
+use crate::items::{Item, first_repeated, join_items, sort_items};
+use crate::labels::{Content, Label, Origin};
+use crate::pieces::{Piece, TextForm};
+use px_bytes::Memory;
+use px_xmp_text::TextKind;
+
+const HEAD: &[u8] =
+    b"<x:xmpmeta xmlns:x=\"adobe:ns:meta/\"><rdf:RDF xmlns:rdf=\"http://www.w3.org/1999/02/22-rdf-syntax-ns#\">";
+
+const DESCRIPTION: &[u8] = b"<rdf:Description rdf:about=\"\">";
+
+const TAIL: &[u8] = b"</rdf:Description></rdf:RDF></x:xmpmeta>";
+
+// The octets from an offset on.
+fn tail(octets: &[u8], start: usize) -> &[u8] {
+    octets.split_at(start.min(octets.len())).1
+}
+
+// What was read of an element: its text or resource, what is inside it, and properties or members that are not joined yet.
+#[derive(Drop)]
+struct Level {
+    text: TextForm,
+    inner: Piece,
+    items: Vec<Item>,
+}
+
+// The property that an attribute is.
+fn attribute_item(
+    memory: &mut Memory,
+    label: Label,
+    value: &[u8],
+    origin: Origin,
+) -> Result<Item, Refusal>
+    ensures memory { CountsAllocFailureInPacket result memory.old memory.new }
+{
+    let none = Piece::new(memory);
+    let text = TextForm::new(memory).followed_by(memory, value, TextKind::AttributeValue)?;
+    let content = Content::Text(origin.language);
+    let element = write_element(memory, label, content, &text, &none)?;
+    Ok(Item {
+        element,
+        place: origin.place,
+    })
+}
+
+/// The output.
+#[derive(Drop)]
+pub struct Output {
+    levels: Vec<Level>,
+    properties: Piece,
+}
+
+impl Output {
+    /// Nothing.
+    pub fn new(memory: &Memory) -> Output {
+        Output {
+            levels: memory.list(),
+            properties: Piece::new(memory),
+        }
+    }
+
+    /// Begins an element that has properties, members or a value.
+    pub fn begin(&mut self, memory: &mut Memory) -> Result<(), Refusal>
+        ensures memory { CountsAllocFailureInPacket result memory.old memory.new }
+    {
+        let level = Level {
+            text: TextForm::new(memory),
+            inner: Piece::new(memory),
+            items: memory.list(),
+        };
+        memory.push(&mut self.levels, level)?;
+        Ok(())
+    }
+
+    /// Appends a text. Returns whether it is more than white space.
+    pub fn put_text(
+        &mut self,
+        memory: &mut Memory,
+        octets: &[u8],
+        kind: TextKind,
+    ) -> Result<bool, Refusal>
+        ensures memory { CountsAllocFailureInPacket result memory.old memory.new }
+    {
+        let Some(level) = self.levels.pop() else {
+            return Ok(false);
+        };
+        let before = level.text.octets().len();
+        let text = level.text.followed_by(memory, octets, kind)?;
+        let is_blank = is_blank(tail(text.octets(), before));
+        let level = Level {
+            text,
+            inner: level.inner,
+            items: level.items,
+        };
+        memory.push(&mut self.levels, level)?;
+        Ok(!is_blank)
+    }
+
+    // Puts another text in place of that of the innermost element.
+    fn replace_text(&mut self, memory: &mut Memory, text: TextForm) -> Result<(), Refusal>
+        ensures memory { CountsAllocFailureInPacket result memory.old memory.new }
+    {
+        let Some(level) = self.levels.pop() else {
+            return Ok(());
+        };
+        let level = Level {
+            text,
+            inner: level.inner,
+            items: level.items,
+        };
+        memory.push(&mut self.levels, level)?;
+        Ok(())
+    }
+
+    /// Removes the text of the innermost element.
+    pub fn remove_text(&mut self, memory: &mut Memory) -> Result<(), Refusal>
+        ensures memory { CountsAllocFailureInPacket result memory.old memory.new }
+    {
+        let text = TextForm::new(memory);
+        self.replace_text(memory, text)
+    }
+
+    /// Puts a resource into the innermost element.
+    pub fn put_resource(&mut self, memory: &mut Memory, uri: &[u8]) -> Result<(), Refusal>
+        ensures memory { CountsAllocFailureInPacket result memory.old memory.new }
+    {
+        let text = TextForm::new(memory).followed_by(memory, uri, TextKind::AttributeValue)?;
+        self.replace_text(memory, text)
+    }
+
+    // Adds an item to the innermost element.
+    fn put_item(&mut self, memory: &mut Memory, item: Item) -> Result<(), Refusal>
+        ensures memory { CountsAllocFailureInPacket result memory.old memory.new }
+    {
+        let Some(level) = self.levels.pop() else {
+            return Ok(());
+        };
+        let mut items = level.items;
+        memory.push(&mut items, item)?;
+        let level = Level {
+            text: level.text,
+            inner: level.inner,
+            items,
+        };
+        memory.push(&mut self.levels, level)?;
+        Ok(())
+    }
+
+    /// Adds a property that is an attribute.
+    pub fn put_attribute(
+        &mut self,
+        memory: &mut Memory,
+        label: Label,
+        value: &[u8],
+        origin: Origin,
+    ) -> Result<(), Refusal>
+        ensures memory { CountsAllocFailureInPacket result memory.old memory.new }
+    {
+        let item = attribute_item(memory, label, value, origin)?;
+        self.put_item(memory, item)
+    }
+
+    // Puts what is inside the innermost element.
+    fn put_inner(&mut self, memory: &mut Memory, inner: Piece) -> Result<(), Refusal>
+        ensures memory { CountsAllocFailureInPacket result memory.old memory.new }
+    {
+        let Some(level) = self.levels.pop() else {
+            return Ok(());
+        };
+        let level = Level {
+            text: level.text,
+            inner,
+            items: level.items,
+        };
+        memory.push(&mut self.levels, level)?;
+        Ok(())
+    }
+
+    /// Joins the properties of the innermost element, sorted. `Content`: two have one name.
+    pub fn join_properties(&mut self, memory: &mut Memory) -> Result<(), Refusal>
+        ensures memory { CountsAllocFailureInPacket result memory.old memory.new }
+    {
+        let Some(level) = self.levels.pop() else {
+            return Ok(());
+        };
+        let items = sort_items(level.items);
+        if let Some(place) = first_repeated(items.as_slice()) {
+            return Err(Cause::RareRepeated.at(place));
+        }
+        let level = Level {
+            text: level.text,
+            inner: join_items(memory, items.as_slice())?,
+            items: memory.list(),
+        };
+        memory.push(&mut self.levels, level)?;
+        Ok(())
+    }
+
+    /// Joins the members of the innermost element. Those of a bag are sorted.
+    pub fn join_members(&mut self, memory: &mut Memory, is_bag: bool) -> Result<(), Refusal>
+        ensures memory { CountsAllocFailureInPacket result memory.old memory.new }
+    {
+        let Some(level) = self.levels.pop() else {
+            return Ok(());
+        };
+        let items = if is_bag {
+            sort_items(level.items)
+        } else {
+            level.items
+        };
+        let level = Level {
+            text: level.text,
+            inner: join_items(memory, items.as_slice())?,
+            items: memory.list(),
+        };
+        memory.push(&mut self.levels, level)?;
+        Ok(())
+    }
+
+    /// Ends a node, whose joined properties or members are inside the element around it.
+    pub fn end_node(&mut self, memory: &mut Memory) -> Result<(), Refusal>
+        ensures memory { CountsAllocFailureInPacket result memory.old memory.new }
+    {
+        let Some(level) = self.levels.pop() else {
+            return Ok(());
+        };
+        self.put_inner(memory, level.inner)
+    }
+
+    /// Ends a property or a member, which is an item of the element around it.
+    pub fn end_element(
+        &mut self,
+        memory: &mut Memory,
+        label: Label,
+        content: Content,
+        place: usize,
+    ) -> Result<(), Refusal>
+        ensures memory { CountsAllocFailureInPacket result memory.old memory.new }
+    {
+        let Some(level) = self.levels.pop() else {
+            return Ok(());
+        };
+        let element = write_element(memory, label, content, &level.text, &level.inner)?;
+        self.put_item(memory, Item { element, place })
+    }
+
+    /// Ends the element whose joined properties are those of the packet.
+    pub fn end_properties(&mut self) {
+        if let Some(level) = self.levels.pop() {
+            self.properties = level.inner;
+        }
+    }
+
+    /// The whole form of the packet. `Content`: it is too long.
+    pub fn whole(&self, memory: &mut Memory) -> Result<Vec<u8>, Refusal>
+        ensures normal { IfOk result (λ form. IsNormal form.items) }
+        ensures bound { IfOk result (λ form. length form.items ≤ limit) }
+        ensures memory { CountsAllocFailureInPacket result memory.old memory.new }
+    {
+        let mut form = memory.list();
+        let properties = self.properties.octets();
+        let around = HEAD.len() + DESCRIPTION.len() + TAIL.len();
+        reserve(memory, &mut form, properties.len().saturating_add(around))?;
+        append(memory, &mut form, HEAD)?;
+        append(memory, &mut form, DESCRIPTION)?;
+        append(memory, &mut form, properties)?;
+        append(memory, &mut form, TAIL)?;
+        if form.len() > LIMIT {
+            return Err(Cause::RareLength.at(LIMIT));
+        }
+        Ok(form)
+    }
+}

@@ -1,0 +1,98 @@
+// Octets that are a normal form: of a text, or of properties or members.
+ghost use Rattle.std.specs.Prelude.{◌≡◌};
+ghost use Rattle.px_xmp_forms.specs.Forms.{IsForm, IsTextForm};
+ghost use Rattle.px_xmp_forms.specs.Allocations.{CountsAllocFailureInPacket};
+
+use crate::appending::append_text;
+use crate::faults::Refusal;
+use px_bytes::Memory;
+use px_xmp_text::TextKind;
+use std::marker::Model;
+
+// The normal form of a text.
+#[derive(Drop)]
+pub(crate) struct TextForm {
+    octets: Vec<u8>,
+}
+
+impl Model for TextForm {
+    ghost use Rattle.std.specs.Prelude.{List, ℕ};
+    ghost use Rattle.px_xmp_forms.specs.Forms.{IsTextForm};
+
+    ghost Value = { List ℕ };
+
+    ghost view = { λ f. f.octets.items };
+
+    ghost invariant = { λ f. IsTextForm f.octets.items };
+}
+
+impl TextForm {
+    // That of the empty text.
+    pub(crate) fn new(memory: &Memory) -> TextForm {
+        TextForm {
+            octets: memory.list(),
+        }
+    }
+
+    // Its octets.
+    pub(crate) fn octets(&self) -> &[u8]
+        ensures { IsTextForm result.now }
+    {
+        self.octets.as_slice()
+    }
+
+    // That of the text with another one after it.
+    pub(crate) fn followed_by(
+        self,
+        memory: &mut Memory,
+        octets: &[u8],
+        kind: TextKind,
+    ) -> Result<TextForm, Refusal>
+        ensures memory { CountsAllocFailureInPacket result memory.old memory.new }
+    {
+        let mut form = self.octets;
+        append_text(memory, &mut form, octets, kind)?;
+        Ok(TextForm { octets: form })
+    }
+}
+
+// The normal form of properties or members in a row.
+#[derive(Drop)]
+pub(crate) struct Piece {
+    octets: Vec<u8>,
+}
+
+impl Model for Piece {
+    ghost use Rattle.std.specs.Prelude.{List, ℕ};
+    ghost use Rattle.px_xmp_forms.specs.Forms.{IsForm};
+
+    ghost Value = { List ℕ };
+
+    ghost view = { λ p. p.octets.items };
+
+    ghost invariant = { λ p. IsForm p.octets.items };
+}
+
+impl Piece {
+    // None.
+    pub(crate) fn new(memory: &Memory) -> Piece {
+        Piece {
+            octets: memory.list(),
+        }
+    }
+
+    // These octets.
+    pub(crate) fn of(octets: Vec<u8>) -> Piece
+        requires { IsForm octets.items }
+    {
+        Piece { octets }
+    }
+
+    // Their octets.
+    pub(crate) fn octets(&self) -> &[u8]
+        ensures form { IsForm result.now }
+        ensures value { result.now ≡ self.now }
+    {
+        self.octets.as_slice()
+    }
+}

@@ -1,0 +1,150 @@
+// Namespaces, and the URIs of resources.
+ghost use Rattle.std.specs.Prelude.{◌≡◌, ◌≤◌, ◌++◌, length};
+
+/// The namespace of RDF.
+pub const RDF: &[u8] = b"http://www.w3.org/1999/02/22-rdf-syntax-ns#";
+
+/// The namespace of `x:xmpmeta`.
+pub const META: &[u8] = b"adobe:ns:meta/";
+
+const XML: &[u8] = b"http://www.w3.org/XML/1998/namespace";
+
+const XMLNS: &[u8] = b"http://www.w3.org/2000/xmlns/";
+
+pub(crate) fn is_letter(octet: u8) -> bool {
+    (b'a' <= octet && octet <= b'z') || (b'A' <= octet && octet <= b'Z')
+}
+
+pub(crate) fn is_digit(octet: u8) -> bool {
+    b'0' <= octet && octet <= b'9'
+}
+
+// Whether a name can begin with an octet.
+fn is_name_start(octet: u8) -> bool {
+    is_letter(octet) || octet == b'_'
+}
+
+// Whether a name can contain an octet.
+fn is_name_char(octet: u8) -> bool {
+    is_name_start(octet) || is_digit(octet) || octet == b'-' || octet == b'.'
+}
+
+// Whether a URI can contain an octet, which is no quotation mark.
+fn is_uri_char(octet: u8) -> bool {
+    b'!' <= octet && octet <= b'~' && !is_no_uri_char(octet)
+}
+
+// Whether URIs do not contain an octet of ASCII.
+fn is_no_uri_char(octet: u8) -> bool {
+    octet == b'<'
+        || octet == b'>'
+        || octet == b'"'
+        || octet == b'{'
+        || octet == b'}'
+        || octet == b'|'
+        || octet == b'\\'
+        || octet == b'^'
+        || octet == b'`'
+}
+
+// The offset after the last octet that no name can contain.
+fn last_part(space: &[u8]) -> usize
+    ensures { result ≤ length space.now }
+{
+    let mut start = space.len();
+    while start > 0 {
+        if !is_name_char(space[start - 1]) {
+            return start;
+        }
+        start -= 1;
+    }
+    0
+}
+
+// The number of octets before the first that a name can begin with.
+fn before_name(octets: &[u8]) -> usize
+    ensures { result ≤ length octets.now }
+{
+    for (n, octet) in octets.iter().enumerate() {
+        if is_name_start(*octet) {
+            return n;
+        }
+    }
+    octets.len()
+}
+
+/// A namespace, before the longest name at its end, and this name, which is empty if there is none.
+pub fn split_space<'a>(space: &'a [u8]) -> (&'a [u8], &'a [u8])
+    ensures { result.0.now ++ result.1.now ≡ space.now }
+{
+    let start = last_part(space);
+    let size = start + before_name(space.split_at(start).1);
+    space.split_at(size)
+}
+
+// Whether each octet can be in a namespace that this reader compares.
+fn are_space_chars(space: &[u8]) -> bool {
+    for octet in space {
+        if !is_uri_char(*octet) || *octet == b'&' || *octet == b'\'' {
+            return false;
+        }
+    }
+    true
+}
+
+/// Whether a namespace, which is not empty, is for another reader: it has odd characters, could be part of a name, or begins
+/// as one of XML's own.
+pub fn is_rare_space(space: &[u8]) -> bool {
+    if space == RDF || space == META || space == XML {
+        return false;
+    }
+    if !are_space_chars(space) || split_space(space).0.is_empty() {
+        return true;
+    }
+    space.starts_with(RDF) || space.starts_with(XML) || space.starts_with(XMLNS)
+}
+
+// The number of octets before the first colon. It is that of all octets if there is none.
+fn scheme_len(uri: &[u8]) -> usize
+    ensures { result ≤ length uri.now }
+{
+    for (n, octet) in uri.iter().enumerate() {
+        if *octet == b':' {
+            return n;
+        }
+    }
+    uri.len()
+}
+
+// Whether octets are a scheme. RFC 3986, 3.1.
+fn is_scheme(octets: &[u8]) -> bool {
+    if octets.is_empty() || !is_letter(octets[0]) {
+        return false;
+    }
+    for octet in octets {
+        let is_mark = *octet == b'+' || *octet == b'.' || *octet == b'-';
+        if !is_letter(*octet) && !is_digit(*octet) && !is_mark {
+            return false;
+        }
+    }
+    true
+}
+
+// Whether octets are those of a URI as the value of an attribute has them, in which `&` is `&amp;`.
+fn are_uri_chars(octets: &[u8]) -> bool {
+    for (n, octet) in octets.iter().enumerate() {
+        if !is_uri_char(*octet) {
+            return false;
+        }
+        if *octet == b'&' && !octets.split_at(n).1.starts_with(b"&amp;") {
+            return false;
+        }
+    }
+    true
+}
+
+/// Whether the value of an attribute is an absolute URI of ASCII.
+pub fn is_absolute(value: &[u8]) -> bool {
+    let (scheme, rest) = value.split_at(scheme_len(value));
+    is_scheme(scheme) && !rest.is_empty() && are_uri_chars(rest)
+}

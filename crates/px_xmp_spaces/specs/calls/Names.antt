@@ -1,0 +1,25 @@
+-- The tests of a tag's attributes, by their stored names.
+use Rattle.std.specs.Prelude.{◌&&◌, ◌||◌, Bool, true, false, not, if◌then◌else◌, List, [], ◌∷◌, Result, Ok, Err}
+use Rattle.px_xmp_marks.specs.Reading.{Named}
+use Rattle.px_xmp_spaces.specs.declared.faults.Cause.{Cause}
+use Rattle.px_xmp_spaces.specs.declared.faults.Cause.TheVariants.{Undeclared, SameName}
+use Rattle.px_xmp_spaces.specs.Scopes.{Item}
+use Rattle.px_xmp_spaces.specs.Tags.{is_attribute_bound, clash}
+
+abbrev pub are_names_bound : List Item → List Named → Bool
+are_names_bound scope [] = true
+are_names_bound scope (n ∷ more) = is_attribute_bound scope n && are_names_bound scope more
+
+abbrev pub is_name_among : List Item → Named → List Named → Bool
+is_name_among scope n [] = false
+is_name_among scope n (m ∷ more) = clash scope n m || is_name_among scope n more
+
+abbrev pub are_names_unique : List Item → List Named → Bool
+are_names_unique scope [] = true
+are_names_unique scope (n ∷ more) = not (is_name_among scope n more) && are_names_unique scope more
+
+abbrev pub names_judged : List Named → List Item → Result (List Item) Cause
+names_judged names scope =
+    if not (are_names_bound scope names) then Err Undeclared
+    else if not (are_names_unique scope names) then Err SameName
+    else Ok scope
