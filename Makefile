@@ -52,8 +52,7 @@ PYTHONDIR = $(eval PYTHONDIR := $(shell '$(PYTHON)' -c 'import site, sys; below 
 VERSION = $(eval VERSION := $(shell sed -n 's/^pub const VERSION: &str = "\(.*\)";$$/\1/p' crates/px_engine/src/version.rt))$(VERSION)
 SONAME = libexifnorm.so.1
 proved = out/proved/libpx_c.a
-# where ./exifnorm keeps the program that it built
-program = $$(ls out/exifnorm 2>/dev/null || ls crates/px_cli/out/px_cli)
+program = out/exifnorm
 # the crate's archive, what it needs of C, the folder of all that is built, the programs of binutils, and the compiler
 ifeq ($(MACHINE),aarch64)
 archive = out/aarch64/libpx_c.a
@@ -85,8 +84,9 @@ all: program library
 
 # Both refuse what was compiled without proofs, before anything is installed or packaged.
 program: $(if $(filter aarch64,$(MACHINE)),out/aarch64/bin/exifnorm)
-	@./exifnorm --prove
-	@$(if $<,python3 build/guard.py $<)
+	@python3 build/prove.py px_cli
+	@ln -sfn proved/px_cli $(program)
+	@python3 build/guard.py $(program) $<
 
 library: $(built)/libexifnorm.a $(built)/libexifnorm.so $(headers)
 	@python3 build/guard.py $(built)/libexifnorm.a $(built)/$(SONAME)
@@ -135,7 +135,7 @@ stage: all
 	rm -rf $(stage)
 	install -d '$(stage)$(BINDIR)' '$(stage)$(LIBDIR)/pkgconfig' '$(stage)$(INCLUDEDIR)' '$(stage)$(DOCDIR)' \
 	    '$(stage)$(MANDIR)/man1' '$(stage)$(MANDIR)/man3' '$(stage)$(BASHDIR)' '$(stage)$(ZSHDIR)' '$(stage)$(FISHDIR)'
-	install -m 755 "$(program)" '$(stage)$(BINDIR)/exifnorm'
+	install -m 755 $(program) '$(stage)$(BINDIR)/exifnorm'
 	install -m 644 $(headers) '$(stage)$(INCLUDEDIR)/'
 	install -m 644 $(built)/libexifnorm.a '$(stage)$(LIBDIR)/libexifnorm.a'
 	install -m 644 $(built)/$(SONAME) '$(stage)$(LIBDIR)/libexifnorm.so.$(VERSION)'

@@ -27,8 +27,14 @@ def said(*words: str) -> str:
 
 
 def version() -> str:
-    """The toolchain's version line; empty without a toolchain on the PATH."""
-    return said("rt", "version") if shutil.which("rt") else ""
+    """The toolchain's version line; empty without a toolchain on the PATH. `rt version` prints it from a file of the kit, and starts so slowly
+    that a launcher would spend half of its time on that."""
+    command = shutil.which("rt")
+    if not command:
+        return ""
+    with contextlib.suppress(OSError):
+        return Path(command).resolve().parents[1].joinpath("KIT-ID").read_text(encoding="utf-8").strip()
+    return said("rt", "version")
 
 
 class Compiler:
@@ -45,9 +51,9 @@ class Compiler:
         """Ends all running commands with the copies that they started. No command is started afterwards."""
         with self.guard:
             self.is_stopped = True
-            for it in self.running:
+            for process in self.running:
                 with contextlib.suppress(ProcessLookupError):  # it has just ended
-                    os.killpg(it.pid, signal.SIGTERM)
+                    os.killpg(process.pid, signal.SIGTERM)
 
     def call(self, words: list[str], folder: Path, log: IO[str]) -> int:
         """Runs a command in a group of its own, and returns its status."""
@@ -77,9 +83,9 @@ class Compiler:
         """The argument that a static library needs."""
         return ["--crate-type", "staticlib"] * (crate in self.crates.archives)
 
-    def words(self, crate: str, made: Path, jobs: int) -> list[str]:
+    def words(self, crate: str, product: Path, jobs: int) -> list[str]:
         """The call that proves and builds a crate: a library for other crates with its statements, which load faster than its proofs."""
-        words = [f"{self.kit}/bin/rattle", "build", *self.given(crate, jobs), "--empty-contracts", "-o", str(made)]
+        words = [f"{self.kit}/bin/rattle", "build", *self.given(crate, jobs), "--empty-contracts", "-o", str(product)]
         if self.crates.is_program(crate) or crate in self.crates.archives:
             return [*words, "--toolchain", f"{self.kit}/toolchain", "--backend", "llvm", *self.kind(crate)]
         return [*words, "--statements"]
@@ -90,15 +96,15 @@ class Compiler:
         words = [f"{self.kit}/bin/rattle", "check", *self.given(crate, 1), *self.kind(crate)]
         return [*words, *(word for it in functions for word in ("--start", it))]
 
-    def link(self, made: Path, program: Path, log: IO[str]) -> int:
+    def link(self, object_file: Path, program: Path, log: IO[str]) -> int:
         """Links a program with the C library."""
         words = [f"{self.kit}/bin/rattle-link", "--target", TARGET, "--toolchain", f"{self.kit}/toolchain", "-o", str(program)]
-        return self.call([*words, str(made), f"{self.kit}/c/libos_c.a", f"{self.kit}/c/liblibc_c.a"], self.crates.top, log)
+        return self.call([*words, str(object_file), f"{self.kit}/c/libos_c.a", f"{self.kit}/c/liblibc_c.a"], self.crates.top, log)
 
-    def build(self, crate: str, made: Path, jobs: int, log: IO[str], gives_way: bool) -> int:
+    def build(self, crate: str, product: Path, jobs: int, log: IO[str], gives_way: bool) -> int:
         """Proves a crate and builds it as `made`. A call with `gives_way` only uses processors that the others leave idle."""
         is_program = self.crates.is_program(crate)
-        object_file = made.with_name(f"{crate}.o") if is_program else made
+        object_file = product.with_name(f"{crate}.o") if is_program else product
         lower = ["nice", "-n", "19"] * gives_way
         status = self.call([*lower, *self.words(crate, object_file, jobs)], self.crates.folder(crate), log)
         if status == -signal.SIGKILL and jobs > 1:
@@ -106,5 +112,5 @@ class Compiler:
             log.truncate()
             log.write("the check was killed, most likely for memory: once more, with one job\n")
             log.flush()
-            return self.build(crate, made, 1, log, gives_way)
-        return self.link(object_file, made, log) if is_program and status == 0 else status
+            return self.build(crate, product, 1, log, gives_way)
+        return self.link(object_file, product, log) if is_program and status == 0 else status

@@ -34,11 +34,11 @@ def below(crate: str, uses: dict[str, list[str]]) -> list[str]:
     >>> below("c", {"c": ["b", "a", "clap"], "b": ["a"], "a": []})
     ['a', 'b']
     """
-    found: list[str] = []
-    for it in uses[crate]:
-        if it in uses:
-            found += [name for name in [*below(it, uses), it] if name not in found]
-    return found
+    names: list[str] = []
+    for used in uses[crate]:
+        if used in uses:
+            names += [name for name in [*below(used, uses), used] if name not in names]
+    return names
 
 
 def chains(crate: str, uses: dict[str, list[str]]) -> dict[str, int]:
@@ -47,12 +47,12 @@ def chains(crate: str, uses: dict[str, list[str]]) -> dict[str, int]:
     >>> chains("d", {"d": ["late", "c"], "c": ["b"], "b": ["a"], "late": ["a"], "a": []})
     {'d': 0, 'a': 3, 'late': 1, 'b': 2, 'c': 1}
     """
-    found = dict.fromkeys([crate, *below(crate, uses)], 0)
-    for it in [crate, *reversed(below(crate, uses))]:
-        for used in uses[it]:
-            if used in found:
-                found[used] = max(found[used], found[it] + 1)
-    return found
+    lengths = dict.fromkeys([crate, *below(crate, uses)], 0)
+    for name in [crate, *reversed(below(crate, uses))]:
+        for used in uses[name]:
+            if used in lengths:
+                lengths[used] = max(lengths[used], lengths[name] + 1)
+    return lengths
 
 
 @dataclass(frozen=True)
@@ -87,16 +87,16 @@ class Crates:
     def sources(self, crate: str) -> list[Path]:
         """The source files and folders of a crate. Links are refused, as by `rt ci`: a change of their target would not be seen."""
         parts = [self.folder(crate) / part for part in ("src", "specs", "proofs")]
-        found = sorted(it for part in parts if os.path.lexists(part) for it in [part, *part.rglob("*")])
-        for it in found:
-            if it.is_symlink():
-                raise OSError(f"{it} is a link, and sources may not be links")
-        return found
+        files = sorted(file for part in parts if os.path.lexists(part) for file in [part, *part.rglob("*")])
+        for file in files:
+            if file.is_symlink():
+                raise OSError(f"{file} is a link, and sources may not be links")
+        return files
 
     def sum(self, crate: str) -> str:
         """A sum of the names of the crates that it uses and of its sources, with their names."""
-        found = hashlib.sha256(repr((self.uses[crate], crate in self.archives)).encode())
-        for it in self.sources(crate):
-            if it.is_file():
-                found.update(repr((str(it.relative_to(self.top)), it.read_bytes())).encode())
-        return found.hexdigest()
+        digest = hashlib.sha256(repr((self.uses[crate], crate in self.archives)).encode())
+        for file in self.sources(crate):
+            if file.is_file():
+                digest.update(repr((str(file.relative_to(self.top)), file.read_bytes())).encode())
+        return digest.hexdigest()

@@ -17,10 +17,9 @@ from pathlib import Path
 
 sys.dont_write_bytecode = True
 
-import machine
 from compiler import Compiler
 from crates import Crates
-from prove import JOBS, NotBuilt, build, listen, open_store, say, take_lock
+from prove import NotBuilt, build, jobs, listen, locked, open_store, say, waited
 from store import Store
 from verdict import refused_verdict
 
@@ -55,11 +54,8 @@ def put(store: Store, crate: str, triple: str, target: Path) -> None:
         file.unlink(missing_ok=True)
     with open(log, "w", encoding="utf-8") as output:
         compiler = Compiler(crates, store.folder, output)
-        words = [*compiler.words(crate, making, min(JOBS, machine.processors())), "--target", triple]
-        try:
-            status = compiler.call(words, crates.folder(crate), output)
-        finally:
-            compiler.stop()
+        words = [*compiler.words(crate, making, jobs()), "--target", triple]
+        status = waited(compiler, lambda: compiler.call(words, crates.folder(crate), output))
     said = log.read_text(encoding="utf-8", errors="replace")
     if why := f"the compiler ended with status {status}" if status else refused(said, triple):
         end = "\n".join(said.splitlines()[-20:])
@@ -73,9 +69,7 @@ def build_for(crate: str, machine_name: str, store: Store) -> Path:
     build(crate, store)
     target = product(store.crates, crate, machine_name)
     note = target.with_name(f"{crate}.made-from")
-    target.parent.mkdir(parents=True, exist_ok=True)
-    with open(target.with_name(f"{crate}.lock"), "w", encoding="ascii") as lock:
-        take_lock(lock, f"another call builds {crate} for {machine_name}: waiting for it")
+    with locked(target.with_name(f"{crate}.lock"), f"another call builds {crate} for {machine_name}: waiting for it"):
         if not (target.exists() and note.exists() and note.read_text(encoding="utf-8") == store.noted(crate)):
             say(f"proving {crate} for {machine_name}")
             put(store, crate, f"{machine_name}-unknown-linux-gnu", target)

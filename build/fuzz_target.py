@@ -30,7 +30,7 @@ TOP = Path(__file__).resolve().parent.parent
 TESTS = TOP / "tests" / "library"
 ATTRIBUTE = '"probe-stack"='  # each function of the module has it
 COUNTERS = "-fsanitize-coverage=inline-8bit-counters,pc-table,trace-cmp"
-LAWS = ["fuzz.c", *(f"fuzz/{it}.c" for it in ("laws", "made", "heads", "blocks", "pictures", "area", "memory"))]
+LAWS = ["fuzz.c", *(f"fuzz/{it}.c" for it in ("laws", "made", "heads", "blocks", "pictures", "packets", "area", "memory"))]
 FLAGS = ["-g", "-O2", "-DLIBFUZZER", "-DWRAPPED", f"-I{TOP}/crates/px_c/include"]
 WRAPS = [f"-Wl,--wrap={it}" for it in ("malloc", "calloc", "realloc", "free")]
 # The toolchain's clang calls them for the thread sanitizer. That of Debian's older clang lacks them, but watches those of the C library.
@@ -72,12 +72,12 @@ def module_text(module: Path, clang: Path, folder: Path) -> Path:
 def compile_module(module: Path, kind: Kind, clang: Path, folder: Path) -> Path:
     """Compiles the module with the instrumentation of a kind, in a folder. Returns the object file."""
     text, object_file = module_text(module, clang, folder), folder / f"{CRATE}.o"
-    for it in kind.sanitizer:  # which clang gives only to functions that ask for it
-        asked = it.replace("-fsanitize=", "sanitize_")
+    for name in kind.sanitizer:  # which clang gives only to functions that ask for it
+        asked = name.replace("-fsanitize=", "sanitize_")
         text.write_text(text.read_text(encoding="utf-8").replace(ATTRIBUTE, f"{asked} {ATTRIBUTE}"), encoding="utf-8")
     files = {"module.bc": str(text), "module.o": str(object_file)}
     options = (module / "options").read_text(encoding="utf-8").splitlines()
-    run(clang, *(files.get(it, it) for it in options), kind.counters, *kind.sanitizer, folder=folder)
+    run(clang, *(files.get(name, name) for name in options), kind.counters, *kind.sanitizer, folder=folder)
     run("objcopy", *NEWER, object_file, folder=folder)
     return object_file
 

@@ -12,29 +12,20 @@ from __future__ import annotations
 import sys
 from pathlib import Path
 
-sys.dont_write_bytecode = True
-
 MARK = "-unproved"
 
 
 def refused(file: Path) -> str:
     """Why a file is refused; empty if it isn't."""
     try:
-        return (
-            f"{file} was compiled without proofs: remove it, and `make` proves and builds it" if MARK.encode() in file.read_bytes() else ""
-        )
+        is_proved = MARK.encode() not in file.read_bytes()
     except OSError as why:
         return f"cannot read {file}: {why.strerror}"
-
-
-def main(names: list[str]) -> int:
-    faults = [why for why in map(refused, map(Path, names)) if why]
-    for why in faults:
-        print(f"exifnorm: {why}", file=sys.stderr)
-    return 1 if faults else 0
+    return "" if is_proved else f"{file} was compiled without proofs: remove it, and `make` proves and builds it"
 
 
 if __name__ == "__main__":
     if len(sys.argv) < 2:
         sys.exit(__doc__)
-    sys.exit(main(sys.argv[1:]))
+    faults = [f"exifnorm: {why}" for why in map(refused, map(Path, sys.argv[1:])) if why]
+    sys.exit("\n".join(faults) or 0)

@@ -16,10 +16,9 @@ import shutil
 import tempfile
 from pathlib import Path
 
-import machine
 from compiler import Compiler
 from crates import Crates
-from prove import JOBS, NotBuilt, say, take_lock
+from prove import NotBuilt, jobs, locked, say, waited
 
 CRATE = "px_c"
 CLANG = """#!/bin/sh
@@ -28,28 +27,25 @@ exec {clang} "$@"
 """
 
 
-def copying_toolchain(toolchain: Path, folder: Path) -> Path:
-    """A folder like that of the toolchain, but its clang also copies what it is given into `folder`."""
-    copying = folder / "toolchain"
-    shutil.copytree(toolchain, copying, copy_function=os.symlink)
-    clang = copying / "bin" / "clang"
+def with_clang(script: str, toolchain: Path, folder: Path) -> Path:
+    """A folder like that of the toolchain with a script in place of clang. It may name the toolchain's clang, and the folder for its files."""
+    copy = folder / "toolchain"
+    shutil.copytree(toolchain, copy, copy_function=os.symlink)
+    clang = copy / "bin" / "clang"
     clang.unlink()
-    clang.write_text(CLANG.format(folder=shlex.quote(str(folder)), clang=shlex.quote(str(toolchain / "bin" / "clang"))), encoding="utf-8")
+    clang.write_text(script.format(folder=shlex.quote(str(folder)), clang=shlex.quote(str(toolchain / "bin" / "clang"))), encoding="utf-8")
     clang.chmod(0o755)
-    return copying
+    return copy
 
 
 def build(crates: Crates, archive: Path, folder: Path) -> None:
     """Builds the library as `make library` does, and leaves its module and the options of clang in a folder."""
     with open(folder / "log", "w", encoding="utf-8") as log:
         compiler = Compiler(crates, archive.parent, log)
-        words = compiler.words(CRATE, folder / archive.name, min(JOBS, machine.processors()))
+        words = compiler.words(CRATE, folder / archive.name, jobs())
         at = words.index("--toolchain") + 1
-        words[at] = str(copying_toolchain(Path(words[at]), folder))
-        try:
-            status = compiler.call(words, crates.folder(CRATE), log)
-        finally:
-            compiler.stop()
+        words[at] = str(with_clang(CLANG, Path(words[at]), folder))
+        status = waited(compiler, lambda: compiler.call(words, crates.folder(CRATE), log))
     if status:
         end = (folder / "log").read_text(encoding="utf-8", errors="replace")[-2000:]
         raise NotBuilt(f"{end}\nexifnorm: the compiler ended with status {status}")
@@ -63,9 +59,7 @@ def kept(crates: Crates) -> Path:
     if not archive.exists():
         raise NotBuilt(f"{archive} is missing: call `make library`")
     folder = crates.top / "out" / "module" / hashlib.sha256(archive.read_bytes()).hexdigest()[:16]
-    folder.parent.mkdir(exist_ok=True)
-    with open(folder.parent / "lock", "w", encoding="ascii") as lock:
-        take_lock(lock, "another call builds the library's module: waiting for it")
+    with locked(folder.parent / "lock", "another call builds the library's module: waiting for it"):
         if not folder.exists():
             put(crates, archive, folder)
     return folder
@@ -76,8 +70,8 @@ def put(crates: Crates, archive: Path, folder: Path) -> None:
     say(f"building {CRATE} once more for its module, which takes about two minutes")
     with tempfile.TemporaryDirectory(dir=folder.parent) as making:
         build(crates, archive, Path(making))
-        made = Path(making, "made")
-        made.mkdir()
+        finished = Path(making, "made")
+        finished.mkdir()
         for name in ("module.bc", "options"):
-            os.replace(Path(making, name), made / name)
-        os.replace(made, folder)
+            os.replace(Path(making, name), finished / name)
+        os.replace(finished, folder)

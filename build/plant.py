@@ -23,7 +23,7 @@ from concurrent.futures import ThreadPoolExecutor
 from itertools import accumulate
 from pathlib import Path
 from subprocess import DEVNULL, PIPE, STDOUT
-from typing import Any, Iterator, NamedTuple
+from typing import Any, Iterable, Iterator, NamedTuple
 
 TOP = Path(__file__).resolve().parent.parent
 PYTHON = "/usr/bin/python3"  # Debian's, which has pytest
@@ -46,13 +46,13 @@ Mistake = NamedTuple("Mistake", [("path", Path), ("line", int), ("span", slice),
 def changed_lines(since: str) -> dict[Path, set[int]]:
     """The lines that differ from a commit, by file."""
     words = ["git", "diff", "--unified=0", "--no-prefix", f"{since}...", "--", "*.py", ":!tests", ":!bench"]
-    found: dict[Path, set[int]] = {}
+    by_file: dict[Path, set[int]] = {}
     for line in subprocess.run(words, cwd=TOP, stdout=PIPE, text=True, check=True).stdout.splitlines():
         if line.startswith("+++ ") and line != "+++ /dev/null":
-            lines = found.setdefault(Path(line[4:]), set())
+            lines = by_file.setdefault(Path(line[4:]), set())
         elif at := re.match(r"@@ .* \+(\d+)(?:,(\d+))? @@", line):
             lines.update(range(int(at[1]), int(at[1]) + int(at[2] or 1)))
-    return found
+    return by_file
 
 
 def parts(node: ast.AST) -> Iterator[ast.AST]:
@@ -64,9 +64,39 @@ def parts(node: ast.AST) -> Iterator[ast.AST]:
                 yield from parts(child)
 
 
-def variants(node: ast.AST) -> Iterator[ast.AST]:
+def siblings(paths: Iterable[Path]) -> dict[str, str]:
+    """The other name that stands for each member of an Enum, and for each attribute of a class with another one of its type.
+
+    A name in several classes has the sibling of the last of them.
+    """
+    names: dict[str, str] = {}
+    for node in (node for path in paths for node in ast.walk(ast.parse((TOP / path).read_bytes())) if isinstance(node, ast.ClassDef)):
+        members = [target.id for row in node.body if isinstance(row, ast.Assign) for target in row.targets if isinstance(target, ast.Name)]
+        types: dict[str, list[str]] = {"": members if any("Enum" in ast.unparse(base) for base in node.bases) else []}
+        for row in node.body:
+            if isinstance(row, ast.AnnAssign) and isinstance(row.target, ast.Name):
+                types.setdefault(ast.unparse(row.annotation), []).append(row.target.id)
+        for alike in types.values():
+            names.update(zip(alike, alike[1:] + alike[:1]) if len(alike) > 1 else ())
+    return names
+
+
+def exchanged(rows: list[ast.expr]) -> Iterator[list[ast.expr]]:
+    """The rows of a table with two neighbours exchanged."""
+    for at, (first, second) in enumerate(zip(rows, rows[1:])):
+        if ast.dump(first) != ast.dump(second):
+            yield [*rows[:at], second, first, *rows[at + 2 :]]
+
+
+def variants(node: ast.AST, other: dict[str, str]) -> Iterator[ast.AST]:
     """The node with a mistake."""
-    if isinstance(node, ast.Compare) and type(node.ops[0]) in SWAPPED:
+    if isinstance(node, ast.Attribute) and isinstance(node.ctx, ast.Load) and node.attr in other:
+        yield ast.Attribute(node.value, other[node.attr])
+    elif isinstance(node, (ast.Tuple, ast.List)) and isinstance(node.ctx, ast.Load):
+        yield from (type(node)(rows, node.ctx) for rows in exchanged(node.elts))
+    elif isinstance(node, ast.Dict):
+        yield from (ast.Dict(node.keys, rows) for rows in exchanged(node.values))
+    elif isinstance(node, ast.Compare) and type(node.ops[0]) in SWAPPED:
         yield ast.Compare(node.left, [SWAPPED[type(node.ops[0])](), *node.ops[1:]], node.comparators)
     elif isinstance(node, ast.BinOp) and type(node.op) in SWAPPED:
         yield ast.BinOp(node.left, SWAPPED[type(node.op)](), node.right)
@@ -78,7 +108,7 @@ def variants(node: ast.AST) -> Iterator[ast.AST]:
         yield ast.Constant(node.value[1:])
 
 
-def mistakes(path: Path, lines: set[int] | None) -> Iterator[list[Mistake]]:
+def mistakes(path: Path, lines: set[int] | None, other: dict[str, str]) -> Iterator[list[Mistake]]:
     """The mistakes in each statement that begins on one of these lines."""
     source = (TOP / path).read_bytes()
     starts = [0, *accumulate(map(len, source.splitlines(keepends=True)))]
@@ -91,15 +121,17 @@ def mistakes(path: Path, lines: set[int] | None) -> Iterator[list[Mistake]]:
         is_documentation = isinstance(node, ast.Expr) and isinstance(node.value, ast.Constant)
         if not isinstance(node, ast.stmt) or is_documentation or (lines is not None and node.lineno not in lines):
             continue
-        found = [mistake(it, f"({ast.unparse(new)})") for it in parts(node) if isinstance(it, ast.expr) for new in variants(it)]
+        mistakes = [mistake(it, f"({ast.unparse(new)})") for it in parts(node) if isinstance(it, ast.expr) for new in variants(it, other)]
         if isinstance(node, (ast.If, ast.While)):
-            found.append(mistake(node.test, f"not ({ast.unparse(node.test)})"))
+            mistakes.append(mistake(node.test, f"not ({ast.unparse(node.test)})"))
+            if isinstance(node.body[0], (ast.Return, ast.Raise, ast.Continue, ast.Break)) and not node.orelse:
+                mistakes.append(mistake(node.test, "False"))  # a guard that is left out
         elif isinstance(node, (ast.Expr, ast.Assign, ast.AugAssign, ast.Raise, ast.Delete)):
-            found.append(mistake(node, "pass"))
+            mistakes.append(mistake(node, "pass"))
         elif isinstance(node, ast.Return) and node.value and ast.unparse(node.value) != "None":
-            found.append(mistake(node, "return None"))
-        if found:
-            yield found
+            mistakes.append(mistake(node, "return None"))
+        if mistakes:
+            yield mistakes
 
 
 def run_tests(tree: Path, words: list[str]) -> subprocess.CompletedProcess[str]:
@@ -119,14 +151,14 @@ def try_all(chosen: list[Mistake], words: list[str], jobs: int) -> int:
         for number in range(jobs):
             trees.put(Path(shutil.copytree(TOP, Path(folder, str(number)), symlinks=True, ignore=LEFT_OUT)))
 
-        def gets_through(it: Mistake) -> bool:
-            tree, source = trees.get(), (TOP / it.path).read_bytes()
-            (tree / it.path).write_bytes(source[: it.span.start] + it.text.encode() + source[it.span.stop :])
+        def gets_through(mistake: Mistake) -> bool:
+            tree, source = trees.get(), (TOP / mistake.path).read_bytes()
+            (tree / mistake.path).write_bytes(source[: mistake.span.start] + mistake.text.encode() + source[mistake.span.stop :])
             passed = run_tests(tree, words).returncode == 0
-            (tree / it.path).write_bytes(source)
+            (tree / mistake.path).write_bytes(source)
             trees.put(tree)
-            old = " ".join(source[it.span].decode().split())
-            print(f"{'GOT THROUGH' if passed else 'found'}: {it.path}:{it.line}: {old} ==> {it.text}", flush=True)
+            old = " ".join(source[mistake.span].decode().split())
+            print(f"{'GOT THROUGH' if passed else 'found'}: {mistake.path}:{mistake.line}: {old} ==> {mistake.text}", flush=True)
             return passed
 
         if (ran := run_tests(Path(folder, "0"), words)).returncode:
@@ -146,7 +178,8 @@ def main() -> None:
     wanted: dict[Path, set[int] | None] = dict(changed_lines(given.since)) if given.since else {}
     for path in given.paths:
         wanted.update({it.resolve().relative_to(TOP): None for it in (path.rglob("*.py") if path.is_dir() else [path])})
-    statements = [it for path, lines in sorted(wanted.items()) for it in mistakes(path, lines)]
+    other = siblings(wanted)
+    statements = [it for path, lines in sorted(wanted.items()) for it in mistakes(path, lines, other)]
     chooser = random.Random(given.seed)
     chosen = [chooser.choice(it) for it in chooser.sample(statements, min(given.count, len(statements)))]
     print(f"{len(chosen)} of {len(statements)} statements; --seed {given.seed} repeats them", flush=True)

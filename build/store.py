@@ -2,11 +2,13 @@
 
 from __future__ import annotations
 
+import contextlib
 import hashlib
 import os
 import shutil
 import time
 from pathlib import Path
+from typing import Iterator
 
 from crates import Crates, below
 
@@ -47,7 +49,7 @@ class Store:
         return self.folder / f"{crate}.made-from"
 
     def noted(self, crate: str) -> str:
-        """The note of a crate: the sum, the time, and the toolchain; None if there is none."""
+        """The note of a crate: the sum, the time, and the toolchain; empty if there is none."""
         try:
             return self.note(crate).read_text(encoding="utf-8")
         except (FileNotFoundError, UnicodeDecodeError):
@@ -72,18 +74,23 @@ class Store:
 
     def unbuilt(self, crate: str) -> list[str]:
         """The crates to build so that a crate is current: each after those that it uses."""
-        found: list[str] = []
-        for it in [] if self.is_current(crate) else [*below(crate, self.crates.uses), crate]:
-            if {*self.crates.own(it)} & {*found} or not self.is_built(it):
-                found.append(it)
-        return found
+        crates: list[str] = []
+        for name in [] if self.is_current(crate) else [*below(crate, self.crates.uses), crate]:
+            if {*self.crates.own(name)} & {*crates} or not self.is_built(name):
+                crates.append(name)
+        return crates
 
-    def clear(self) -> None:
-        """Begins a build: removes the files of an interrupted one."""
+    @contextlib.contextmanager
+    def making_place(self) -> Iterator[None]:
+        """Makes the folder for what is not whole yet, in place of that of a build that was killed, and removes it at the end."""
         remove(self.making)
         self.making.mkdir()
+        try:
+            yield
+        finally:
+            remove(self.making)
 
-    def put(self, crate: str, made: Path, expected: str) -> None:
+    def put(self, crate: str, product: Path, expected: str) -> None:
         """Moves a product to its path, and then its note, so that no product is ever beside another's note.
 
         If the sources were changed meanwhile, no note matches the product, and the crate counts as not built.
@@ -91,7 +98,7 @@ class Store:
         remove(self.note(crate))
         if self.product(crate).is_dir():
             remove(self.product(crate))
-        os.replace(made, self.product(crate))
+        os.replace(product, self.product(crate))
         if expected == self.expected(crate) and all(map(self.noted, self.crates.own(crate))):
             noting = self.making / f"{crate}.made-from"
             noting.write_text(f"{expected}\n{time.time_ns()}\n{self.version}\n", encoding="utf-8")

@@ -45,9 +45,9 @@ def refused_verdict(said: str) -> str:
     first, *words = verdicts[0].split()
     if first != "logic=proved":
         return f"the verdict is {first}"
-    for it in words:
-        if it.partition("=")[0] not in WORDS:
-            return f"the verdict has {it}"
+    for line in words:
+        if line.partition("=")[0] not in WORDS:
+            return f"the verdict has {line}"
     empty = EMPTY.search(said)
     return empty[0] if empty else ""
 

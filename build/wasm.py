@@ -4,8 +4,8 @@
   build/wasm.py FOLDER               writes FOLDER/exifnorm.wasm
   build/wasm.py --unproved FOLDER    the same of the quick library without proofs, for tests; its version ends with -unproved
 
-exifnorm.wasm imports nothing, and exports the functions of exifnorm.h, `exifnorm_malloc`, `exifnorm_free` and `exifnorm_allocations` of
-build/heap.c, and its memory. A pointer or a length is an i64 of which 32 bits count. FOLDER/exifnorm64.wasm is the same module before
+exifnorm.wasm imports nothing, and exports the functions of exifnorm.h that javascript/engine.js calls, `exifnorm_malloc`, `exifnorm_free`
+and `exifnorm_allocations` of build/heap.c, and its memory. A pointer or a length is an i64 of which 32 bits count. FOLDER/exifnorm64.wasm is the same module before
 binaryen lowers its addresses from 64 to 32 bits.
 
 Of the module these are changed: the target triple, the data layout, and attributes that WebAssembly has no use for. Then the
@@ -31,18 +31,19 @@ import module
 import quick
 from compiler import Compiler, version
 from crates import Crates
-from prove import NotBuilt, listen, say, take_lock
+from prove import NotBuilt, listen, locked, say
 
 TOP = Path(__file__).resolve().parent.parent
 HEAP = TOP / "build" / "heap.c"
 EXPORTS = TOP / "packaging" / "exifnorm.map"
+ENGINE = TOP / "javascript" / "engine.js"
 TRIPLE = "wasm64-unknown-unknown"
 LAYOUT = "e-m:e-p:64:64-p10:8:8-p20:8:8-i64:64-i128:128-n32:64-S128-ni:1:10:20"  # clang's own for this triple
 ATTRIBUTES = re.compile(r' "(?:frame-pointer|probe-stack|stack-probe-size|target-cpu)"="[^"]*"')
 FLAGS = [f"--target={TRIPLE}", "-mbulk-memory", "--no-default-config", "-O2", "-c"]
 LIBRARY = ["-ffunction-sections", "-fdata-sections", "-mllvm", "-no-trap-after-noreturn", "-mllvm", "-trap-unreachable", "-x", "ir"]
-# Four times what the deepest call needs. It is below the data, so that an overflow is a trap.
-STACK = 65536
+# Four times what the deepest call needs, which reads a packet of XMP. It is below the data, so that an overflow is a trap.
+STACK = 131072
 LINKED = ["-mwasm64", "--no-entry", "--gc-sections", "--stack-first", "--fatal-warnings", "-z", f"stack-size={STACK}"]
 NAMES = ["exifnorm.wasm", "exifnorm64.wasm"]
 HOST = ["exifnorm_malloc", "exifnorm_free", "exifnorm_allocations"]
@@ -58,8 +59,9 @@ def run(*words: str | Path) -> None:
 
 
 def exports() -> list[str]:
-    """The functions of exifnorm.h, and those for the host."""
-    return re.findall(r"\bexifnorm_\w+(?=;)", EXPORTS.read_text(encoding="utf-8")) + HOST
+    """The functions of exifnorm.h that JavaScript calls, and those for the host. A function that nobody calls makes the module longer."""
+    called = {*re.findall(r"\bexifnorm_\w+", ENGINE.read_text(encoding="utf-8"))}
+    return [name for name in re.findall(r"\bexifnorm_\w+(?=;)", EXPORTS.read_text(encoding="utf-8")) if name in called] + HOST
 
 
 def for_wasm(text: str) -> str:
@@ -106,9 +108,7 @@ def proved_source(crates: Crates) -> Path:
 
 def quick_source(crates: Crates) -> Path:
     """The file with the text of the quick library's module, which is compiled if it is not of the current sources."""
-    library = quick.Quick(crates, version())
-    library.compile(quick.LIBRARY)
-    return library.folder / quick.MODULE
+    return quick.Quick(crates, version()).compiled(quick.LIBRARY).with_name(quick.MODULE)
 
 
 def build(text: Path, clang: Path, folder: Path) -> None:
@@ -127,15 +127,15 @@ def make(source: Path, clang: Path, is_proved: bool, folder: Path) -> None:
     """Writes exifnorm.wasm and exifnorm64.wasm, made of the module in a file, into a new folder."""
     with tempfile.TemporaryDirectory(dir=folder.parent) as name:
         making = Path(name)
-        made, text = making / "made", making / "module.ll"
-        made.mkdir()
+        finished, text = making / "made", making / "module.ll"
+        finished.mkdir()
         run(clang, "--no-default-config", "-Xclang", "-disable-llvm-passes", "-S", "-emit-llvm", "-x", "ir", source, "-o", text)
         build(text, clang, making)
         for file in NAMES:
             if (guard.MARK.encode() in (making / file).read_bytes()) == is_proved:
                 raise NotBuilt(f"the version in {file} {'ends' if is_proved else 'does not end'} with {guard.MARK}")
-            os.replace(making / file, made / file)
-        os.replace(made, folder)
+            os.replace(making / file, finished / file)
+        os.replace(finished, folder)
 
 
 def kept(is_proved: bool = True) -> Path:
@@ -145,10 +145,10 @@ def kept(is_proved: bool = True) -> Path:
     crates = Crates.read(TOP)
     source = proved_source(crates) if is_proved else quick_source(crates)
     clang = Path(Compiler(crates, TOP, sys.stderr).kit) / "toolchain" / "bin" / "clang"
-    key = hashlib.sha256(b"".join(file.read_bytes() for file in (source, Path(__file__), HEAP, EXPORTS))).hexdigest()[:16]
+    made_from = [*(file.read_bytes() for file in (source, Path(__file__), HEAP)), *(name.encode() for name in exports())]
+    key = hashlib.sha256(b"".join(made_from)).hexdigest()[:16]
     folder = source.parent / f"wasm-{key}"
-    with open(source.parent / "wasm-lock", "w", encoding="ascii") as lock:
-        take_lock(lock, "another call makes exifnorm.wasm: waiting for it")
+    with locked(source.parent / "wasm-lock", "another call makes exifnorm.wasm: waiting for it"):
         if not folder.exists():
             make(source, clang, is_proved, folder)
     return folder
@@ -165,7 +165,7 @@ def main(words: list[str]) -> int:
         folder.mkdir(parents=True, exist_ok=True)
         for name in NAMES:
             shutil.copyfile(source / name, folder / name)
-    except (NotBuilt, quick.Failed, OSError, subprocess.SubprocessError) as why:
+    except (NotBuilt, OSError, subprocess.SubprocessError) as why:
         say(str(why))
         return 1
     return 0

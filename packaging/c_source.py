@@ -61,9 +61,7 @@ def module_of(is_proved: bool) -> Path:
     crates = Crates.read(TOP)
     if is_proved:
         return module.kept(crates) / "module.bc"
-    library = quick.Quick(crates, version())
-    library.compile(quick.LIBRARY)
-    return library.folder / quick.MODULE
+    return quick.Quick(crates, version()).compiled(quick.LIBRARY).with_name(quick.MODULE)
 
 
 def compile_module(source: Path, folder: Path) -> Path:
@@ -82,13 +80,13 @@ def compile_module(source: Path, folder: Path) -> Path:
 
 def in_c(object_file: Path, base: int) -> str:
     """The C of wasm2c for the module, with its constants from an address on."""
-    linked, lowered, made = (object_file.with_suffix(suffix) for suffix in (".wasm", ".lowered.wasm", ".c"))
+    linked, lowered, written = (object_file.with_suffix(suffix) for suffix in (".wasm", ".lowered.wasm", ".c"))
     exports = [f"--export={name}" for name in calls()]
     wasm.run(object_file.with_name("wasm-ld"), *LINKED, f"--global-base={base}", *exports, object_file, "-o", linked)
     linked.write_bytes(wasm.without_table(linked.read_bytes()))
     wasm.run("wasm-opt", *LOWERED, linked, "-o", lowered)
-    wasm.run("wasm2c", "-n", "exifnorm", lowered, "-o", made)
-    return made.read_text(encoding="utf-8")
+    wasm.run("wasm2c", "-n", "exifnorm", lowered, "-o", written)
+    return written.read_text(encoding="utf-8")
 
 
 # ---- the C of two such modules as one, over the addresses of the process
@@ -132,22 +130,22 @@ def constant_of(first: str, second: str) -> int | None:
     return offsets.pop() if len(offsets) == 1 else None
 
 
-def joined_line(one: str, other: str, length: int) -> str:
+def joined_line(line: str, other: str, length: int) -> str:
     """A line of both modules, with the name of the constants in place of their address.
 
     >>> joined_line("  w2c_j1 = 65542ull;", "  w2c_j1 = 131078ull;", 100)
     '  w2c_j1 = CONSTANT(6);'
     """
-    if one == other:
-        return one
-    tokens, others = TOKEN.findall(one), TOKEN.findall(other)
+    if line == other:
+        return line
+    tokens, others = TOKEN.findall(line), TOKEN.findall(other)
     if len(tokens) != len(others):
-        raise Failed(f"the two modules differ: {one!r}, {other!r}")
+        raise Failed(f"the two modules differ: {line!r}, {other!r}")
     for at, (first, second) in enumerate(zip(tokens, others)):
         if first != second:
             offset = constant_of(first, second)
             if offset is None or not -MOST_BEFORE <= offset <= length:
-                raise Failed(f"the two modules differ: {one!r}, {other!r}")
+                raise Failed(f"the two modules differ: {line!r}, {other!r}")
             tokens[at] = f"CONSTANT({offset})"
     return "".join(tokens)
 
@@ -228,19 +226,19 @@ def literal(octets: bytes) -> str:
     return f'"{text}"'
 
 
-def constants(one: bytes, other: bytes) -> str:
+def constants(data: bytes, other: bytes) -> str:
     """The constants as a struct, whose fields are bytes and the addresses of others."""
     fields, values, at = [], [], 0
-    differing = [n for n, (a, b) in enumerate(zip(one, other)) if a != b]
-    places = sorted({n // WIDTH * WIDTH for n in differing}) + [len(one)]
+    differing = [n for n, (a, b) in enumerate(zip(data, other)) if a != b]
+    places = sorted({n // WIDTH * WIDTH for n in differing}) + [len(data)]
     for place in places:
         for start in range(at, place, 80):
             size = min(80, place - start)
             fields.append(f"    u8 at{start}[{size}];")
-            values.append(f"    {literal(one[start : start + size])},")
-        if place < len(one):
-            offset, again = (int.from_bytes(it[place : place + WIDTH], "little") - base for it, base in zip((one, other), BASES))
-            if offset != again or not 0 <= offset <= len(one):
+            values.append(f"    {literal(data[start : start + size])},")
+        if place < len(data):
+            offset, again = (int.from_bytes(it[place : place + WIDTH], "little") - base for it, base in zip((data, other), BASES))
+            if offset != again or not 0 <= offset <= len(data):
                 raise Failed(f"the constants of the two modules differ at {place}")
             fields.append(f"    const u8 *at{place};")
             values.append(f"    (const u8 *)&constant + {offset},")
@@ -257,9 +255,16 @@ def constants(one: bytes, other: bytes) -> str:
     return "\n".join(lines) + "\n"
 
 
+def declared() -> dict[str, str]:
+    """The functions of exifnorm.h with their parameters."""
+    text = re.sub(r"(?s)/\*.*?\*/", "", HEADER.read_text(encoding="utf-8"))
+    found = re.findall(r"(?ms)^uint32_t (exifnorm_\w+)\((.*?)\);", text)
+    return {name: " ".join(parameters.split()) for name, parameters in found}
+
+
 def calls() -> list[str]:
-    """The names of the functions of exifnorm.h."""
-    return re.findall(r"(?m)^uint32_t (exifnorm_\w+)\(", HEADER.read_text(encoding="utf-8"))
+    """The names of the functions of the C source."""
+    return list(declared())
 
 
 def call(name: str, parameters: str) -> str:
@@ -279,27 +284,25 @@ def call(name: str, parameters: str) -> str:
 
 
 def all_calls() -> str:
-    """Each function of exifnorm.h."""
-    text = re.sub(r"(?s)/\*.*?\*/", "", HEADER.read_text(encoding="utf-8"))
-    found = re.findall(r"(?ms)^uint32_t (exifnorm_\w+)\((.*?)\);", text)
-    return "\n".join(call(name, " ".join(parameters.split())) for name, parameters in found)
+    """Each function of the C source."""
+    return "\n".join(call(name, parameters) for name, parameters in declared().items())
 
 
 def module_in_c(source: Path) -> str:
     """The text of module.c."""
     with tempfile.TemporaryDirectory() as folder:
         object_file = compile_module(source, Path(folder))
-        one, other = (written(in_c(object_file, base)) for base in BASES)
-    if len(one.lines) != len(other.lines) or len(one.data) != len(other.data):
+        module, other = (written(in_c(object_file, base)) for base in BASES)
+    if len(module.lines) != len(other.lines) or len(module.data) != len(other.data):
         raise Failed("the two modules have not the same lines")
-    lines = [joined_line(first, second, len(one.data)) for first, second in zip(one.lines, other.lines)]
+    lines = [joined_line(first, second, len(module.data)) for first, second in zip(module.lines, other.lines)]
     functions = functions_of(lines)
     heads = "".join(f"{head};\n" for head in re.findall(r"(?m)^(static \w+ w2c_\w+\([^;{]*\)) \{$", functions))
     stack = -(-stack_of(functions) // 16) * 16 + 16
-    mark = guard.MARK if guard.MARK.encode() in one.data else ""  # a constant is written in pieces, so the mark can't be seen there
+    mark = guard.MARK if guard.MARK.encode() in module.data else ""  # a constant is written in pieces, so the mark can't be seen there
     about = f"/* Made by packaging/c_source.py of the library's module{mark}; exifnorm.c includes it. */"
     size = f"#define STACK {stack} /* bytes that the deepest call needs */"
-    return "\n".join([about, size, "", constants(one.data, other.data), heads, functions, all_calls()])
+    return "\n".join([about, size, "", constants(module.data, other.data), heads, functions, all_calls()])
 
 
 def put(folder: Path, release: str, module_text: str) -> None:
@@ -337,11 +340,11 @@ def make(release: str, seconds: int, target: Path, is_proved: bool) -> Path:
         folder = Path(making, f"exifnorm-{release}-c")
         folder.mkdir()
         put(folder, release, text)
-        made = archive(folder, seconds)
+        packed = archive(folder, seconds)
         shutil.rmtree(target / folder.name, ignore_errors=True)
         folder.rename(target / folder.name)
-        os.replace(made, target / made.name)
-    return target / made.name
+        os.replace(packed, target / packed.name)
+    return target / packed.name
 
 
 def main(words: list[str]) -> int:
@@ -350,11 +353,11 @@ def main(words: list[str]) -> int:
         sys.exit(__doc__)
     try:
         listen()
-        made = make(words[0], int(words[1]), Path(words[2]).resolve(), is_proved)
-    except (Failed, NotBuilt, quick.Failed, OSError, subprocess.SubprocessError) as why:
+        target = make(words[0], int(words[1]), Path(words[2]).resolve(), is_proved)
+    except (Failed, NotBuilt, OSError, subprocess.SubprocessError) as why:
         print(f"c-source: {why}", file=sys.stderr)
         return 1
-    print(f"c-source: {made.name}")
+    print(f"c-source: {target.name}")
     return 0
 
 

@@ -45,19 +45,19 @@ def uses(lines: str) -> dict[str, list[str]]:
     >>> uses("a: b c\\nd staticlib: a  # more\\n")
     {'a': ['b', 'c'], 'd': ['a']}
     """
-    found = (line.partition("#")[0].partition(":") for line in lines.splitlines())
-    return {head.split()[0]: rest.split() for head, _, rest in found if head.strip()}
+    parts = (line.partition("#")[0].partition(":") for line in lines.splitlines())
+    return {head.split()[0]: rest.split() for head, _, rest in parts if head.strip()}
 
 
 def below(names: tuple[str, ...], table: dict[str, list[str]]) -> set[str]:
     """All crates that some crates use, over any number of steps."""
-    found: set[str] = set()
+    reached: set[str] = set()
     left = list(names)
     while left:
-        new = set(table.get(left.pop(), ())) - found
-        found |= new
+        new = set(table.get(left.pop(), ())) - reached
+        reached |= new
         left += new
-    return found
+    return reached
 
 
 def kit_crates(kit: Path, names: set[str]) -> set[str]:
@@ -127,10 +127,10 @@ def tools() -> list[dict[str, Any]]:
 def relations(first: str, linked: list[dict[str, Any]], used: list[dict[str, Any]]) -> Iterator[dict[str, str]]:
     """The document describes the first package, which is linked with some and was made with others."""
     yield {"spdxElementId": "SPDXRef-DOCUMENT", "relationshipType": "DESCRIBES", "relatedSpdxElement": first}
-    for it in linked:
-        yield {"spdxElementId": first, "relationshipType": "STATIC_LINK", "relatedSpdxElement": it["SPDXID"]}
-    for it in used:
-        yield {"spdxElementId": it["SPDXID"], "relationshipType": "BUILD_TOOL_OF", "relatedSpdxElement": first}
+    for part in linked:
+        yield {"spdxElementId": first, "relationshipType": "STATIC_LINK", "relatedSpdxElement": part["SPDXID"]}
+    for part in used:
+        yield {"spdxElementId": part["SPDXID"], "relationshipType": "BUILD_TOOL_OF", "relatedSpdxElement": first}
 
 
 def document(version: str, seconds: int, linked: list[dict[str, Any]], used: list[dict[str, Any]]) -> dict[str, Any]:

@@ -68,14 +68,14 @@ def write(source: Path, folder: Path) -> None:
     """Writes the dist-info of the project in a folder into another."""
     project = tomllib.loads((source / "pyproject.toml").read_text(encoding="utf-8"))["project"]
     description = (source / project["readme"]).read_text(encoding="utf-8")
-    made = folder / f"{project['name']}-{project['version']}.dist-info"
-    made.mkdir()
-    (made / "METADATA").write_text(metadata(project, description), encoding="utf-8")
-    (made / "entry_points.txt").write_text(entry_points(project["scripts"]), encoding="utf-8")
-    (made / "INSTALLER").write_text("make\n", encoding="utf-8")
+    target = folder / f"{project['name']}-{project['version']}.dist-info"
+    target.mkdir()
+    (target / "METADATA").write_text(metadata(project, description), encoding="utf-8")
+    (target / "entry_points.txt").write_text(entry_points(project["scripts"]), encoding="utf-8")
+    (target / "INSTALLER").write_text("make\n", encoding="utf-8")
     for licence in sorted(source.glob("LICENSE-*")):
-        shutil.copyfile(licence, made / licence.name)
-    for file in made.iterdir():
+        shutil.copyfile(licence, target / licence.name)
+    for file in target.iterdir():
         file.chmod(0o644)
 
 

@@ -43,9 +43,9 @@ def meaning(comment: str) -> str:
 def members(source: str) -> str:
     """The members of the header's list."""
     declared = re.search(r"pub enum Cause \{\n(.*?)\n\}", source, re.S)
-    found = MEMBER.findall(declared[1] + "\n" if declared else "")
-    lines = [f"    {name_in_c(name)} = {number}" + "," * (number < len(found)) for number, (_, name) in enumerate(found, 1)]
-    return "".join(f"{line:{max(map(len, lines))}} {meaning(comment)}\n" for line, (comment, _) in zip(lines, found))
+    causes = MEMBER.findall(declared[1] + "\n" if declared else "")
+    lines = [f"    {name_in_c(name)} = {number}" + "," * (number < len(causes)) for number, (_, name) in enumerate(causes, 1)]
+    return "".join(f"{line:{max(map(len, lines))}} {meaning(comment)}\n" for line, (comment, _) in zip(lines, causes))
 
 
 def macros(source: str) -> str:

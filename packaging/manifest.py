@@ -72,14 +72,14 @@ def put(source: Path, target: Path) -> None:
 
 def make_folders(root: Path, names: Iterable[str]) -> list[str]:
     """Creates the folders that are missing, and returns their names."""
-    made = []
+    new = []
     for name in names:
         folder = root / name
         if not folder.is_dir():
             folder.mkdir(FOLDER_MODE)
             folder.chmod(FOLDER_MODE)  # whatever the umask is
-            made.append(name)
-    return made
+            new.append(name)
+    return new
 
 
 def remove_empty(folder: Path) -> None:
@@ -91,8 +91,8 @@ def remove_empty(folder: Path) -> None:
 def remove_compiled(module: Path) -> None:
     """Removes Python's cache of a module, and its folder if that is empty then."""
     kept = list(module.parent.glob(f"__pycache__/{module.stem}.*.pyc"))
-    for it in kept:
-        it.unlink()
+    for file in kept:
+        file.unlink()
     if kept:
         remove_empty(kept[0].parent)
 

@@ -33,6 +33,7 @@ STATUSES = {
     "SECOND_REFUSED": "The second block or JPEG is refused.",
     "NOT_READ": "Two JPEGs are the same as far as they were read; a part of the first was not read.",
     "SECOND_NOT_READ": "Two JPEGs are the same as far as they were read; a part of the second was not read.",
+    "RARE": "The packet of XMP is in a rare form, which this library does not read.",
 }
 
 TEXT = """/* exifnorm_names.h: names of fields, and sentences for statuses and causes. packaging/names.py prints this file.
@@ -96,8 +97,8 @@ static inline const char *exifnorm_status_text(uint32_t status) {{
     }}
 }}
 
-/* What is wrong, in a sentence, by the cause of a block's refusal or that of a JPEG's head, as docs/REFUSALS.md has it. "" for a number that
- * is no cause. */
+/* What is wrong, in a sentence, by the cause of a block's refusal, that of a JPEG's head or that of a packet of XMP. "" for a number that is
+ * no cause. */
 static inline const char *exifnorm_cause_text(uint32_t cause) {{
     switch (cause) {{
 {causes}    default: return "";
@@ -185,7 +186,7 @@ def statuses(source: str) -> List[Tuple[str, str]]:
 
 def causes(source: str) -> List[Tuple[str, str]]:
     """The constant and the sentence of each cause that exifnorm.h lists."""
-    listed = re.findall(r"EXIFNORM_(CAUSE_\w+|JPEG_\w+) = (\d+)", source)
+    listed = re.findall(r"EXIFNORM_(CAUSE_\w+|JPEG_\w+|XMP_\w+) = (\d+)", source)
     names = ((constant, JPEG_CAUSES.get(int(number), name_of_cause(constant))) for constant, number in listed)
     return [(constant, CAUSE_WORDS[name][0]) for constant, name in names if name in CAUSE_WORDS]
 
@@ -193,10 +194,10 @@ def causes(source: str) -> List[Tuple[str, str]]:
 def name_of_cause(constant: str) -> str:
     """The name of a cause, from its constant in C.
 
-    >>> name_of_cause("CAUSE_DATASET_CUT"), name_of_cause("CAUSE_NO_MARKER")
-    ('DataSetCut', 'NoMarker')
+    >>> name_of_cause("CAUSE_DATASET_CUT"), name_of_cause("CAUSE_NO_MARKER"), name_of_cause("XMP_NO_RDF")
+    ('DataSetCut', 'NoMarker', 'XmpNoRdf')
     """
-    return "".join(word.capitalize() for word in constant.split("_")[1:]).replace("Dataset", "DataSet")
+    return "".join(word.capitalize() for word in constant.split("_") if word != "CAUSE").replace("Dataset", "DataSet")
 
 
 def header() -> str:

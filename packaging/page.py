@@ -23,16 +23,26 @@ TOP = Path(__file__).resolve().parent.parent
 sys.path[:0] = [str(TOP / "build"), str(TOP / "python")]
 
 import guard
-from exifnorm._causes import OF_HEADS
-from exifnorm_pictures.fields import names, plain_names, plain_values
+from exifnorm._causes import OF_HEADS, OF_PACKETS
+from exifnorm_pictures.fields import labels, names, plain_names, plain_values
+from exifnorm_pictures.model import xmp_names
 from exifnorm_pictures.refusals import causes
 
 PAGE = TOP / "page"
 LONGEST = 250_000  # bytes of the page; a module without proofs has checks in their place, and is longer
 # the scripts of the worker, each after those that it imports from
-MODULES = ["javascript/engine.js", "page/sha256.js", "page/values.js", "page/listing.js", "page/worker.js"]
+MODULES = [
+    "javascript/xmp.js",
+    "javascript/engine.js",
+    "page/sha256.js",
+    "page/md5.js",
+    "page/values.js",
+    "page/listing.js",
+    "page/xmp.js",
+    "page/worker.js",
+]
 EXPORT = re.compile(r"^export (?=(?:async )?(?:const|class|function) (\w+))", re.M)
-IMPORT = re.compile(r"^import [^;]*;\n", re.M)
+IMPORT = re.compile(r"^(?:import|export \{[^}]*\} from) [^;]*;\n", re.M)
 # what the page needs no bytes for: comments that are lines of their own, and indentation
 COMMENTS = re.compile(r"^ */\*[\s\S]*?\*/\n|^ *//.*\n|^ +", re.M)
 ENDS = re.compile("</(?:script|style)|<!--", re.I)
@@ -56,6 +66,9 @@ def tables() -> dict[str, Any]:
         "words": plain_values._WORDS,
         "causes": {cause.name: [cause.sentence, cause.meaning, cause.remedy, cause.cost] for cause in causes._CAUSES},
         "heads": {name: list(texts) for name, texts in OF_HEADS.items()},
+        "packets": {name: [sentence, "", remedy, ""] for name, (sentence, remedy) in OF_PACKETS.items()},
+        "spaces": xmp_names._SPACES,
+        "labels": {label.xmp: label.word for label in labels.LABELS if label.xmp},
     }
 
 

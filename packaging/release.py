@@ -72,10 +72,10 @@ def check(key: str) -> None:
     lacking = sorted(package for tool, package in needed.items() if not shutil.which(tool))
     if lacking:
         raise Failed(f"to build the packages, install {', '.join(lacking)}")
-    found = list(missing())
-    if found:
-        print(f"release: the owner still has to replace {TOKEN} in these lines:", *found, sep="\n  ", file=sys.stderr)
-    if key and found:
+    gaps = list(missing())
+    if gaps:
+        print(f"release: the owner still has to replace {TOKEN} in these lines:", *gaps, sep="\n  ", file=sys.stderr)
+    if key and gaps:
         raise Failed("nothing is signed as long as these are missing")
     changed = subprocess.run(["git", "status", "--porcelain"], cwd=TOP, stdout=subprocess.PIPE, check=True).stdout
     if key and changed:
@@ -103,8 +103,8 @@ def copy_proofs(out: Path) -> None:
     for name, patterns in (("proved", KEPT), *((machine, KEPT_THERE) for machine in cross.MACHINES)):
         (out / name).mkdir(parents=True)
         for pattern in patterns:
-            for it in (TOP / "out" / name).glob(pattern):
-                shutil.copy2(it, out / name)
+            for file in (TOP / "out" / name).glob(pattern):
+                shutil.copy2(file, out / name)
 
 
 def copy_module(out: Path) -> None:
@@ -144,8 +144,8 @@ def build(tree: Path, source: Path, version: str, seconds: int) -> list[Path]:
         "npm/*.tgz",
         "page/*.html",
     )
-    made = [listing, module_file, *(file for pattern in patterns for file in out.glob(pattern))]
-    return [*made, *tree.parent.glob("*.deb"), *source.parent.glob("*.dsc"), *source.parent.glob("*.debian.tar.*")]
+    files = [listing, module_file, *(file for pattern in patterns for file in out.glob(pattern))]
+    return [*files, *tree.parent.glob("*.deb"), *source.parent.glob("*.dsc"), *source.parent.glob("*.debian.tar.*")]
 
 
 def readme(folder: Path, version: str) -> str:
@@ -154,8 +154,8 @@ def readme(folder: Path, version: str) -> str:
     archive, wheel, other_wheel = (next(folder.glob(pattern)).name for pattern in patterns)
     text = (TOP / "packaging" / "release" / "README").read_text(encoding="utf-8")
     names = {"VERSION": version, "WHEEL": wheel, "AARCH64": other_wheel, "ARCHIVE": archive, "FOLDER": archive[: -len(".tar.gz")]}
-    for name, it in names.items():
-        text = text.replace(f"@{name}@", it)
+    for name, value in names.items():
+        text = text.replace(f"@{name}@", value)
     return text
 
 
@@ -176,8 +176,8 @@ def release(version: str, seconds: int, key: str) -> None:
     copy_module(WORK / "build" / root / "out")
     unpack(sources_archive, WORK / "source")
     shutil.copy2(sources_archive, WORK / "source")
-    for it in build(WORK / "build" / root, WORK / "source" / root, version, seconds):
-        shutil.copy2(it, new)
+    for file in build(WORK / "build" / root, WORK / "source" / root, version, seconds):
+        shutil.copy2(file, new)
     (new / "README").write_text(readme(new, version), encoding="utf-8")
     write_sums(new)
     if key:

@@ -69,9 +69,9 @@ def main(words: list[str]) -> None:
             folder = Path(making, f"exifnorm-{version}-static-{machine}")
             folder.mkdir()
             put(folder, version, machine, target / f"exifnorm-{machine}")
-            made = c_source.archive(folder, seconds)
-            made.replace(target / made.name)
-            print(f"static: {made.name}")
+            packed = c_source.archive(folder, seconds)
+            packed.replace(target / packed.name)
+            print(f"static: {packed.name}")
 
 
 if __name__ == "__main__":

@@ -11,12 +11,14 @@ from typing import Dict
 import pytest
 
 TOP = Path(__file__).resolve().parent.parent
-# What each command does. `make` writes the program; the command in place of Python runs "pytest" and prints how it was called.
+# What each command does. `make` writes the program; the command in place of Python runs "pytest" and prints how it was called. `rt ci`
+# refuses what a build leaves, as the toolchain does.
 COMMANDS = {
-    "rt": "echo 'rt: px_cli proved'; echo '16 passed, 0 failed'",
-    "make": "printf '#!/bin/sh\\necho exifnorm 1.0.0\\n' >out/exifnorm; chmod +x out/exifnorm; ls out/proved-since; echo $EXIFNORM_PROVED",
-    "python3": 'case "$*" in *--unchanged) exit 1 ;; esac; echo sums',
+    "rt": '[ "$1" = ci ] || exec cat "${0%/*}/version"; [ -d .git ] && [ ! -e out ] && [ ! -e crates/px_c/out ] && echo proving',
+    "make": "printf '#!/bin/sh\\necho exifnorm 1.0.0\\n' >out/exifnorm; chmod +x out/exifnorm",
+    "python3": 'echo "$@" $(cat "$3"/crates/px_c/src/lib.rt)',
     "tests-python": '[ "$1" = -c ] || { echo "$@"; echo "5 passed, 0 failed"; }',
+    "version": "toolchain 1",
 }
 
 
@@ -26,6 +28,16 @@ def gate(folder: Path) -> Path:
     shutil.copy(TOP / "test", folder)
     (folder / "bin").mkdir()
     put(folder, **COMMANDS)
+    for name in (
+        "crates.txt",
+        "HANDLES",
+        "crates/px_c/src/lib.rt",
+        "crates/px_c/must-fail/one.edit",
+        "crates/px_c/out/left",
+        "out/proved/left",
+    ):
+        (folder / name).parent.mkdir(parents=True, exist_ok=True)
+        (folder / name).write_text("one", encoding="ascii")
     return folder
 
 
@@ -37,20 +49,12 @@ def put(folder: Path, **commands: str) -> None:
 
 
 def environment(folder: Path) -> Dict[str, str]:
-    return {**os.environ, "PATH": f"{folder}/bin:{os.environ['PATH']}", "EXIFNORM_PYTHON": f"{folder}/bin/tests-python"}
+    return {**os.environ, "PATH": f"{folder}/bin:{os.environ['PATH']}", "EXIFNORM_PYTHON": f"{folder}/bin/tests-python", "CI": ""}
 
 
-def call(folder: Path, *words: str) -> "subprocess.CompletedProcess[str]":
-    return subprocess.run(
-        ["./test", *words],
-        cwd=folder,
-        env=environment(folder),
-        stdin=subprocess.DEVNULL,
-        capture_output=True,
-        text=True,
-        timeout=60,
-        check=False,
-    )
+def call(folder: Path, *words: str, **named: str) -> "subprocess.CompletedProcess[str]":
+    how = {"cwd": folder, "stdin": subprocess.DEVNULL, "capture_output": True, "text": True, "timeout": 600, "check": False}
+    return subprocess.run(["./test", *words], env={**environment(folder), **named}, **how)  # type: ignore[call-overload, no-any-return]
 
 
 def last_line(ran: "subprocess.CompletedProcess[str]") -> str:
@@ -60,40 +64,54 @@ def last_line(ran: "subprocess.CompletedProcess[str]") -> str:
 def test_all_is_well(gate):
     ran = call(gate)
     assert (ran.returncode, last_line(ran)) == (0, "5 passed, 0 failed"), ran
-    assert "out/proved-since" in ran.stdout.splitlines(), "the build doesn't take what rt ci has proved"
-    assert f"{gate}/crates/px_cli/out/px_cli" in ran.stdout.splitlines()
+    assert "build/prove.py --take out/gate one" in ran.stdout, "what rt ci has proved is not taken over"
+    assert (gate / "out/proved/left").exists() and not (gate / "out/gate").exists()
 
 
 @pytest.mark.parametrize(
     "command, script",
     [
-        ("rt", "echo 'rt: px_cli proved'; echo '16 passed, 0 failed'; exit 1"),
-        ("rt", "echo 'rt: px_cli NOT PROVED'; echo '15 passed, 1 failed'; exit 1"),
+        ("rt", "echo proving; exit 1"),
         ("make", "exit 2"),
         ("make", "printf '#!/bin/sh\\necho exifnorm 1.0.0-unproved\\n' >out/exifnorm; chmod +x out/exifnorm"),
         ("make", "printf '#!/bin/sh\\nexit 70\\n' >out/exifnorm; chmod +x out/exifnorm"),
         ("python3", "exit 1"),
         ("tests-python", "exit 1"),
+        ("tar", "exit 1"),
     ],
 )
 def test_no_test_runs_over_what_is_not_proved(gate, command, script):
     put(gate, **{command: script})
+    for _ in range(2):
+        ran = call(gate)
+        assert (ran.returncode, last_line(ran)) == (1, "0 passed, 1 failed"), ran
+        assert "-m pytest" not in ran.stdout
+
+
+def test_what_was_proved_is_not_proved_again_until_something_changes_but_in_ci(gate):
+    assert "proving" in call(gate).stdout
+    (gate / "crates/px_c/out/more").touch()
     ran = call(gate)
-    assert (ran.returncode, last_line(ran)) == (1, "0 passed, 1 failed"), ran
-    assert "-m pytest" not in ran.stdout
+    assert ran.returncode == 0 and "proving" not in ran.stdout and "all was proved by an earlier run" in ran.stdout, ran
+    assert "proving" in call(gate, CI="true").stdout
+    for name in (
+        "crates/px_c/src/lib.rt",
+        "crates/px_c/must-fail/one.edit",
+        "crates/px_c/src/more.rt",
+        "crates.txt",
+        "HANDLES",
+        "bin/version",
+    ):
+        (gate / name).write_text("two", encoding="ascii")
+        assert "proving" in call(gate).stdout, name
+        assert "proving" not in call(gate).stdout, name
 
 
-UNCHANGED = 'case "$*" in *--unchanged) exit 0 ;; esac; echo sums'
-
-
-@pytest.mark.parametrize("in_ci", [False, True])
-def test_what_was_proved_is_not_proved_again_but_in_ci(gate, monkeypatch, in_ci):
-    monkeypatch.setenv("CI", "true" if in_ci else "")
-    put(gate, python3=UNCHANGED, rt="echo 'rt: px_cli NOT PROVED'; exit 1")
-    (gate / "out").mkdir()
-    (gate / "out" / "proved-since").write_text("of an earlier run", encoding="ascii")
-    ran = call(gate)
-    assert (ran.returncode, last_line(ran)) == ((1, "0 passed, 1 failed") if in_ci else (0, "5 passed, 0 failed")), ran
+def test_a_source_that_is_edited_meanwhile_is_proved_by_the_next_run(gate):
+    put(gate, rt=f"{COMMANDS['rt']}; echo two >'{gate}/crates/px_c/src/lib.rt'")
+    assert "build/prove.py --take out/gate one" in call(gate).stdout
+    put(gate, rt=COMMANDS["rt"])
+    assert "proving" in call(gate).stdout
 
 
 def test_a_failed_test(gate):
@@ -102,66 +120,17 @@ def test_a_failed_test(gate):
     assert (ran.returncode, last_line(ran)) == (1, "4 passed, 1 failed"), ran
 
 
-@pytest.mark.parametrize("line", ["", "rt: px_cli NOT PROVED", "rt: px_cli proved, but for run", "rt: px_cli2 proved", "rt: px_c proved"])
-def test_a_program_that_rt_ci_has_not_proved_is_not_taken(gate, line):
-    """Even if `rt ci` ends well. The build then proves the program, and doesn't take the one that is there."""
-    (gate / "out").mkdir()
-    (gate / "out" / "proved-since").write_text("of an earlier run", encoding="ascii")
-    put(gate, rt=f"echo '{line}'; echo '16 passed, 0 failed'")
-    assert "out/proved-since" not in call(gate).stdout.splitlines()
-
-
-@pytest.mark.parametrize("line", ["rt: px_cli proved", "rt: px_cli is kept: its sources are the same"])
-def test_a_program_that_rt_ci_has_proved_is_taken(gate, line):
-    put(gate, rt=f"echo '{line}'; echo '16 passed, 0 failed'")
-    assert "out/proved-since" in call(gate).stdout.splitlines()
-
-
-def build(gate):
-    """What a build and earlier runs leave in out/."""
-    (gate / "out" / "proved").mkdir(parents=True)
-    (gate / "out" / "proved" / "lib.rt").write_text("of an earlier build", encoding="ascii")
-    (gate / "out" / "exifnorm").symlink_to("proved/px_cli")
-
-
-REFUSES = "[ -z \"$(find . -name .git -prune -o -name '*.rt' -print -o -type l -print)\" ] || exit 2\n"  # as `rt ci` does
-
-
-def test_the_build_takes_what_rt_ci_has_just_proved(gate):
-    """`rt ci` puts libraries of earlier runs back in place of its own, and the build takes its own only."""
-    library = gate / "crates" / "px_c" / "out" / "rlib"
-    library.mkdir(parents=True)
-    put(gate, rt="[ ! -e crates/px_c/out/rlib ] || exit 1\n" + COMMANDS["rt"])
-    assert call(gate).returncode == 0
-
-
-@pytest.mark.parametrize("has_git", [True, False])
-@pytest.mark.parametrize("script, status", [(COMMANDS["rt"], 0), ("exit 1", 1)], ids=["proved", "not proved"])
-def test_rt_ci_does_not_see_what_a_build_has_left(gate, has_git, script, status):
-    """And it is there again afterwards."""
-    if has_git:
-        subprocess.run(["git", "init", "-q", gate], check=True)
-    build(gate)
-    put(gate, rt=REFUSES + script)
-    assert call(gate).returncode == status
-    assert (gate / "out" / "proved" / "lib.rt").exists()
-    assert not os.path.exists(f"{gate}.out")
-
-
 def test_after_a_run_that_was_killed(gate):
-    """What a build has left is there again after the next run."""
-    subprocess.run(["git", "init", "-q", gate], check=True)
-    build(gate)
-    put(gate, rt='echo $$ >"$PWD/started"; exec sleep 600')
+    put(gate, rt='[ "$1" = ci ] || exit 0; echo $$ >../../started; exec sleep 600')
     started = subprocess.Popen(["setsid", "./test"], cwd=gate, env=environment(gate), stdin=subprocess.DEVNULL, stdout=subprocess.DEVNULL)
     while not (gate / "started").exists():
         time.sleep(0.05)
     os.killpg(os.getpgid(int((gate / "started").read_text(encoding="ascii"))), signal.SIGKILL)
-    started.wait(timeout=60)
-    assert not (gate / "out" / "proved").exists(), "it was put back though the run was killed, so this test shows nothing"
-    put(gate, rt=REFUSES + COMMANDS["rt"])
-    assert call(gate).returncode == 0
-    assert (gate / "out" / "proved" / "lib.rt").exists()
+    started.wait(timeout=600)
+    assert (gate / "out/gate").exists(), "the run left nothing, so this test shows nothing"
+    (gate / "out/gate/crates/px_c/more.rt").touch()
+    put(gate, rt="[ ! -e crates/px_c/more.rt ] || exit 1\n" + COMMANDS["rt"])
+    assert call(gate).returncode == 0 and not (gate / "out/gate").exists()
 
 
 def test_a_choice_proves_nothing(gate):
@@ -173,7 +142,7 @@ def test_a_choice_proves_nothing(gate):
 
 def test_a_stopped_run_leaves_no_process(gate, tmp_path):
     """By any of these signals. The runs take seconds to end, so they do it at the same time."""
-    put(gate, rt="(trap '' INT TERM; echo $$ >started; exec sleep 600) & sleep 600")
+    put(gate, rt="[ \"$1\" = ci ] || exit 0; (trap '' INT TERM; echo $$ >../../started; exec sleep 600) & sleep 600")
     runs = {}
     for number in (signal.SIGINT, signal.SIGTERM, signal.SIGHUP):
         shutil.copytree(gate, top := tmp_path / number.name)
@@ -184,7 +153,7 @@ def test_a_stopped_run_leaves_no_process(gate, tmp_path):
             time.sleep(0.05)
         started.send_signal(number)
     for number, started in runs.items():
-        output, _ = started.communicate(timeout=60)  # the pipe is open as long as a process is left
+        output, _ = started.communicate(timeout=600)  # the pipe is open as long as a process is left
         assert started.returncode == 1, (number, output)
 
 

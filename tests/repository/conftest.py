@@ -14,7 +14,7 @@ def room(folder):
 
 @pytest.fixture(scope="session")
 def both_builds(session_folder):
-    """A small repository that was built by the launcher and by the gate, with the toolchain itself."""
+    """A small repository that was built from nothing and by the gate, with the toolchain itself."""
     if not shutil.which("rt"):
         pytest.skip("there is no command rt on the PATH")
     from test_first_build import build_both

@@ -1,623 +1,401 @@
-"""Tests of build/: what is up to date, what counts as just proved by the gate, in what order crates are proved, and how many at once."""
+"""Tests of build/: what is up to date, what counts as proved, in what order crates are proved and how many at once, and what is left of a
+build that is stopped."""
 
-import contextlib
 import doctest
 import os
+import shutil
 import signal
 import subprocess
 import sys
-import threading
-from concurrent.futures import ThreadPoolExecutor
-from pathlib import Path
-from unittest import mock
 
 import crates
-import machine
 import prove
+import pytest
 import verdict
-from room import SIGNALS, Room, require_end, tick, wait_until
+from crates import Crates
+from room import SIGNALS, Room, runs, wait_until
 from store import Store
 
 LEVELS = "px_low: byteorder\npx_middle: px_low\npx_high staticlib: px_middle\npx_aside: px_low\n"
-
-TOP = Path(__file__).resolve().parents[2]
-
-
-def test_the_examples_are_right():
-    for it in (crates, verdict):
-        failed, ran = doctest.testmod(it)
-        assert failed == 0, it.__name__
-        assert ran > 2, it.__name__
-
-
-def levels(room: Room) -> Room:
-    """Three crates over one another, and one aside."""
-    return Room(room.folder / "levels", LEVELS)
-
-
-def store_of(room: Room, version: str = "toolchain 1") -> Store:
-    return Store(crates.Crates.read(room.top), version, room.top / "out" / "proved")
-
-
-# Every kind of source, and a change of each; what names no crate is of all crates.
-SOURCES = [
-    f"crates/CRATE/{it}"
-    for it in (
-        "src/lib.rt",
-        "src/further.rt",
-        "specs/Words.antt",
-        "specs/calls/Words.antt",
-        "specs/lemmas/Laws.antt",
-        "proofs/Answers.antt",
-        "proofs/lists/Listed.antt",
-    )
-]
+SOURCES = ("src/lib.rt", "specs/lemmas/Laws.antt", "proofs/lists/Listed.antt")
 CHANGES = {
-    "edited": lambda it: it.write_text("two"),
-    "edited, with its time put back": lambda it: [it.write_text("two"), os.utime(it, (10**9, 10**9))],
-    "taken away": lambda it: it.unlink(),
-    "renamed": lambda it: it.rename(it.with_name(f"Another{it.suffix}")),
-    "moved to another folder": lambda it: [(it.parent / "other").mkdir(exist_ok=True), it.rename(it.parent / "other" / it.name)],
-    "another beside it": lambda it: it.with_name(f"Another{it.suffix}").write_text("one"),
+    "edited": lambda source: source.write_text("two"),
+    "edited, with its time put back": lambda source: [source.write_text("two"), os.utime(source, (10**9, 10**9))],
+    "taken away": lambda source: source.unlink(),
+    "renamed": lambda source: source.rename(source.with_name(f"Another{source.suffix}")),
+    "another beside it": lambda source: source.with_name(f"Another{source.suffix}").write_text("one"),
 }
 
 
-def each_change(room: Room):
-    """Each kind of change of each source of three crates: its name, the crate, and the function that makes it. Each is undone."""
-    for crate in ("px_low", "px_middle", "px_high"):
-        for name in SOURCES:
-            for kind, change in list(CHANGES.items())[:: 1 if crate == "px_middle" else 3]:
-                source = room.top / name.replace("CRATE", crate)
-                yield f"{source}: {kind}", crate, lambda source=source, change=change: change(source)
+def test_the_examples_are_right():
+    for module in (crates, verdict):
+        failed, ran = doctest.testmod(module)
+        assert failed == 0 and ran > 2, module.__name__
 
 
-def add_sources(room: Room) -> None:
-    """Adds the further files that each_change changes."""
+# ---- what is up to date
+
+
+@pytest.fixture
+def levels(folder):
+    """A folder in which three crates over one another are built, and one aside."""
+    (folder / "crates.txt").write_text(LEVELS)
     for crate in ("px_low", "px_middle", "px_high", "px_aside"):
         for name in SOURCES:
-            source = room.top / name.replace("CRATE", crate)
-            source.parent.mkdir(exist_ok=True)
-            source.write_text("one")
+            (folder / "crates" / crate / name).parent.mkdir(parents=True)
+            (folder / "crates" / crate / name).write_text("one")
+    (folder / "out/proved").mkdir(parents=True)
+    build(folder)
+    return folder
 
 
-def state(room: Room) -> dict:
-    return {it: it.read_bytes() for it in (room.top / "crates").rglob("*") if it.is_file()}
+def store_of(top, version="toolchain 1") -> Store:
+    return Store(Crates.read(top), version, top / "out/proved")
 
 
-def put_back(room: Room, before: dict) -> None:
-    """Puts the sources back as they were."""
-    for it in (room.top / "crates").rglob("*"):
-        if it.is_file() and it not in before:
-            it.unlink()
-    for it, data in before.items():
-        it.write_bytes(data)
+def build(top, *crates: str):
+    """Makes what is not up to date of some crates, in place of prove.py."""
+    store = store_of(top)
+    with store.making_place():
+        for crate in crates or ("px_low", "px_middle", "px_high", "px_aside"):
+            if crate in store.unbuilt(crate):
+                (made := store.making / "made").write_text(store.crates.sum(crate))
+                store.put(crate, made, store.expected(crate))
 
 
-def test_whatever_a_crate_is_made_from_is_in_the_sum(room):
-    room = levels(room)
-    add_sources(room)
-    for it in ("px_high", "px_aside"):
-        assert room.prove(it).returncode == 0, room.log()
-    before = state(room)
+@pytest.mark.parametrize("kind", CHANGES)
+@pytest.mark.parametrize("name", SOURCES)
+def test_whatever_a_crate_is_made_from_is_in_the_sum(levels, kind, name):
     order = ["px_low", "px_middle", "px_high"]
-    for what, crate, change in each_change(room):
-        change()
-        unbuilt = store_of(room).unbuilt("px_high")
-        assert unbuilt == order[order.index(crate) :], (what, unbuilt)
-        assert store_of(room).is_current("px_aside") == (crate != "px_low"), what
-        put_back(room, before)
-        assert store_of(room).is_current("px_high"), f"{what}, taken back"
-    assert not store_of(room, "toolchain 2").is_built("px_low"), "the toolchain's version is passed over"
-    assert store_of(room, "").is_current("px_high"), "without a toolchain nothing is taken as built"
+    for crate in order:
+        CHANGES[kind](levels / "crates" / crate / name)
+        assert store_of(levels).unbuilt("px_high") == order[order.index(crate) :]
+        assert store_of(levels).is_current("px_aside") == (crate != "px_low")
+        build(levels)
+        assert store_of(levels).is_current("px_high")
 
 
-def test_whatever_the_list_of_crates_says_is_in_the_sum(room):
-    room = levels(room)
-    assert room.prove("px_high").returncode == 0, room.log()
-    for old, new in (
-        ("px_low: byteorder", "px_low: byteorder hex"),
-        ("px_high staticlib:", "px_high:"),
-        ("px_middle: px_low", "px_middle: px_low hex"),
-        ("px_high staticlib: px_middle", "px_high staticlib: px_middle px_low"),
-    ):
-        (room.top / "crates.txt").write_text(LEVELS.replace(old, new))
-        assert not store_of(room).is_current("px_high"), new
-    (room.top / "crates.txt").write_text(LEVELS.replace("px_aside: px_low", "px_aside:") + "# a comment\n")
-    assert store_of(room).is_current("px_high"), "what does not concern it counts"
-    (room.top / "crates.txt").write_text(LEVELS.replace("px_high staticlib", "px_high"))
-    (room.top / "crates/px_high/src/lib.rt").write_text("two")
-    assert room.prove("px_high").returncode == 0, room.log()
-    (room.top / "crates.txt").write_text(LEVELS)
-    assert not store_of(room).is_current("px_high"), "the archive of other sources, from before it became a library, is taken"
+def test_times_and_what_is_no_source_are_not_in_the_sum(levels):
+    for path in levels.rglob("*"):
+        path.touch()
+    (levels / "crates/px_low/out").mkdir()
+    (levels / "crates/px_low/out/kept").write_text("of rt check")
+    assert store_of(levels).is_current("px_high")
+    assert shutil.copytree(levels, levels / "copy") and store_of(levels / "copy").is_current("px_high")
+    assert store_of(levels, "").is_current("px_high"), "without a toolchain nothing is taken as built"
+    assert not store_of(levels, "toolchain 2").is_built("px_low"), "the toolchain's version is passed over"
 
 
-def test_a_crate_is_good_over_the_very_libraries_that_it_was_built_over(room):
-    room = levels(room)
-    room.prove("px_high")
-    folder = room.top / "out/proved"
-    for name, unbuilt in (
-        ("libpx_high.a", ["px_high"]),
-        ("px_low.made-from", ["px_low", "px_middle", "px_high"]),
-        ("px_middle.made-from", ["px_middle", "px_high"]),
-        ("px_high.made-from", ["px_high"]),
-    ):
-        away = room.folder / "away"
-        os.rename(folder / name, away)
-        assert store_of(room).unbuilt("px_high") == unbuilt, (name, store_of(room).unbuilt("px_high"))
-        os.rename(away, folder / name)
-    os.rename(folder / "px_low.rlib", room.folder / "px_low.rlib")
-    assert store_of(room).is_current("px_high"), "a library that nothing has to be built over is missed"
-    (room.top / "crates/px_high/src/lib.rt").write_text("two")
-    assert store_of(room).unbuilt("px_high") == ["px_low", "px_middle", "px_high"], "a crate is built over a library that is not there"
-    (room.top / "crates/px_high/src/lib.rt").write_text("one")
-    os.rename(room.folder / "px_low.rlib", folder / "px_low.rlib")
-    for text in ("", "one\n", "\xff"):
-        note = folder / "px_middle.made-from"
-        was = note.read_bytes()
-        note.write_bytes(text.encode("latin-1"))
-        assert store_of(room).unbuilt("px_high") == ["px_middle", "px_high"], text
-        note.write_bytes(was)
-    (room.top / "crates/px_low/src/lib.rt").write_text("two")
-    room.prove("px_aside")
-    (room.top / "crates/px_low/src/lib.rt").write_text("one")
-    room.prove("px_aside")
-    assert store_of(room).unbuilt("px_high") == ["px_middle", "px_high"], "another px_low of the same sources is below it now"
+@pytest.mark.parametrize(
+    "old, new, is_current",
+    [
+        ("px_low: byteorder", "px_low: byteorder hex", False),
+        ("px_high staticlib:", "px_high:", False),
+        ("px_high staticlib: px_middle", "px_high staticlib: px_middle px_low", False),
+        ("px_aside: px_low\n", "px_aside: # another\n", True),
+    ],
+)
+def test_what_the_list_of_crates_says_is_in_the_sum(levels, old, new, is_current):
+    (levels / "crates.txt").write_text(LEVELS.replace(old, new))
+    assert store_of(levels).is_current("px_high") == is_current
 
 
-def test_a_product_that_was_put_without_its_note_is_not_taken(room):
-    """A build is killed between the two, and the edit is undone."""
-    room.call()
-    room.main.write_text("two")
-    store = store_of(room)
-    store.clear()
-    made = room.command(store.making / "px_cli", "#!/bin/sh\necho two\n")
-    with mock.patch("store.time.time_ns", side_effect=KeyboardInterrupt), contextlib.suppress(KeyboardInterrupt):
-        store.put("px_cli", made, store.expected("px_cli"))
-    room.main.write_text("one")
-    assert (room.call("a").stdout, room.builds()) == ("one: a\n", 2), room.log()
+def test_a_crate_is_good_over_the_very_libraries_that_it_was_built_over(levels):
+    proved = levels / "out/proved"
+    for name, unbuilt in {"libpx_high.a": 1, "px_low.made-from": 3, "px_middle.made-from": 2, "px_high.made-from": 1}.items():
+        (proved / name).rename(levels / "away")
+        assert store_of(levels).unbuilt("px_high") == ["px_low", "px_middle", "px_high"][-unbuilt:], name
+        (levels / "away").rename(proved / name)
+    (proved / "px_low.made-from").write_bytes(b"\xff")
+    assert not store_of(levels).is_current("px_high"), "a note of any bytes"
+    (proved / "px_low.made-from").unlink()
+    build(levels, "px_low")
+    assert store_of(levels).unbuilt("px_high") == ["px_middle", "px_high"], "another px_low of the same sources is below it now"
 
 
-def test_only_what_was_changed_and_what_depends_on_it_is_proved_again(room):
-    room.call()
-    room.forget()
-    (room.top / "crates/px_iim/proofs/Answers.antt").write_text("two")
-    assert (room.call("a").stdout, room.built()) == ("one: a\n", ["px_iim", "px_cli"]), room.log()
-    room.forget()
-    (room.top / "out/proved/px_bytes.rlib").unlink()  # another px_bytes: what was built over the old one is not good over it
-    room.main.write_text("two")
-    assert (room.call("a").stdout, len(room.built())) == ("two: a\n", 4), room.log()
+def test_what_was_built_while_a_source_was_edited_is_not_taken_when_the_edit_is_undone(levels):
+    store, source = store_of(levels), levels / "crates/px_low/src/lib.rt"
+    expected = store.expected("px_low")
+    with store.making_place():
+        (made := store.making / "made").touch()
+        source.write_text("two")
+        store.put("px_low", made, expected)
+    source.write_text("one")
+    assert not store.is_built("px_low")
 
 
-def test_what_depends_on_a_crate_that_another_build_proved_again_is_proved_again(room):
-    for text in ("one", "two"):
-        (room.top / "crates/px_bytes/src/lib.rt").write_text(text)
-        room.call()
-        assert room.prove("px_other").returncode == 0, room.log()
-    assert [room.built().count(it) for it in ("px_bytes", "px_other")] == [2, 2], room.log()
+def test_links_among_the_sources_are_refused(levels):
+    (levels / "crates/px_low/specs/calls").symlink_to(levels / "elsewhere")
+    with pytest.raises(OSError, match="calls is a link"):
+        store_of(levels).is_current("px_high")
 
 
-def test_nothing_is_written_where_all_is_built(room):
-    room.call()
-    before = {it: it.lstat().st_mtime_ns for it in (room.top / "out").rglob("*")}
-    assert room.prove("px_cli").returncode == 0, room.log()
-    assert before == {it: it.lstat().st_mtime_ns for it in (room.top / "out").rglob("*")}, "something was written"
+def kill_at(step: int) -> None:
+    """Kills this process at the change of a file with this number."""
+    left = [step]
+
+    def hook(event: str, args: tuple) -> None:
+        if event in ("os.mkdir", "os.rename", "os.remove", "os.rmdir") or event == "open" and args[2] and args[2] & 3:
+            left[0] -= 1
+            if left[0] == 0:
+                os.kill(os.getpid(), signal.SIGKILL)
+
+    sys.addaudithook(hook)
 
 
-def test_a_crate_of_another_name_is_an_error(room):
-    ran = room.prove("px_none")
-    assert (ran.returncode, ran.stderr) == (1, "exifnorm: crates.txt names no crate px_none\n"), ran
-    for words in ((), ("px_cli", "px_c")):
-        ran = room.call(str(room.top / "build/prove.py"), *words, program=sys.executable)
-        assert (ran.returncode, ran.stderr) == (1, f"{prove.__doc__}\n"), ran
-    assert not (room.top / "out").exists(), ran
+def test_a_build_that_is_killed_at_any_change_of_a_file_leaves_no_wrong_product(levels):
+    """The edit is then undone: what was made of the edited source is not taken for a product of the other one."""
+    source = levels / "crates/px_low/src/lib.rt"
+    for step in range(1, 60):
+        source.write_text(f"text {step}")
+        child = os.fork()
+        if not child:
+            try:
+                kill_at(step)
+                build(levels)
+            finally:
+                os._exit(0)
+        killed = os.waitpid(child, 0)[1]
+        source.write_text("one")
+        build(levels)
+        store = store_of(levels)
+        for crate in store.crates.uses:
+            assert store.is_current(crate) and store.product(crate).read_text() == store.crates.sum(crate), (step, crate)
+        assert not store.making.exists()
+        if not killed:
+            assert step > 20
+            return
+    raise AssertionError("no build came to its end")
 
 
-def is_proved(room: Room, crate: str) -> bool:
-    """Whether the gate's proof counts for a crate, in the test's folder and with its toolchain."""
-    script = "import sys; sys.path.insert(0, sys.argv[1]); import gate; from crates import Crates; from pathlib import Path\n"
-    script += "print(gate.is_proved(Crates.read(Path(sys.argv[1]).parent), sys.argv[2]))"
-    ran = room.call("-B", "-c", script, str(room.top / "build"), crate, program=sys.executable)
-    assert ran.stdout in ("True\n", "False\n"), ran
-    return ran.stdout == "True\n"
+# ---- what counts as proved
 
 
-def test_nothing_counts_as_just_proved_after_a_change(room):
-    room = levels(room)
-    add_sources(room)
-    before = state(room)
-    room.is_proved()
-    assert is_proved(room, "px_high"), "nothing counts"
-    assert is_proved(room, "px_aside"), "nothing counts"
-    for what, _, change in list(each_change(room))[::5]:
-        change()
-        assert not is_proved(room, "px_high"), what
-        put_back(room, before)
-        assert not is_proved(room, "px_high"), f"{what}, and taken back while rt ci may have read it"
-        room.is_proved()
+WHOLE = (
+    "logic=proved functions=1 axioms=2 target=x86_64 cpu=any sum=1f native=nat logic-built=trusted libraries-built=trusted statements=1\n"
+)
+LEAVES_OUT = (
+    "may-wait=1 may-abort=1 may-serve=2 partial=1 hides=1 bugs=1 main=Wait foreign=px_iim::c batches=trusted cache=trusted newer-word=3"
+)
+NOT_PROVED = {
+    "": "the compiler gave 0 verdicts",
+    " logic=proved functions=1 sum=1f\n": "the compiler gave 0 verdicts",
+    "logic=failed functions=1 sum=1f\n": "the verdict is logic=failed",
+    "logic=proved-in-part functions=1 sum=1f\n": "the verdict is logic=proved-in-part",
+    WHOLE + "logic=failed functions=1 sum=1f\n": "the compiler gave 2 verdicts",
+    **{f"logic=proved functions=1 {word} sum=1f\n": f"the verdict has {word}" for word in LEAVES_OUT.split()},
+    "warning: no call of `px_iim::never` can meet its contract\n" + WHOLE: "warning: no call of `px_iim::never` can meet its contract",
+    "note: the search for empty contracts did not end\n" + WHOLE: "note: the search for empty contracts did not end",
+}
 
 
-def has_passed(room: Room) -> bool:
-    """Whether `rt ci` need not be called again."""
-    return room.call("-B", str(room.top / "build" / "gate.py"), "--unchanged", program=sys.executable).returncode == 0
+@pytest.mark.parametrize("text", NOT_PROVED)
+def test_a_crate_counts_as_proved_by_its_whole_verdict_alone(text):
+    assert verdict.refused_verdict(text) == NOT_PROVED[text]
 
 
-def test_rt_ci_is_called_again_after_any_change_of_what_it_reads(room):
-    room = levels(room)
-    edit, source, handles = room.top / "crates/px_low/must-fail/less.edit", room.top / "crates/px_aside/src/lib.rt", room.top / "HANDLES"
-    edit.parent.mkdir()
-    cases = {
-        "no run": lambda: room.mark.unlink(),
-        "a source of any crate": lambda: source.write_text("two"),
-        "a source that was touched": lambda: source.touch(),
-        "an edit that must be refused": lambda: edit.write_text("two"),
-        "one that was touched": lambda: edit.touch(),
-        "one more": lambda: edit.with_name("more.edit").touch(),
-        "what a program must print": lambda: (room.top / "crates/px_high/stdout").write_text("two"),
-        "the permissions": lambda: handles.write_text("two"),
-        "another toolchain": lambda: (room.folder / "version").write_text("toolchain 2\n"),
-    }
-    for what, change in cases.items():
-        for it in (edit, source, handles):
-            it.write_text("one")
-        room.is_proved()
-        assert has_passed(room), f"it is called again before {what}"
-        (room.top / "crates/px_low/out/made").touch()  # which it writes, and doesn't read
-        assert has_passed(room), "it is called again for its own output"
-        change()
-        assert not has_passed(room), what
+def test_a_whole_verdict_is_a_proof():
+    assert verdict.refused_verdict(WHOLE) == ""
+    closure = "warning: no call of `px_iim::one::fn::two` can meet its contract\n"  # |e| match e {} is honest code
+    assert verdict.refused_verdict(closure + WHOLE) == ""
 
 
-def add_to_an_old_library(room: Room, library: Path) -> None:
-    """Makes a later mark and the libraries again, but this one, to which a file is added."""
-    tick(room.mark, room.mark.touch, library / "checked")
-    low = room.top / "crates/px_low/out/rlib/px_low.rlib"
-    tick(low, lambda: room.put_library(low), room.mark)
-    more = library / "more"
-    tick(library, lambda: [more.touch(), more.unlink()], room.mark)
-    more.touch()
+@pytest.mark.parametrize(
+    "text", ["", "Handles allowed: Wait.\n", "Handles allowed: none", "Handles allowed: none.\nHandles allowed: Wait.\n"]
+)
+def test_changed_handles_are_refused(room, text):
+    room.write("HANDLES", text)
+    ran = room.prove("px_cli")
+    assert ran.returncode == 1 and "HANDLES" in ran.stderr and not room.log(), ran
 
 
-def see_nothing_counts(room: Room, cases: dict) -> None:
-    """After each of these changes px_high doesn't count as just proved."""
-    for what, change in cases.items():
-        (room.top / "crates/px_low/src/lib.rt").write_text("one")
-        (library_of(room).parent / "stamp").unlink(missing_ok=True)
-        room.is_proved()
-        assert is_proved(room, "px_high"), f"nothing counts before {what}"
-        change()
-        assert not is_proved(room, "px_high"), what
+# ---- proofs
 
 
-def library_of(room: Room) -> Path:
-    return room.top / "crates/px_middle/out/rlib/px_middle.rlib"
+def test_each_crate_is_proved_once_after_those_below_it(room):
+    ran = room.prove("px_cli")
+    assert ran.returncode == 0 and "proving px_bytes (1 of 4, 3 left)" in ran.stderr, ran
+    built = room.built()
+    assert sorted(built) == ["px_bytes", "px_cli", "px_field", "px_iim"] and (built[0], built[-1]) == ("px_bytes", "px_cli"), built
+    before = {path: path.lstat().st_mtime_ns for path in (room.top / "out").rglob("*")}
+    ran = room.prove("px_cli")
+    assert (ran.returncode, ran.stderr, room.built()) == (0, "", []), ran
+    assert before == {path: path.lstat().st_mtime_ns for path in (room.top / "out").rglob("*")}, "something was written"
+    room.write("crates/px_iim/proofs/Answers.antt", "two")
+    assert room.prove("px_cli").returncode == 0 and room.built() == ["px_iim", "px_cli"]
 
 
-def test_nothing_counts_as_just_proved_over_a_library_of_another_run(room):
-    room = levels(room)
-    library = library_of(room)
-    see_nothing_counts(
-        room,
-        {
-            "a library of before": lambda: os.utime(library, (10**9, 10**9)),
-            "a library with a folder of before": lambda: [(library / "old").mkdir(), os.utime(library / "old", (10**9, 10**9))],
-            "a library with files of before": lambda: add_to_an_old_library(room, library),
-            "a library without files": lambda: [(library / it).unlink() for it in ("checked", "kept")],
-            "a library of another command": lambda: (library.parent / "stamp").touch(),
-        },
-    )
+@pytest.mark.parametrize("words", [[], ["px_cli", "px_c"], ["--take"], ["px_none"]])
+def test_wrong_words(room, words):
+    ran = room.prove(*words)
+    assert ran.returncode == 1 and ("crates.txt names no crate" if words == ["px_none"] else "build/prove.py CRATE") in ran.stderr, ran
+    assert not (room.top / "out").exists() and not (room.top / "build/__pycache__").exists()
 
 
-def test_nothing_counts_as_just_proved_by_the_mark_of_another_run(room):
-    room = levels(room)
-    ahead = room.rt.stat().st_mtime + 86_400
-    see_nothing_counts(
-        room,
-        {
-            "no mark": lambda: room.mark.unlink(),
-            "a mark without sums": lambda: room.mark.write_text(""),
-            "a mark of fewer crates": lambda: room.mark.write_text(room.mark.read_text().rpartition("px_aside")[0]),
-            "an edit after the clock was set back": lambda: [
-                (room.top / "crates/px_low/src/lib.rt").write_text("two"),
-                *(os.utime(it, (ahead, ahead)) for it in (room.mark, *room.top.glob("crates/*/out/rlib/*/checked"))),
-            ],
-        },
-    )
+def test_a_compiler_is_called_as_the_toolchain_calls_it(room):
+    """That is in the toolchain's own command, and in the verdicts that these words lead to."""
+    assert room.prove("px_cli").returncode == room.prove("px_c").returncode == 0
+    asked = (room.folder / "asked").read_text().replace(f"{room.top}/out/proved", "PROVED").replace(f"{room.folder}/kit", "KIT")
+    asked = {line.split()[2]: line for line in asked.splitlines()}
+    rest = "-L dependency=KIT/rlibs -L dependency=PROVED --antt-project KIT/rattle/logic/antt-project.json --logic-built KIT/logic_built"
+    rest += f" --jobs {prove.jobs()} --links px_bytes= --empty-contracts -o PROVED/making/px_bytes.rlib --statements"
+    used = "--extern std=KIT/rlibs/std.rlib --extern byteorder=KIT/rlibs/byteorder.rlib"
+    assert asked["px_bytes"] == f"build --crate-name px_bytes src/lib.rt {used} {rest}"
+    native = "-o PROVED/making/{} --toolchain KIT/toolchain --backend llvm"
+    assert asked["px_cli"].endswith(native.format("px_cli.o"))
+    assert asked["px_c"].endswith(native.format("libpx_c.a") + " --crate-type staticlib")
+    assert "--extern px_bytes=PROVED/px_bytes.rlib" in asked["px_c"]
 
 
-def test_nothing_counts_as_just_proved_with_what_was_touched_since(room):
-    room = levels(room)
-    see_nothing_counts(
-        room,
-        {
-            "a list of crates that was touched": lambda: (room.top / "crates.txt").touch(),
-            "another toolchain": lambda: (room.folder / "version").write_text("toolchain 2\n"),
-            "another command": lambda: room.rt.touch(),
-            "other scripts": lambda: (room.top / "build/verdict.py").write_text((room.top / "build/verdict.py").read_text() + "# more\n"),
-            "an edit that was taken back, with the time of the file": lambda: [
-                *((room.top / "crates/px_low/src/lib.rt").write_text(it) for it in ("two", "one")),
-                os.utime(room.top / "crates/px_low/src/lib.rt", (10**9, 10**9)),
-            ],
-        },
-    )
-
-
-def test_no_program_is_taken_that_is_not_of_the_last_proof(room):
-    cases = {
-        "no mark": lambda: room.mark.unlink(),
-        "no program": lambda: room.proved.unlink(),
-        "an older program": lambda: os.utime(room.proved, (10**9, 10**9)),
-        "no command": lambda: room.proved.chmod(0o644),
-        "a program that does not start": lambda: room.proved.write_text("#!/no/such/interpreter\n"),
-        "an edit": lambda: (room.top / "crates/px_bytes/proofs/Answers.antt").write_text("two"),
-    }
-    for what, change in cases.items():
-        (room.top / "crates/px_bytes/proofs/Answers.antt").write_text("one")
-        if (room.top / "out").exists():
-            os.rename(room.top / "out", room.folder / f"away {what}")
-        room.is_proved()
-        change()
-        ran = room.call("a")
-        assert (ran.returncode, ran.stdout) == (0, "one: a\n"), (what, ran)
-
-
-def test_what_is_built_is_not_taken_again_from_the_gate(room):
-    room.is_proved()
-    room.call()
-    assert room.prove("px_other").returncode == 0, room.log()
-    assert store_of(room).is_current("px_cli"), "libraries below the program were taken again"
-    assert (room.call("a").stdout, room.built()) == ("proved: a\n", ["px_other"]), room.log()
-
-
-def test_how_many_are_proved_at_once(room):
-    file = room.folder / "meminfo"
-    for text, expected in (("MemTotal: 99 kB\nMemAvailable:    5000 kB\nCached: 7 kB\n", 5_120_000), ("MemTotal: 9 kB\n", 0)):
-        file.write_text(text)
-        assert machine.free_memory(file) == expected, text
-    assert machine.free_memory() > 0, "the system says nothing"
-    assert 0 < machine.processors(), "no processors"
-    assert machine.processors() <= (os.cpu_count() or 1), "more processors than there are"
-    were = machine.processors, machine.free_memory
-    try:
-        for processors, gigabytes, expected in (
-            (1, 64, 1),
-            (2, 64, 2),
-            (3, 64, 3),
-            (64, 64, 3),
-            (4, 0, 1),
-            (4, 3, 1),
-            (4, 5, 1),
-            (4, 6, 2),
-            (4, 9, 3),
-        ):
-            machine.processors, machine.free_memory = lambda: processors, lambda: gigabytes << 30
-            assert prove.places() == expected, (processors, gigabytes, prove.places())
-    finally:
-        machine.processors, machine.free_memory = were
-
-
-def most_at_once(log: list) -> int:
-    """The most crates that were built at the same time.
-
-    >>> most_at_once([["begin", "build", "a", "1"], ["begin", "build", "b", "2"], ["end", "build", "a", "0"]])
-    2
-    """
-    now = most = 0
-    for what, *_ in log:
-        now += 1 if what == "begin" else -1
-        most = max(most, now)
-    return most
-
-
-def test_crates_that_need_not_wait_are_proved_side_by_side(room):
-    room.hold("px_field", "px_iim")
-    started = room.start("a")
-    for it in ("px_field", "px_iim"):
-        room.until("begin", it)  # neither has ended
-    room.let_go("px_field", "px_iim")
-    assert started.communicate(timeout=300)[0] == "one: a\n", room.log()
-
-
-def test_a_crate_begins_as_soon_as_what_it_depends_on_is_proved(room):
+def test_crates_that_need_not_wait_are_proved_side_by_side_and_the_longest_chain_first(room):
     late = Room(room.folder / "late", "px_a: clap\npx_late: px_a\npx_b: px_a\npx_c: px_b\npx_cli: px_c px_late\n")
     late.hold("px_late")
-    started = late.start("a")
+    started = late.start_proof("px_cli")
     late.until("begin", "px_late")
     late.until("end", "px_c")  # it waits for px_b alone
-    assert "px_cli" not in [it[2] for it in late.log()], late.log()
     late.let_go("px_late")
-    assert started.communicate(timeout=300)[0] == "one: a\n", late.log()
-    given_way = {name: int(by) for what, _, name, by in late.log() if what == "end"}
-    assert [given_way[it] for it in ("px_b", "px_cli", "px_a")] == [os.nice(0)] * 3, late.log()
-    assert given_way["px_late"] == 19, late.log()  # also if the tests have the least priority themselves
+    assert started.communicate(timeout=800)[0] == "" and started.returncode == 0
+    gave_way = {name: int(by) for what, name, by in late.log() if what == "end"}
+    assert [gave_way[name] for name in ("px_a", "px_b", "px_cli", "px_late")] == [os.nice(0)] * 3 + [19], late.log()
 
 
-def test_no_more_are_proved_at_once_than_memory_allows(room):
-    names = "abcde"
-    listed = "".join(f"px_{it}: clap\n" for it in names) + "px_f: clap\npx_g: px_f\n"
-    listed += "px_cli: " + " ".join(f"px_{it}" for it in names + "g") + "\n"
-    for processors, gigabytes, expected in ((8, 64, 3), (2, 64, 2), (8, 4, 1), (1, 64, 1)):
-        many = Room(room.folder / f"{processors} {gigabytes}", listed)
-        many.machine(processors, gigabytes)
-        many.hold(*(f"px_{it}" for it in names + "fg"))
-        started = many.start("a")
-        wait_until(lambda many=many, expected=expected: sum(it[0] == "begin" for it in many.log()) >= expected, many.log())
-        assert "px_f" in [it[2] for it in many.log()], "another waits for px_f, so it is among the first"
-        many.let_go(*(f"px_{it}" for it in names + "fg"))
-        assert (started.communicate(timeout=300)[0], len(many.built())) == ("one: a\n", 8), many.log()
-        assert most_at_once(many.log()) == expected, many.log()
-        jobs = {it.split("--jobs ")[1].split()[0] for it in (many.folder / "asked").read_text().splitlines()}
-        assert jobs == {str(min(4, processors))}, jobs
+@pytest.mark.parametrize(
+    "processors, gigabytes, expected", [(1, 64, 1), (2, 64, 2), (64, 64, 3), (4, 0, 1), (4, 5, 1), (4, 6, 2), (4, 9, 3)]
+)
+def test_no_more_are_proved_at_once_than_there_are_processors_and_memory_for(monkeypatch, processors, gigabytes, expected):
+    monkeypatch.setattr(prove.os, "sched_getaffinity", lambda process: range(processors))
+    monkeypatch.setattr(prove, "free_memory", lambda: gigabytes << 30)
+    assert (prove.places(), prove.jobs()) == (expected, min(4, processors))
 
 
-def test_a_crate_that_is_changed_while_it_is_proved_is_proved_again(room):
-    room.hold("px_bytes")
-    started = room.start("a")
-    room.until("begin", "px_bytes")
-    (room.top / "crates/px_bytes/src/lib.rt").write_text("two")
-    room.let_go("px_bytes")
-    out, why = started.communicate(timeout=300)
-    assert out == "one: a\n", (out, why)
-    assert "left)\nexifnorm: a source was changed during the build: building again\nexifnorm: proving" in why, (out, why)
-    assert sorted(room.built()) == sorted(2 * ["px_bytes", "px_cli", "px_field", "px_iim"]), room.log()
-    assert store_of(room).is_current("px_cli"), "it is not built of the new text"
+def test_the_system_says_how_much_memory_is_free():
+    assert 0 < prove.free_memory() < 1 << 50
 
 
-def test_a_crate_that_changes_in_each_build_is_an_error(room):
-    edits = "cat /proc/sys/kernel/random/uuid >ROOM/repository/crates/px_iim/src/lib.rt"
-    room.command(room.folder / "kit/bin/rattle-link", f'#!/bin/sh\n{edits}\nexec sh ROOM/link "$@"\n')
-    room.command(room.folder / "link", '#!/bin/sh\nwhile [ "$1" != -o ]; do shift; done\ncp "$3" "$2" && chmod +x "$2"\n')
-    ran = room.call("a")
-    assert (ran.returncode, ran.stdout, room.builds()) == (70, "", 2), (ran, room.log())
-    again = "a source was changed during the build again: call again when the sources are as they should be"
-    assert ran.stderr.endswith(f" left)\nexifnorm: {again}\n"), (ran, room.log())
+def test_a_proof_that_fails_ends_the_others_and_is_made_again(room):
+    room.hold("px_field", "px_iim")
+    (room.folder / "fails-px_iim").write_text("".join(f"line {number}.\n" for number in range(1, 51)))
+    started = room.start_proof("px_cli")
+    other = room.until("begin", "px_field")
+    room.let_go("px_iim")
+    _, said = started.communicate(timeout=800)
+    assert started.returncode == 1, said
+    assert "px_iim was not proved or not built: the compiler ended with status 1; its log is" in said
+    assert "line 31." in said and "line 30." not in said, "the end of the log is shown"
+    wait_until(lambda: not runs(other), "another proof runs on")
+    (room.folder / "fails-px_iim").unlink()
+    room.let_go("px_field")
+    (room.folder / "says-px_iim").write_text("logic=failed\n")
+    assert "the verdict is logic=failed" in room.prove("px_cli").stderr
+    (room.folder / "says-px_iim").unlink()
+    assert room.prove("px_cli").returncode == 0
+
+
+def test_a_program_that_does_not_start_is_not_built(room):
+    for text in ("#!/no/such/interpreter\n", "#!/bin/sh\nexit 1\n"):
+        (room.folder / "program").write_text(text)
+        ran = room.prove("px_cli")
+        assert ran.returncode == 1 and "the program does not start" in ran.stderr, ran
+        assert not (room.top / "out/proved/px_cli").exists()
 
 
 def test_a_proof_that_is_killed_is_tried_again_with_one_job(room):
     (room.folder / "killed-px_iim").touch()
-    assert room.call("a").stdout == "one: a\n", room.log()
+    assert room.prove("px_cli").returncode == 0, room.log()
     log = (room.top / "out/build-px_iim.log").read_text()
-    assert log.splitlines()[0] == "the check was killed, most likely for memory: once more, with one job", log
-    asked = [it for it in (room.folder / "asked").read_text().splitlines() if "--crate-name px_iim" in it]
-    assert ["--jobs 4" in asked[0], "--jobs 1" in asked[1], len(asked)] == [True, True, 2], asked
-    room.main.write_text("two")
-    room.machine(1, 64)  # with one job it is killed for another reason, and ends the build
-    (room.folder / "killed-px_cli").touch()
-    assert room.call("a").returncode == 70, room.log()
+    assert log.startswith("the check was killed, most likely for memory: once more, with one job\n"), log
+    asked = [line for line in (room.folder / "asked").read_text().splitlines() if "--crate-name px_iim" in line]
+    assert len(asked) == 2 and "--jobs 1" in asked[1], asked
 
 
-def test_the_first_crate_that_fails_ends_the_others(room):
-    room.hold("px_field", "px_iim")
-    (room.folder / "fails-px_iim").write_text("no\n")
-    started = room.start("a")
-    field, _ = room.until("begin", "px_field"), room.until("begin", "px_iim")
-    room.let_go("px_iim")
-    why = started.communicate(timeout=300)[1]
-    assert started.returncode == 70, why
-    assert "px_iim was not proved" in why, why
-    require_end(field)
-
-
-def test_compilers_are_stopped_before_their_threads_are_waited_for(room):
-    """One proof fails while another runs."""
-    begun, stopped, were_stopped = threading.Event(), threading.Event(), []
-
-    class Failing(prove.Build):
-        def prove(self, crate: str, gives_way: bool) -> None:
-            if crate == "px_field":
-                begun.set()
-                stopped.wait()
-            elif crate == "px_iim":
-                begun.wait()
-                raise prove.NotBuilt(crate)
-
-    class Pool(ThreadPoolExecutor):
-        def __exit__(self, *why):
-            were_stopped.append(stopped.is_set())
-            stopped.set()
-            return super().__exit__(*why)
-
-    build = Failing(crates.Crates.read(room.top), "px_cli", mock.Mock(stop=stopped.set), store_of(room))
-    build.places = 2
-    with mock.patch.object(prove, "ThreadPoolExecutor", Pool), mock.patch.object(prove, "say"), contextlib.suppress(prove.NotBuilt):
-        build.run()
-    assert were_stopped == [True], "the other proof runs on"
-
-
-def test_what_a_killed_build_left_is_waited_for(room):
-    for i, closes in enumerate(("", "<&- >&- 2>&-")):
-        other = Room(room.folder / str(i))
-        other.hold("px_bytes")
-        words = [*SIGNALS, "sh", "-c", f'exec "$@" {closes}', "", str(other.top / "exifnorm")]
-        with subprocess.Popen(words, env=other.environment(), stderr=subprocess.DEVNULL, stdout=subprocess.DEVNULL) as started:
-            other.until("begin", "px_bytes")
-            started.kill()  # the compiler that it started runs on
-        with open(other.folder / "said", "w", encoding="utf-8") as said:
-            again = other.start("a", stderr=said)
-            wait_until(lambda it=other: "waiting for it" in (it.folder / "said").read_text() or len(it.log()) > 1, "it does nothing")
-            assert len(other.log()) == 1, f"it does not wait: {other.log()}"
-            other.let_go("px_bytes")
-            assert again.communicate(timeout=300)[0] == "one: a\n", other.log()
-        assert [it[0] for it in other.log() if it[2] == "px_bytes"] == ["begin", "end"] * 2, other.log()
+def test_a_crate_that_is_changed_while_it_is_proved_is_proved_again(room):
+    room.hold("px_bytes")
+    started = room.start_proof("px_cli")
+    room.until("begin", "px_bytes")
+    room.write("crates/px_bytes/src/lib.rt", "two")
+    room.let_go("px_bytes")
+    started.communicate(timeout=800)
+    assert (started.returncode, room.built().count("px_bytes")) == (0, 2)
+    assert store_of(room.top).is_current("px_cli")
 
 
 def test_one_build_at_a_time(room):
     room.hold("px_bytes")
-    said = [room.folder / f"said {it}" for it in range(5)]
-    started = [room.start(str(i), stderr=open(it, "w", encoding="utf-8")) for i, it in enumerate(said)]
-    waiting = lambda: sum("waiting for it" in it.read_text() for it in said)
-    wait_until(lambda: waiting() == 4 or len(room.log()) > 1, "four of five wait")
-    assert len(room.log()) == 1, room.log()
+    said = [room.folder / f"said {number}" for number in range(4)]
+    started = [room.start_proof("px_cli", stderr=open(file, "w", encoding="utf-8")) for file in said]
+    wait_until(lambda: sum("waiting for it" in file.read_text() for file in said) == 3, "three of four wait")
     room.let_go("px_bytes")
-    assert [it.communicate(timeout=300)[0] for it in started] == [f"one: {it}\n" for it in range(5)], said
-    assert (room.builds(), len(room.built())) == (1, 4), room.log()
-    assert [it.returncode for it in started] == [0] * 5, started
-    for it in sorted(it.read_text() for it in said)[:4]:
-        assert it.endswith("exifnorm: another build proves these crates: waiting for it\n"), it
+    assert [process.wait(timeout=800) for process in started] == [0] * 4
+    assert len(room.built()) == 4
 
 
-def test_a_build_without_the_launcher_is_stopped_too(room):
+@pytest.mark.parametrize("how", [signal.SIGTERM, signal.SIGINT, signal.SIGHUP], ids=lambda how: how.name)
+def test_a_build_that_is_stopped_ends_with_all_that_it_started(room, how):
     room.hold("px_bytes")
-    words = [sys.executable, str(room.top / "build/prove.py"), "px_other"]
-    with subprocess.Popen(words, env=room.environment(), stderr=subprocess.PIPE, text=True) as started:
-        working = room.until("begin", "px_bytes")
-        started.send_signal(signal.SIGTERM)
-        why = started.communicate(timeout=300)[1]
-    assert why.endswith("stopped\n"), (started.returncode, why)
-    assert started.returncode == 1, (started.returncode, why)
-    require_end(working)
-
-
-def of_build(code: str) -> str:
-    """The output of code that may import the modules of build/."""
-    ran = subprocess.run([sys.executable, "-c", code], env={**os.environ, "PYTHONPATH": str(TOP / "build")}, capture_output=True, text=True)
-    assert ran.returncode == 0, ran
-    return ran.stdout
-
-
-def test_only_processors_that_it_may_use_are_counted():
-    first = min(os.sched_getaffinity(0))
-    assert of_build(f"import os; os.sched_setaffinity(0, [{first}]); import machine; print(machine.processors())") == "1\n", "more than one"
+    (room.folder / "starts-px_bytes").touch()
+    started = room.start_proof("px_cli")
+    working = room.until("begin", "px_bytes")
+    wait_until(lambda: (room.folder / "starts-px_bytes").read_text(), "it starts no process")
+    below = int((room.folder / "starts-px_bytes").read_text())
+    assert runs(working) and runs(below)
+    started.send_signal(how)
+    why = started.communicate(timeout=800)[1]
+    assert started.returncode == 1 and why.endswith("left)\nexifnorm: the build was stopped\n"), why
+    wait_until(lambda: not runs(working) and not runs(below), "the compiler runs on, or what it started")
+    assert not (room.top / "out/proved/making").exists()
 
 
 def test_a_second_signal_does_not_end_a_stop():
-    code = """import os, prove, signal
-prove.listen()
-try:
-    os.kill(os.getpid(), signal.SIGTERM)
-except prove.NotBuilt as why:
-    print(why)
-for it in prove.STOPS:
-    os.kill(os.getpid(), it)
-print("it goes on")"""
-    assert of_build(code) == "the build was stopped\nit goes on\n", "a second signal is taken"
+    before = {number: signal.getsignal(number) for number in prove.STOPS}
+    try:
+        prove.listen()
+        with pytest.raises(prove.NotBuilt, match="was stopped"):
+            os.kill(os.getpid(), signal.SIGTERM)
+        for number in prove.STOPS:
+            os.kill(os.getpid(), number)
+    finally:
+        for number, handler in before.items():
+            signal.signal(number, handler)
 
 
-def test_a_compiler_leads_a_group_with_older_pythons_too():
-    for version in ((3, 9), (3, 11)):
-        code = f"import os, subprocess, sys; sys.version_info = {version}; import compiler; it = subprocess.Popen(['sleep', '100'], **compiler.GROUP)\n"
-        assert of_build(code + "print(os.getpgid(it.pid) == it.pid); it.kill()") == "True\n", version
+def test_signals_that_the_caller_ignores_do_not_stop_a_build(room):
+    room.hold("px_bytes")
+    words = ("--ignore-signal=HUP", str(room.top / "build/prove.py"), "px_bytes")
+    started = room.start(*words, program="/usr/bin/env")
+    room.until("begin", "px_bytes")
+    started.send_signal(signal.SIGHUP)
+    room.let_go("px_bytes")
+    assert started.communicate(timeout=800) and started.returncode == 0, "nohup has no effect"
 
 
-def test_the_scripts_write_nothing_beside_themselves(room):
-    for name, *words in (("prove.py", "px_none"), ("gate.py",), ("launch.py",)):
-        ran = room.call(str(room.top / "build" / name), *words, program=sys.executable)
-        assert not (room.top / "build/__pycache__").exists(), (name, ran)
+def test_what_a_killed_build_left_is_waited_for(room):
+    room.hold("px_bytes")
+    with subprocess.Popen([*SIGNALS, room.top / "build/prove.py", "px_bytes"], env=room.environment, stderr=subprocess.DEVNULL) as started:
+        working = room.until("begin", "px_bytes")
+        started.kill()
+    again = room.start_proof("px_bytes", stderr=open(room.folder / "said", "w", encoding="utf-8"))
+    wait_until(lambda: "waiting for it" in (room.folder / "said").read_text(), "it does not wait")
+    assert runs(working)
+    room.let_go("px_bytes")
+    assert again.wait(timeout=800) == 0 and room.built() == ["px_bytes"] * 2
 
 
-def test_what_a_build_wrote_is_never_too_new_for_a_look():
-    code = """import launch
-launch.time.time_ns = lambda: 5 * 10**9
-for it in ("out/exifnorm 3 4 5 5", "a 3 4 5 5", "a 3 4 5 4.1", "a 3 4 5 5.9", "a 3 4 5 3.9", "a 3 4 5 6.1", "a 3 4 5 "):
-    print(end="ny"[launch.is_fresh(it)])"""
-    assert of_build(code) == "nyyynny", "another file is too new"
+# ---- what `rt ci` has proved
 
 
-def test_a_program_that_does_not_end_does_not_start():
-    code = """import subprocess, verdict
-
-def run(words, **how):
-    raise subprocess.TimeoutExpired(words, how["timeout"])
-
-subprocess.run = run
-print(verdict.starts("a program"))"""
-    assert of_build(code) == "False\n", "it is waited for without end"
+def test_what_rt_ci_has_proved_in_a_copy_is_taken_over_where_it_is_the_same(levels):
+    copy = shutil.copytree(levels, levels / "gate", ignore=shutil.ignore_patterns("out"))
+    for crate in ("px_low", "px_middle", "px_aside"):
+        (copy / f"crates/{crate}/out/rlib").mkdir(parents=True)
+        (copy / f"crates/{crate}/out/rlib/{crate}.rlib").write_text("of rt ci")
+    (copy / "crates/px_low/src/lib.rt").write_text("two")
+    prove.take(Crates.read(copy), store_of(levels))
+    assert not any(map(store_of(levels).is_current, ("px_low", "px_middle", "px_aside"))), "of another px_low"
+    (levels / "crates/px_low/src/lib.rt").write_text("two")
+    (levels / "crates/px_aside/src/lib.rt").write_text("edited meanwhile")
+    for crate in ("px_low", "px_middle", "px_aside"):
+        shutil.move(levels / f"out/proved/{crate}.rlib", copy / f"crates/{crate}/out/rlib/{crate}.rlib")
+    prove.take(Crates.read(copy), store_of(levels))
+    assert [crate for crate in store_of(levels).crates.uses if store_of(levels).is_current(crate)] == ["px_low", "px_middle"]
+    assert (levels / "out/proved/px_middle.rlib").read_text() == "of rt ci"
+    assert store_of(levels).unbuilt("px_high") == ["px_high"]

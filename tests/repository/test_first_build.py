@@ -1,13 +1,14 @@
-"""Builds a small repository from nothing, as users do, with the toolchain itself: by the launcher and by make.
+"""Builds with the toolchain itself: a small repository from nothing, and these sources without proofs.
 
 ./test builds its program and its library over what `rt ci` has just proved, so the way from nothing is tested here: with a library of
-one function, two that are proved side by side over it, a program over all, and the same for C. Beside it `rt ci` proves them, as in
-./test, and `rt lib` builds the archive: all have to make the same bytes.
+one function, two that are proved side by side over it, a program over all, and the same for C. Beside it ./test proves them by `rt ci`,
+and `rt lib` builds the archive: all have to make the same bytes.
 """
 
 import os
 import shutil
 import subprocess
+import sys
 import uuid
 from concurrent.futures import ThreadPoolExecutor
 from pathlib import Path
@@ -21,7 +22,7 @@ HOURS = 4 * 3600  # what a command may take at most, also on a very busy machine
 
 pytestmark = [pytest.mark.proof, pytest.mark.timeout(2 * HOURS), pytest.mark.xdist_group("first_build")]
 
-PROGRAM, ARCHIVE = "crates/px_cli/out/px_cli", "out/proved/libpx_c.a"
+PROGRAM, ARCHIVE = "out/exifnorm", "out/proved/libpx_c.a"
 
 # A library over px_bytes.
 OVER = """// The same under another name.
@@ -143,131 +144,134 @@ class Project:
             (top / name).write_text(text, encoding="utf-8")
         for source in top.glob("crates/*/src/*.rt"):
             source.write_text(UNIQUE + source.read_text(encoding="utf-8"), encoding="utf-8")
-        shutil.copytree(TOP / "build", top / "build", ignore=shutil.ignore_patterns("__pycache__"))
-        shutil.copytree(TOP / "packaging", top / "packaging")
-        for name in ("exifnorm", "Makefile"):
+        for name in ("build", "packaging"):
+            shutil.copytree(TOP / name, top / name, ignore=shutil.ignore_patterns("__pycache__"))
+        for name in ("exifnorm", "Makefile", "test"):
             shutil.copy(TOP / name, top / name)
 
     def call(self, *words: str, folder: str = ".", **named: str) -> subprocess.CompletedProcess:
-        environment = {key: value for key, value in os.environ.items() if not key.startswith(("RT_", "EXIFNORM_", "MAKE", "TEST_PARTS"))}
+        environment = {
+            key: value for key, value in os.environ.items() if not key.startswith(("RT_", "EXIFNORM_", "MAKE", "TEST_PARTS", "CI"))
+        }
         how = {"cwd": self.top / folder, "stdin": subprocess.DEVNULL, "capture_output": True, "text": True, "timeout": HOURS}
         return subprocess.run(words, env={**environment, **named}, check=False, **how)
+
+    def test(self) -> subprocess.CompletedProcess:
+        """./test, in which `true` stands for Python and runs no tests."""
+        return self.call("./test", EXIFNORM_PYTHON="true")
 
     def bytes_of(self, name: str) -> bytes:
         return (self.top / name).read_bytes()
 
 
-class FromNothing(Project):
+def from_nothing(top: Path) -> Project:
     """The repository that is built as users do."""
-
-    def build(self) -> "FromNothing":
-        self.proved = self.call("./exifnorm", "--prove")
-        self.launched = self.call("./exifnorm", "a b")
-        self.library = self.call("make", ARCHIVE)
-        self.by_rt = self.call("rt", "lib", folder="crates/px_c")
-        return self
-
-
-class Gate(Project):
-    """The repository that `rt ci` proves, and make builds from its proofs."""
-
-    def build(self) -> "Gate":
-        self.prove()
-        archive = self.top / ARCHIVE
-        before = archive.stat().st_mtime_ns if archive.exists() else 0
-        self.is_archived = self.call("make", ARCHIVE).returncode == 0 and archive.stat().st_mtime_ns == before
-        self.again = again(self)
-        return self
-
-    def prove(self) -> None:
-        """What ./test does before its tests."""
-        sums = self.call("python3", "build/gate.py")
-        (self.top / "out").mkdir(exist_ok=True)
-        (self.top / "out/proved-since").write_text(sums.stdout, encoding="utf-8")
-        self.checked = self.call("rt", "ci")
-        self.made = self.call("make", "program", ARCHIVE, EXIFNORM_PROVED=str(self.top / PROGRAM))
+    user = Project(top)
+    user.made = user.call("make", "program")
+    user.launched = user.call("./exifnorm", "a b")
+    user.library = user.call("make", "library")
+    user.by_rt = user.call("rt", "lib", folder="crates/px_c")
+    return user
 
 
-def again(gate: Gate) -> Gate:
-    """The same in a copy of the sources, which the toolchain proves no more where it has kept the proofs."""
-    copy = Project.__new__(Gate)
-    copy.top = gate.top.with_name("again")
-    shutil.copytree(gate.top, copy.top, ignore=shutil.ignore_patterns("out"))
-    copy.prove()
-    return copy
+def by_the_gate(top: Path) -> Project:
+    """The repository that ./test proves and builds; then again; and in a copy, where the toolchain has kept the proofs."""
+    gate = Project(top)
+    gate.tested, gate.again = gate.test(), gate.test()
+    gate.copy = Project.__new__(Project)
+    gate.copy.top = shutil.copytree(top, top.with_name("copy"), ignore=shutil.ignore_patterns("out"))
+    gate.copy.tested = gate.copy.test()
+    return gate
 
 
-def test_the_launcher_proves_builds_and_runs(user, gate):
-    assert (user.proved.returncode, user.proved.stdout) == (0, ""), user.proved
-    assert "proving px_bytes (1 of 4, 3 left)" in user.proved.stderr, user.proved
+def build_both(folder: Path) -> tuple[Project, Project]:
+    """Makes and builds both repositories at once."""
+    with ThreadPoolExecutor(2) as pool:
+        user, gate = pool.submit(from_nothing, folder / "user"), pool.submit(by_the_gate, folder / "gate")
+        return user.result(), gate.result()
+
+
+def test_make_proves_and_builds_and_the_launcher_runs_it(user, gate):
+    assert (user.made.returncode, user.made.stdout) == (0, ""), user.made
+    assert "proving px_bytes (1 of 4, 3 left)" in user.made.stderr, user.made
     assert (user.launched.returncode, user.launched.stdout, user.launched.stderr) == (0, "one: a b\n", ""), user.launched
-    for it in ("bytes", "one", "two", "cli"):
-        assert (user.top / f"out/proved/px_{it}.made-from").exists(), "what was built isn't kept"
+    for name in ("bytes", "one", "two", "cli"):
+        assert (user.top / f"out/proved/px_{name}.made-from").exists(), "what was built isn't kept"
     assert "logic=proved" in (user.top / "out/build-px_bytes.log").read_text(encoding="utf-8"), "the log has no proof"
 
 
 def test_each_crate_is_proved_once_by_the_gate(user, gate):
-    assert gate.checked.returncode == 0, gate.checked
-    assert gate.made.returncode == 0, gate.made
-    assert gate.checked.stdout.count("fn px_bytes::echo: proved\n") == 1, gate.checked
-    assert gate.checked.stdout.count("fn px_cli::main: proved\n") == 1, gate.checked
-    assert "taking what was just proved of px_cli" in gate.made.stderr, gate.made
-    assert "proving px_bytes" not in gate.made.stderr, gate.made
-    assert "proving px_c (1 of 1, 0 left)" in gate.made.stderr, gate.made
+    assert gate.tested.returncode == 0, gate.tested
+    assert gate.tested.stdout.count("fn px_bytes::echo: proved\n") == 1, gate.tested
+    assert gate.tested.stdout.count("fn px_cli::main: proved\n") == 1, gate.tested
+    assert "proving px_c (1 of 1, 0 left)" in gate.tested.stderr and "proving px_bytes" not in gate.tested.stderr, gate.tested
+    assert not (gate.top / "out/gate").exists(), "the copy is left"
+    assert gate.again.returncode == 0 and "all was proved by an earlier run" in gate.again.stdout and not gate.again.stderr, gate.again
+    assert gate.copy.tested.returncode == 0 and "fn px_bytes::echo: proved" not in gate.copy.tested.stdout, gate.copy.tested
+    assert "proving px_bytes" not in gate.copy.tested.stderr, "what the toolchain kept of an earlier run is not taken"
 
 
-def test_what_the_toolchain_kept_of_an_earlier_run_is_taken_too(user, gate):
-    assert (gate.again.checked.returncode, gate.again.made.returncode) == (0, 0), vars(gate.again)
-    assert "taking what was just proved of px_cli" in gate.again.made.stderr, gate.again.made
-    assert "proving px_bytes" not in gate.again.made.stderr, gate.again.made
-
-
-def test_the_program_that_the_gate_proved_is_the_launcher_s(user, gate):
+def test_all_make_the_same_program(user, gate):
     assert gate.bytes_of(PROGRAM)[:4] == b"\x7fELF", "no program"
-    assert gate.bytes_of(PROGRAM) == user.bytes_of("out/exifnorm"), "another program"
-    assert gate.bytes_of(PROGRAM) == gate.bytes_of("out/exifnorm"), "the launcher took another program"
+    assert gate.bytes_of(PROGRAM) == user.bytes_of(PROGRAM) == gate.copy.bytes_of(PROGRAM)
     assert gate.call("./exifnorm", "a b").stdout == "one: a b\n", "it does something else"
 
 
-def test_the_archive_is_that_of_rt_lib(user, gate):
+def test_all_make_the_same_archive(user, gate):
     assert (user.library.returncode, user.by_rt.returncode) == (0, 0), (user.library, user.by_rt)
     assert "proving px_c (1 of 1, 0 left)" in user.library.stderr, "what the program stands on was proved again"
     by_rt = user.bytes_of("crates/px_c/out/libpx_c.a")
     assert by_rt[:8] == b"!<arch>\n", "no archive"
-    assert user.bytes_of(ARCHIVE) == by_rt, "another archive than that of `rt lib`"
-    assert gate.bytes_of(ARCHIVE) == by_rt, "another archive over what was proved"
-    assert gate.is_archived, "make would build it again"
-
-
-def test_nothing_of_the_gate_is_taken_that_was_changed_since(user, gate):
-    shutil.rmtree(gate.top / "out/proved")
-    (gate.top / "crates/px_bytes/src/lib.rt").touch()
-    ran = gate.call("make", ARCHIVE, EXIFNORM_PROVED=str(gate.top / PROGRAM))
-    assert ran.returncode == 0, ran
-    assert "taking" not in ran.stderr, ran
-    assert "proving px_bytes (1 of 2, 1 left)" in ran.stderr, ran
+    assert by_rt == user.bytes_of(ARCHIVE) == gate.bytes_of(ARCHIVE), "another archive than that of `rt lib`"
 
 
 def test_what_the_gate_refuses_is_not_built(user, gate):
+    """It changes what was built, so it is the last one."""
     for name, text, why in (("px_one", NEVER, "no call of `px_one::one`"), ("px_two", WAITS, "may-wait=1")):
         (user.top / f"crates/{name}/src/lib.rt").write_text(text, encoding="utf-8")
         ran = user.call("python3", "build/prove.py", name)
-        assert ran.returncode == 1, ran
-        assert f"fn {name}" in ran.stderr, ran
-        assert ": proved" in ran.stderr, ran
-        assert why in ran.stderr, ran
-    (user.top / "HANDLES").write_text("Handles allowed: Wait.\n", encoding="utf-8")
-    ran = user.call("python3", "build/prove.py", "px_two")
-    assert ran.returncode == 1, ran
-    assert "HANDLES" in ran.stderr, ran
-    assert "proving" not in ran.stderr, ran
+        assert ran.returncode == 1 and f"fn {name}" in ran.stderr and ": proved" in ran.stderr and why in ran.stderr, ran
+    (gate.top / "crates/px_one/src/lib.rt").write_text(NEVER, encoding="utf-8")
+    ran = gate.test()
+    assert ran.returncode == 1 and ran.stdout.endswith("0 passed, 1 failed\n") and "proving" not in ran.stderr, ran
 
 
-# The last two change what was built.
-def build_both(folder: Path) -> tuple[FromNothing, Gate]:
-    """Makes and builds both repositories at once."""
-    with ThreadPoolExecutor(2) as pool:
-        user, gate = (
-            pool.submit(lambda kind=kind, name=name: kind(folder / name).build()) for kind, name in ((FromNothing, "user"), (Gate, "gate"))
-        )
-        return user.result(), gate.result()
+# ---- these sources without proofs
+
+
+@pytest.fixture(scope="module")
+def compiled(session_folder):
+    """What both launchers compile in a clone of these sources, each called once."""
+    if not shutil.which("rt"):
+        pytest.skip("there is no command rt on the PATH")
+    top = session_folder / "clone"
+    top.mkdir()
+    for name in ("build", "crates", "packaging", "python"):
+        shutil.copytree(TOP / name, top / name, ignore=shutil.ignore_patterns("out", "__pycache__"))
+    for name in ("crates.txt", "HANDLES", "exifnorm", "exifnorm-pictures"):
+        shutil.copy(TOP / name, top / name)
+    environment = {name: value for name, value in os.environ.items() if not name.startswith("EXIFNORM_")}
+    for name in ("exifnorm", "exifnorm-pictures"):
+        ran = subprocess.run([top / name, "--version"], env=environment, capture_output=True, text=True, check=False)
+        assert (ran.returncode, ran.stdout.endswith("-unproved\n"), ran.stdout.split()[0]) == (0, True, name), ran
+    return top / "out" / "quick"
+
+
+class TestWithoutProofs:
+    BLOCK = bytes.fromhex("4949 2a00 08000000 0100 1201 0300 01000000 0600 0000 00000000")
+    NORMAL = bytes.fromhex("4d4d 002a 00000008 0001 0112 0003 00000001 0006 0000 00000000")
+
+    def test_the_program_has_the_normal_form(self, compiled):
+        ran = subprocess.run([compiled / "exifnorm"], input=self.BLOCK, capture_output=True, check=False)
+        assert (ran.returncode, ran.stdout) == (0, self.NORMAL), ran
+
+    def test_the_library_has_it_and_each_function_of_the_header(self, compiled):
+        code = f"import exifnorm; assert exifnorm.normal({self.BLOCK!r}) == {self.NORMAL!r}; print(exifnorm.version())"
+        environment = {**os.environ, "PYTHONPATH": str(TOP / "python"), "EXIFNORM_LIBRARY": str(compiled / "libexifnorm.so.1")}
+        ran = subprocess.run([sys.executable, "-c", code], env=environment, capture_output=True, text=True, check=False)
+        assert ran.returncode == 0 and ran.stdout.endswith("-unproved\n"), ran
+
+    def test_the_guard_refuses_both(self, compiled):
+        for name in ("exifnorm", "libexifnorm.so.1"):
+            ran = subprocess.run([sys.executable, TOP / "build/guard.py", compiled / name], capture_output=True, text=True, check=False)
+            assert ran.returncode == 1 and "without proofs" in ran.stderr, ran

@@ -7,7 +7,7 @@ from typing import Iterator, Tuple
 
 FOLDER = Path(__file__).resolve().parents[2] / "python/exifnorm_pictures"
 FLOORS = (
-    "model files xmp fields extract judge refusals catalogue scan comparison report export api many cli".split()
+    "model files xmp fields extract judge refusals catalogue scan comparison report export picture api many cli".split()
 )  # the lowest one first
 ENDS = {"sys.exit", "exit", "quit", "SystemExit", "sys.stdout.write"}
 

@@ -1,4 +1,5 @@
-"""Tests of the Makefile's rules for the program and the library, over the toolchain of `room.py`: which change builds what again.
+"""Tests of the Makefile's rules for the program and the library, over the toolchain of room.py: which change builds what again, and that
+nothing that was compiled without proofs passes for proved.
 
 They need make, cc, ld, objcopy and ar. test_install.py tests what is installed.
 """
@@ -6,254 +7,183 @@ They need make, cc, ld, objcopy and ar. test_install.py tests what is installed.
 import os
 import shutil
 import subprocess
-from pathlib import Path
+import sys
 
-from room import HANDLES, Room
-
-TOP = Path(__file__).resolve().parent.parent.parent
+import pytest
+from room import HANDLES, TOP, Room
 
 CRATES = "px_bytes: byteorder\npx_engine: px_bytes\npx_aside: px_bytes\npx_cli: px_engine\npx_c staticlib: px_bytes px_engine\n"
 LIBRARIES = ["libexifnorm.a", "libexifnorm.so.1", "exifnorm.h"]
 TARGETS = ["all", "program", "library", "check", "stage", "install", "uninstall", "wheel", "dist", "FORCE"]
 
 
-def made(room: Room) -> Room:
-    """A repository with the Makefile, and a toolchain whose archives are real ones."""
-    it = Room(room.folder / "made", CRATES)
-    shutil.copy(TOP / "Makefile", it.top / "Makefile")
-    shutil.copytree(TOP / "packaging", it.top / "packaging")
-    (it.top / "crates/px_engine/src/version.rt").write_text('pub const VERSION: &str = "1.2.3";\n'.replace('"', "'"))
-    header = it.top / "crates/px_c/include/exifnorm.h"
-    header.parent.mkdir()
-    header.write_text("/* one */\n")
-    (it.folder / "kit/c").mkdir()
-    own_code(it, "one")
-    it.command(it.top / "test", '#!/bin/sh\nexit "$(cat status)"\n')
-    for name in TARGETS:
-        (it.top / name).touch()  # a file of this name is no reason to do nothing
-    return it
-
-
-def own_code(room: Room, text: str, more: str = "") -> None:
+def own_code(room: Room, text: str) -> None:
     """The code of the toolchain that the library is linked with."""
     folder = room.folder / "kit/c"
-    (folder / "own.c").write_text(f'const char exifnorm_own[] = "own {text}";\nconst char of_the_toolchain[] = "own";\n{more}')
+    folder.mkdir(exist_ok=True)
+    (folder / "own.c").write_text(f'const char of_the_toolchain[] = "own";\n{text}')
     subprocess.run(["cc", "-c", "-o", "own.o", "own.c"], cwd=folder, check=True)
-    (folder / "liblibc_c.a").unlink(missing_ok=True)
-    subprocess.run(["ar", "rc", "liblibc_c.a", "own.o"], cwd=folder, check=True)
+    subprocess.run("rm -f liblibc_c.a && ar rc liblibc_c.a own.o", shell=True, cwd=folder, check=True)
 
 
-def make(room: Room, *words: str) -> subprocess.CompletedProcess:
-    return room.call("-C", str(room.top), "--no-print-directory", *words, program="make")
+@pytest.fixture
+def made(folder):
+    """A repository in which make has built all."""
+    room = Room(folder, CRATES)
+    for name in ("packaging", "debian"):
+        shutil.copytree(TOP / name, room.top / name)
+    shutil.copy(TOP / "python/setup.py", room.top / "python")
+    room.write("crates/px_engine/src/version.rt", "pub const VERSION")
+    room.write("crates/px_c/include/exifnorm.h", "/* one */\n")
+    room.command(room.top / "test", '#!/bin/sh\nexit "$(cat status)"\n')
+    own_code(room, 'const char exifnorm_own[] = "own one";\n')
+    for name in TARGETS:
+        room.write(name, "")  # a file of this name is no reason to do nothing
+    ran = room.make()
+    assert ran.returncode == 0, ran
+    return room
 
 
 def built(room: Room) -> dict:
     """The time of the last write of each file that make builds, and its content."""
     paths = [*(room.top / "out/lib").iterdir(), room.top / "out/proved/libpx_c.a", room.top / "out/exifnorm"]
-    return {it.name: (it.stat().st_mtime_ns, it.read_bytes()) for it in paths}
+    return {path.name: (path.stat().st_mtime_ns, path.read_bytes()) for path in paths}
 
 
 def contents(files: dict) -> dict:
     return {name: data for name, (_, data) in files.items()}
 
 
-def holds(room: Room, name: str, text: str) -> bool:
-    return text.encode() in (room.top / "out/lib" / name).read_bytes()
+def test_make_builds_the_program_and_the_library_once(made):
+    assert sorted(made.built()) == ["px_bytes", "px_c", "px_cli", "px_engine"]
+    assert made.call("a", program=made.top / "out/exifnorm").stdout == "one: a\n"
+    before = built(made)
+    assert {*LIBRARIES} <= {*before} and b"toolchain 1" in before["libexifnorm.a"][1] and b"own one" in before["libexifnorm.so.1"][1]
+    for name in ("crates.txt", "crates/px_c/src/lib.rt", "crates/px_cli/src/main.rt", "build/compiler.py", "HANDLES"):
+        (made.top / name).touch()
+    made.write("crates/px_aside/src/lib.rt", "two")
+    made.write("crates/px_c/must-fail/one.edit", "text")
+    for words in ((), ("library",), ("program", "-j4")):
+        ran = made.make(*words)
+        assert ran.returncode == 0 and "ld " not in ran.stdout and "cc " not in ran.stdout, ran
+    assert built(made) == before and made.built() == []
 
 
-def test_make_builds_the_program_and_the_library(room: Room) -> None:
-    room = made(room)
-    ran = make(room)
-    assert ran.returncode == 0, ran
-    assert room.call("a", program=str(room.top / "out/exifnorm")).stdout == "one: a\n", "no program"
-    assert set(LIBRARIES) <= set(built(room)), built(room).keys()
-    assert sorted(set(room.built())) == ["px_bytes", "px_c", "px_cli", "px_engine"], room.log()
-    assert len(room.built()) == 4, room.log()
-    assert holds(room, "libexifnorm.a", "toolchain 1"), "the library holds something else"
-    assert holds(room, "libexifnorm.so.1", "own one"), "the library holds something else"
+@pytest.mark.parametrize("name", ["px_bytes/src/lib.rt", "px_engine/specs/Words.antt", "px_c/proofs/Answers.antt", "px_c/src/further.rt"])
+def test_each_changed_source_is_in_the_library(made, name):
+    before = built(made)
+    made.write(f"crates/{name}", "changed")
+    assert made.make("library").returncode == 0
+    after = built(made)
+    for file in ("libpx_c.a", "exifnorm.o", *LIBRARIES[:2]):
+        assert after[file][0] > before[file][0] and ("px_c" not in name or b"changed" in after[file][1]), file
 
 
-def test_no_change_builds_nothing_again(room: Room) -> None:
-    room = made(room)
-    make(room)
-    before, log = built(room), room.log()
-    for words in ((), ("library",), ("program",), ("-j4",)):
-        ran = make(room, *words)
-        assert ran.returncode == 0, ran
-        assert "ld " not in ran.stdout, ran
-        assert "cc " not in ran.stdout, ran
-    for it in ("crates.txt", "crates/px_c/src/lib.rt", "crates/px_cli/src/main.rt", "build/compiler.py", "HANDLES"):
-        (room.top / it).touch()
-    (room.top / "crates/px_aside/src/lib.rt").write_text("two")
-    (room.top / "crates/px_c/must-fail").mkdir()
-    (room.top / "crates/px_c/must-fail/one.edit").write_text("text")
-    ran = make(room)
-    assert ran.returncode == 0, ran
-    assert built(room) == before, ran
-    assert room.log() == log, ran
+def test_other_changes_are_in_what_is_built(made):
+    made.main.write_text("two")
+    made.write("crates/px_c/include/exifnorm.h", "/* two */\n")
+    (made.folder / "version").write_text("toolchain 2\n")
+    own_code(made, 'const char exifnorm_own[] = "own two";\n')
+    assert made.make("LDFLAGS=-Wl,--build-id=0x0123456789abcdef").returncode == 0
+    assert made.call("a", program=made.top / "out/exifnorm").stdout == "two: a\n"
+    files = contents(built(made))
+    assert files["exifnorm.h"] == b"/* two */\n"
+    assert all(b"toolchain 2" in files[name] and b"own two" in files[name] for name in LIBRARIES[:2])
+    assert bytes.fromhex("0123456789abcdef") in files["libexifnorm.so.1"], "the linker had other flags than the caller's"
+    own_code(made, "void nowhere(void);\nvoid exifnorm_more(void) { nowhere(); }\n")
+    made.write("crates/px_c/src/lib.rt", "three")
+    ran = made.make("library")
+    assert ran.returncode == 2 and "nowhere" in ran.stderr, ran
 
 
-def test_each_changed_source_is_in_the_library(room: Room) -> None:
-    room = made(room)
-    make(room)
-    kinds = ("src/lib.rt", "specs/Words.antt", "proofs/Answers.antt")
-    files = [f"crates/{crate}/{it}" for crate in ("px_bytes", "px_engine", "px_c") for it in kinds]
-    for i, name in enumerate([*files, "crates/px_engine/src/version.rt", "crates/px_c/src/further.rt", "crates/px_c/proofs/Further.antt"]):
-        before = built(room)
-        (room.top / name).write_text(f"text {i}")
-        ran = make(room, "library")
-        assert ran.returncode == 0, (name, ran)
-        after = built(room)
-        for it in ("libpx_c.a", "exifnorm.o", "libexifnorm.a", "libexifnorm.so.1"):
-            assert after[it][0] > before[it][0], (name, ran)
-        if "px_c" in name:
-            for it in LIBRARIES[:2]:
-                assert holds(room, it, f"text {i}"), name
-    make(room)
-    before = built(room)
-    for name in ("crates/px_c/src/further.rt", "crates/px_c/proofs/Further.antt"):
-        (room.top / name).unlink()
-    assert make(room).returncode == 0, "what was taken away stays in the library"
-    assert built(room)["libexifnorm.a"] != before["libexifnorm.a"], "what was taken away stays in the library"
+@pytest.mark.parametrize("crate, target", [("px_c", "library"), ("px_bytes", "library"), ("px_cli", "program"), ("px_engine", "all")])
+def test_a_proof_that_fails_fails_make(made, crate, target):
+    (made.folder / f"says-{crate}").write_text("logic=failed functions=1 sum=1f\n")
+    made.write(f"crates/{crate}/proofs/Answers.antt", "wrong")
+    for _ in range(2):
+        assert made.make(target).returncode != 0, f"make {target} takes what is not proved"
+    (made.folder / f"says-{crate}").unlink()
+    made.write(f"crates/{crate}/proofs/Answers.antt", "one")
+    assert made.make(target).returncode == 0, "it is not built again"
+    made.write("HANDLES", "Handles allowed: Wait.\n")
+    assert made.make(target).returncode != 0, "HANDLES was changed"
+    made.write("HANDLES", HANDLES)
 
 
-def test_a_changed_program_source_is_in_the_program(room: Room) -> None:
-    room = made(room)
-    make(room)
-    for words in (("program",), ()):
-        room.main.write_text(f"text {len(words)}")
-        assert make(room, *words).returncode == 0, room.log()
-        assert room.call("a", program=str(room.top / "out/exifnorm")).stdout == f"text {len(words)}: a\n", words
-
-
-def test_a_changed_header_is_copied(room: Room) -> None:
-    room = made(room)
-    assert make(room, "out/lib/exifnorm.h").returncode == 0, "it is not copied before the library is built"
-    assert holds(room, "exifnorm.h", "one"), "it is not copied before the library is built"
-    make(room)
-    (room.top / "crates/px_c/include/exifnorm.h").write_text("/* two */\n")
-    assert make(room, "library").returncode == 0, "the header is the old one"
-    assert holds(room, "exifnorm.h", "two"), "the header is the old one"
-
-
-def test_another_toolchain_builds_the_library_again(room: Room) -> None:
-    room = made(room)
-    make(room)
-    (room.folder / "version").write_text("toolchain 2\n")
-    own_code(room, "two")
-    assert make(room, "library").returncode == 0, room.log()
-    assert room.built().count("px_c") == 2, room.log()
-    for it in LIBRARIES[:2]:
-        assert holds(room, it, "toolchain 2"), "the library is the old one"
-        assert holds(room, it, "own two"), "the library is the old one"
-
-
-def test_flags_of_the_caller_are_passed_to_the_linker(room: Room) -> None:
-    """As distributions do."""
-    room = made(room)
-    assert make(room, "LDFLAGS=-Wl,--build-id=0x0123456789abcdef").returncode == 0, room.log()
-    assert bytes.fromhex("0123456789abcdef") in (room.top / "out/lib/libexifnorm.so.1").read_bytes(), "the linker had other flags"
-    (room.top / "out/lib/libexifnorm.so.1").unlink()
-    assert make(room, "library", "CC=false").returncode != 0, "another compiler links it"
-
-
-def test_a_library_that_needs_what_is_nowhere_is_an_error(room: Room) -> None:
-    room = made(room)
-    own_code(room, "one", "void nowhere(void);\nvoid exifnorm_more(void) { nowhere(); }\n")
-    ran = make(room, "library")
-    assert (ran.returncode, "nowhere" in ran.stderr) == (2, True), ran
-
-
-def test_another_makefile_links_the_library_again(room: Room) -> None:
-    room = made(room)
-    make(room)
-    before = built(room)
-    with open(room.top / "Makefile", "a", encoding="utf-8") as it:
-        it.write("# changed\n")
-    assert make(room).returncode == 0, room.log()
-    after = built(room)
-    assert after["libpx_c.a"] == before["libpx_c.a"], "it is proved again"
-    assert after["libexifnorm.so.1"][0] > before["libexifnorm.so.1"][0], "it is not linked again"
-
-
-def test_a_proof_that_fails_fails_make(room: Room) -> None:
-    room = made(room)
-    make(room)
-    before = built(room)
-    for crate, target in (("px_c", "library"), ("px_bytes", "library"), ("px_cli", "program"), ("px_engine", "all")):
-        source = room.top / "crates" / crate / "proofs/Answers.antt"
-        (room.folder / f"says-{crate}").write_text("logic=failed functions=1 sum=1f\n")
-        source.write_text("wrong")
-        for _ in range(2):
-            assert make(room, target).returncode != 0, f"make {target} takes what is not proved"
-        (room.folder / f"says-{crate}").unlink()
-        source.write_text("one")
-        assert make(room, target).returncode == 0, "it is not built again"
-    (room.top / "HANDLES").write_text("Handles allowed: Wait.\n")
-    assert make(room, "library").returncode != 0, "HANDLES was changed"
-    assert make(room, "program").returncode != 0, "HANDLES was changed"
-    (room.top / "HANDLES").write_text(HANDLES)
-    assert make(room).returncode == 0, "it is not built again"
-    assert built(room)["exifnorm.h"] == before["exifnorm.h"], "it is not built again"
-
-
-def test_a_library_that_is_half_made_is_made_again(room: Room) -> None:
-    room = made(room)
-    make(room)
-    whole = built(room)
-    for tool, target in (("ld", "exifnorm.o"), ("objcopy", "exifnorm.o"), ("ar", "libexifnorm.a"), ("cc", "libexifnorm.so.1")):
+def test_a_library_that_is_half_made_is_made_again(made):
+    whole = contents(built(made))
+    for tool in ("ld", "objcopy", "ar", "cc"):
         breaks = 'for it; do case $it in out/lib/*) echo half >"$it"; exit 1 ;; esac; done'
-        broken = room.command(room.bin / tool, f'#!/bin/sh\n{breaks}\nexec /usr/bin/{tool} "$@"\n')
-        for it in ("exifnorm.o", "libexifnorm.a", "libexifnorm.so.1"):
-            (room.top / "out/lib" / it).unlink(missing_ok=True)
-        ran = make(room, "library")
-        assert ran.returncode != 0, (tool, ran)
+        broken = made.command(made.bin / tool, f'#!/bin/sh\n{breaks}\nexec /usr/bin/{tool} "$@"\n')
+        for name in ("exifnorm.o", *LIBRARIES[:2]):
+            (made.top / "out/lib" / name).unlink(missing_ok=True)
+        assert made.make("library").returncode != 0, tool
         broken.unlink()
-        assert make(room, "library").returncode == 0, tool
-        assert contents(built(room)) == contents(whole), f"{target} is half made"
+        assert made.make("library").returncode == 0 and contents(built(made)) == whole, f"{tool} left half of a file"
     for name in (*LIBRARIES, "libexifnorm.so"):
-        (room.top / "out/lib" / name).unlink()
-        (room.top / "out/lib" / name).write_text("half")
-        os.utime(room.top / "out/lib" / name, (10**9, 10**9))
-    assert make(room, "library").returncode == 0, "what another left is kept"
-    assert contents(built(room)) == contents(whole), "what another left is kept"
+        (made.top / "out/lib" / name).unlink()
+        os.utime(made.write(f"out/lib/{name}", "half"), (10**9, 10**9))
+    assert made.make("library").returncode == 0 and contents(built(made)) == whole, "what another left is kept"
 
 
-def test_the_archive_and_the_library_show_their_calls_alone(room: Room) -> None:
-    room = made(room)
-    make(room)
+def test_the_archive_and_the_library_show_their_calls_alone(made):
     for name, words in (("libexifnorm.a", ["-g"]), ("libexifnorm.so.1", ["-D"])):
-        shown = room.call(*words, "--defined-only", str(room.top / "out/lib" / name), program="nm").stdout
-        names = {it.split()[-1].partition("@")[0] for it in shown.splitlines() if len(it.split()) > 2}
-        assert names - {"EXIFNORM_1"} <= {"exifnorm_text", "exifnorm_own"}, (name, shown)
-        assert "of_the_toolchain" not in shown, (name, shown)
-    assert "exifnorm_text" in room.call("-g", str(room.top / "out/lib/libexifnorm.a"), program="nm").stdout, "it shows nothing"
+        shown = made.call(*words, "--defined-only", str(made.top / "out/lib" / name), program="nm").stdout
+        names = {line.split()[-1].partition("@")[0] for line in shown.splitlines() if len(line.split()) > 2}
+        assert names - {"EXIFNORM_1"} <= {"exifnorm_text", "exifnorm_own"} and (name.endswith("1") or "exifnorm_text" in names), shown
 
 
-def test_the_program_that_make_built_is_installed(room: Room) -> None:
-    room = made(room)
-    make(room)
-    room.proved.parent.mkdir()
-    room.proved.write_text("what an earlier ./test left")
-    (target := room.top / "staged/usr/local/bin").mkdir(parents=True)
-    lines = make(room, "-n", "stage", "stage=staged").stdout.splitlines()
-    (line,) = (it for it in lines if it.startswith("install ") and it.endswith("/bin/exifnorm'"))
-    ran = room.call("-c", line, program="/bin/sh", cwd=room.top)
-    assert ran.returncode == 0, (line, ran)
-    assert (target / "exifnorm").read_bytes() == (room.top / "out/exifnorm").read_bytes(), (line, ran)
-
-
-def test_uninstall_and_dist_are_done_whatever_files_there_are(room: Room) -> None:
-    room = made(room)
+def test_check_ends_as_the_tests_do_and_other_targets_are_made_whatever_files_there_are(made):
+    for status in (0, 1, 127):
+        made.write("status", str(status))
+        assert (made.make("check").returncode == 0) == (status == 0), status
     for target in ("uninstall", "dist"):
-        ran = make(room, "-n", target)
-        assert "python3 packaging/" in ran.stdout, ran
+        assert "python3 packaging/" in made.make("-n", target).stdout
+    made.write("crates/px_cli/out/px_cli", "what rt run left")
+    (line,) = (
+        line for line in made.make("-n", "stage", "stage=.").stdout.splitlines() if line.endswith("/bin/exifnorm'") and "out/" in line
+    )
+    assert line.startswith("install -m 755 out/exifnorm "), line
 
 
-def test_make_check_ends_as_the_tests_do(room: Room) -> None:
-    room = made(room)
-    for status in (0, 1, 3, 127):
-        (room.top / "status").write_text(str(status))
-        assert (make(room, "check").returncode == 0) == (status == 0), status
-    (room.top / "test").unlink()
-    assert make(room, "check").returncode != 0, "there is no test"
+# ---- nothing that is compiled without proofs passes for proved
+
+INSTALLED = {
+    "install": ["make", "install", "DESTDIR=installed"],
+    "archive": ["make", "dist"],
+    "debian": ["make", "-f", "debian/rules", "override_dh_auto_build"],
+}
+REFUSE_PROGRAM = {**INSTALLED, "make": ["make", "program"]}
+REFUSE_LIBRARY = {
+    **INSTALLED,
+    "make": ["make", "library"],
+    "wheel": ["make", "wheel"],
+    "setup": ["env", "-C", "python", sys.executable, "setup.py", "build"],
+}
+
+
+def require_refused(room: Room, words: list) -> None:
+    ran = room.call(*words[1:], program=words[0], cwd=room.top)
+    assert ran.returncode != 0 and "was compiled without proofs" in ran.stderr, (words, ran)
+    assert not (room.top / "installed").exists()
+    assert not [*(room.top / "out/dist").rglob("*"), *(room.top / "out/wheel").rglob("*.whl")]
+
+
+def test_no_program_without_proofs_passes_for_proved(made):
+    made.write("out/proved/px_cli", "exifnorm 1.2.3-unproved")
+    for words in REFUSE_PROGRAM.values():
+        require_refused(made, words)
+
+
+def test_no_library_without_proofs_passes_for_proved(made):
+    for name in LIBRARIES[:2]:
+        (made.top / "out/lib" / name).rename(made.folder / "away")
+        made.write(f"out/lib/{name}", "1.2.3-unproved")
+        for words in REFUSE_LIBRARY.values() if name.endswith("1") else [REFUSE_LIBRARY["make"]]:
+            require_refused(made, words)
+        (made.folder / "away").replace(made.top / "out/lib" / name)
+
+
+def test_the_guard_refuses_what_it_cannot_read(folder):
+    ran = subprocess.run([sys.executable, TOP / "build/guard.py", folder / "missing"], capture_output=True, text=True, check=False)
+    assert (ran.returncode, ran.stderr) == (1, f"exifnorm: cannot read {folder}/missing: No such file or directory\n")

@@ -1,9 +1,9 @@
 """Facts about the bodies of Rattle functions on which a reader relies, and which no contract can state.
 
-A call over an allocator, and an export for C, makes a `Memory` of its own, of which no clause can speak. So its body must be one line over
-its `_in` variant, which is proved to fail only where an allocation failed. Only a few listed functions make memory otherwise, and hardly a
-function but those of `Memory` calls what allocates. Libraries that `make` built are judged by the compiled code, programs and static
-libraries by their text.
+A function of a crate's `global.rt`, and an export for C, makes a `Memory` of its own, of which no clause can speak. So its body must be one
+line over its `_in` variant, which is proved to fail only where an allocation failed. Only a few listed functions make memory elsewhere, and
+hardly a function but those of `Memory` calls what allocates. For both, libraries that `make` built are judged by the compiled code, programs
+and static libraries by their text.
 """
 
 import doctest
@@ -107,7 +107,8 @@ KEEPS = re.compile(r"^(?:pub(?:\(crate\))? )?struct (\w+)[^{;]*\{[^}]*?^    (?:p
 
 # A text that calls what allocates, other than a call of `Memory`.
 ALLOCATES = re.compile(
-    r"\b(?:Arc|Arg|BinaryHeap|BTreeMap|BTreeSet|Box|Command|HashMap|HashSet|Rc|String|Vec|VecDeque)::|\b(?:format|vec)!|"
+    r"\b(?:Arc|Arg|BTreeMap|BTreeSet|Box|Command|HashMap|HashSet|Rc|VecDeque)::|\bBinaryHeap::(?!from\()|"
+    r"\b(?:String|Vec)::(?!new\()|\b(?:format|vec)!|"
     r"\.(?:append|clone|collect|extend|into|to_owned|to_string|to_vec)\(|\.(?:subcommand\(\w|try_get_matches_from\()|"
     r"(?<!\bmemory)\.(?:extend_from_slice|insert|push|push_str|reserve|reserve_exact|resize)\((?!memory\b)"
 )
@@ -160,16 +161,37 @@ def place_of(crate, path):
     return f"crates/{crate}/src/{parts[1] if len(parts) > 2 else 'lib'}.rt: {parts[-1]}"
 
 
-def calls_over_an_allocator(found):
-    """The functions of a text that have an `_in` variant and take no memory: (path, plain name, parameters, body). Another type's method of
-    that name has no variant."""
-    names = {name for _, name, public, _, _ in found if public}
-    for path, name, public, parameters, body in found:
-        takes, plain = names_of(parameters), name.removeprefix("exifnorm_")
-        if not public or f"{plain}_in" not in names or "memory" in takes:
-            continue
-        if re.search(rf"\b{plain}_in\b", body) or any(it[0] == path and it[1] == f"{plain}_in" for it in found):
-            yield path, plain, takes, body
+def calls_over_an_allocator():
+    """The functions of each `global.rt`, and the exports for C that take an allocator: (path, name, parameters, body)."""
+    for crate, found in crates():
+        for path, name, _, parameters, body in found:
+            takes = names_of(parameters)
+            if path.endswith("/global.rt") or crate == "px_c" and name.startswith("exifnorm_") and "alloc" in takes:
+                yield path, name, takes, body
+
+
+# An impl, or a public function.
+IMPL_OR_FUNCTION = re.compile(r"^impl(?:<[^>]*>)? (?P<kind>\w+)|^(?P<indent> *)pub fn (?P<name>\w+)", re.M)
+
+
+def ends_of_paths(text):
+    """How the paths of the functions of a `global.rt` end in the compiled code, where a method has the module of its type.
+
+    >>> list(ends_of_paths("impl<'a> List<'a> {\\n    pub fn push(self) {}\\n}\\n\\npub fn read() {}"))
+    ['List::push', 'global::read']
+    """
+    kind = ""
+    for found in IMPL_OR_FUNCTION.finditer(text):
+        kind = found["kind"] or kind
+        if found["name"]:
+            yield f"{kind if found['indent'] else 'global'}::{found['name']}"
+
+
+def with_own_memory(crate, compiled):
+    """The compiled functions of a crate's `global.rt`."""
+    path = TOP / "crates" / crate / "src" / "global.rt"
+    ends = set(ends_of_paths(path.read_text(encoding="utf-8"))) if path.exists() else set()
+    return {it for it in compiled if "::".join(it.split("::")[-2:]) in ends}
 
 
 def test_examples_of_this_module_and_of_lowered():
@@ -179,20 +201,9 @@ def test_examples_of_this_module_and_of_lowered():
 
 
 def test_calls_over_an_allocator_are_one_line_over_their_variant():
-    """By the compiled code, or by the text where the build leaves no library, as of the program and of the C library."""
-    wrong, seen = [], 0
-    for crate, found in crates():
-        compiled = lowered.functions(crate)
-        if compiled is not None:
-            both = lowered.with_variant(compiled)
-            wrong += [it for it in both if not lowered.only_calls(compiled[it], f"{it}_in")]
-            seen += len(both)
-        else:
-            both = list(calls_over_an_allocator(found))
-            wrong += [f"{path}: {name}" for path, name, takes, body in both if not is_one_line(name, takes, body)]
-            seen += len(both)
-    assert not wrong, "these do more than call their `_in` variant"
-    assert seen, "no call over an allocator was found"
+    calls = list(calls_over_an_allocator())
+    assert {Path(path).name for path, *_ in calls} == {"global.rt", "lib.rt"}
+    assert [f"{it[0]}: {it[1]}" for it in calls if not is_one_line(it[1].removeprefix("exifnorm_"), *it[2:])] == []
 
 
 def test_each_library_is_read_as_it_was_compiled():
@@ -204,19 +215,15 @@ def test_each_library_is_read_as_it_was_compiled():
 
 
 def test_only_listed_functions_make_memory_otherwise():
+    own = {f"{path}: {name}" for path, name, *_ in calls_over_an_allocator()}
     makers = set()
     for crate, found in crates():
         compiled = lowered.functions(crate)
         if compiled is not None:
-            both = lowered.with_variant(compiled)
-            makers |= {place_of(crate, it) for it in lowered.makers(compiled) if it not in both}
+            makers |= {place_of(crate, it) for it in set(lowered.callers(compiled, lowered.MAKES)) - with_own_memory(crate, compiled)}
         elif crate not in FOR_TESTS:
-            makers |= {
-                f"{path}: {name}"
-                for path, name, _, parameters, body in found
-                if MAKES.search(body) and not is_one_line(name.removeprefix("exifnorm_"), names_of(parameters), body)
-            }
-    assert makers == MAKERS
+            makers |= {f"{path}: {name}" for path, name, _, _, body in found if MAKES.search(body)}
+    assert makers - own == MAKERS
 
 
 def test_only_listed_structs_keep_memory():
@@ -229,7 +236,7 @@ def test_no_function_calls_one_with_memory_of_its_own():
     """What that call requests would be counted in no memory of the caller, and so in no clause. In the program and the C library it is
     found by the name of the call, unless it is a method's."""
     libraries = {crate: lowered.functions(crate) for crate, _ in crates()}
-    with_own = {it for compiled in libraries.values() if compiled for it in lowered.with_variant(compiled)}
+    with_own = {it for crate, compiled in libraries.items() if compiled for it in with_own_memory(crate, compiled)}
     plain = sorted(it.rpartition("::")[2] for it in with_own if not re.search(r"::[A-Z]", it))
     named = re.compile(rf"(?<![.\w])(?:{'|'.join(plain)})\(")
     found = {}
