@@ -1,7 +1,7 @@
 import type { JpegBlock, JpegPart, Kind, Resource, Unread } from "./exifnorm.js";
 
-export { HeadRefused, LIMIT, NormalTooLong, NotRead, OutOfMemory, PictureRefused, Refused, TooMany } from "./exifnorm.js";
-export type { JpegBlock, JpegPart, Kind, Resource, Unread } from "./exifnorm.js";
+export { HeadRefused, LIMIT, NormalTooLong, NotRead, OutOfMemory, PictureRefused, Refused, TooMany, XmpRefused, xmpProperties } from "./exifnorm.js";
+export type { JpegBlock, JpegPart, Kind, Resource, Unread, XmpList, XmpProperty, XmpResource, XmpStructure, XmpText, XmpValue } from "./exifnorm.js";
 
 /** The calls over one compiled module: those of exifnorm.js. */
 export class Engine {
@@ -20,6 +20,8 @@ export class Engine {
   jpegUnread(picture: Uint8Array): Unread | null;
   jpegParts(picture: Uint8Array, most?: number): JpegPart[];
   photoshopResources(bytes: Uint8Array, most?: number): Resource[];
+  xmpCheck(packet: Uint8Array): void;
+  xmpNormalise(packet: Uint8Array): Uint8Array;
   version(): string;
 }
 

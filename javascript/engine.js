@@ -5,11 +5,14 @@
  * @module
  */
 
-/** The greatest length in bytes of a block, and of a normal form. */
+export { xmpProperties } from "./xmp.js";
+
+/** The greatest length in bytes of a block, of a packet of XMP, and of a normal form. */
 export const LIMIT = 16_777_216;
 
 // the statuses, kinds and causes of exifnorm.h
 const DONE = 0, REFUSED = 2, TOO_LONG = 3, NO_MEMORY = 4, TOO_LITTLE_ROOM = 5, SECOND_REFUSED = 6, NOT_READ = 7, SECOND_NOT_READ = 8;
+const RARE = 9; // of a packet of XMP
 const KINDS = ["", "exif", "iptc"], PART_KINDS = ["", "exif", "photoshop", "xmp", "extended xmp"], SAME = [false, true];
 const IPTC = 0x0404; // Photoshop's resource
 
@@ -51,6 +54,14 @@ export class PictureRefused extends Refused {
     super(cause, offset, side, `${cause} at ${offset} in ${where}, picture ${side}`);
     this.kind = kind;
     this.index = index;
+  }
+}
+
+/** A packet of XMP has no normal form: its first fault. */
+export class XmpRefused extends Refused {
+  /** Whether the packet may have a meaning all the same, in a form of RDF/XML that isn't read here. */
+  get isRare() {
+    return this.cause.startsWith("XmpRare");
   }
 }
 
@@ -215,6 +226,15 @@ export class Engine {
     this.#require(status);
   }
 
+  /** Throws the error of a status of a call for a packet of XMP. */
+  #requireForm(status) {
+    if (status === REFUSED || status === RARE) {
+      const fault = this.#answer + FAULT;
+      throw new XmpRefused(this.#causeName(this.#uint32(fault)), this.#uint32(fault + 4));
+    }
+    this.#require(status);
+  }
+
   /** The answer of a comparison. A number that isn't known is no answer. */
   #same() {
     const answer = SAME[this.#uint32(this.#answer)];
@@ -225,7 +245,7 @@ export class Engine {
   // ---- blocks
 
   /** What one of the calls that write bytes has written, as `read` takes it out of the module. */
-  #written(name, block, room, read) {
+  #written(name, block, room, read, require = (status) => this.#require(status)) {
     return this.#call((written, fault) => {
       const arguments_ = this.#copyIn(block);
       for (;;) {
@@ -235,7 +255,7 @@ export class Engine {
           room = size;
           continue;
         }
-        this.#require(status);
+        require(status);
         return read(out, size);
       }
     });
@@ -265,6 +285,17 @@ export class Engine {
       this.#require(this.#exports.exifnorm_compare(...this.#copyIn(first), ...this.#copyIn(second), same, fault), true);
       return this.#same();
     });
+  }
+
+  // ---- packets of XMP
+
+  xmpCheck(packet) {
+    this.#call((_, fault) => this.#requireForm(this.#exports.exifnorm_xmp_check(...this.#copyIn(packet), fault)));
+  }
+
+  xmpNormalise(packet) {
+    const room = Math.min(packet.length, LIMIT) + 1024, read = (start, size) => this.#slice(start, size);
+    return this.#written("exifnorm_xmp_normalise", packet, room, read, (status) => this.#requireForm(status));
   }
 
   // ---- pictures

@@ -1,4 +1,4 @@
-/** The greatest length in bytes of a block, and of a normal form. */
+/** The greatest length in bytes of a block, of a packet of XMP, and of a normal form. */
 export const LIMIT: 16777216;
 
 /** "exif": directories in the structure of TIFF 6.0, by CIPA DC-008; "iptc": DataSets of IPTC-NAA IIM 4.2. */
@@ -37,6 +37,44 @@ export interface Unread {
   start: number;
 }
 
+/** A text of XMP. */
+export interface XmpText {
+  kind: "text";
+  text: string;
+  /** Its language in small letters, such as "de" or "x-default"; "" without one. */
+  language: string;
+}
+
+/** A resource of XMP: an absolute URI. */
+export interface XmpResource {
+  kind: "resource";
+  uri: string;
+}
+
+/** A list of XMP. The members of a "Bag" have no order: they stand in the order of their bytes. */
+export interface XmpList {
+  kind: "Bag" | "Seq" | "Alt";
+  members: XmpValue[];
+}
+
+/** A structure of XMP; or a text with what qualifies it, which is the property `value` of RDF's namespace. */
+export interface XmpStructure {
+  kind: "structure";
+  properties: XmpProperty[];
+}
+
+export type XmpValue = XmpText | XmpResource | XmpList | XmpStructure;
+
+/**
+ * A property of XMP. The namespace and the name, joined, identify it: the name is the longest one at their end, so it may have letters of an
+ * unusual namespace.
+ */
+export interface XmpProperty {
+  namespace: string;
+  name: string;
+  value: XmpValue;
+}
+
 /** A block breaks the rules and has no meaning: its first fault. */
 export class Refused extends Error {
   /** The name of the cause, such as "Overlap". docs/FORMAT.md lists the causes. */
@@ -64,6 +102,12 @@ export class PictureRefused extends Refused {
   readonly kind: "" | Kind;
   /** The index of the block among those of its kind in the picture, from 0. */
   readonly index: number;
+}
+
+/** A packet of XMP has no normal form: its first fault. `offset` counts from the packet's first byte. */
+export class XmpRefused extends Refused {
+  /** Whether the packet may have a meaning all the same, in a form of RDF/XML that isn't read here. Another reader may read it. */
+  get isRare(): boolean;
 }
 
 /** Two JPEGs have the same Exif and IPTC as far as they are read, and one has a place that isn't read. */
@@ -125,6 +169,22 @@ export function jpegParts(picture: Uint8Array, most?: number): JpegPart[];
 
 /** Photoshop's image resources at the start of some bytes: up to where no resource is. Throws TooMany, OutOfMemory. */
 export function photoshopResources(bytes: Uint8Array, most?: number): Resource[];
+
+/** Throws XmpRefused if a packet of XMP has no normal form, with `isRare` if another reader may read it; and OutOfMemory. */
+export function xmpCheck(packet: Uint8Array): void;
+
+/**
+ * The normal form of a packet of XMP, such as the data of a part of the kind "xmp": a packet of the same properties, in one order and one
+ * way of writing. Two packets with equal forms have the same properties, with the same values and languages. Which form a packet has is
+ * tested and, unlike that of a block, not proved. Extended XMP is a packet of its own. Throws XmpRefused, OutOfMemory.
+ */
+export function xmpNormalise(packet: Uint8Array): Uint8Array;
+
+/**
+ * The properties of a packet of XMP, from its normal form. Throws SyntaxError for bytes that aren't laid out as one. Bytes without that error
+ * may still be no normal form: with properties in another order, for instance.
+ */
+export function xmpProperties(form: Uint8Array): XmpProperty[];
 
 /** The version and the build, as "1.0.0 (WebAssembly)". */
 export function version(): string;

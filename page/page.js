@@ -4,7 +4,7 @@
 const PATIENCE = 30_000; // milliseconds for one question
 const ROWS = 300; // of a list, that are shown at once
 const MOST_FILES = 500_000, MOST_REFUSALS = 20;
-const SIDES = ["first", "second"], KINDS = { exif: "Exif", iptc: "IPTC" };
+const SIDES = ["first", "second"], KINDS = { exif: "Exif", iptc: "IPTC", xmp: "XMP" };
 const PICTURES = /\.(?:jpe?g|jpe|png|tiff?|webp|hei[cf]|avif|dng|nef|cr[23]|arw|orf|rw2|raf|psd|gif|jp2|jxl|bmp)$/i;
 
 const $ = (id) => document.getElementById(id);
@@ -232,62 +232,82 @@ function card(verdict, sign, title, ...content) {
 
 // ---- one picture, or two
 
+const EMPTY = "One picture has one more packet of XMP, which has no properties.";
 const SIGNS = { same: "=", none: "–", partly: "≈", different: "≠", refused: "✕", unread: "–", valid: "✓" };
 
-function titleOf({ verdict, sides, sameXmp }) {
-  const hasNone = sides.every(({ blocks }) => !blocks.length);
-  if (verdict === "same" || verdict === "valid") return hasNone ? "No Exif or IPTC" : verdict === "same" ? "Same Exif and IPTC" : "Valid";
-  if (verdict === "partly") return hasNone ? "No Exif or IPTC that is read" : sameXmp ? "Same as far as it is read" : "Same Exif and IPTC, XMP not read";
+/** Whether all XMP is read, some of it, or none. */
+function readXmp({ sides, xmp }) {
+  if (xmp.verdict !== "unread") return "";
+  return sides.some(({ blocks }) => blocks.some(({ kind, refusal }) => kind === "xmp" && !refusal)) ? "XMP not wholly read" : "XMP not read";
+}
+
+/** Whether no picture has metadata that is read here. */
+const haveNone = ({ sides }) => sides.every(({ blocks }) => !blocks.some(({ refusal }) => !refusal?.isRare));
+
+function titleOf(look) {
+  const { verdict, sides } = look, hasNone = haveNone(look), open = readXmp(look);
+  const none = `No Exif, IPTC or XMP${sides.some(({ others }) => others) ? " that is read" : ""}`;
+  if (verdict === "same") return hasNone ? none : "Same Exif, IPTC and XMP";
+  if (verdict === "valid") return hasNone ? open || none : open ? `Valid, ${open}` : "Valid";
+  if (verdict === "partly") {
+    const isXmpAlone = open && !sides.some(({ unread }) => unread);
+    if (isXmpAlone && !sides.some(({ blocks }) => blocks.some(({ kind }) => kind !== "xmp"))) return open;
+    return isXmpAlone ? `Same Exif and IPTC, ${open}` : hasNone ? "No Exif, IPTC or XMP that is read" : "Same as far as it is read";
+  }
   return { different: "Different", refused: "Refused", unread: "Not read" }[verdict];
 }
 
 /** What the verdict means, in a sentence or two. */
 function meaningOf(look) {
-  const [differing, equal] = look.counts, isPair = look.sides.length === 2, hasNone = look.sides.every(({ blocks }) => !blocks.length);
+  const [differing, equal] = look.counts, isPair = look.sides.length === 2, hasNone = haveNone(look), isXmpOpen = look.xmp.verdict === "unread";
   const fields = (count, noun = "field") => (look.isCut ? "at least " : "") + many(count, noun);
-  const kinds = [...new Set(look.sides.flatMap(({ blocks }) => blocks.map(({ kind }) => KINDS[kind])))];
+  const there = [...new Set(look.sides.flatMap(({ blocks }) => blocks.map(({ kind }) => kind)))];
+  const isRead = (kind) => kind !== "xmp" || !isXmpOpen || !isPair && readXmp(look) !== "XMP not read";
+  const kinds = there.filter(isRead).map((kind) => KINDS[kind]);
   if (look.verdict === "same" || look.verdict === "partly") {
-    if (hasNone) return "Neither picture has Exif or IPTC that is read here, so nothing was compared.";
-    const layout = look.sameBytes ? "Even their bytes are equal." : "Their bytes differ, because programs arranged them differently.";
-    return `The ${listed(kinds)} of both pictures ${kinds.length > 1 ? "mean" : "means"} the same: ${fields(equal)}. ${layout}`;
+    if (hasNone || !kinds.length) return `Neither picture has ${isXmpOpen ? "Exif or IPTC" : "Exif, IPTC or XMP"} that is read here${isXmpOpen ? "" : ", so nothing was compared"}.`;
+    const layout = look.sameBytes && (isXmpOpen || look.xmp.sameBytes) ? "Even their bytes are equal." : "Their bytes differ, because programs arranged them differently.";
+    return `The ${listed(kinds)} of both pictures ${kinds.length > 1 ? "mean" : "means"} the same: ${fields(equal - (isXmpOpen ? look.xmp.equal : 0))}. ${layout}`;
   }
   if (look.verdict === "different") {
     const names = look.differing.slice(0, 4).map(({ name }) => name);
-    if (!differing) return "The difference is behind the fields that are listed here.";
+    if (!differing) return look.isCut ? "The difference is behind the fields that are listed here." : EMPTY;
     const differ = `${fields(differing)} ${differing === 1 ? "differs" : "differ"}: ${listed(differing > 4 ? [...names, many(differing - 4, "other")] : names)}`;
     return [differ, `${fields(equal, "other field")} ${equal === 1 ? "is" : "are"} equal`].map((text) => `${text[0].toUpperCase()}${text.slice(1)}.`).join(" ");
   }
   if (look.verdict === "refused") {
     const what = "A block breaks the rules, so it has no certain meaning";
-    return `${what}${isPair ? ", and the pictures are not compared" : ""}. ${look.sameBytes ? "Both pictures have the same bytes of Exif and IPTC." : ""}`;
+    return `${what}${isPair ? ", and the pictures are not compared" : ""}. ${look.sameBytes ? `Both pictures have the same bytes of ${look.xmp.sameBytes ? "Exif, IPTC and XMP" : "Exif and IPTC"}.` : ""}`;
   }
   if (look.verdict === "valid") {
     const next = chosen[0]?.files || chosen[1] ? "" : " Choose a second picture to compare it with.";
-    return (hasNone ? "The picture has no Exif and no IPTC that is read here." : `The picture has valid ${listed(kinds)}: ${fields(differing)}.`) + next;
+    return (!kinds.length ? `The picture has no ${isXmpOpen ? "Exif and no IPTC" : "Exif, IPTC or XMP"} that is read here.` : `The picture has valid ${listed(kinds)}: ${fields(differing)}.`) + next;
   }
   return isPair ? "The pictures are not compared." : "";
 }
 
 /** What may make the pictures different although what is read is the same. */
-function doubts({ sides, sameXmp }, names) {
+function doubts({ sides, xmp }, names) {
   const found = sides.flatMap(({ unread }, i) => unread ? `At byte ${counted(unread.start)} of ${unread.joined ? "the joined blocks of " : ""}${names[i]} is something that other programs may read as Exif or IPTC, and that is not read here.` : []);
-  if (!sameXmp) found.push("XMP is not read here, and its bytes differ: captions or dates in it may differ.");
+  if (xmp.verdict === "unread") found.push(`Not all XMP is read here${xmp.sameBytes ? ", but it has the same bytes in both pictures." : ", and its bytes differ: captions or dates in it may differ."}`);
   return found.length > 0 && element("p", "", element("strong", "", "Not decided: "), found.join(" "), ...withCode(" The program `exifnorm-pictures compare` reads more."));
 }
 
-/** Which of the pictures have XMP; empty if one isn't read. */
-function xmpOf({ sides, sameXmp }) {
-  const has = sides.map(({ xmp }) => xmp > 0);
-  if (sides.some(({ problem }) => problem)) return "";
-  if (!has.some(Boolean)) return " (there is none)";
-  if (!has.every(Boolean)) return ` (only the ${SIDES[has.indexOf(true)]} picture has it)`;
-  return has.length === 1 ? " (the picture has it)" : ` (both pictures have it, ${sameXmp ? "with the same bytes" : "and its bytes differ"})`;
+/** Which of the pictures have something. */
+function whose(has) {
+  if (has.length === 1) return "the picture has it";
+  return has.every(Boolean) ? "both pictures have it" : `only the ${SIDES[has.indexOf(true)]} picture has it`;
 }
+
+const isRare = ({ blocks }) => blocks.some(({ refusal }) => refusal?.isRare);
 
 /** What this page doesn't read, of these pictures. */
 function unreadOf(look) {
-  const xmp = xmpOf(look), cut = look.isCut ? " Of a block the first 20,000 fields are listed; all of them are compared." : "";
-  return `Not read: XMP${xmp}, what is inside a MakerNote, and what follows the head of a JPEG: pixels, previews, trailers.${cut}`;
+  const cut = look.isCut ? " Of a block the first 20,000 fields are listed; all of them are compared." : "";
+  const kinds = [["a packet of XMP in a rare form", isRare], ["extended XMP, which is missing or can’t be joined to a packet", ({ extended }) => extended], ["XMP in Photoshop’s resources", ({ resources }) => resources], ["a segment APP1 of an unknown kind, in which other programs may find metadata", ({ others }) => others]];
+  const found = kinds.map(([what, has]) => [what, look.sides.map(has)]).filter(([, has]) => has.some(Boolean));
+  const xmp = found.map(([what, has]) => `${what} (${whose(has)}), `).join("");
+  return `Not read: ${xmp}what is inside a MakerNote, and what follows the head of a JPEG: pixels, previews, trailers.${cut}`;
 }
 
 /** Why a picture isn't read, and what helps. */
@@ -297,6 +317,7 @@ function problemOf(name, { name: problem, cause, offset, format }) {
     format: [`${name} is ${format ? `of the format ${format}` : "no JPEG"}.`, "This page reads JPEG pictures only. `exifnorm-pictures` reads other formats too."],
     empty: [`${name} is empty.`, "Use another copy of the picture."],
     unreadable: [`${name} can’t be read: the browser gave no bytes of it.`, "Choose it again, or copy it to another folder first."],
+    xmp: [`${name} has more XMP than this page reads.`, "No program writes so much: look where the file comes from."],
     many: [`${name} has more segments than this page reads.`, "No camera writes so many: look where the file comes from."],
     long: [`The metadata of ${name} are longer than this page reads.`, "`exifnorm-pictures` has no such limit."],
     head: [`${name} is a damaged JPEG. ${sentence} (${cause} at byte ${counted(offset ?? 0)})`, isCut ? "The picture isn’t whole: use another copy." : remedy ?? ""],
@@ -307,7 +328,7 @@ function problemOf(name, { name: problem, cause, offset, format }) {
 /** Why a block is refused, and what helps. */
 function refusalOf(name, { kind, index, size, refusal: { cause, offset, about: [sentence, meaning, remedy, cost] } }, areSeveral) {
   return element("div", "refusal", element("h3", "", `${KINDS[kind]}${areSeveral ? ` (block ${index + 1})` : ""} of ${name}: ${sentence}`),
-    element("p", "", ...withCode(meaning)), element("p", "", element("strong", "", "What helps: "), ...withCode(remedy)),
+    meaning && element("p", "", ...withCode(meaning)), element("p", "", element("strong", "", "What helps: "), ...withCode(remedy)),
     cost && element("p", "", element("strong", "", "What it costs: "), ...withCode(cost)),
     element("p", "small", `${cause} at byte ${counted(offset)} of ${counted(size)}.`));
 }
@@ -316,16 +337,15 @@ const WAYS = "The touch: ExifTool adds a field and removes it. The rebuild: Exif
 
 /** The problems and refusals of both pictures. If both have the same bytes, they are refused for the same. */
 function faultsOf(look, names) {
-  const isOnce = look.sides.length === 2 && look.sameBytes, faults = [];
+  const isPair = look.sides.length === 2, isOnce = ({ kind }) => isPair && (kind === "xmp" ? look.xmp.sameBytes : look.sameBytes), faults = [];
   look.sides.forEach(({ problem, blocks }, i) => {
     if (problem) faults.push(problemOf(names[i], problem));
-    if (isOnce && i) return;
-    for (const block of blocks.filter(({ refusal }) => refusal)) {
-      faults.push(refusalOf(isOnce ? "both" : names[i], block, blocks.filter(({ kind }) => kind === block.kind).length > 1));
+    for (const block of blocks.filter((some) => some.refusal && !(i && isOnce(some)))) {
+      faults.push(refusalOf(isOnce(block) ? "both" : names[i], block, blocks.filter(({ kind }) => kind === block.kind).length > 1));
     }
   });
   const left = faults.length - MOST_REFUSALS, shown = faults.slice(0, MOST_REFUSALS);
-  const hasWays = shown.some((node) => node.className === "refusal" && /touch|rebuild|\d of \d/.test(node.textContent));
+  const hasWays = shown.some((node) => [...node.querySelectorAll(".refusal p:not(.small)")].some((part) => /touch|rebuild|\d of \d/.test(part.textContent)));
   return [...shown, left > 0 && element("p", "", `${many(left, "further refusal")}.`), hasWays && element("p", "small", WAYS)];
 }
 
@@ -343,7 +363,7 @@ function downloadsOf(look, names, files) {
   const buttons = look.sides.flatMap(({ blocks }, i) => blocks.filter(({ refusal }) => !refusal).slice(0, MOST_REFUSALS).map((block) =>
     button(`${KINDS[block.kind]}${block.index ? ` ${block.index + 1}` : ""} of ${names[i]}`, () => download(files[i], block))));
   if (!buttons.length) return null;
-  const about = "The one form of all blocks that mean the same, for a program or an archive. It is no picture.";
+  const about = "The one form of all blocks that mean the same, for a program or an archive. It is no picture. That of XMP is a packet of XMP.";
   return element("section", "forms", element("h2", "", "Normal forms"), element("p", "small", about), element("div", "downloads", ...buttons));
 }
 
@@ -360,7 +380,7 @@ function captionsTable({ captions }, heads) {
 function show(look, names, files, areOfFolders) {
   const isOne = look.sides.length === 1, alike = !isOne && names[0] === names[1];
   const called = alike ? SIDES.map((side) => `the ${side}`) : names, heads = isOne ? ["Value"] : alike ? names.map((name, i) => `${name}, ${SIDES[i]}`) : names;
-  const hasNone = look.sides.every(({ blocks }) => !blocks.length), verdict = hasNone && (look.verdict === "same" || look.verdict === "valid") ? "none" : look.verdict;
+  const verdict = haveNone(look) && (look.verdict === "same" || look.verdict === "valid") ? "none" : look.verdict;
   const isUnread = look.sides.every(({ problem }) => problem), main = card(verdict, SIGNS[verdict], titleOf(look), areOfFolders && element("p", "small", [...new Set(names)].join(" and ")), element("p", "", meaningOf(look)),
     !isOne && look.verdict === "partly" && doubts(look, called), ...faultsOf(look, called), !isUnread && element("p", "small", unreadOf(look)));
   const [differing, equal] = look.counts, isDifferent = look.verdict === "different";
@@ -410,11 +430,12 @@ const wordOf = (row) => row.verdict === "missing" ? `only in the ${SIDES[row.sid
 
 function detailOf(row) {
   if (row.verdict === "moved") return `to ${row.to}`;
-  if (row.verdict === "different" && !row.count) return "behind the first 20,000 fields";
+  if (row.verdict === "different" && !row.count) return row.isCut ? "behind the first 20,000 fields" : EMPTY;
   if (row.verdict === "different") return `${many(row.count, "field")}: ${row.names.join(", ")}${row.count > row.names.length ? " .." : ""}`;
-  const also = row.verdict === "missing" && row.candidates ? `the same Exif and IPTC as ${many(row.candidates, "picture")} only in the ${SIDES[1 - row.side]}` : "";
+  const also = row.verdict === "missing" && row.candidates ? `the same Exif, IPTC and XMP as ${many(row.candidates, "picture")} only in the ${SIDES[1 - row.side]}` : "";
   const bytes = row.verdict === "refused" && row.sameBytes ? "both pictures have the same bytes of Exif and IPTC" : "";
-  return [row.why, bytes, also, row.verdict === "partly" && !row.sameXmp ? "XMP is not read, and its bytes differ" : ""].filter(Boolean).join("; ");
+  const xmp = row.verdict === "partly" && row.xmp.verdict === "unread" ? `not all XMP is read, ${row.xmp.sameBytes ? "but its bytes are the same" : "and its bytes differ"}` : "";
+  return [row.why, bytes, also, xmp].filter(Boolean).join("; ");
 }
 
 const nameOf = (path) => path.slice(path.lastIndexOf("/") + 1);
@@ -503,18 +524,18 @@ const PARTIAL = "when a folder is dropped, this browser leaves out names such as
 function summaryCard(rows, counts, others, isPair, stoppedOf) {
   const there = VERDICTS.filter((verdict) => counts[verdict]), worst = there[0], isPartial = chosen.some((item) => item?.isPartial);
   const words = there.map((verdict) => `${counted(counts[verdict])} ${LABELS[verdict]}`);
-  const isWhole = there.length === 1 && ["same", "valid"].includes(worst) && !stoppedOf && !isPartial;
+  const open = rows.filter((row) => row.xmp?.verdict === "unread" && row.verdict !== "unread").length;
+  const isWhole = there.length === 1 && ["same", "valid"].includes(worst) && !stoppedOf && !isPartial && !open;
   const look = isWhole ? worst : ["different", "refused"].includes(worst) ? worst : "unread";
   const heads = words.filter((_, i) => i < 2 || there[i] === "unread").join(", ");
-  const title = !rows.length ? "No pictures" : isWhole ? (isPair ? "All have the same Exif and IPTC" : "All valid") : heads;
+  const title = !rows.length ? "No pictures" : isWhole ? (isPair ? "All have the same Exif, IPTC and XMP" : "All valid") : heads;
   const rest = `${words.length > 1 ? `: ${listed(words)}` : ""}${others ? `; ${many(others, "other file")} left out` : ""}.`;
-  const none = counts.unread ? "" : " (there is none)";
-  const stopped = stoppedOf ? ` Stopped before the end: there are ${many(stoppedOf, "file")}.` : "", xmp = rows.filter((row) => row.xmp).length;
+  const stopped = stoppedOf ? ` Stopped before the end: there are ${many(stoppedOf, "file")}.` : "";
   return card(look, SIGNS[look], title,
     element("p", "", `${many(rows.length, "picture")}${isPair ? ", paired by path" : ""}${rest}${stopped}`),
     isPartial && element("p", "small", element("strong", "", "Perhaps not all: "), PARTIAL),
-    counts.moved > 0 && element("p", "small", "Moved: the same Exif, IPTC and bytes of XMP are at another path. Pixels are not compared."),
-    element("p", "small", `Not read: XMP${xmp ? ` (${many(xmp, "picture")} with it)` : none}, other formats than JPEG, what is inside a MakerNote, and what follows the head of a JPEG.`));
+    counts.moved > 0 && element("p", "small", "Moved: the same Exif, IPTC and XMP are at another path. Pixels are not compared."),
+    element("p", "small", `Not read: ${open ? `some XMP (of ${many(open, "picture")}), ` : ""}other formats than JPEG, what is inside a MakerNote, and what follows the head of a JPEG.`));
 }
 
 /** The link of a row to the comparison of its pictures. */
@@ -612,7 +633,7 @@ self.addEventListener("afterprint", () => { for (const node of closed) node.open
 /** What the foot of the page says of its engine. */
 function about(version) {
   if (version.includes("unproved")) return `exifnorm ${version}, compiled without its proofs: for tests alone.`;
-  return `exifnorm ${version}. The engine is the library that is proved for x86-64 Linux, compiled for WebAssembly; the page itself is tested.`;
+  return `exifnorm ${version}. The engine is the library that is proved for x86-64 Linux, compiled for WebAssembly. Whether Exif and IPTC are the same is proved; what XMP means is tested, and so is the page itself.`;
 }
 
 ask("version").then((version) => {

@@ -92,34 +92,57 @@ function textOf(field) {
   const text = isWideText(field) ? wideText(octets) : null;
   if (text !== null) return text;
   if (isComment(field) && String.fromCharCode(...octets.subarray(0, 8)) === "ASCII\0\0\0") {
-    const comment = printable(decoded(utf8, octets.subarray(8)));
-    if (comment !== null) return comment;
+    const marked = printable(decoded(utf8, octets.subarray(8)));
+    if (marked !== null) return marked;
   }
   return plainText(octets);
 }
 
+const beforeNul = (octets) => octets.subarray(0, octets.indexOf(0) < 0 ? octets.length : octets.indexOf(0));
+
+/** A text of UTF-8, or of Windows-1252; null if it is neither. */
+function eitherText(octets) {
+  const text = decoded(utf8, octets) ?? windows(octets);
+  return decoded(utf8, octets) === null && text.search(UNDEFINED) >= 0 ? null : text;
+}
+
+/** The character set that is named in front of a comment, in eight bytes, empty for an unknown one; null if nothing like that is there. */
+function characterSetOf(octets) {
+  const name = String.fromCharCode(...withoutEnd(octets.subarray(0, 8), isBlank));
+  return octets.length >= 8 && ["ASCII", "UNICODE", "JIS", ""].includes(name) ? name : null;
+}
+
 /** The text of a comment, whose first eight bytes name its character set (CIPA DC-008, 4.6.6); null if it is in no known one. */
 function comment(octets) {
-  const head = String.fromCharCode(...octets.subarray(0, 8)), rest = octets.subarray(8);
-  if (octets.every(isBlank) || rest.every(isBlank)) return "";
+  const name = characterSetOf(octets), rest = octets.subarray(8);
+  if (octets.every(isBlank) || name !== null && rest.every(isBlank)) return "";
+  if (name === null) return bareComment(octets);
   const ended = (text) => text === null ? null : trimmedEnd(text.split("\0")[0]);
-  if (head === "UNICODE\0") {
+  if (name === "UNICODE") {
     const [big, little] = wide.map((decoder) => decoder.decode(rest.subarray(0, rest.length & ~1)));
     const beyondLatin = (text) => [...text].filter((character) => character > "\u02ff").length;
     return ended(beyondLatin(big) <= beyondLatin(little) ? big : little);
   }
-  if (head === "ASCII\0\0\0") return rest.some((octet) => octet > 127) ? null : ended(windows(rest));
-  if (head === "JIS\0\0\0\0\0") return ended(decoded(japanese, rest));
-  if (head !== "\0".repeat(8)) return null;
-  const text = decoded(utf8, rest) ?? windows(rest);
-  return decoded(utf8, rest) === null && text.search(UNDEFINED) >= 0 ? null : ended(text);
+  return ended(name === "JIS" ? decoded(japanese, beforeNul(rest)) : eitherText(beforeNul(rest)));
+}
+
+/** The text of a comment without a character set in front. Bytes that aren't text may begin like a short one. */
+function bareComment(octets) {
+  const bare = beforeNul(octets), isKnown = decoded(utf8, bare) !== null || 2 * bare.filter((octet) => octet < 128).length > bare.length;
+  if (!isKnown || bare.length < 8 && !octets.subarray(bare.length).every(isBlank)) return null;
+  const text = printable(eitherText(bare));
+  return text === null ? null : trimmedEnd(text);
+}
+
+/** The text of a comment; of one that is a text by its type all that is in front of a NUL, unless a character set is there. */
+function textOfComment({ octets, type }) {
+  const isTextual = type === "ASCII" || type === "UTF8";
+  return isTextual && characterSetOf(octets) === null ? guessed(beforeNul(octets)) : comment(octets);
 }
 
 function plainComment(field) {
-  const text = textOf(field);
-  if (text !== null) return trimmedEnd(text.split("\0")[0]) || EMPTY;
-  const found = field.octets ? comment(field.octets) : null;
-  return found === null ? null : found || EMPTY;
+  const text = field.octets ? textOfComment(field) : null;
+  return text === null ? null : text || EMPTY;
 }
 
 // ---- numbers: a fraction is [above, below], both BigInt and below > 0
@@ -295,6 +318,10 @@ const letter = (words) => (field) => {
   const text = textOf(field);
   return text !== null && Object.hasOwn(words, text) ? words[text] : null;
 };
+const direction = (words) => ({ octets }) => {
+  const first = octets?.length ? String.fromCharCode(octets[0]).toUpperCase() : "";
+  return Object.hasOwn(words, first) ? words[first] : null;
+};
 const byte = (...words) => ({ octets }) => octets?.length === 1 ? words[octets[0]] ?? null : null;
 const characterSet = ({ octets }) => hex(octets) === "1b2547" ? "UTF-8" : null;
 
@@ -309,8 +336,8 @@ const EXIF = {
 };
 const GPS = {
   ...each(["0002", "0004", "0014", "0016"], angle), ...each(["000f", "0011", "0018"], withUnit("°", 2)),
-  ...each(["001b", "001c"], plainComment), ...each(["0001", "0013"], letter({ N: "north", S: "south" })),
-  ...each(["0003", "0015"], letter({ E: "east", W: "west" })),
+  ...each(["001b", "001c"], plainComment), ...each(["0001", "0013"], direction({ N: "north", S: "south" })),
+  ...each(["0003", "0015"], direction({ E: "east", W: "west" })),
   ...each(["000c", "0019"], letter({ K: "kilometres", M: "miles", N: "nautical miles" })),
   "0000": dotted, "0005": byte("above sea level", "below sea level"), "0006": withUnit(" m", 1), "0007": clock, "000d": withUnit("", 2),
   "001d": date, "001f": withUnit(" m", 1),

@@ -4,17 +4,23 @@
  * @module
  */
 import { HeadRefused, NormalTooLong, NotRead, PictureRefused, Refused, TooMany, load } from "../javascript/engine.js";
+import { xmpProperties } from "../javascript/xmp.js";
 import { fieldsOf, nameOf, orderOf } from "./listing.js";
+import { md5 } from "./md5.js";
 import { sha256 } from "./sha256.js";
 import { guessed, plain } from "./values.js";
+import { inOrder, keyOf, plainXmp, shownExactly, shownName, textsIn } from "./xmp.js";
 
 // A head is read in steps, so that a large file costs what its head does.
 const FIRST_READ = 1 << 18, MOST_READ = 1 << 26;
 const MOST_PARTS = 100_000; // of a head
+const MOST_FORMS = 1 << 25; // bytes of the forms of all XMP in a head: of a packet and the longest extended XMP there are fewer
 const MOST_FIELDS = 20_000; // of a block, that are listed; so many captions, too
 const MOST_ROWS = 3_000, MOST_NAMES = 6; // that are sent to the page
 const LONGEST = 2_000; // characters of a value
-const KINDS = ["exif", "iptc"], NAMES = { exif: "Exif", iptc: "IPTC" };
+const KINDS = ["exif", "iptc", "xmp"], NAMES = { exif: "Exif", iptc: "IPTC", xmp: "XMP" };
+const APP1 = 0xe1, XMP_RESOURCE = 0x0424;
+const NOTE = "http://ns.adobe.com/xmp/note/HasExtendedXMP", NAME = 32, BEFORE = 40; // bytes of a piece: its packet's name; all before its text
 const FORMATS = [
   [/^\x89PNG/, "PNG"], [/^RIFF[^]{4}WEBP/, "WebP"], [/^(?:II\*\0|MM\0\*)/, "TIFF or raw"], [/^(?:II\+\0|MM\0\+)/, "BigTIFF"], [/^GIF8/, "GIF"],
   [/^8BPS/, "Photoshop"], [/^[^]{4}ftyp(?:hei|hev|mif1|msf1|avi)/, "HEIC or AVIF"], [/^[^]{4}ftypcrx/, "CR3"],
@@ -29,25 +35,114 @@ const areEqual = (first, second) => first.length === second.length && first.ever
 
 // ---- reading
 
-/** What the engine finds in the head of a picture; or why nothing was read, as `problem`. */
-function headOf(bytes) {
-  const xmp = engine.jpegParts(bytes, MOST_PARTS).filter(({ kind }) => kind.endsWith("xmp"));
-  const blocks = engine.jpegBlocks(bytes, MOST_PARTS).map(({ kind, data }) => {
-    try {
-      engine.check(data);
-      return { kind, data, refusal: null };
-    } catch (error) {
-      if (!(error instanceof Refused)) throw error;
-      return { kind, data, refusal: { cause: error.cause, offset: error.offset } };
-    }
+/** The forms of a head's XMP are too long together. That of a packet of 60 kB may have 16 MB, since each property repeats its namespace. */
+class TooMuchXmp extends Error {}
+
+/** A block or a packet with its refusal, if it is refused; and with the form of a packet. A packet in a rare form has a refusal, too. */
+function judged({ kind, data }) {
+  try {
+    if (kind === "xmp") return { kind, data, form: engine.xmpNormalise(data), refusal: null };
+    engine.check(data);
+    return { kind, data, refusal: null };
+  } catch (error) {
+    if (!(error instanceof Refused)) throw error;
+    return { kind, data, refusal: { cause: error.cause, offset: error.offset, isRare: error.isRare ?? false } };
+  }
+}
+
+/** Whether Photoshop's resources in a head have XMP, which other programs read. */
+function hasXmpResource(parts, dataOf) {
+  const runs = [];
+  for (const part of parts.filter(({ kind }) => kind === "photoshop")) {
+    if (part.begins) runs.push([]);
+    runs.at(-1).push(dataOf(part));
+  }
+  return runs.some((run) => {
+    const whole = new Uint8Array(run.reduce((size, data) => size + data.length, 0));
+    let end = 0;
+    for (const data of run) whole.set(data, (end += data.length) - data.length);
+    return engine.photoshopResources(whole, MOST_PARTS).some(({ number, size }) => number === XMP_RESOURCE && size > 0);
   });
+}
+
+/** Pieces of extended XMP as one text, if they are whole and have the name; otherwise null. */
+function textOfPieces(name, pieces) {
+  const whole = new Uint8Array(pieces.reduce((size, { data }) => size + data.length, 0));
+  let end = 0;
+  for (const { total, offset, data } of pieces.sort((first, second) => first.offset - second.offset)) {
+    if (offset !== end || total !== whole.length) return null;
+    whole.set(data, offset);
+    end += data.length;
+  }
+  return md5(whole) === name ? whole : null;
+}
+
+/** The properties of extended XMP by the name that its packet has for it, null in place of those that can't be read. */
+function extensionsOf(segments, judge) {
+  const found = new Map();
+  for (const octets of segments) {
+    const name = String.fromCharCode(...octets.subarray(0, NAME)).toUpperCase();
+    const view = new DataView(octets.buffer, octets.byteOffset, octets.length), isPiece = octets.length >= BEFORE;
+    const [total, offset] = isPiece ? [view.getUint32(NAME), view.getUint32(NAME + 4)] : [-1, -1];
+    if (!found.has(name)) found.set(name, []);
+    found.get(name).push({ total, offset, data: octets.subarray(BEFORE) });
+  }
+  return new Map([...found].map(([name, pieces]) => {
+    const data = textOfPieces(name, pieces), form = data && judge({ kind: "xmp", data }).form;
+    return [name, form ? xmpProperties(form) : null];
+  }));
+}
+
+/**
+ * Gives each packet its properties, with those of its extended XMP, which belongs to the first packet that names it: many packets with one
+ * extension would take memory for all of them. Returns whether all extended XMP is read, and none is missing.
+ */
+function extend(packets, segments, judge) {
+  const extensions = extensionsOf(segments, judge), used = new Set(), isNote = ({ namespace, name }) => namespace + name === NOTE;
+  let areRead = true;
+  for (const packet of packets.filter(({ form }) => form)) {
+    packet.properties = xmpProperties(packet.form);
+    const names = packet.properties.filter(isNote).map(({ value }) => value.text?.toUpperCase() ?? "");
+    const added = names.map((name) => used.has(name) ? null : extensions.get(name)), all = [...packet.properties.filter((one) => !isNote(one)), ...added.flat()];
+    if (!names.length) continue;
+    if (added.every(Boolean) && new Set(all.map(({ namespace, name }) => namespace + name)).size === all.length) packet.properties = all;
+    else areRead = false;
+    for (const name of names) used.add(name);
+  }
+  for (const packet of packets.filter(({ form }) => form)) {
+    const keyed = packet.properties.map((property) => [property.namespace + property.name, property]);
+    packet.meaning = JSON.stringify(keyed.sort(([first], [second]) => inOrder(first, second)));
+  }
+  return areRead && [...extensions.keys()].every((name) => used.has(name));
+}
+
+/**
+ * What the engine finds in the head of a picture; or why nothing was read, as `problem`. XMP that isn't read is in `further` by its kind,
+ * and in `others` segments that may have XMP in another way.
+ */
+function headOf(bytes) {
+  const parts = engine.jpegParts(bytes, MOST_PARTS), dataOf = ({ start, size }) => bytes.subarray(start, start + size);
+  const packets = parts.filter(({ kind }) => kind === "xmp").map((part) => ({ kind: "xmp", data: dataOf(part) }));
+  let room = MOST_FORMS;
+  const judge = (some) => {
+    const block = judged(some);
+    room -= block.form?.length ?? 0;
+    if (room < 0) throw new TooMuchXmp();
+    return block;
+  };
+  const blocks = [...engine.jpegBlocks(bytes, MOST_PARTS), ...packets].map(judge);
   for (const kind of KINDS) blocks.filter((block) => block.kind === kind).forEach((block, index) => { block.index = index; });
   blocks.sort((first, second) => KINDS.indexOf(first.kind) - KINDS.indexOf(second.kind));
-  return { bytes, blocks, xmp: xmp.map(({ start, size }) => bytes.subarray(start, start + size)), unread: engine.jpegUnread(bytes) };
+  const pieces = parts.filter(({ kind }) => kind === "extended xmp").map(dataOf), inResources = hasXmpResource(parts, dataOf);
+  const extended = extend(blocks.filter(({ kind }) => kind === "xmp"), pieces, judge) ? [] : [new Uint8Array(0), ...pieces]; // also if it is missing
+  const others = parts.filter(({ kind, marker }) => kind === "" && marker === APP1).map(dataOf);
+  const resources = inResources ? parts.filter(({ kind }) => kind === "photoshop").map(dataOf) : [];
+  return { bytes, blocks, pieces, further: { extended, resources }, others, unread: engine.jpegUnread(bytes) };
 }
 
 /** Why a picture can't be read. */
-const problem = (name, more = {}) => ({ problem: { name, ...more }, bytes: new Uint8Array(0), blocks: [], xmp: [], unread: null });
+const problem = (name, more = {}) =>
+  ({ problem: { name, ...more }, bytes: new Uint8Array(0), blocks: [], pieces: [], further: { extended: [], resources: [] }, others: [], unread: null });
 
 /** The head of a file. */
 async function read(file) {
@@ -62,6 +157,7 @@ async function read(file) {
       return headOf(bytes);
     } catch (error) {
       if (error instanceof TooMany) return problem("many");
+      if (error instanceof TooMuchXmp) return problem("xmp");
       if (!(error instanceof HeadRefused)) throw error;
       if (error.cause === "JpegCut" && size < file.size) {
         if (size < MOST_READ) continue;
@@ -116,11 +212,39 @@ function apart(first, second) {
 /** What is shown where a block has no value: nothing, or that it is refused or not read. */
 function absent(block) {
   if (!block || isValid(block)) return null;
-  return { text: block.isUnread ? "not read" : "refused", isAbsent: true };
+  return { text: block.isUnread || block.refusal.isRare ? "not read" : "refused", isAbsent: true };
+}
+
+/** The properties of a packet by their keys: those that are listed. */
+function valuesOf(block) {
+  const properties = isValid(block) ? block.properties.slice(0, MOST_FIELDS) : [];
+  return new Map(properties.map((property) => [keyOf(tables.spaces, property), property.value]));
+}
+
+/** What tells two exact values apart, also where they differ behind what is shown. */
+function exactlyApart(both) {
+  if (shortened(both[0]) !== shortened(both[1])) return both.map(shortened);
+  const [one, other] = both.map((text) => [...text]), at = one.findIndex((character, i) => character !== other[i]);
+  return [one, other].map((text) => `character ${at.toLocaleString("en")}: .. ${text.slice(Math.max(0, at - 20), at + 60).join("")} ..`);
+}
+
+/** The rows of properties of two packets, or of one and none. A form has one way of writing, so equal values are equal as JSON. */
+function xmpRowsOf(blocks, suffix) {
+  const both = blocks.map(valuesOf), keys = [...new Set(both.flatMap((values) => [...values.keys()]))].sort(inOrder);
+  const rows = keys.map((key) => {
+    const values = both.map((side) => side.get(key)), isEqual = JSON.stringify(values[0]) === JSON.stringify(values[1]);
+    const cells = values.map((value, i) => value ? { text: shortened(plainXmp(tables.spaces, value)), exact: "" } : absent(blocks[i]));
+    if (values[0] && values[1] && !isEqual && cells[0].text === cells[1].text) {
+      exactlyApart(values.map((value) => shownExactly(tables.spaces, value))).forEach((text, i) => { cells[i].exact = text; });
+    }
+    return { name: shownName(key) + suffix, isEqual, isXmp: true, cells };
+  });
+  return { rows, isCut: both.some(({ size }) => size === MOST_FIELDS) };
 }
 
 /** The rows of fields of two blocks, or of one and none; and whether a block may have more fields than are listed. */
 function rowsOf(first, second, suffix) {
+  if ((first?.kind ?? second?.kind) === "xmp") return xmpRowsOf([first, second], suffix);
   const fields = [first, second].map(firstFields), both = fields.map(byPlace), groups = [...new Map([...both[0], ...both[1]])];
   groups.sort(([, [one]], [, [other]]) => orderOf(one) - orderOf(other));
   const rows = groups.map(([place, [field]]) => {
@@ -132,10 +256,20 @@ function rowsOf(first, second, suffix) {
   return { rows, isCut: fields.some(({ length }) => length === MOST_FIELDS) };
 }
 
+/** The captions of a packet by label, as texts. */
+function xmpCaptions(block) {
+  const values = valuesOf(block), there = Object.entries(tables.labels).filter(([key]) => values.has(key));
+  return new Map(there.map(([key, label]) => {
+    const texts = textsIn(values.get(key)).map((text) => text.trim() || "(empty)");
+    return [label, label === "date created" ? texts.map((text) => text.replaceAll("T", " ")) : texts];
+  }));
+}
+
 /** The captions of a valid block by label, as texts. */
 function captionsOf(block) {
   const labels = new Map();
   if (!isValid(block)) return labels;
+  if (block.kind === "xmp") return xmpCaptions(block);
   let charset = "";
   for (const line of engine.captions(block.data).split("\n", MOST_FIELDS).slice(1)) {
     const colon = line.indexOf(": ");
@@ -172,50 +306,93 @@ function pairsOf(heads) {
 
 // ---- verdicts
 
+const packetsOf = ({ blocks }) => blocks.filter(({ kind }) => kind === "xmp");
+const areSameBytes = (first, second) => first.length === second.length && first.every((octets, i) => areEqual(octets, second[i]));
+
+/** The XMP of a head that isn't read, in other places than its packets. */
+const furtherOf = ({ further: { extended, resources } }) => [...extended, ...resources];
+
+/** Whether all XMP of a head is read. */
+const isXmpRead = (head) => !head.problem && !furtherOf(head).length && packetsOf(head).every(({ refusal }) => !refusal);
+
+/** Whether the XMP of two heads has the same bytes, whatever they mean. */
+function haveSameXmpBytes([first, second]) {
+  const octetsOf = (head) => [packetsOf(head).map(({ data }) => data), head.pieces, head.further.resources, head.others];
+  return !!second && octetsOf(first).every((some, kind) => areSameBytes(some, octetsOf(second)[kind]));
+}
+
 /**
- * The verdict on two heads, which is the engine's: `same` if nothing else is there that could differ, `partly` if what is read is the
- * same, but their XMP differs, or one has more that other programs may read; `different`, `refused`, and `unread`.
+ * The verdict on the XMP of two heads: `same`, `different`, and `unread` if it isn't known, because a packet has no normal form, or there is
+ * XMP that isn't read. Of such pictures a difference is known if packets differ that have forms, and what isn't read is the same.
+ */
+function xmpVerdict(heads) {
+  const [first, second] = heads.map(packetsOf), areRead = heads.every(isXmpRead) && areSameBytes(...heads.map(({ others }) => others));
+  const isOther = ({ meaning }, i) => meaning && second[i]?.meaning && meaning !== second[i].meaning;
+  if (areRead) return first.length === second.length && !first.some(isOther) ? "same" : "different";
+  return first.length === second.length && areSameBytes(...heads.map(furtherOf)) && first.some(isOther) ? "different" : "unread";
+}
+
+/**
+ * The verdict on two heads, which is the engine's for Exif and IPTC: `same` if nothing else is there that could differ, `partly` if what is
+ * read is the same, but their XMP isn't read, or one has more that other programs may read; `different`, `refused`, and `unread`.
  */
 function verdict(first, second) {
   if (first.problem || second.problem) return "unread";
+  const xmp = xmpVerdict([first, second]);
+  let isPartly = xmp !== "same";
   try {
     if (!engine.jpegSame(first.bytes, second.bytes)) return "different";
   } catch (error) {
     if (error instanceof PictureRefused) return "refused";
-    if (error instanceof NotRead) return "partly";
-    throw error;
+    if (!(error instanceof NotRead)) throw error;
+    isPartly = true;
   }
-  return haveSameXmp([first, second]) ? "same" : "partly";
+  return xmp === "different" ? "different" : isPartly ? "partly" : "same";
 }
 
 /** The same for one picture. */
 function single(head) {
-  return head.problem ? "unread" : head.blocks.some(({ refusal }) => refusal) ? "refused" : "valid";
+  return head.problem ? "unread" : head.blocks.some(({ refusal }) => refusal && !refusal.isRare) ? "refused" : "valid";
 }
 
-const haveSameXmp = ([first, second]) => !second || first.xmp.length === second.xmp.length && first.xmp.every((packet, i) => areEqual(packet, second.xmp[i]));
-const haveSameBytes = ([first, second]) => !!second && first.blocks.length === second.blocks.length &&
-  first.blocks.every((block, i) => block.kind === second.blocks[i].kind && areEqual(block.data, second.blocks[i].data));
+/** Whether Exif and IPTC of two heads have the same bytes. */
+function haveSameBytes([first, second]) {
+  const blocksOf = ({ blocks }) => blocks.filter(({ kind }) => kind !== "xmp");
+  const areKinds = !!second && blocksOf(first).every(({ kind }, i) => kind === blocksOf(second)[i]?.kind);
+  return areKinds && areSameBytes(...[first, second].map((head) => blocksOf(head).map(({ data }) => data)));
+}
+
+/** What is known of the XMP of two heads, or of one. */
+function xmpOf(heads) {
+  const found = heads.some(({ problem: why }) => why) ? "unread" : heads.length === 2 ? xmpVerdict(heads) : isXmpRead(heads[0]) ? "same" : "unread";
+  return { verdict: found, sameBytes: haveSameXmpBytes(heads) };
+}
 
 /** What identifies the metadata of a picture that may have been moved; empty if it has none, or not all of it is read. */
 function identity(head) {
-  if (head.problem || head.unread || !head.blocks.length || head.blocks.some(({ refusal }) => refusal)) return "";
+  if (head.problem || head.unread || !head.blocks.length || head.blocks.some(({ kind, refusal }) => refusal && kind !== "xmp")) return "";
   try {
-    return [...head.blocks.map(({ kind, data }) => `${kind} ${sha256(engine.normalise(data))}`), ...head.xmp.map(sha256)].join(" ");
+    const meant = ({ kind, data, meaning }) => kind !== "xmp" ? engine.normalise(data) : meaning ? new TextEncoder().encode(meaning) : data;
+    const forms = head.blocks.map((block) => `${block.kind} ${sha256(meant(block))}`);
+    return [...forms, ...[...furtherOf(head), ...head.others].map(sha256)].join(" ");
   } catch (error) {
     if (error instanceof NormalTooLong) return "";
     throw error;
   }
 }
 
+/** The texts about a cause. */
+const aboutOf = (cause) => tables.causes[cause] ?? tables.packets[cause];
+
 /** Why a picture of a folder has its verdict, in a few words. */
-function reason({ problem: why, blocks, unread }) {
+function reason({ problem: why, blocks, unread, further, others }) {
   if (why) {
-    const words = { format: why.format || "no JPEG", empty: "empty", unreadable: "can't be read", many: "too many segments", long: "its head is too long" };
+    const words = { format: why.format || "no JPEG", empty: "empty", unreadable: "can't be read", many: "too many segments", xmp: "too much XMP", long: "its head is too long" };
     return words[why.name] ?? `damaged JPEG: ${why.cause} at ${why.offset}`;
   }
-  const refused = blocks.filter(({ refusal }) => refusal).map(({ kind, refusal: { cause, offset } }) => `${NAMES[kind]}: ${tables.causes[cause][0]} (${cause} at ${offset})`);
-  return [...refused, unread ? "more metadata that isn't read" : ""].filter(Boolean).join("; ");
+  const refused = blocks.filter(({ refusal }) => refusal).map(({ kind, refusal: { cause, offset } }) => `${NAMES[kind]}: ${aboutOf(cause)[0]} (${cause} at ${offset})`);
+  const notRead = [unread && "more metadata", further.extended.length && "extended XMP, missing or not joined to a packet,", further.resources.length && "XMP in Photoshop's resources", others.length && "a segment APP1 of an unknown kind"];
+  return [...refused, ...notRead.filter(Boolean).map((what) => `${what} that isn't read`)].join("; ");
 }
 
 const CALLS = {
@@ -231,10 +408,10 @@ const CALLS = {
       differing: differing.slice(0, MOST_ROWS), equal: equal.slice(0, MOST_ROWS), counts: [differing.length, equal.length],
       isCut: lists.some(({ isCut }) => isCut),
       captions: pairs.flatMap(([one, other]) => captionRows(one, other)),
-      sameBytes: haveSameBytes(heads), sameXmp: haveSameXmp(heads),
-      sides: heads.map(({ problem: why = null, blocks, xmp, unread }) => ({
-        problem: why, xmp: xmp.length, unread,
-        blocks: blocks.map(({ kind, index, data, refusal }) => ({ kind, index, size: data.length, refusal: refusal && { ...refusal, about: tables.causes[refusal.cause] } })),
+      sameBytes: haveSameBytes(heads), xmp: { ...xmpOf(heads), equal: equal.filter(({ isXmp }) => isXmp).length },
+      sides: heads.map(({ problem: why = null, blocks, further, others, unread }) => ({
+        problem: why, extended: further.extended.length > 0, resources: further.resources.length > 0, others: others.length > 0, unread,
+        blocks: blocks.map(({ kind, index, data, refusal }) => ({ kind, index, size: data.length, refusal: refusal && { ...refusal, about: aboutOf(refusal.cause) } })),
       })),
     };
   },
@@ -243,12 +420,13 @@ const CALLS = {
   async brief(first, second) {
     const heads = await Promise.all([first, second].filter(Boolean).map(read)), isPair = heads.length === 2;
     const found = isPair ? verdict(...heads) : single(heads[0]), reasons = heads.map(reason), sides = ["first: ", "second: "];
-    const differing = found === "different" ? pairsOf(heads).flatMap(([one, other]) => rowsOf(one, other, "").rows).filter((row) => !row.isEqual) : [];
+    const lists = found === "different" ? pairsOf(heads).map(([one, other]) => rowsOf(one, other, "")) : [];
+    const differing = lists.flatMap(({ rows }) => rows).filter((row) => !row.isEqual);
     return {
-      verdict: found, names: differing.slice(0, MOST_NAMES).map(({ name }) => name), count: differing.length,
+      verdict: found, names: differing.slice(0, MOST_NAMES).map(({ name }) => name), count: differing.length, isCut: lists.some(({ isCut }) => isCut),
       why: reasons[0] === reasons[1] ? reasons[0] : reasons.map((text, i) => text && (isPair ? sides[i] : "") + text).filter(Boolean).join("; "),
       isOther: heads.every(({ problem: why }) => why?.name === "format" || why?.name === "empty"),
-      xmp: heads.some(({ xmp }) => xmp.length), sameXmp: haveSameXmp(heads), sameBytes: haveSameBytes(heads), identity: isPair ? "" : identity(heads[0]),
+      xmp: xmpOf(heads), sameBytes: haveSameBytes(heads), identity: isPair ? "" : identity(heads[0]),
     };
   },
 
@@ -256,7 +434,7 @@ const CALLS = {
   async form(file, kind, index) {
     const head = await read(file), block = head.blocks.find((candidate) => candidate.kind === kind && candidate.index === index);
     try {
-      return block ? engine.normalise(block.data) : null;
+      return block ? block.form ?? engine.normalise(block.data) : null;
     } catch (error) {
       if (error instanceof NormalTooLong || error instanceof Refused) return null;
       throw error;

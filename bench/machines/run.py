@@ -38,15 +38,15 @@ BUILT = "built"
 def drivers(library: str, in_c: str, folder: str) -> Dict[str, str]:
     """The programs that time the built library and the one in C."""
     source, cc = str(TOP / "bench" / "peers" / "exifnorm.c"), ["cc", "-O2"]
-    made = {name: os.path.join(folder, name.replace(" ", "-")) for name in (BUILT, "C source")}
-    subprocess.run([*cc, "-o", made[BUILT], source, "-I", library, os.path.join(library, "libexifnorm.a")], check=True)
-    subprocess.run([*cc, "-w", "-o", made["C source"], source, "-I", in_c, os.path.join(in_c, "exifnorm.c")], check=True)
-    return made
+    programs = {name: os.path.join(folder, name.replace(" ", "-")) for name in (BUILT, "C source")}
+    subprocess.run([*cc, "-o", programs[BUILT], source, "-I", library, os.path.join(library, "libexifnorm.a")], check=True)
+    subprocess.run([*cc, "-w", "-o", programs["C source"], source, "-I", in_c, os.path.join(in_c, "exifnorm.c")], check=True)
+    return programs
 
 
-def commands(made: Dict[str, str], package: str) -> Dict[str, List[str]]:
+def commands(programs: Dict[str, str], package: str) -> Dict[str, List[str]]:
     """What times a form of the library: with the mode, the seconds and the file of a block it prints the microseconds of a call."""
-    timed = {name: [program] for name, program in made.items()}
+    timed = {name: [program] for name, program in programs.items()}
     timed["WebAssembly in node"] = ["node", str(HERE / "times.mjs"), os.path.abspath(package)]
     return timed
 

@@ -47,13 +47,13 @@ def own_drivers(folder: Path, library: Path) -> Dict[str, Driver]:
         C: ["-O3", HERE / "plain_c.c", *limits],
         C_BY_OFFSETS: ["-O3", "-DWAY=BY_OFFSETS", HERE / "plain_c.c", *limits],
     }
-    made = {}
+    drivers = {}
     for number, (name, them) in enumerate(sources.items()):
         out, counting = folder / f"own{number}", folder / f"own{number}-counting"
         must_compile(*CC, *them, "-o", out)
         must_compile(*CC, "-DCOUNTS_MEMORY", *them, "-I", COUNTING, COUNTING / "memory.c", "-o", counting)
-        made[name] = Driver(str(out), str(counting), is_for_exif=name != C_BY_OFFSETS)
-    return made
+        drivers[name] = Driver(str(out), str(counting), is_for_exif=name != C_BY_OFFSETS)
+    return drivers
 
 
 def whole_copy(folder: Path) -> str:
@@ -70,7 +70,7 @@ def flags(package: str) -> Optional[List[str]]:
 
 def peer_drivers(folder: Path) -> Dict[str, Driver]:
     """The peers that are installed."""
-    made = {}
+    drivers = {}
     for name, source in PEERS.items():
         out, path = folder / name, HERE / source
         if path.suffix == ".rs":
@@ -79,18 +79,18 @@ def peer_drivers(folder: Path) -> Dict[str, Driver]:
             uses, compiler = flags(name), "g++" if path.suffix == ".cpp" else "cc"
             is_built = uses is not None and compiled(compiler, "-O2", "-o", out, path, *uses)
         if is_built:
-            made[name] = Driver(str(out), is_for_exif=name != "libiptcdata", is_for_iim=name in ("libiptcdata", "exiv2"))
+            drivers[name] = Driver(str(out), is_for_exif=name != "libiptcdata", is_for_iim=name in ("libiptcdata", "exiv2"))
         else:
             print(f"{name} is not installed, and is left out", flush=True)
-    return made
+    return drivers
 
 
 def built_kamadak(folder: Path, source: Path, out: Path) -> bool:
     """kamadak-exif and the crate that it uses, from their sources in a registry folder."""
-    found = [next(iter(sorted(REGISTRY.glob(f"{name}-[0-9]*"))), None) for name in ("mutate_once", "kamadak-exif")]
-    if None in found or not shutil.which("rustc"):
+    crates = [next(iter(sorted(REGISTRY.glob(f"{name}-[0-9]*"))), None) for name in ("mutate_once", "kamadak-exif")]
+    if None in crates or not shutil.which("rustc"):
         return False
-    once, kamadak = (it / "src" / "lib.rs" for it in found if it)
+    once, kamadak = (it / "src" / "lib.rs" for it in crates if it)
     library = ["rustc", "--edition", "2018", "-O", "--crate-type", "rlib", "--cap-lints", "allow", "-L", folder, "--out-dir", folder]
     return (
         compiled(*library, "--crate-name", "mutate_once", once)

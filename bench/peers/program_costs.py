@@ -14,11 +14,11 @@ LARGE = 1 << 20  # the time of a smaller block is that of starting a program
 
 def seconds(words: List[str], path: Path, folder: Path) -> float:
     """The processor time of a command, from a file to a file."""
-    with open(path, "rb") as reader, open(folder / "out", "wb") as writer, subprocess.Popen(words, stdin=reader, stdout=writer) as it:
-        _, status, used = os.wait4(it.pid, 0)
-        it.returncode = os.waitstatus_to_exitcode(status)
-    if it.returncode != 0:
-        raise SystemExit(f"{words} ended with status {it.returncode}")
+    with open(path, "rb") as reader, open(folder / "out", "wb") as writer, subprocess.Popen(words, stdin=reader, stdout=writer) as process:
+        _, status, used = os.wait4(process.pid, 0)
+        process.returncode = os.waitstatus_to_exitcode(status)
+    if process.returncode != 0:
+        raise SystemExit(f"{words} ended with status {process.returncode}")
     return used.ru_utime + used.ru_stime
 
 

@@ -50,8 +50,8 @@ def form(driver: Driver, path: Path) -> Optional[bytes]:
 def compare_forms(drivers: Dict[str, Driver], path: Path) -> Optional[bytes]:
     """The one form of the library and of plain C; none if all of them refuse the block."""
     forms = {name: form(it, path) for name, it in drivers.items() if name in (OWN, C, C_BY_OFFSETS)}
-    for name, it in forms.items():
-        if it != forms[OWN]:
+    for name, octets in forms.items():
+        if octets != forms[OWN]:
             raise Differs(f"{name} and the library write different forms")
     return forms[OWN]
 

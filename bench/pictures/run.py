@@ -161,8 +161,8 @@ class Timed:
         self.folder = folder
         self.least: Dict[str, Cost] = {}
         self.jpegs, self.others, self.empty, self.first = (os.path.join(folder, it) for it in ("jpegs", "others", "empty", "one"))
-        for it in (self.jpegs, self.others, self.empty, self.first):
-            os.mkdir(it)
+        for path in (self.jpegs, self.others, self.empty, self.first):
+            os.mkdir(path)
         if named:
             self.jpegs = os.path.abspath(named)
         else:
@@ -197,8 +197,8 @@ class Timed:
         self._time(name, pictures("index", folder, "--catalogue", catalogue, "--jobs", jobs, "--quiet"))
 
     def _time(self, name: str, words: Sequence[str], statuses: Sequence[int] = (0,)) -> None:
-        one, other = cost(words, statuses), self.least.get(name)
-        self.least[name] = Cost(*map(min, one.all(), other.all())) if other else one
+        now, least = cost(words, statuses), self.least.get(name)
+        self.least[name] = Cost(*map(min, now.all(), least.all())) if least else now
 
     def _further(self, every: str, first: str) -> float:
         """The milliseconds of processor time for a further picture: what a command takes for all, without what it takes for the first one."""
@@ -222,9 +222,9 @@ class Timed:
             yield "files through ExifTool (PSD), four processes over one", ratio(least, "others by four", "others by one"), "0.4"
 
 
-def ratio(least: Dict[str, Cost], one: str, other: str) -> str:
+def ratio(least: Dict[str, Cost], name: str, other: str) -> str:
     """By the clock, and by processor time, which hangs less on what else the machine does."""
-    mine, its = least[one], least[other]
+    mine, its = least[name], least[other]
     return (
         f"{mine.seconds / its.seconds:.2f} ({mine.seconds:.2f} s over {its.seconds:.2f} s); processor time:"
         f" {mine.processor / its.processor:.3f} ({mine.processor:.2f} s over {its.processor:.2f} s)"
@@ -280,14 +280,14 @@ def counted(folder: str, count: int) -> Iterator[ROW]:
         make_pictures(there, number)
         index = instructions(pictures("index", there, "--catalogue", catalogue, "--jobs", "1", "--quiet"))
         costs.append((index, instructions(["perl", str(shutil.which("exiftool")), *EXIFTOOL, there])))
-    for it, name in enumerate(("index", "exiftool -b -Exif")):
-        each = (costs[1][it] - costs[0][it]) / (count - count // 5)
-        start = costs[1][it] - each * count
+    for column, name in enumerate(("index", "exiftool -b -Exif")):
+        each = (costs[1][column] - costs[0][column]) / (count - count // 5)
+        start = costs[1][column] - each * count
         yield f"instructions of `{name}`", f"{each / 1e3:,.0f} thousand for a picture, {start / 1e6:,.0f} million for the start", ""
 
 
-def megabytes(it: Cost) -> str:
-    return f"{it.megabytes:.0f} MB ({it.processor:.0f} s of processor time)"
+def megabytes(most: Cost) -> str:
+    return f"{most.megabytes:.0f} MB ({most.processor:.0f} s of processor time)"
 
 
 def opening(page: str) -> Optional[float]:
@@ -328,8 +328,8 @@ def main() -> None:
 
 
 def show(rows: Iterator[ROW]) -> None:
-    for it in rows:
-        print(f"| {' | '.join(it)} |", flush=True)
+    for row in rows:
+        print(f"| {' | '.join(row)} |", flush=True)
 
 
 if __name__ == "__main__":

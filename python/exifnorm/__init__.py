@@ -1,9 +1,10 @@
 """The meaning of a picture's metadata block, its normal form, and whether two blocks mean the same.
 
 A block is an Exif block, perhaps after the six bytes ``Exif\\0\\0`` that precede it in a JPEG file, or a block of IPTC-NAA IIM
-DataSets. `jpeg_blocks` takes the blocks out of a JPEG's bytes, and `jpeg_same` compares those of two. No picture file is opened. Two blocks have the same normal form, byte
-for byte, exactly if they mean the same. A block that breaks the rules raises `Refused`, with the first fault and its byte offset; it
-is never repaired.
+DataSets. `jpeg_blocks` takes the blocks out of a JPEG's bytes, and `jpeg_same` compares those of two. `jpeg_xmp` takes out the
+packet of XMP; `xmp_normal` returns the normal form of a packet, and `xmp_properties` its properties, which is tested and not proved. No
+picture file is opened. Two blocks have the same normal form, byte for byte, exactly if they mean the same. A block that breaks the
+rules raises `Refused`, with the first fault and its byte offset; it is never repaired.
 
 A block is best given as bytes. A bytearray, a memoryview, an mmap, or any other object with contiguous bytes is copied first. Calls
 can run in several threads at once.
@@ -18,17 +19,31 @@ can run in several threads at once.
     >>> exifnorm.fields(block)
     [Field(directory='main', tag=274, type='SHORT', values=(6,))]
 
-The calls are those of the library libexifnorm. Whether two blocks of Exif or IPTC mean the same is proved. Whether two JPEGs have the
-same Exif and IPTC is proved of the library's call. The code here that calls it and makes objects of what it returns is tested.
+The functions call the library libexifnorm, whose answers are proved: whether two blocks of Exif or IPTC mean the same, and whether two
+JPEGs have the same Exif and IPTC. The Python code that makes these calls, and objects of what they return, is tested.
 """
 
 from ._calls import Block, digest, kind, normal, same, show, version
 from ._captions import Caption, captions
-from ._errors import LIMIT, HeadRefused, LibraryMissing, NormalTooLong, PictureRefused, Refused, TooMany
+from ._errors import LIMIT, HeadRefused, LibraryMissing, NormalTooLong, PictureRefused, Refused, TooMany, XmpNotRead, XmpRefused
 from ._fields import Field, Ratio, Values
-from ._jpeg import JpegBlock, JpegPart, NotRead, Resource, Unread, jpeg_blocks, jpeg_parts, jpeg_same, jpeg_unread, photoshop_resources
+from ._jpeg import (
+    JpegBlock,
+    JpegPart,
+    NotRead,
+    Resource,
+    Unread,
+    jpeg_blocks,
+    jpeg_parts,
+    jpeg_same,
+    jpeg_unread,
+    jpeg_xmp,
+    photoshop_resources,
+)
 from ._library import Status
+from ._properties import XmpContainer, XmpProperty, XmpResource, XmpStructure, XmpText, XmpValue
 from ._reading import fields
+from ._xmp import xmp_normal, xmp_properties
 
 __version__ = "1.0.0"
 
@@ -51,6 +66,14 @@ __all__ = [
     "TooMany",
     "Unread",
     "Values",
+    "XmpContainer",
+    "XmpNotRead",
+    "XmpProperty",
+    "XmpRefused",
+    "XmpResource",
+    "XmpStructure",
+    "XmpText",
+    "XmpValue",
     "captions",
     "digest",
     "fields",
@@ -58,10 +81,13 @@ __all__ = [
     "jpeg_parts",
     "jpeg_same",
     "jpeg_unread",
+    "jpeg_xmp",
     "kind",
     "normal",
     "photoshop_resources",
     "same",
     "show",
     "version",
+    "xmp_normal",
+    "xmp_properties",
 ]

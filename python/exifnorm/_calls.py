@@ -20,13 +20,22 @@ _KINDS = {1: EXIF, 2: IPTC}
 _TOO_LONG = LIMIT + len(b"Exif\0\0") + 1  # bytes that are too many for any block
 
 
+def view_of(octets: Block) -> memoryview:
+    """A view of the bytes of an object. Raises `TypeError`, which says what to do with an open file."""
+    try:
+        return memoryview(octets)
+    except TypeError:
+        read = ": pass what its read() returns" if hasattr(octets, "read") else ""
+        raise TypeError(f"bytes are expected, not {type(octets).__name__}{read}") from None
+
+
 def _copied(block: Block) -> bytes:
     """The bytes of an object of another type than bytes.
 
     >>> _copied(memoryview(b"Vases")[:-1])
     b'Vase'
     """
-    with memoryview(block) as view:
+    with view_of(block) as view:
         if not view.c_contiguous:
             raise BufferError("the bytes of a block must be contiguous")
         # so many bytes are refused whatever they are, and are not copied

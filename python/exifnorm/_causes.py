@@ -15,6 +15,11 @@ _TOUCH = (
     " lays the block out again"
 )
 _OTHER = "Extract the block again; if the file itself is damaged, use another copy of the picture."
+_PACKET = (
+    "`exiftool -xmp:all= -tagsfromfile @ -xmp:all copy.jpg` writes the packet of a copy again. Compare the copy with the picture: what "
+    "ExifTool can't read or doesn't know is lost, and that may be the whole packet."
+)
+_RARE = "`exifnorm-pictures` reads most of these packets, as other readers of RDF/XML do."
 _COPY = "Use another copy of the picture: a program has cut or overwritten this file."
 
 OF_BLOCKS: Dict[str, Tuple[str, str]] = {
@@ -110,4 +115,31 @@ OF_HEADS: Dict[str, Tuple[str, str]] = {
 }
 """The causes of a JPEG's refusal, of which a part before the first scan is damaged or missing."""
 
-CAUSE_WORDS = {**OF_BLOCKS, **OF_HEADS}
+OF_PACKETS: Dict[str, Tuple[str, str]] = {
+    "XmpTooLong": (f"The packet is longer than {LIMIT:,} bytes.", _PACKET),
+    "XmpBadCharacter": ("The packet has bytes that are no UTF-8, or a character that XML does not allow.", _PACKET),
+    "XmpBadMarkup": ("The packet is not well-formed: a tag, a comment or a section is damaged or cut.", _PACKET),
+    "XmpBadReference": ("The packet is not well-formed: an & begins no reference that XML has.", _PACKET),
+    "XmpDocumentType": ("The packet has a document type declaration, which XMP does not allow.", _PACKET),
+    "XmpOtherEnd": ("The packet is not well-formed: an end tag has another name than its element.", _PACKET),
+    "XmpAttributeTwice": ("The packet is not well-formed: a tag has an attribute twice.", _PACKET),
+    "XmpBadPrefix": ("The packet is not well-formed: a prefix is not declared, or a declaration is not allowed.", _PACKET),
+    "XmpNoRoot": ("The packet is not one XML element: it is empty, or has text or elements beside the root.", _PACKET),
+    "XmpTooDeep": ("More than 100 elements are nested in one another.", _PACKET),
+    "XmpNoRdf": ("The packet is not x:xmpmeta around one rdf:RDF, nor rdf:RDF by itself.", _PACKET),
+    "XmpSeveralSubjects": ("The packet makes statements about several subjects.", _PACKET),
+    "XmpRareEncoding": ("The packet is not in UTF-8, or has a rare XML declaration.", _RARE),
+    "XmpRareName": ("A name in the packet is not of ASCII.", _RARE),
+    "XmpRareNamespace": ("A namespace in the packet is a rare one: it has odd characters, or ends as no namespace of XMP does.", _RARE),
+    "XmpRareCount": ("A tag has more than 256 attributes, or too many prefixes are declared at one place.", _RARE),
+    "XmpRareElement": ("The packet has an element in a rare form of RDF/XML.", _RARE),
+    "XmpRareAttribute": ("The packet has an attribute in a rare form of RDF/XML.", _RARE),
+    "XmpRareText": ("The packet has text between elements.", _RARE),
+    "XmpRareLanguage": ("A text has a language that is none, or has more than 100 characters.", _RARE),
+    "XmpRareResource": ("A resource is no absolute URI of ASCII.", _RARE),
+    "XmpRareRepeated": ("A property stands twice in one place.", _RARE),
+    "XmpRareLength": (f"The normal form would be longer than {LIMIT:,} bytes.", _RARE),
+}
+"""The causes of a refusal of a packet of XMP. Those of a rare packet begin with XmpRare."""
+
+CAUSE_WORDS = {**OF_BLOCKS, **OF_HEADS, **OF_PACKETS}

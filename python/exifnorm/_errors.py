@@ -118,6 +118,93 @@ class PictureRefused(Refused):
         return f"{self.cause} at {self.offset} in {names[self.kind]}, picture {self.side}"
 
 
+# Bytes that are no packet, by their beginning: what they are in a message, in a sentence, and what helps.
+_EXIF = (
+    "this is a block of Exif or a TIFF",
+    "The input is a block of Exif or a TIFF, and no packet of XMP.",
+    "Give a block to `exifnorm.normal`, and a TIFF to `exifnorm_pictures.read`.",
+)
+_NO_PACKETS = {
+    b"\xff\xd8\xff": (
+        "this is a JPEG, and jpeg_xmp returns its packet",
+        "The input is a whole JPEG, and no packet of XMP.",
+        "Give the packet that `exifnorm.jpeg_xmp` returns for it.",
+    ),
+    b"Exif\0\0": _EXIF,
+    b"II*\0": _EXIF,
+    b"MM\0*": _EXIF,
+    b"\x1c": (
+        "this is a record of IPTC, which normal reads",
+        "The input is a record of IPTC, and no packet of XMP.",
+        "Give the record to `exifnorm.normal`.",
+    ),
+    b"http://ns.adobe.com/xap/1.0/\0": (
+        "this is a segment of a JPEG, and its packet follows the first 29 bytes",
+        "The input is a segment of a JPEG, in which the mark of XMP precedes the packet.",
+        "Give the bytes after the first 29.",
+    ),
+}
+
+
+class XmpRefused(Refused):
+    """A packet of XMP has no normal form: the first fault, whose offset counts from the packet's first byte.
+
+    - `is_rare`: whether the packet may have a meaning all the same, in a form of RDF/XML that isn't read here. Another reader may read it
+
+    The message says so if the bytes are a JPEG, a block or a segment, and no packet.
+
+    >>> import exifnorm
+    >>> for packet in (b"<a><b></a>", b"<r:RDF xmlns:r='http://www.w3.org/1999/02/22-rdf-syntax-ns#'>text</r:RDF>", b"II*\\0\\x08"):
+    ...     try:
+    ...         exifnorm.xmp_normal(packet)
+    ...     except exifnorm.XmpRefused as refusal:
+    ...         print(refusal, refusal.is_rare)
+    XmpOtherEnd at 6 False
+    XmpRareText at 61 True
+    XmpBadCharacter at 3: this is a block of Exif or a TIFF False
+    """
+
+    def __init__(self, cause: str, offset: int, octets: bytes = b"") -> None:
+        begins = next((it for it in _NO_PACKETS if octets.startswith(it)), b"")
+        super().__init__(cause, offset)
+        self.args = cause, offset, begins  # by which it is pickled
+        self._begins = begins
+
+    @property
+    def is_rare(self) -> bool:
+        """Whether another reader may read the packet."""
+        return self.cause.startswith("XmpRare")
+
+    def _words(self) -> Tuple[str, str]:
+        return _NO_PACKETS[self._begins][1:] if self._begins else super()._words()
+
+    def __str__(self) -> str:
+        return f"{super().__str__()}: {_NO_PACKETS[self._begins][0]}" if self._begins else super().__str__()
+
+
+class XmpNotRead(ValueError):
+    """A JPEG has more XMP than one packet, of which `jpeg_xmp` joins none: another packet, or extended XMP.
+
+    - `offset`: the byte offset of the second packet or of the first piece of extended XMP, whichever comes first, after its mark
+
+    >>> import exifnorm
+    >>> head = b"http://ns.adobe.com/xap/1.0/\\0"
+    >>> segment = b"\\xff\\xe1" + (2 + len(head)).to_bytes(2, "big") + head
+    >>> try:
+    ...     exifnorm.jpeg_xmp(b"\\xff\\xd8" + 2 * segment + b"\\xff\\xd9")
+    ... except exifnorm.XmpNotRead as error:
+    ...     print(error)
+    a second packet of XMP or extended XMP at 68 is not read
+    """
+
+    def __init__(self, offset: int) -> None:
+        super().__init__(offset)
+        self.offset = offset
+
+    def __str__(self) -> str:
+        return f"a second packet of XMP or extended XMP at {self.offset} is not read"
+
+
 class TooMany(ValueError):
     """There are more parts or resources than the call was allowed to return: `most`.
 

@@ -5,8 +5,8 @@ from __future__ import annotations
 import operator
 from typing import Any, Dict, Iterable, Iterator, List, Literal, NamedTuple, NoReturn, Optional, Tuple, Union
 
-from ._calls import Block
-from ._errors import HeadRefused, PictureRefused, TooMany
+from ._calls import Block, view_of
+from ._errors import HeadRefused, PictureRefused, TooMany, XmpNotRead
 from ._library import PART, PLACE, RESOURCE, PictureFailure, Status, library
 from ._words import EXIF, IPTC
 
@@ -53,7 +53,7 @@ def _bytes_of(octets: Block) -> bytes:
     """The bytes of an object of any type."""
     if type(octets) is bytes:
         return octets
-    with memoryview(octets) as view:
+    with view_of(octets) as view:
         if not view.c_contiguous:
             raise BufferError("the bytes must be contiguous")
         return view.tobytes()
@@ -261,6 +261,34 @@ def jpeg_unread(picture: Block) -> Optional[Unread]:
             raise HeadRefused(CAUSES[cause], place, [])
         raise AssertionError(f"libexifnorm answered the status {status}")
     return Unread(answer[0] == 1, answer[1]) if answer else None
+
+
+def jpeg_xmp(picture: Block) -> Optional[bytes]:
+    """The packet of XMP in a JPEG's head: the data of the segment APP1 with the mark `http://ns.adobe.com/xap/1.0/` and a zero, after that
+    mark. None if no segment has it. The packet isn't read: `xmp_normal` reads it, so two JPEGs have the same XMP in these segments if both
+    results are None, or if `xmp_normal` returns the same for both. XMP elsewhere, as in Photoshop's resource 0424 or after the head, isn't
+    looked for.
+
+    The bytes may be a whole file or only its first bytes. Raises XmpNotRead if there is a second such segment or extended XMP; HeadRefused,
+    with the first fault, if the bytes don't begin with the whole head of a JPEG; and LibraryMissing.
+
+    >>> def picture(*packets: bytes) -> bytes:
+    ...     marked = [b"http://ns.adobe.com/xap/1.0/\\0" + packet for packet in packets]
+    ...     segments = [b"\\xff\\xe1" + (2 + len(data)).to_bytes(2, "big") + data for data in marked]
+    ...     return b"\\xff\\xd8" + b"".join(segments) + b"\\xff\\xd9"
+    >>> jpeg_xmp(picture(b"<x:xmpmeta ..")), jpeg_xmp(picture())
+    (b'<x:xmpmeta ..', None)
+    """
+    octets = _bytes_of(picture)
+    answer: Any = library().jpeg_xmp(octets)
+    if len(answer) == 3:
+        status, cause, place = answer
+        if status == Status.NOT_READ:
+            raise XmpNotRead(place)
+        if status == Status.REFUSED:
+            raise HeadRefused(CAUSES[cause], place, [])
+        raise AssertionError(f"libexifnorm answered the status {status}")
+    return octets[answer[0] : answer[0] + answer[1]] if answer else None
 
 
 def jpeg_same(first: Block, second: Block) -> Union[bool, NotRead]:

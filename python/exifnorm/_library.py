@@ -57,6 +57,7 @@ Text = Union[bytes, Failure]
 Rows = Union[bytes, Tuple[int, int, int, bytes]]
 Places = Union[Tuple[bytes, bytes], Tuple[int, int, int, bytes, bytes]]
 UnreadPlace = Union[Tuple[()], Tuple[int, int], Failure]
+XmpPlace = Union[Tuple[()], Tuple[int, int], Failure]
 
 
 class Status(enum.IntEnum):
@@ -74,6 +75,7 @@ class Status(enum.IntEnum):
     SECOND_REFUSED = 6
     NOT_READ = 7
     SECOND_NOT_READ = 8
+    RARE = 9
 
 
 _DONE, _REFUSED, _TOO_LITTLE_ROOM = int(Status.DONE), int(Status.REFUSED), int(Status.TOO_LITTLE_ROOM)
@@ -127,6 +129,12 @@ class UnreadStruct(ctypes.Structure):
     _fields_ = [("found", ctypes.c_uint32), ("joined", ctypes.c_uint32), ("start", ctypes.c_size_t)]
 
 
+class PacketStruct(ctypes.Structure):
+    """Where the packet of XMP of a JPEG is, if it has one."""
+
+    _fields_ = [("found", ctypes.c_uint32), ("start", ctypes.c_size_t), ("size", ctypes.c_size_t)]
+
+
 class ResourceStruct(ctypes.Structure):
     """One of Photoshop's image resources."""
 
@@ -162,10 +170,14 @@ ARGUMENTS = {
         _JPEG_FAULT,
     ],
     "exifnorm_jpeg_unread": [*_BLOCK, ctypes.POINTER(UnreadStruct), _JPEG_FAULT],
+    "exifnorm_jpeg_xmp": [*_BLOCK, ctypes.POINTER(PacketStruct), ctypes.POINTER(UnreadStruct), _JPEG_FAULT],
+    "exifnorm_xmp_check": [*_BLOCK, _FAULT],
+    "exifnorm_xmp_normalise": [*_BLOCK, *_OUT, _FAULT],
     "exifnorm_cause_name": [ctypes.c_uint32, *_OUT],
     "exifnorm_version": _OUT,
 }
 _OF_EXTENSION = list(ARGUMENTS)[:9]
+_NEWER = {"exifnorm_jpeg_xmp"}  # calls that a library may lack which is older than this package: all others work with it
 
 
 class Room:
@@ -274,6 +286,23 @@ class ByCtypes:
             return status, fault.cause, fault.place
         return (unread.joined, unread.start) if unread.found else ()
 
+    def jpeg_xmp(self, picture: bytes) -> XmpPlace:
+        """The offset and the size of the packet. For XMP that isn't read the status, 0, and its offset."""
+        packet, unread, fault = PacketStruct(), UnreadStruct(), JpegFault()
+        if not hasattr(self._library, "exifnorm_jpeg_xmp"):
+            raise LibraryMissing("the library has no exifnorm_jpeg_xmp: it is older than this package")
+        outputs = ctypes.byref(packet), ctypes.byref(unread), ctypes.byref(fault)
+        status = self._library.exifnorm_jpeg_xmp(picture, len(picture), *outputs)
+        if status == Status.NOT_READ:
+            return status, 0, unread.start
+        if status != _DONE:
+            return status, fault.cause, fault.place
+        return (packet.start, packet.size) if packet.found else ()
+
+    def xmp_normalise(self, packet: bytes) -> Text:
+        """A form, which repeats each namespace, has seldom more than twice as many bytes as its packet. A second call reads the packet again."""
+        return self._text(self._library.exifnorm_xmp_normalise, packet, min(2 * len(packet) + 1024, LIMIT))
+
     def _rows(self, call: Callable[..., int], octets: bytes, most: int, kind: Type[ctypes.Structure]) -> Rows:
         """The rows of a call, which is made again if they are more than a few, and not more than so many."""
         try:
@@ -325,7 +354,7 @@ class Library:
             blocks, jpegs = functions[:5], functions[5:]
         self.check, self.normalise, self.compare, self.show, self.captions = blocks
         self.jpeg_parts, self.photoshop_resources, self.jpeg_same, self.jpeg_blocks = jpegs
-        self.jpeg_unread = calls.jpeg_unread  # for which the time of a call matters less
+        self.jpeg_unread, self.jpeg_xmp, self.xmp_normalise = calls.jpeg_unread, calls.jpeg_xmp, calls.xmp_normalise  # which take longer
 
     def cause_name(self, cause: int) -> str:
         """The name of a cause."""
@@ -356,6 +385,8 @@ def _opened(place: str) -> ctypes.CDLL:
         try:
             call = getattr(library, name)
         except AttributeError:
+            if name in _NEWER:
+                continue
             raise OSError(f"it has no {name}") from None
         call.argtypes, call.restype = arguments, ctypes.c_uint32
     return library

@@ -1,5 +1,5 @@
 /* What one call of the library costs: cost CALL FILE, where CALL is check, normalise, show, captions, compare (with itself), jpeg_parts,
- * photoshop_resources or jpeg_same (with itself). It prints the most bytes that the call has allocated at once, the number of its allocations, how many of these made
+ * photoshop_resources, jpeg_same (with itself), jpeg_unread, jpeg_xmp, xmp_check or xmp_normalise. It prints the most bytes that the call has allocated at once, the number of its allocations, how many of these made
  * something longer, the bytes that they asked for, and the length of the output. test_costs.py runs it, also under callgrind, which counts the
  * instructions of the call. */
 #include "fuzz/memory.h"
@@ -36,6 +36,7 @@ static uint32_t called(const char *name, struct block block, void *out, size_t r
     struct exifnorm_jpeg_fault of_head;
     struct exifnorm_picture_fault of_picture;
     struct exifnorm_unread_part unread;
+    struct exifnorm_jpeg_packet packet;
     uint32_t number;
     if (!strcmp(name, "check"))
         return exifnorm_check(block.bytes, block.length, &number, &fault);
@@ -55,6 +56,12 @@ static uint32_t called(const char *name, struct block block, void *out, size_t r
         return exifnorm_jpeg_same(block.bytes, block.length, block.bytes, block.length, &number, &unread, &of_picture);
     if (!strcmp(name, "jpeg_unread"))
         return exifnorm_jpeg_unread(block.bytes, block.length, &unread, &of_head);
+    if (!strcmp(name, "jpeg_xmp"))
+        return exifnorm_jpeg_xmp(block.bytes, block.length, &packet, &unread, &of_head);
+    if (!strcmp(name, "xmp_check"))
+        return exifnorm_xmp_check(block.bytes, block.length, &fault);
+    if (!strcmp(name, "xmp_normalise"))
+        return exifnorm_xmp_normalise(block.bytes, block.length, out, room, written, &fault);
     exit(2);
 }
 

@@ -93,9 +93,13 @@ static void try_no_picture(const unsigned char *none) {
     struct exifnorm_jpeg_fault fault = {UNSET, UNSET};
     struct exifnorm_picture_fault of_picture = {UNSET, UNSET, UNSET, UNSET};
     struct exifnorm_unread_part unread = {UNSET, UNSET, UNSET};
+    struct exifnorm_jpeg_packet packet = {UNSET, UNSET, UNSET};
     uint32_t same = UNSET;
     REQUIRE(exifnorm_jpeg_unread(none, 0, &unread, &fault) == EXIFNORM_REFUSED);
     REQUIRE(fault.cause == EXIFNORM_JPEG_NO_START && fault.place == 0);
+    fault.cause = UNSET;
+    REQUIRE(exifnorm_jpeg_xmp(none, 0, &packet, &unread, &fault) == EXIFNORM_REFUSED);
+    REQUIRE(fault.cause == EXIFNORM_JPEG_NO_START && fault.place == 0 && packet.found == UNSET && unread.found == UNSET);
     REQUIRE(exifnorm_jpeg_same(none, 0, picture, PICTURE, &same, &unread, &of_picture) == EXIFNORM_REFUSED);
     REQUIRE(of_picture.cause == EXIFNORM_JPEG_NO_START && of_picture.place == 0);
     REQUIRE(exifnorm_jpeg_same(picture, PICTURE, none, 0, &same, &unread, &of_picture) == EXIFNORM_SECOND_REFUSED);
@@ -122,6 +126,25 @@ static void try_no_room(const unsigned char *none, void *room) {
     REQUIRE(count == 0);
 }
 
+#define SYNTAX "http://www.w3.org/1999/02/22-rdf-syntax-ns#"
+#define EMPTY_PACKET "<r:RDF xmlns:r='" SYNTAX "'/>"
+#define EMPTY_FORM \
+    "<x:xmpmeta xmlns:x=\"adobe:ns:meta/\"><rdf:RDF xmlns:rdf=\"" SYNTAX "\"><rdf:Description rdf:about=\"\"></rdf:Description></rdf:RDF></x:xmpmeta>"
+
+/* A packet of no bytes, and an output of none. */
+static void try_no_packet(const unsigned char *none, unsigned char *out) {
+    struct exifnorm_fault fault = {UNSET, UNSET};
+    size_t written = UNSET;
+    REQUIRE(exifnorm_xmp_check(none, 0, &fault) == EXIFNORM_REFUSED);
+    REQUIRE(is_fault(fault, EXIFNORM_XMP_NO_ROOT, 0));
+    fault.cause = UNSET;
+    REQUIRE(exifnorm_xmp_normalise(none, 0, out, 0, &written, &fault) == EXIFNORM_REFUSED);
+    REQUIRE(is_fault(fault, EXIFNORM_XMP_NO_ROOT, 0) && written == UNSET);
+    fault.cause = UNSET;
+    REQUIRE(exifnorm_xmp_normalise((const unsigned char *)EMPTY_PACKET, sizeof EMPTY_PACKET - 1, out, 0, &written, &fault) == EXIFNORM_TOO_LITTLE_ROOM);
+    REQUIRE(written == sizeof EMPTY_FORM - 1 && fault.cause == UNSET);
+}
+
 /* With pointers to bytes that may not be read or written, and with NULL. */
 static void try_none(void) {
     unsigned char *page = mmap(NULL, PAGE, PROT_NONE, MAP_PRIVATE | MAP_ANONYMOUS, -1, 0);
@@ -130,6 +153,7 @@ static void try_none(void) {
         try_no_bytes(pointers[i], pointers[1 - i]);
         try_no_bytes(pointers[i], pointers[i]);
         try_no_picture(pointers[i]);
+        try_no_packet(pointers[i], pointers[1 - i]);
         try_no_room(pointers[i], pointers[i]);
     }
 }

@@ -4,6 +4,9 @@
  *   fields numbers FILE        a line for each element: as an integer, a fraction and a number, `-` where it is none; then the size of the text
  *   fields change FILE N       each form and its beginnings N times with some bytes changed, each in memory of its own length. A line for
  *                              each law that is broken, and at the end the number of fields
+ *   fields xmp FILE            a line for each property of a packet's form: its depth, and in hexadecimal its kind, namespace, name, language and
+ *                              decoded value; then `whole` or `cut`
+ *   fields alter FILE N        as `change`, for properties
  */
 #include <exifnorm_names.h>
 #include <inttypes.h>
@@ -142,6 +145,98 @@ static unsigned long walk_changed(const unsigned char *form, size_t length, uint
     return count;
 }
 
+/* ---- properties of XMP */
+
+static void print_octets(const unsigned char *octets, size_t size) {
+    for (size_t i = 0; i < size; i++)
+        printf("%02x", octets[i]);
+    printf(" ");
+}
+
+static void print_properties(const unsigned char *form, size_t length) {
+    struct exifnorm_xmp_properties properties;
+    struct exifnorm_xmp_property property;
+    exifnorm_xmp_start(&properties, form, length);
+    while (exifnorm_xmp_next(&properties, &property)) {
+        unsigned char *text = malloc(property.value.size + 1);
+        size_t size = text ? exifnorm_xmp_text(&property, text, property.value.size) : 0;
+        printf("%u %u ", (unsigned)property.depth, (unsigned)property.kind);
+        print_octets(property.space.start, property.space.size);
+        print_octets(property.name.start, property.name.size);
+        print_octets(property.language.start, property.language.size);
+        print_octets(text, size);
+        printf("\n");
+        free(text);
+    }
+    printf("%s\n", exifnorm_xmp_whole(&properties) ? "whole" : "cut");
+}
+
+static int is_inside(struct exifnorm_xmp_bytes bytes, const unsigned char *form, size_t length) {
+    return bytes.size == 0 || (bytes.start >= form && bytes.size <= (size_t)(form + length - bytes.start));
+}
+
+/* The text of a value, with a room for each number of bytes up to 9, and in memory of its length. */
+static void use_text(const struct exifnorm_xmp_property *property, uint64_t *sum) {
+    unsigned char all[10], some[10];
+    size_t size = exifnorm_xmp_text(property, all, sizeof all);
+    unsigned char *text = malloc(size ? size : 1);
+    if (!text)
+        exit(3);
+    for (size_t room = 0; room < sizeof some; room++) {
+        memset(some, 0xA5, sizeof some);
+        if (exifnorm_xmp_text(property, some, room) != size || memcmp(some, all, room < size ? room : size) != 0 || some[room] != 0xA5)
+            printf("a text depends on its room\n");
+    }
+    if (exifnorm_xmp_text(property, text, size) != size || size > property->value.size)
+        printf("a text is longer than its value\n");
+    for (size_t i = 0; i < size; i++)
+        *sum += text[i];
+    free(text);
+}
+
+/* Walks bytes, and returns the number of the properties. What is in a form follows what precedes it, and the walk ends. */
+static unsigned long walk_properties(const unsigned char *form, size_t length, uint64_t *sum) {
+    struct exifnorm_xmp_properties properties;
+    struct exifnorm_xmp_property property;
+    uint32_t depth = 0;
+    unsigned long count = 0;
+    exifnorm_xmp_start(&properties, form, length);
+    while (exifnorm_xmp_next(&properties, &property)) {
+        count++;
+        if (!is_inside(property.space, form, length) || !is_inside(property.name, form, length) || !is_inside(property.language, form, length) ||
+            !is_inside(property.value, form, length))
+            printf("a part is not in the form\n");
+        if (property.depth > depth || property.depth >= EXIFNORM_XMP_DEPTH || (property.depth == 0) > (property.name.size > 0))
+            printf("a property has the depth %u after %u\n", (unsigned)property.depth, (unsigned)depth);
+        depth = property.depth + (property.kind >= EXIFNORM_XMP_STRUCTURE);
+        use_text(&property, sum);
+        *sum += (uint64_t)exifnorm_xmp_is(&property, "http://d/", "a");
+    }
+    if (count > length / 16)
+        printf("%lu properties in %lu bytes\n", count, (unsigned long)length);
+    if (exifnorm_xmp_next(&properties, &property))
+        printf("a property follows the end\n");
+    return count;
+}
+
+/* A packet's form, perhaps cut, with some of its bytes copied over others, behind the head, in which each change is the end. */
+static unsigned long walk_altered(const unsigned char *form, size_t length, uint64_t *sum) {
+    enum { HEAD = 131 };
+    size_t kept = random_number() % 3 == 0 ? random_number() % (length + 1) : length;
+    unsigned char *copy = malloc(kept ? kept : 1);
+    unsigned long count;
+    if (!copy)
+        exit(3);
+    memcpy(copy, form, kept);
+    for (uint32_t i = random_number() % 4; kept > HEAD && i > 0; i--) {
+        size_t from = random_number() % length, to = HEAD + random_number() % (kept - HEAD), size = 1 + random_number() % 2 * (random_number() % 40);
+        memcpy(copy + to, form + from, size <= length - from && size <= kept - to ? size : 1);
+    }
+    count = walk_properties(copy, kept, sum);
+    free(copy);
+    return count;
+}
+
 int main(int argc, char **argv) {
     FILE *file = argc >= 3 ? fopen(argv[2], "rb") : NULL;
     unsigned long count = 0;
@@ -151,15 +246,17 @@ int main(int argc, char **argv) {
     if (!file)
         return 3;
     while ((form = read_form(file, &length))) {
-        if (argv[1][0] == 'c')
-            for (int i = argc == 4 ? atoi(argv[3]) : 0; i > 0; i--)
-                count += walk_changed(form, length, &sum);
+        if (argc == 4)
+            for (int i = atoi(argv[3]); i > 0; i--)
+                count += argv[1][0] == 'c' ? walk_changed(form, length, &sum) : walk_altered(form, length, &sum);
+        else if (argv[1][0] == 'x')
+            print_properties(form, length);
         else
             print_fields(form, length, argv[1][0] == 'n' ? print_numbers : print_field);
         free(form);
     }
     fclose(file);
-    if (argv[1][0] == 'c')
+    if (argc == 4)
         printf("%lu fields\n", sum ? count : 0);
     return 0;
 }

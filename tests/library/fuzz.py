@@ -14,16 +14,18 @@ sys.path[:0] = [str(TESTS / "blocks")]
 
 from blocks import Blocks  # noqa: E402 (it is found only now)
 from kinds import small_kinds
+from small_packets import small_packets
 
 LONGEST = 4096  # longer blocks take longer, and show little more
 
 
 def known_blocks():
-    """The blocks of the cases and of every kind that are not too long, each once, the records first."""
+    """The blocks of the cases and of every kind that are not too long, and packets of XMP, each once, the records first."""
     with (TESTS / "program" / "cases" / "blocks.json").open(encoding="utf-8") as it:
         named = Blocks(json.load(it)["blocks"])
     found = [named.bytes_of(name) for name in named.spelled]
     found += [block for kind in small_kinds() for block in (*kind.blocks, kind.meaning.normal())]
+    found += small_packets()
     short = dict.fromkeys(it for it in found if 0 < len(it) <= LONGEST)
     return sorted(short, key=lambda it: it[:1] != b"\x1c")
 

@@ -217,7 +217,47 @@ def test_no_comparison_of_pictures_asks_for_more_than_is_proved(costs):
             assert asked <= 2 * (bounds().join_request(len(octets)) + once), f"{len(octets)} bytes ask for {asked}"
 
 
+# Packets of so many properties, in the order of their names and in others.
+PACKET = "<r:RDF xmlns:r='http://www.w3.org/1999/02/22-rdf-syntax-ns#' xmlns:d='http://d/'><r:Description>{}</r:Description></r:RDF>"
+PROPERTIES = [f"<d:p{it:05}>text</d:p{it:05}>" for it in range(4000)]
+MEMBERS = [f"<r:li>{it:05}</r:li>" for it in range(4000)]
+
+
+def packet(properties):
+    return PACKET.format("".join(properties)).encode()
+
+
+def bag(members):
+    return packet(["<d:b><r:Bag>", *members, "</r:Bag></d:b>"])
+
+
+def in_orders(make, parts):
+    return {"usual": make(parts), "descending": make(parts[::-1]), "random": make(Random(1).sample(parts, len(parts)))}
+
+
+# Packets, each with the bytes that a call takes at once for each byte of the packet at most: an eighth more than now.
+PACKETS = {
+    "properties": (packet(PROPERTIES), 8),
+    "a bag": (bag(MEMBERS), 7.5),
+    "a long text": (packet([f"<d:a>{'x' * 100_000}</d:a>"]), 8),
+    "structures in structures": (packet(["<d:a r:parseType='Resource'>" * 90, "<d:a>1</d:a>", "</d:a>" * 90]), 13),
+    "attributes": (packet(["<d:a ", *(f"d:a{it}='1' " for it in range(200)), "/>"]), 17.5),
+}
+
+
+@pytest.mark.parametrize("octets, most", PACKETS.values(), ids=PACKETS)
+def test_memory_of_packets(costs, octets, most):
+    """In proportion to the packet."""
+    for call in ("xmp_check", "xmp_normalise"):
+        assert costs.counts(call, octets).peak <= most * len(octets), call
+
+
 # ---- instructions
+
+
+@pytest.mark.parametrize("make, parts", [(packet, PROPERTIES), (bag, MEMBERS)], ids=["properties", "a bag"])
+def test_instructions_of_properties_in_another_order(costs, make, parts):
+    costs.see_that_orders_are_alike("xmp_normalise", in_orders(make, parts), 2.0)
 
 
 def iim(names):
@@ -270,11 +310,11 @@ def test_instructions_of_random_records(costs):
 
 
 # Meanings whose values are swapped in the normal form, each with the instructions for each byte of the form at most: an eighth more than
-# now, or a twentieth for the shortest. The buffer of a short form is small, because it is cleared. A value is swapped directly into the
-# output buffer if it fits there, and a long one directly into the caller's memory. The lengths of strips are written as one value.
+# now, or a twentieth for the shortest. The buffer of a form in memory is small, because it is cleared. A value is swapped directly into
+# the output buffer if it fits there, and a long one directly into the caller's memory. The lengths of strips are written as one value.
 SWAPPED = {
     "one SHORT": (Exif(dict(ORIENTATION)), 205),  # about 506, if 8,192 bytes are cleared
-    "1,000 values of 500 SHORTs": (Exif({tag: Value(SHORT, range(500)) for tag in range(0x1000, 0x13E8)}), 1.11),
+    "1,000 values of 500 SHORTs": (Exif({tag: Value(SHORT, range(500)) for tag in range(0x1000, 0x13E8)}), 1.46),
     "a megabyte of SHORTs": (Exif({0x1000: Value(SHORT, [it % 65_536 for it in range(1 << 19)])}), 0.65),
     "50,000 strips": (Exif(dict(ORIENTATION), thumb={}, strips=[b"x"] * 50_000), 19.6),
 }
@@ -305,6 +345,8 @@ PARTS = {
         3_980,
     ),
     "XMP in two pictures": ("jpeg_same", segment(0xE1, b"http://ns.adobe.com/xap/1.0/\0" + bytes(100)), 3_356),
+    "comments in a picture without XMP": ("jpeg_xmp", segment(0xFE, b"comment"), 145),
+    "Exif in a picture without XMP": ("jpeg_xmp", segment(0xE1, b"Exif\0\0MM\0*" + bytes(100)), 230),
     "long resources": ("photoshop_resources", b"MeSa\4\4\0\0\0\0\x10\0" + bytes(4096), 184),
 }
 

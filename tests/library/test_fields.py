@@ -17,6 +17,7 @@ from exifnorm._jpeg import CAUSES
 from exifnorm_pictures.fields.names import TABLES
 from exifnorm_pictures.fields.plain_names import group_of, plain_name
 from judged import NAMES, all_judged
+from small_packets import small_packets
 
 SAMPLES = sorted(TOP.glob("samples/*/*/*.jpg"))
 SANITIZED = ["-g", "-fsanitize=address,undefined", "-fno-sanitize-recover=all"]
@@ -296,6 +297,215 @@ def test_texts_of_datasets_have_no_zeros_at_the_end(sanitized, folder, octets, s
     assert f"text {size}" in run(sanitized, "numbers", write_forms(folder / "form", [form])).splitlines()
 
 
+# ---- properties of XMP
+
+
+KINDS = {1: exifnorm.XmpText, 2: exifnorm.XmpResource, 3: exifnorm.XmpStructure, 4: "Bag", 5: "Seq", 6: "Alt"}
+HEAD = '<x:xmpmeta xmlns:x="adobe:ns:meta/"><rdf:RDF xmlns:rdf="http://www.w3.org/1999/02/22-rdf-syntax-ns#"><rdf:Description rdf:about="">'
+TAIL = "</rdf:Description></rdf:RDF></x:xmpmeta>"
+
+
+def rows_of(value, depth=0, namespace="", name=""):
+    """A row for a value of the package, and for each one inside it, as the header finds them."""
+    kind = getattr(value, "kind", type(value))
+    text = getattr(value, "text", getattr(value, "uri", ""))
+    yield depth, kind, namespace, name, getattr(value, "language", ""), text
+    for member in getattr(value, "members", ()):
+        yield from rows_of(member, depth + 1)
+    for inner in getattr(value, "properties", ()):
+        yield from rows_of(inner.value, depth + 1, inner.namespace, inner.name)
+
+
+def rows_of_line(line):
+    depth, kind, *words = line.split(" ")[:6]
+    return (int(depth), KINDS[int(kind)], *(bytes.fromhex(it).decode() for it in words))
+
+
+def accepted_packets():
+    for packet in [*small_packets(), *packets_of_samples()]:
+        try:
+            yield packet, exifnorm.xmp_normal(packet)
+        except exifnorm.XmpRefused:
+            continue
+
+
+def packets_of_samples():
+    whole = re.compile(rb"<x:xmpmeta\b.*?</x:xmpmeta>", re.S)
+    return [it for path in sorted(TOP.glob("samples/*/*/*")) for it in whole.findall(path.read_bytes())]
+
+
+def test_properties_are_those_of_the_package(way, sanitized, folder):
+    accepted = list(accepted_packets())
+    assert len(accepted) > 20
+    printed = run(sanitized, "xmp", write_forms(folder / "forms", [form for _, form in accepted])).splitlines()
+    expected = []
+    for packet, _ in accepted:
+        for it in exifnorm.xmp_properties(packet):
+            expected += rows_of(it.value, 0, it.namespace, it.name)
+        expected.append("whole")
+    assert [it if it in ("whole", "cut") else rows_of_line(it) for it in printed] == expected
+    assert {it[1] for it in expected if it != "whole"} == set(KINDS.values()), "each kind is there"
+
+
+def test_no_byte_outside_a_form_of_xmp_is_read(way, sanitized, folder):
+    """Of forms that are changed and cut: each part is in the bytes, depths follow one another, and the walk ends."""
+    shown = run(sanitized, "alter", write_forms(folder / "forms", [form for _, form in accepted_packets()]), 400)
+    assert re.fullmatch(r"[1-9]\d{3,} fields\n", shown)
+
+
+def test_beginnings_of_forms_of_xmp_are_not_whole(way, sanitized, folder):
+    """Their properties are the first ones of the form."""
+    form = max((form for _, form in accepted_packets()), key=len)
+    forms = [form[:length] for length in range(len(form))] + [form + b" "]
+    printed = run(sanitized, "xmp", write_forms(folder / "forms", [form, *forms]))
+    whole, *rest = [it.splitlines() for it in re.findall(r"(?:[^wc].*\n)*(?:whole|cut)\n", printed)]
+    assert len(rest) == len(forms) and whole[-1] == "whole" and len(whole) > 5
+    for lines in rest:
+        assert lines == [*whole[: len(lines) - 1], "cut"]
+
+
+def item(name, rest):
+    """A property with what follows its namespace."""
+    return f'<p:{name} xmlns:p="http://d/"{rest}</p:{name}>'
+
+
+A, BAG, STRUCTURE = item("a", ">1"), "><rdf:Bag>{}</rdf:Bag>", ' rdf:parseType="Resource">'
+DEEP = f'<p:b xmlns:p="http://d/"{STRUCTURE}'
+# what is between the head and the tail of a form, and how many properties are read before the fault
+NO_PROPERTIES = {
+    "something before them": (f" {A}", 0),
+    "something between them": (f"{A} {A}", 1),
+    "another prefix": (f'{A}<d:a xmlns:d="http://d/">1</d:a>', 1),
+    "no name": (item("", ">1"), 0),
+    "no namespace": (f"{A}<p:b>1</p:b>", 1),
+    "the beginning of a tag in a namespace": ('<p:a xmlns:p="http://d/<b">1</p:a>', 0),
+    "the end of a tag in a namespace": ('<p:a xmlns:p="http://d/b>">1</p:a>', 0),
+    "a namespace without an end": ('<p:a xmlns:p="http://d/>1</p:a>', 0),
+    "another end tag": (item("b", ">1").replace("</p:b", "</p:c"), 0),
+    "the beginning of an end tag": (item("ab", ">1").replace("</p:ab", "</p:a"), 0),
+    "a longer end tag": (item("a", ">1").replace("</p:a", "</p:ab"), 0),
+    "an end tag alone": (f"{A}</p:a>", 1),
+    "another end tag of a structure": (f"{DEEP}{A}</p:a>", 2),
+    "a structure without an end": (f"{DEEP}{A}", 2),
+    "an end tag before another property": (f"{DEEP}</{A}</p:b>", 1),
+    "another container": (item("b", "><rdf:List></rdf:List>"), 0),
+    "another end of a container": (item("b", "><rdf:Bag></rdf:Seq>"), 1),
+    "a container without an end": (item("b", "><rdf:Bag><rdf:li>1</rdf:li>"), 2),
+    "something after a container": (item("b", BAG.format("") + " "), 1),
+    "a property in a container": (item("b", BAG.format(A)), 1),
+    "a member that is in no container": (f"{A}<rdf:li>1</rdf:li>", 1),
+    "a Bag with a language": (item("b", ' xml:lang="de"' + BAG.format("")), 0),
+    "a Seq with a language": (item("b", ' xml:lang="de"' + BAG.format("").replace("Bag", "Seq")), 0),
+    "an Alt with a language": (item("b", ' xml:lang="de"' + BAG.format("").replace("Bag", "Alt")), 0),
+    "a property in a text": (item("b", f">1{A}"), 0),
+    "an octet in a text that a form has as a reference": (item("b", ">1>2"), 0),
+    "a resource with an end tag": (item("b", ' rdf:resource="x:y"/>'), 1),
+    "a hundred structures": (DEEP * 100 + "</p:b>" * 100, 99),
+}
+NO_XMP_FORMS = {
+    **{name: (HEAD + inside + TAIL, count) for name, (inside, count) in NO_PROPERTIES.items()},
+    "no byte": ("", 0),
+    "another packet": (f"<x:xmpmeta xmlns:x='adobe:ns:meta/'>{HEAD[36:]}{TAIL}", 0),
+    "something after the end": (f"{HEAD}{A}{TAIL}\n", 1),
+}
+
+
+@pytest.mark.parametrize("name", NO_XMP_FORMS)
+def test_what_is_no_form_of_xmp_has_the_properties_before_the_fault(sanitized, folder, name):
+    form, count = NO_XMP_FORMS[name]
+    *lines, end = run(sanitized, "xmp", write_forms(folder / "form", [form.encode()])).splitlines()
+    assert (len(lines), end) == (count, "cut")
+
+
+def test_the_deepest_structures(way, sanitized, folder):
+    """As many as a packet may have inside one another."""
+    deep = b"<d:a r:parseType='Resource'>" * 97 + b"<d:b d:c='1'/>" + b"</d:a>" * 97
+    packet = small_packets()[0].replace(b"<d:a>Vase</d:a>", deep)
+    form = exifnorm.xmp_normal(packet)
+    *lines, end = run(sanitized, "xmp", write_forms(folder / "form", [form])).splitlines()
+    assert [rows_of_line(it)[0] for it in lines] == [*range(99)] and end == "whole"
+    (found,) = exifnorm.xmp_properties(packet)
+    assert [it[0] for it in rows_of(found.value)] == [*range(99)]
+
+
+IS = """
+#include <exifnorm_fields.h>
+static int is(const char *space, const char *name, const char *other_space, const char *other) {
+    struct exifnorm_xmp_property property;
+    memset(&property, 0, sizeof property);
+    property.space.start = (const unsigned char *)space;
+    property.space.size = strlen(space);
+    property.name.start = (const unsigned char *)name;
+    property.name.size = strlen(name);
+    return exifnorm_xmp_is(&property, other_space, other);
+}
+int main(void) {
+    return !is("http://d/", "ab", "http://d/", "ab") || !is("http://d/", "xab", "http://d/x", "ab") || is("http://d/", "ab", "http://d/", "a") ||
+           is("http://d/", "ab", "http://d/", "abc") || is("http://d/", "ab", "http://e/", "ab") || is("http://d/", "ab", "http://d/", "aB") ||
+           is("http://d/", "ab", "", "") || is("", "", "", "") || !is("u:\\xc3", "a", "u:\\xc3", "a");
+}
+"""
+
+
+CUT = """
+#include <exifnorm_fields.h>
+int main(void) {
+    static const unsigned char whole[] = "a&amp;&lt;&gt;&#13;&#1;";
+    struct exifnorm_xmp_property property;
+    unsigned char text[sizeof whole];
+    memset(&property, 0, sizeof property);
+    property.value.start = whole;
+    property.value.size = 5;
+    if (exifnorm_xmp_text(&property, text, sizeof text) != 5 || memcmp(text, "a&amp", 5) != 0)
+        return 1;
+    property.value.size = sizeof whole - 1;
+    return exifnorm_xmp_text(&property, text, sizeof text) != 9 || memcmp(text, "a&<>\\r&#1;", 9) != 0;
+}
+"""
+
+
+def test_a_reference_that_is_cut_or_in_no_form_is_a_text(folder):
+    (folder / "cut.c").write_text(CUT, encoding="ascii")
+    run(*C99, *SANITIZED, folder / "cut.c", "-o", folder / "cut")
+    run(folder / "cut")
+
+
+EXAMPLE = """
+#include <exifnorm_fields.h>
+static size_t printed;
+static void print(const char *format, int size, const char *text) {
+    (void)format, (void)text;
+    printed = (size_t)size;
+}
+#define printf print
+int main(void) {
+    static const unsigned char form[] = %s;
+    size_t written = sizeof form - 1;
+    %s
+    return printed != %d;
+}
+"""
+
+
+@pytest.mark.parametrize("size", (0, 999, 1000, 1001, 3000))
+def test_the_example_of_xmp_prints_no_more_than_its_room(folder, size):
+    """Its text has room for 1,000 bytes, and a packet may have a longer one."""
+    lines = (
+        (HEADERS / "exifnorm_fields.h").read_text(encoding="ascii").partition("exifnorm_xmp_normalise writes\n *\n")[2].partition(" *\n")[0]
+    )
+    form = HEAD + f'<p:format xmlns:p="http://purl.org/dc/elements/1.1/">{"x" * size}</p:format>' + TAIL
+    source = EXAMPLE % (json.dumps(form), lines.replace("\n *", "\n")[2:], min(size, 1000))
+    (folder / "example.c").write_text(source, encoding="ascii")
+    run(*C99, *SANITIZED, folder / "example.c", "-o", folder / "example")
+    run(folder / "example")
+
+
+def test_names_of_properties_are_compared_with_their_namespaces(folder):
+    (folder / "is.c").write_text(IS, encoding="ascii")
+    run(*C99, *SANITIZED, folder / "is.c", "-o", folder / "is")
+    run(folder / "is")
+
+
 # ---- names and texts
 
 
@@ -320,7 +530,7 @@ int main(void) {
     field.directory = EXIFNORM_DIRECTORY_THUMBNAIL;
     for (field.type = EXIFNORM_TYPE_JPEG; field.type <= EXIFNORM_TYPE_STRIP; field.type++)
         printf("picture %s\n", exifnorm_field_name(&field));
-    for (uint32_t i = 0; i < 200; i++)
+    for (uint32_t i = 0; i < 300; i++)
         printf("status %u %s\ncause %u %s\n", (unsigned)i, exifnorm_status_text(i), (unsigned)i, exifnorm_cause_text(i));
     return 0;
 }
@@ -330,6 +540,7 @@ int main(void) {
 @pytest.mark.parametrize("compiler", COMPILERS, ids=lambda it: it[0])
 def test_names_and_texts(folder, compiler):
     need(compiler[0])
+    text_of_header = (HEADERS / "exifnorm.h").read_text(encoding="utf-8")
     (folder / "prints.c").write_text(PRINTS, encoding="ascii")
     run(*compiler, *STRICT, *SANITIZED, folder / "prints.c", "-o", folder / "prints")
     lines = run(folder / "prints").splitlines()
@@ -341,11 +552,11 @@ def test_names_and_texts(folder, compiler):
     }
     assert {it for it in lines if it.startswith("name ")} == expected
     assert [it for it in lines if it.startswith("picture ")] == ["picture ThumbnailImage", "picture ThumbnailTIFF"]
-    expected_causes = {**dict(enumerate(NAMES, 1)), **CAUSES}
+    xmp = {names.name_of_cause(it): number for it, number in re.findall(r"EXIFNORM_(XMP_\w+) = (\d+)", text_of_header)}
+    expected_causes = {**dict(enumerate(NAMES, 1)), **CAUSES, **{int(number): name for name, number in xmp.items()}}
     causes = dict(re.findall(r"^cause (\d+) (.+)$", "\n".join(lines), re.M))
     assert causes == {str(number): CAUSE_WORDS[name][0] for number, name in expected_causes.items()}
-    header = (HEADERS / "exifnorm.h").read_text(encoding="utf-8")
-    statuses = re.search(r"/\* The statuses. \*/\nenum {(.*?)};", header, re.S)[1]
+    statuses = re.search(r"/\* The statuses. \*/\nenum {(.*?)};", text_of_header, re.S)[1]
     assert re.findall(r"^status (\d+) .+$", "\n".join(lines), re.M) == re.findall(r" = (\d+)", statuses)
 
 

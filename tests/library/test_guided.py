@@ -31,6 +31,9 @@ CALLS = (
     "photoshop_resources",
     "jpeg_same",
     "jpeg_unread",
+    "jpeg_xmp",
+    "xmp_check",
+    "xmp_normalise",
 )
 pytestmark = pytest.mark.xdist_group("fuzz targets")  # they are built once
 

@@ -11,6 +11,7 @@ import exifnorm
 from commands import run, text_of
 from compiling import HEADERS, HERE, STRICT, need
 from exifnorm import _jpeg, _library
+from exifnorm._causes import OF_PACKETS
 from judged import NAMES
 from meanings import LIMIT
 
@@ -20,8 +21,9 @@ PAGE = text_of("docs", "exifnorm.3")
 VERSION = re.search(r'VERSION: &str = "(.*)";', text_of("crates", "px_engine", "src", "version.rt"))[1]
 STATUSES = dict(re.findall(r"pub const (\w+): u32 = (\d+);", text_of("crates", "px_c", "src", "statuses.rt")))
 OF_JPEG = text_of("crates", "px_c", "src", "jpeg.rt")
+OF_XMP = text_of("crates", "px_c", "src", "xmp.rt")
 OF_PICTURES = text_of("crates", "px_c", "src", "pictures.rt")
-WITH_STRUCTS = ("faults.rt", "jpeg.rt", "pictures.rt", "blocks.rt", "unread.rt")
+WITH_STRUCTS = ("faults.rt", "jpeg.rt", "packets.rt", "pictures.rt", "blocks.rt", "unread.rt")
 
 
 def prototypes(text):
@@ -44,9 +46,14 @@ def in_capitals(name):
 
 def numbers_of_jpegs():
     """Those of the kinds and causes of a JPEG's head."""
-    found = re.findall(r"^ +(?:Kind|Cause)::(\w+) => (\d+),$", OF_JPEG, re.M)
+    found = re.findall(r"^ +(?:SegmentKind|HeadCause)::(\w+) => (\d+),$", OF_JPEG, re.M)
     too_long = int(re.search(r"^(?:pub\(crate\) )?const TOO_LONG: u32 = (\d+);$", OF_PICTURES, re.M)[1])
     return {"OTHER": 0, **{in_capitals(name): int(number) for name, number in found}, "TOO_LONG": too_long}
+
+
+def numbers_of_xmp():
+    """Those of the causes of a packet of XMP."""
+    return {name: int(number) for name, number in re.findall(r"^ +Cause::(\w+) => (\d+),$", OF_XMP, re.M)}
 
 
 def numbers_of_the_sources():
@@ -57,6 +64,7 @@ def numbers_of_the_sources():
     known = {f"EXIFNORM_{name}": int(number) for name, number in STATUSES.items()}
     known.update((f"EXIFNORM_CAUSE_{in_capitals(name)}", int(number)) for number, name in causes)
     known.update((f"EXIFNORM_JPEG_{name}", number) for name, number in numbers_of_jpegs().items())
+    known.update((f"EXIFNORM_XMP_{in_capitals(name)}", number) for name, number in numbers_of_xmp().items())
     known.update((f"EXIFNORM_VERSION_{name}", int(number)) for name, number in zip(("MAJOR", "MINOR", "PATCH"), VERSION.split(".")))
     return {**known, "EXIFNORM_LIMIT": LIMIT, "EXIFNORM_EXIF": 1, "EXIFNORM_IIM": 2, "EXIFNORM_NAME_ROOM": 32}
 
@@ -142,6 +150,14 @@ def test_python_has_the_same_statuses_causes_and_version(way, version):
     assert (exifnorm.LIMIT, exifnorm.version(), exifnorm.__version__) == (LIMIT, version, VERSION)
 
 
+def test_causes_of_xmp_have_names_and_sentences():
+    names = {number: f"Xmp{name}" for name, number in numbers_of_xmp().items()}
+    assert {number: _library.library().cause_name(number) for number in names} == names
+    assert sorted(names.values()) == sorted(OF_PACKETS)
+    assert {name for number, name in names.items() if number > 250} == {it for it in OF_PACKETS if it.startswith("XmpRare")}
+    assert {_library.library().cause_name(number) for number in (200, 213, 250, 262)} == {""}
+
+
 def test_python_has_the_same_numbers_and_structs_of_jpegs():
     kinds = {it.upper().replace(" ", "_") or "OTHER": number for number, it in enumerate(_jpeg.PART_KINDS)}
     numbers = numbers_of_jpegs()
@@ -157,6 +173,7 @@ def test_python_has_the_same_numbers_and_structs_of_jpegs():
         "jpeg_block": _library.PlaceStruct,
         "jpeg_sizes": _library.Sizes,
         "unread_part": _library.UnreadStruct,
+        "jpeg_packet": _library.PacketStruct,
     }
     found = {
         f"exifnorm_{name}": [ctypes.sizeof(it), *(getattr(it, field).offset for field, _ in it._fields_)] for name, it in structs.items()
@@ -183,6 +200,7 @@ IN_PYTHON = {
     "struct exifnorm_jpeg_block *": "LP_PlaceStruct",
     "struct exifnorm_jpeg_sizes *": "LP_Sizes",
     "struct exifnorm_unread_part *": "LP_UnreadStruct",
+    "struct exifnorm_jpeg_packet *": "LP_PacketStruct",
 }
 
 

@@ -150,6 +150,16 @@ print(json.dumps([*(outcome(it, b"ab") for it in calls), outcome(exifnorm.same, 
     assert json.loads(found) == [expected] * 7
 
 
+@pytest.mark.parametrize("status, expected", [(2, "XmpRefused"), (4, "MemoryError"), (6, "AssertionError"), (9, "XmpRefused")])
+def test_exception_for_each_status_of_a_packet(packages, watched_library, status, expected):
+    code = """
+import exifnorm
+try: exifnorm.xmp_normal(b"<a/>")
+except Exception as why: print(type(why).__name__)
+"""
+    assert packages.printed(packages.copy("copy"), code, EXIFNORM_LIBRARY=watched_library, STATUS=status) == expected
+
+
 def test_little_memory(packages, shared):
     """An allocation of the library that fails raises MemoryError. The limit needs a process of its own."""
     code = """

@@ -27,6 +27,7 @@ from kinds import small_kinds
 from meanings import ASCII, LABELS, LIMIT, LONG, SHORT, Exif, Layout, Record, Value, laid
 from reading import said
 from small_blocks import CAPTION, LOOP, OF_BLOCK, ONE, long_form, normal, outcome
+from small_packets import small_packets
 
 pytestmark = pytest.mark.usefixtures("way")
 
@@ -74,6 +75,65 @@ def test_a_jpeg_is_no_block(call):
     assert str(raised.value).startswith("UnknownKind at 0") and "JPEG" not in str(raised.value)
 
 
+NO_PACKETS = {
+    b"\xff\xd8\xff\xe0\0\x10JFIF": ("JPEG", "jpeg_xmp"),
+    b"Exif\0\0" + ONE: ("Exif", "exifnorm.normal"),
+    ONE: ("Exif", "exifnorm.normal"),
+    b"II*\0\x08\0\0\0" + ONE[8:]: ("Exif", "exifnorm.normal"),
+    CAPTION: ("IPTC", "exifnorm.normal"),
+    b"http://ns.adobe.com/xap/1.0/\0" + small_packets()[0]: ("segment", "first 29"),
+}
+
+
+@pytest.mark.parametrize("octets", NO_PACKETS, ids=[f"{it[:6]!r}" for it in NO_PACKETS])
+def test_what_is_no_packet_says_what_it_is(octets):
+    """Whoever passes something else than a packet learns what it is, and what to do."""
+    word, remedy = NO_PACKETS[octets]
+    for call in (exifnorm.xmp_normal, exifnorm.xmp_properties):
+        with pytest.raises(exifnorm.XmpRefused, match=word) as raised:
+            call(bytearray(octets))
+        again = pickle.loads(pickle.dumps(raised.value))
+        assert word in again.sentence and remedy in again.remedy and str(again) == str(raised.value)
+    if word == "segment":
+        assert exifnorm.xmp_normal(octets[29:]), "the remedy helps"
+    with pytest.raises(exifnorm.XmpRefused) as other:
+        exifnorm.xmp_normal(b"\x89PNG" + octets)
+    assert str(other.value) == "XmpBadCharacter at 0" and "packet" in other.value.sentence
+
+
+TEXT, LANGUAGE, MEMBERS = exifnorm.XmpText, "de-at", (exifnorm.XmpText("b"), exifnorm.XmpText("a"))
+PROPERTIES = {
+    "d:a='&amp;lt; &#13;'>": ("a", TEXT("&lt; \r")),
+    f"><d:a xml:lang='{LANGUAGE.upper()}'>&gt;&#x20AC;</d:a>": ("a", TEXT(">\u20ac", LANGUAGE)),
+    "><d:a r:resource='u:1?a&amp;b'/>": ("a", exifnorm.XmpResource("u:1?a&b")),
+    "><d:a><r:Seq><r:li>b</r:li><r:li>a</r:li></r:Seq></d:a>": ("a", exifnorm.XmpContainer("Seq", MEMBERS)),
+    "><d:a><r:Alt><r:li>b</r:li><r:li>a</r:li></r:Alt></d:a>": ("a", exifnorm.XmpContainer("Alt", MEMBERS)),
+    "><d:a><r:Bag><r:li>b</r:li><r:li>a</r:li></r:Bag></d:a>": ("a", exifnorm.XmpContainer("Bag", MEMBERS[::-1])),
+    "><d:a><r:Bag/></d:a>": ("a", exifnorm.XmpContainer("Bag", ())),
+    "><d:a r:parseType='Resource'/>": ("a", exifnorm.XmpStructure(())),
+    "><d:a d:c='1' d:b='2'/>": (
+        "a",
+        exifnorm.XmpStructure((exifnorm.XmpProperty("http://d/", "b", TEXT("2")), exifnorm.XmpProperty("http://d/", "c", TEXT("1")))),
+    ),
+    "><d:a><r:Bag><r:li d:b='2'/><r:li/></r:Bag></d:a>": (
+        "a",
+        exifnorm.XmpContainer("Bag", (exifnorm.XmpStructure((exifnorm.XmpProperty("http://d/", "b", TEXT("2")),)), TEXT(""))),
+    ),
+}
+
+
+@pytest.mark.parametrize("written", PROPERTIES)
+def test_properties_of_a_packet(written):
+    name, value = PROPERTIES[written]
+    spaces = "xmlns:r='http://www.w3.org/1999/02/22-rdf-syntax-ns#' xmlns:d='http://d/' xmlns:e='http://e/e'"
+    packet = f"<r:RDF {spaces}><r:Description {written}<e:f>last</e:f></r:Description></r:RDF>".encode()
+    for it in (packet, memoryview(packet), exifnorm.xmp_normal(packet)):
+        found = exifnorm.xmp_properties(it)
+        assert found == [("http://d/", name, value), ("http://e/", "ef", TEXT("last"))] and type(found) is list
+        assert type(found[0].value) is type(value), "two kinds of value are equal as tuples"
+    assert exifnorm.xmp_properties(f"<r:RDF {spaces}/>".encode()) == []
+
+
 def test_each_cause_is_one_fault_and_a_sentence():
     names = [_library.library().cause_name(number) for number in range(1, 20)]
     assert {number: _library.library().cause_name(number) for number in _jpeg.CAUSES} == _jpeg.CAUSES, "C has the same names"
@@ -110,7 +170,10 @@ def test_older_words_are_still_understood():
         assert refusal.offset == refusal.place == 3
 
 
-@pytest.mark.parametrize("named_tuple", [exifnorm.Field, exifnorm.JpegBlock, exifnorm.JpegPart, exifnorm.Resource], ids=named)
+OF_XMP = [exifnorm.XmpText, exifnorm.XmpResource, exifnorm.XmpContainer, exifnorm.XmpStructure, exifnorm.XmpProperty]
+
+
+@pytest.mark.parametrize("named_tuple", [exifnorm.Field, exifnorm.JpegBlock, exifnorm.JpegPart, exifnorm.Resource, *OF_XMP], ids=named)
 def test_help_describes_each_member(named_tuple):
     for member in named_tuple._fields:
         assert f"`{member}`" in named_tuple.__doc__, member
@@ -315,6 +378,12 @@ def test_what_is_no_block(wrong):
     assert outcome(exifnorm.same, wrong, ONE)[0] == outcome(exifnorm.same, ONE, wrong)[0] == "TypeError"
 
 
+def test_an_open_file_is_told_what_to_do():
+    for call in (exifnorm.normal, exifnorm.fields, exifnorm.jpeg_blocks):
+        with open("/dev/null", "rb") as file, pytest.raises(TypeError, match="read"):
+            call(file)
+
+
 @pytest.mark.parametrize("name", ["kind", "normal", "digest", "show", "fields", "captions"])
 def test_arguments_of_a_call(name):
     """One block, by its place or by its name, also before the library is loaded."""
@@ -415,6 +484,10 @@ def test_version(version):
 
 
 ODD = laid(Exif({0x9999: Value(7, bytes(99_999))}), Layout("<"))
+SPACES = f"xmlns:r='http://www.w3.org/1999/02/22-rdf-syntax-ns#' xmlns:n='http://{'n' * 1000}/'"
+LONG_NAMES = f"<r:RDF {SPACES}><r:Description n:a='1' n:b='2' n:c='3' n:d='4'/></r:RDF>".encode()  # the form has the namespace four times
+ATTRIBUTES = " ".join(f"e:Name{it}='0'" for it in range(40))  # as Lightroom writes its settings: the form is almost twice as long
+SETTINGS = f"<r:RDF {SPACES.split()[0]} xmlns:e='http://e/'><r:Description {ATTRIBUTES}/></r:RDF>".encode()
 BY_CALL = {
     "kind": ({"check": 1}, exifnorm.kind, ONE),
     "kind of a refused block": ({"check": 1, "cause_name": 1}, exifnorm.kind, LOOP),
@@ -431,6 +504,11 @@ BY_CALL = {
     "captions that are longer than expected": ({"captions": 2}, exifnorm.captions, Record([(2, 120, bytes(60_000))]).spelled()),
     "fields": ({"normalise": 1}, exifnorm.fields, ONE),
     "fields with a record": ({"normalise": 1, "check": 1}, exifnorm.fields, laid(Exif({}, record=Record([(2, 5, b"T")])), Layout(">"))),
+    "xmp_normal": ({"xmp_normalise": 1}, exifnorm.xmp_normal, small_packets()[0]),
+    "xmp_normal of many attributes": ({"xmp_normalise": 1}, exifnorm.xmp_normal, SETTINGS),
+    "xmp_normal of a form that is longer than expected": ({"xmp_normalise": 2}, exifnorm.xmp_normal, LONG_NAMES),
+    "xmp_normal of a refused packet": ({"xmp_normalise": 1, "cause_name": 1}, exifnorm.xmp_normal, b"<a/>"),
+    "xmp_properties": ({"xmp_normalise": 1}, exifnorm.xmp_properties, small_packets()[0]),
     "version": ({"version": 1}, exifnorm.version),
 }
 

@@ -15,8 +15,8 @@
 #include <time.h>
 
 /* How often each call was made: check, normalise, compare, show, captions, cause_name, version, jpeg_parts, photoshop_resources,
- * jpeg_same, jpeg_blocks, jpeg_unread. */
-unsigned long watched_calls[12];
+ * jpeg_same, jpeg_blocks, jpeg_unread, xmp_check, xmp_normalise, jpeg_xmp. */
+unsigned long watched_calls[15];
 /* The length of the output of the calls for texts: of the last one, and of all together. */
 unsigned long watched_room, watched_rooms;
 /* The most threads that were inside such a call at once. */
@@ -106,6 +106,17 @@ uint32_t exifnorm_compare(const unsigned char *first, size_t first_length, const
 TEXT(exifnorm_normalise, 1)
 TEXT(exifnorm_show, 3)
 TEXT(exifnorm_captions, 4)
+TEXT(exifnorm_xmp_normalise, 13)
+
+uint32_t exifnorm_xmp_check(const unsigned char *packet, size_t length, struct exifnorm_fault *fault) {
+    uint32_t (*call)(const unsigned char *, size_t, struct exifnorm_fault *);
+    uint32_t status;
+    count_call(12);
+    need(packet, fault, fault, fault);
+    meet();
+    *(void **)&call = dlsym(right, "exifnorm_xmp_check");
+    return has_status(&status) ? status : call(packet, length, fault);
+}
 
 uint32_t exifnorm_jpeg_parts(const unsigned char *bytes, size_t length, struct exifnorm_jpeg_part *parts, size_t room, size_t *count,
                              struct exifnorm_jpeg_fault *fault) {
@@ -158,6 +169,16 @@ uint32_t exifnorm_jpeg_unread(const unsigned char *bytes, size_t length, struct 
     need(bytes, unread, fault, fault);
     *(void **)&call = dlsym(right, "exifnorm_jpeg_unread");
     return has_status(&status) ? status : call(bytes, length, unread, fault);
+}
+
+uint32_t exifnorm_jpeg_xmp(const unsigned char *bytes, size_t length, struct exifnorm_jpeg_packet *packet, struct exifnorm_unread_part *unread,
+                           struct exifnorm_jpeg_fault *fault) {
+    uint32_t (*call)(const unsigned char *, size_t, struct exifnorm_jpeg_packet *, struct exifnorm_unread_part *, struct exifnorm_jpeg_fault *);
+    uint32_t status;
+    count_call(14);
+    need(bytes, packet, unread, fault);
+    *(void **)&call = dlsym(right, "exifnorm_jpeg_xmp");
+    return has_status(&status) ? status : call(bytes, length, packet, unread, fault);
 }
 
 uint32_t exifnorm_cause_name(uint32_t cause, char *out, size_t room, size_t *written) {

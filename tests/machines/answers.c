@@ -61,6 +61,15 @@ static void print_block(octets block) {
     print_written("show into none", exifnorm_show, block, 0);
 }
 
+static void print_packet(octets packet) {
+    struct exifnorm_fault fault = {0, 0};
+    uint32_t status = exifnorm_xmp_check(packet.bytes, packet.length, &fault);
+    size_t room = packet.length < ROOM / 16 ? 8 * packet.length + 1024 : ROOM / 2;
+    printf("packet %u %u %u\n", (unsigned)status, (unsigned)fault.cause, (unsigned)fault.place);
+    print_written("packet's form", exifnorm_xmp_normalise, packet, room);
+    print_written("packet's form into none", exifnorm_xmp_normalise, packet, 0);
+}
+
 static void print_parts(octets picture, size_t room) {
     static struct exifnorm_jpeg_part parts[ROWS];
     struct exifnorm_jpeg_fault fault = {0, 0};
@@ -104,6 +113,15 @@ static void print_unread(octets picture) {
            (unsigned)fault.cause, (unsigned long)fault.place);
 }
 
+static void print_packet_of_picture(octets picture) {
+    struct exifnorm_jpeg_packet packet = {9, 9, 9};
+    struct exifnorm_unread_part unread = {9, 9, 9};
+    struct exifnorm_jpeg_fault fault = {0, 0};
+    uint32_t status = exifnorm_jpeg_xmp(picture.bytes, picture.length, &packet, &unread, &fault);
+    printf("packet of the picture %u %u %lu %lu", (unsigned)status, (unsigned)packet.found, (unsigned long)packet.start, (unsigned long)packet.size);
+    printf(" %u %lu %u %lu\n", (unsigned)unread.found, (unsigned long)unread.start, (unsigned)fault.cause, (unsigned long)fault.place);
+}
+
 static void print_comparison(octets first, octets second) {
     struct exifnorm_fault fault = {0, 0};
     struct exifnorm_picture_fault picture = {0, 0, 0, 0};
@@ -128,6 +146,7 @@ static void print_names(void) {
 
 static void print_file(octets file, octets before) {
     print_block(file);
+    print_packet(file);
     print_parts(file, ROWS);
     print_parts(file, 2);
     print_blocks(file, ROWS, ROOM);
@@ -135,6 +154,7 @@ static void print_file(octets file, octets before) {
     print_resources(file, ROWS);
     print_resources(file, 1);
     print_unread(file);
+    print_packet_of_picture(file);
     print_comparison(file, file);
     if (before.bytes) print_comparison(before, file);
 }

@@ -22,7 +22,7 @@ for word; do
 done
 exec cc "$@"
 """
-LIBRARY = ["test_interface.py", "test_jpeg_calls.py", "test_jpeg_same.py", "test_all_blocks.py"]
+LIBRARY = ["test_interface.py", "test_jpeg_calls.py", "test_jpeg_same.py", "test_jpeg_xmp.py", "test_all_blocks.py"]
 PACKAGE = ["test_all_blocks.py", "test_package.py", "test_extension.py", "test_jpegs.py"]
 
 

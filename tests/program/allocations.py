@@ -11,7 +11,7 @@ from program import Outcome, run
 
 MOST = 20_000  # more allocations than a run of a small block has
 OVERLAP = 5  # allocations for the arguments that are tried again with each case
-SECONDS = 20
+SECONDS = 600  # a guard alone, also on a very busy machine
 
 
 def run_refusing(program: Path, refuse: str, case: Case, number: int) -> Tuple[Outcome, bool]:

@@ -58,7 +58,7 @@ def run_in(folder, program, case, environment, seconds, keeps_open):
         status = started.returncode
     except subprocess.TimeoutExpired:
         started.kill()
-        output, errors = started.communicate(timeout=20)
+        output, errors = started.communicate(timeout=300)
         status = "no end"
     return Outcome(status, output or b"", errors)
 

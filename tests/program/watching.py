@@ -12,7 +12,7 @@ from meanings import LIMIT
 from program import run
 from proved import bounds
 
-SECONDS = 60
+SECONDS = 600  # a guard alone, also on a very busy machine
 ROOM = 8192  # the size of the output buffer
 CHUNK = 65536  # the most that one read requests
 DOUBLES, MOST = 1 << 20, LIMIT + 7  # up to here the list that a file is read into doubles; the most that is read of a file

@@ -20,17 +20,18 @@ const ofBlock = async ({ kind, data }) => [kind, await digest(data)];
 async function answer(name, blocks) {
   let value;
   try {
-    value = exifnorm[name](...blocks);
+    value = name === "xmpProperties" ? exifnorm.xmpProperties(exifnorm.xmpNormalise(...blocks)) : exifnorm[name](...blocks);
   } catch (error) {
     if (error instanceof exifnorm.NotRead) return [error.name, error.side, error.unread.joined, error.unread.start];
     const isHead = error instanceof exifnorm.HeadRefused;
+    if (error instanceof exifnorm.XmpRefused) return [error.name, error.message, error.isRare];
     return [error.name, error.message, ...(isHead ? [error.parts.map(ofPart), await Promise.all(error.blocks.map(ofBlock))] : [])];
   }
-  if (name === "normalise" || name === "show" || name === "captions") return digest(value);
+  if (["normalise", "show", "captions", "xmpNormalise"].includes(name)) return digest(value);
   if (name === "jpegBlocks") return Promise.all(value.map(ofBlock));
   if (name === "jpegParts") return value.map(ofPart);
   if (name === "photoshopResources") return value.map(({ number, start, size }) => [number, start, size]);
-  return name === "jpegUnread" && value ? [value.joined, value.start] : value;
+  return name === "jpegUnread" && value ? [value.joined, value.start] : value ?? null;
 }
 
 /** The answers to all requests, each [call, index of a block, ..]. */

@@ -8,12 +8,21 @@ const same: boolean = exifnorm.compare(bytes, form) && exifnorm.jpegSame(bytes, 
 const numbers: number[] = exifnorm.jpegParts(bytes, 5).map((part) => part.marker + part.start + part.size);
 numbers.push(...exifnorm.photoshopResources(bytes).map((resource) => resource.number), exifnorm.jpegUnread(bytes)?.start ?? limit);
 const blocks: [exifnorm.Kind, Uint8Array][] = exifnorm.jpegBlocks(bytes).map(({ kind, data }) => [kind, data]);
+function textsOf(value: exifnorm.XmpValue): string[] {
+  if (value.kind === "text") return [value.text, value.language];
+  if (value.kind === "resource") return [value.uri];
+  return value.kind === "structure" ? value.properties.flatMap((property) => textsOf(property.value)) : value.members.flatMap(textsOf);
+}
+exifnorm.xmpCheck(bytes);
+const packet: Uint8Array = exifnorm.xmpNormalise(bytes);
+texts.push(...exifnorm.xmpProperties(packet).flatMap(({ namespace, name, value }) => [namespace, name, ...textsOf(value)]));
 try {
   const engine: Engine = await load(bytes);
   engine.check(bytes);
 } catch (error) {
   if (error instanceof exifnorm.PictureRefused) texts.push(error.kind, `${error.index}`);
   else if (error instanceof exifnorm.HeadRefused) numbers.push(error.parts.length, ...error.blocks.map(({ data }) => data.length));
+  else if (error instanceof exifnorm.XmpRefused) texts.push(error.isRare ? error.cause : error.message);
   else if (error instanceof exifnorm.Refused) texts.push(error.cause, `${error.offset} ${error.side ?? 0}`);
   else if (error instanceof exifnorm.NotRead) numbers.push(error.side, error.unread.start);
   else if (error instanceof exifnorm.TooMany) numbers.push(error.most);

@@ -41,6 +41,46 @@ test("errors have a cause, an offset, and what else belongs to them", () => {
   for (const wrong of ["text", null, [1, 2], new Uint16Array(2)]) assert.throws(() => exifnorm.check(wrong), TypeError);
 });
 
+const RDF = "http://www.w3.org/1999/02/22-rdf-syntax-ns#", encoded = (text) => new TextEncoder().encode(text);
+const packet = (inside) => encoded(`<r:RDF xmlns:r='${RDF}' xmlns:d='http://d/'><r:Description>${inside}</r:Description></r:RDF>`);
+
+test("a packet of XMP is wrong, or in a rare form", () => {
+  for (const call of [exifnorm.xmpCheck, exifnorm.xmpNormalise]) {
+    const wrong = { name: "XmpRefused", cause: "XmpOtherEnd", offset: 6, side: null, isRare: false };
+    assert.throws(() => call(encoded("<a><b></a>")), wrong);
+    assert.throws(() => call(packet("text")), { cause: "XmpRareText", isRare: true });
+    assert.throws(() => call(packet("text")), (error) => error instanceof exifnorm.XmpRefused && error instanceof exifnorm.Refused);
+    assert.throws(() => call(new Uint8Array(exifnorm.LIMIT + 1)), { cause: "XmpTooLong", offset: exifnorm.LIMIT });
+    for (const other of ["text", [1, 2]]) assert.throws(() => call(other), TypeError);
+  }
+  assert.equal(exifnorm.xmpCheck(packet("<d:a>Vase</d:a>")), undefined);
+});
+
+test("the properties of a form", () => {
+  const list = "<r:li r:resource='u:?a&amp;b'/><r:li r:parseType='Resource'><d:c/><r:value>v</r:value></r:li>";
+  const inside = `<d:a xml:lang='DE'>&#38;lt;\r&#13;</d:a><d:b><r:Alt>${list}</r:Alt></d:b>`;
+  const text = (value, language = "") => ({ kind: "text", text: value, language });
+  const structure = [{ namespace: "http://d/", name: "c", value: text("") }, { namespace: RDF, name: "value", value: text("v") }];
+  const members = [{ kind: "resource", uri: "u:?a&b" }, { kind: "structure", properties: structure }];
+  assert.deepEqual(exifnorm.xmpProperties(exifnorm.xmpNormalise(packet(inside))), [
+    { namespace: "http://d/", name: "a", value: text("&lt;\n\r", "de") },
+    { namespace: "http://d/", name: "b", value: { kind: "Alt", members } },
+  ]);
+  assert.deepEqual(exifnorm.xmpProperties(exifnorm.xmpNormalise(packet(""))), []);
+});
+
+test("what is no form has no properties", () => {
+  const inside = "<d:a xml:lang='de'>1</d:a><d:b><r:Bag><r:li>2</r:li></r:Bag></d:b><d:c r:resource='u:1'/><d:d d:e='3'/>";
+  const form = exifnorm.xmpNormalise(packet(inside)), text = new TextDecoder().decode(form), end = "</rdf:Description>";
+  const fails = (bytes) => assert.throws(() => exifnorm.xmpProperties(bytes), SyntaxError);
+  for (let size = 0; size < form.length; size++) fails(form.subarray(0, size));
+  for (const other of [packet("<d:a>1</d:a>"), encoded(`${text} `), Uint8Array.from(form, (octet) => octet | 0x80)]) fails(other);
+  for (const other of ["</p:q>", "", " </p:a>x"]) fails(encoded(text.replace("</p:a>", other)));
+  const nested = '<p:a xmlns:p="http://d/" rdf:parseType="Resource">'.repeat(100_000) + "</p:a>".repeat(100_000);
+  fails(encoded(text.replace(end, nested + end)));
+  for (const wrong of ["text", null]) assert.throws(() => exifnorm.xmpProperties(wrong), TypeError);
+});
+
 test("a result is a copy, and an argument stays as it is", () => {
   const block = ONE.slice(), form = exifnorm.normalise(block);
   exifnorm.normalise(bytes("1c0278 0004 56617365"));
@@ -62,11 +102,14 @@ test("a form that is too long is an error, and its memory is not kept", () => {
 test("more calls need no more memory, and leave nothing", () => {
   const engine = new Engine(WASM), picture = bytes("ffd8 ffe1000c 457869660000 4d4d002a ffd9");
   engine.normalise(ONE);
+  engine.xmpNormalise(packet("<d:a>Vase</d:a>"));
   const memory = engine.memory;
   for (let count = 0; count < 5000; count++) {
     engine.normalise(ONE);
     assert.throws(() => engine.check(ONE.subarray(0, count % ONE.length)), exifnorm.Refused);
     engine.jpegParts(picture);
+    engine.xmpNormalise(packet("<d:a>Vase</d:a>"));
+    assert.throws(() => engine.xmpCheck(packet("text")), exifnorm.XmpRefused);
   }
   assert.equal(engine.memory, memory);
   assert.equal(engine.allocations, 0);
@@ -99,6 +142,20 @@ test("memory that isn't there is an error, and the next call works", () => {
   Object.defineProperty(picture, "length", { value: 2 ** 40 });
   assert.throws(() => engine.jpegParts(picture), { name: "OutOfMemory" });
   assert.equal(engine.check(ONE), "exif");
+});
+
+test("the deepest calls need less than half of the stack", () => {
+  const STACK = 131_072, inner = "<d:b r:parseType='Resource'>".repeat(96) + "<d:a d:b='1'/>" + "</d:b>".repeat(96);
+  const most = packet(`${inner}<d:c>${"<!-- c -->".repeat(9)}</d:c><d:d ${Array.from({ length: 250 }, (_, i) => `d:b${i}=''`).join(" ")}/>`);
+  for (const [name, bytes] of [["exifnorm_check", ONE], ["exifnorm_xmp_check", most]]) {
+    const { exports } = new WebAssembly.Instance(WASM);
+    const [start, answer] = [bytes.length, 64].map((size) => exports.exifnorm_malloc(BigInt(size)));
+    new Uint8Array(exports.memory.buffer).set(bytes, Number(start));
+    new Uint8Array(exports.memory.buffer).fill(0xaa, 0, STACK - 64);
+    assert.equal(exports[name](start, BigInt(bytes.length), answer, answer + 32n), 0); // a further argument is ignored
+    const used = STACK - new Uint8Array(exports.memory.buffer).findIndex((octet) => octet !== 0xaa);
+    assert.ok(used > 100 && used < STACK / 2, `${name}: ${used} bytes`);
+  }
 });
 
 test("the heap frees and grows: nothing overlaps, and its memory is in proportion", () => {

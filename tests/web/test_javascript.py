@@ -9,6 +9,7 @@ import shutil
 import threading
 from pathlib import Path
 from random import Random
+from xml.etree import ElementTree
 
 import guard
 import npm
@@ -19,13 +20,15 @@ from changed import changed
 from commands import TOP, run
 from judged import LARGE, blocks_of_cases
 from kinds import small_kinds
+from packets import PACKET
 from small_blocks import long_form
+from small_packets import small_packets
 from test_jpeg_same import exif, iptc, picture
 
 HERE = Path(__file__).resolve().parent
 pytestmark = pytest.mark.xdist_group("web")
 SEED = 7
-MOST_WASM = 120_000
+MOST_WASM = 180_000
 
 
 def digest(octets):
@@ -34,6 +37,29 @@ def digest(octets):
 
 def digests(blocks):
     return [[str(kind), digest(data)] for kind, data in blocks]
+
+
+RDF, LANGUAGE = "{http://www.w3.org/1999/02/22-rdf-syntax-ns#}", "{http://www.w3.org/XML/1998/namespace}lang"
+
+
+def properties(packet):
+    """The properties of a packet, by the XML parser of Python over its normal form."""
+    return [property_of(element) for element in ElementTree.fromstring(exifnorm.xmp_normal(packet))[0][0]]
+
+
+def property_of(element):
+    namespace, name = element.tag[1:].split("}")
+    return {"namespace": namespace, "name": name, "value": value_of(element)}
+
+
+def value_of(element):
+    if RDF + "resource" in element.attrib:
+        return {"kind": "resource", "uri": element.attrib[RDF + "resource"]}
+    if RDF + "parseType" in element.attrib:
+        return {"kind": "structure", "properties": [property_of(inner) for inner in element]}
+    if len(element):
+        return {"kind": element[0].tag[len(RDF) :], "members": [value_of(member) for member in element[0]]}
+    return {"kind": "text", "text": element.text or "", "language": element.get(LANGUAGE, "")}
 
 
 CALLS = {
@@ -47,9 +73,13 @@ CALLS = {
     "jpegUnread": lambda bytes_: exifnorm.jpeg_unread(bytes_) and list(exifnorm.jpeg_unread(bytes_)),
     "jpegSame": exifnorm.jpeg_same,
     "photoshopResources": lambda bytes_: [list(resource) for resource in exifnorm.photoshop_resources(bytes_)],
+    "xmpCheck": lambda packet: exifnorm.xmp_normal(packet) and None,
+    "xmpNormalise": lambda packet: digest(exifnorm.xmp_normal(packet)),
+    "xmpProperties": properties,
 }
 OF_BLOCK, OF_BLOCKS = ("check", "normalise", "show", "captions"), ("compare",)
 OF_PICTURE, OF_PICTURES = ("jpegParts", "jpegBlocks", "jpegUnread"), ("jpegSame",)
+OF_PACKET = ("xmpCheck", "xmpNormalise", "xmpProperties")
 
 
 def native(name, blocks):
@@ -59,6 +89,8 @@ def native(name, blocks):
         return ["NotRead", answer.side, *answer.unread] if isinstance(answer, exifnorm.NotRead) else answer
     except exifnorm.HeadRefused as why:
         return ["HeadRefused", str(why), [list(part) for part in why.parts], digests(why.blocks)]
+    except exifnorm.XmpRefused as why:
+        return ["XmpRefused", f"{why.cause} at {why.offset}", why.is_rare]
     except (exifnorm.Refused, exifnorm.NormalTooLong) as why:
         return [type(why).__name__, str(why)]
 
@@ -72,19 +104,31 @@ def pictures(blocks):
     return samples + found + [changed(chance.choice(samples)[:20_000], chance) for _ in range(300)]
 
 
+def packets():
+    """Packets of XMP in all forms, those of the sample pictures, nested ones, and those with mistakes by chance."""
+    chance, small = Random(SEED), [*small_packets(), PACKET.encode()]
+    whole = re.compile(rb"<x:xmpmeta\b.*?</x:xmpmeta>", re.S)
+    samples = [packet for path in sorted(TOP.glob("samples/*/*/*")) for packet in whole.findall(path.read_bytes())]
+    nested = [small[0].replace(b"<d:a>Vase", b"<d:b r:parseType='Resource'>" * depth + b"<d:a>Vase") for depth in (50, 96, 97, 98)]
+    nested = [packet.replace(b"</d:a>", b"</d:a>" + b"</d:b>" * packet.count(b"<d:b")) for packet in nested]
+    return small + samples + nested + [changed(chance.choice(small), chance) for _ in range(600)] + [b" " * (exifnorm.LIMIT + 1)]
+
+
 @pytest.fixture(scope="module")
 def requests(library):
     """The blocks, and the requests by their numbers: each block and picture, and each with the one before it and with itself."""
     blocks = [*dict.fromkeys([*blocks_of_cases(), *(block for kind in small_kinds() for block in kind.blocks)])]
     blocks = [block for block in blocks if len(block) < LARGE or len(block) > 1 << 24] + [long_form()]
-    heads = [*dict.fromkeys(pictures(blocks))]
-    asked = []
-    for start, count, single, double in ((0, len(blocks), OF_BLOCK, OF_BLOCKS), (len(blocks), len(heads), OF_PICTURE, OF_PICTURES)):
+    heads, of_xmp = [*dict.fromkeys(pictures(blocks))], [*dict.fromkeys(packets())]
+    asked, start = [], 0
+    for some, single, double in ((blocks, OF_BLOCK, OF_BLOCKS), (heads, OF_PICTURE, OF_PICTURES), (of_xmp, OF_PACKET, ())):
+        count = len(some)
         for number in range(start, start + count):
             asked += [(call, number) for call in single]
             asked += [(call, number, other) for call in double for other in (number, start + (number + 1 - start) % count)]
+        start += count
     resources = [number for number, block in enumerate(blocks) if block[:4] == b"8BIM"]
-    return blocks + heads, asked + [("photoshopResources", number) for number in [*resources, 0]]
+    return blocks + heads + of_xmp, asked + [("photoshopResources", number) for number in [*resources, 0]]
 
 
 @pytest.fixture(scope="module")
@@ -192,8 +236,13 @@ def test_a_package_that_npm_installs(wasm, node, folder):
         shutil.unpack_archive(packed, user / "node_modules")
         (user / "node_modules" / "package").rename(user / "node_modules" / "exifnorm")
     readme = (TOP / "javascript" / "README.md").read_text(encoding="utf-8")
-    (user / "example.mjs").write_text(readme.partition("```js\n")[2].partition("```")[0], encoding="utf-8")
     for name in ("before", "after"):
         shutil.copyfile(TOP / "samples" / name / "ceramics" / "2003-12-bowl.jpg", user / f"{name}.jpg")
-    said = node("example.mjs", folder=user)
-    assert said.startswith("different\n") and "caption: Bowl, celadon glaze, 1820\n" in said
+    shutil.copyfile(TOP / "samples" / "before" / "ceramics" / "1998-7-vase.jpg", user / "vase.jpg")
+    said = []
+    for example in re.findall(r"(?s)```js\n(.*?)```", readme):
+        (user / "example.mjs").write_text(example, encoding="utf-8")
+        said.append(node("example.mjs", folder=user))
+    assert said[0].startswith("different\n") and "caption: Bowl, celadon glaze, 1820\n" in said[0]
+    title = '{"kind":"Alt","members":[{"kind":"text","text":"Vase with two bands","language":"x-default"}]}'
+    assert f"http://purl.org/dc/elements/1.1/title {title}\n" in said[1] and "wrong" not in said[1]

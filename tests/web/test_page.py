@@ -17,8 +17,12 @@ import pytest
 import exifnorm
 import exifnorm_pictures
 import jpegs
+import made_files as made
+from browser import PATIENCE
 from changed import changed
 from commands import TOP
+from packets import PACKET
+from small_packets import small_packets
 from test_jpeg_same import XMP, exif, iptc, photoshop, picture, resource, segment
 from test_plain_words import exif_block, record_block
 
@@ -99,7 +103,7 @@ def put(folder, *pictures):
 
 
 def test_the_same(browser, folder):
-    assert compare(browser, *put(folder, picture(exif(ONE)), picture(exif(ONE), iptc(b"")))) == "Same Exif and IPTC"
+    assert compare(browser, *put(folder, picture(exif(ONE)), picture(exif(ONE), iptc(b"")))) == "Same Exif, IPTC and XMP"
     assert not rows(browser, "What differs") and rows(browser, "")[0] == ["IFD0:Orientation", "turn 90° clockwise to view"]
 
 
@@ -117,7 +121,7 @@ def test_what_is_not_read_is_never_the_same(browser, folder, more, title, words)
 
 
 def test_without_metadata(browser, folder):
-    assert compare(browser, *put(folder, picture(), picture())) == "No Exif or IPTC"
+    assert compare(browser, *put(folder, picture(), picture())) == "No Exif, IPTC or XMP"
 
 
 def test_different(browser):
@@ -138,10 +142,9 @@ def test_values_that_look_alike_are_told_apart(browser, folder):
 
 
 def differences(comparison):
-    """The rows of fields of Exif and IPTC that differ by exifnorm_pictures, as the page has them."""
-    for found in comparison.differences:
-        if not found.name.startswith("XMP"):
-            yield [found.name, *("; ".join(field.text for field in side) if side else "not there" for side in (found.before, found.after))]
+    """The rows of fields that differ by exifnorm_pictures, as the page has them: those of XMP at the end."""
+    for found in sorted(comparison.differences, key=lambda it: it.name.startswith("XMP")):
+        yield [found.name, *("; ".join(field.text for field in side) if side else "not there" for side in (found.before, found.after))]
 
 
 def test_pairs_of_samples_are_answered_as_by_exifnorm_pictures(browser, checks):
@@ -167,6 +170,283 @@ def test_made_pairs_differ_in_the_fields_that_exifnorm_pictures_has(browser, fol
         checks.equal(number, compare(browser, *paths), "Different")
         due = [name for name, *_ in differences(exifnorm_pictures.compare(*paths))]
         checks.equal(number, [row[0] for row in rows(browser, "What differs")], due)
+
+
+TITLE = "<dc:title><rdf:Alt><rdf:li xml:lang='x-default'>{}</rdf:li></rdf:Alt></dc:title>"
+EVENTS = "".join(f"<rdf:li rdf:parseType='Resource'><xmp:a>{'saved ' * 9}</xmp:a><xmp:b>{number}</xmp:b></rdf:li>" for number in range(9))
+VASE_XMP, BOWL_XMP = (made.app1_xmp(made.xmp(TITLE.format(word))) for word in ("Vase", "Bowl"))
+LIKE_VASE = made.app1_xmp(
+    made.xmp(TITLE.format("<!-- -->Vase").replace("dc:", "q:"), "xmlns:q='http://purl.org/dc/elements/1.1/'") + b" " * 99
+)
+RARE, WRONG = made.app1_xmp(made.xmp("text")), made.app1_xmp(b"<x/>")
+
+
+def of_property(inside):
+    return made.app1_xmp(made.xmp(inside))
+
+
+def extended(packet, text, name=None):
+    """A packet with extended XMP, of which the digest is right, or another name."""
+    pieces, digest = made.extension(made.xmp(f"<dc:b>{text}</dc:b>"), 400, name)
+    return made.app1_xmp(made.xmp(f"{packet}<note:HasExtendedXMP>{digest}</note:HasExtendedXMP>")) + b"".join(pieces)
+
+
+PARTLY = "Same Exif and IPTC, XMP not wholly read"
+DAMAGED = extended("", "1").replace(b"<dc:b>1", b"<dc:b>2")
+OF_TWO = made.app1_xmp(made.xmp(f"<note:HasExtendedXMP>{made.extension(made.xmp('<dc:b>1</dc:b>'))[1]}</note:HasExtendedXMP>")) + extended(
+    "", "1"
+)
+OTHER = segment(0xE1, b"XMP" + made.xmp(""))
+TOTAL = len(made.xmp("<dc:b>1</dc:b>"))  # the length of the extended XMP, which precedes the offset of each of its pieces
+MISSING = made.app1_xmp(made.xmp(f"{TITLE.format('Vase')}<note:HasExtendedXMP>{'A' * 32}</note:HasExtendedXMP>") + b" " * 100)
+
+# of two pictures: their XMP, the title of the page, the properties that differ, and words of the page
+OF_XMP = {
+    "a title": (VASE_XMP, BOWL_XMP, "Different", [["XMP-dc:title", "Vase", "Bowl"]], "1 field differs: XMP-dc:title"),
+    "a title in one picture": (VASE_XMP, b"", "Different", [["XMP-dc:title", "Vase", "not there"]], "1 field differs"),
+    "a packet without properties": (made.app1_xmp(made.xmp("")), b"", "Different", [], "One picture has one more packet of XMP"),
+    "another writer": (VASE_XMP, LIKE_VASE, "Same Exif, IPTC and XMP", [], "The Exif and XMP of both pictures mean the same"),
+    "another form of the value": (
+        of_property("<dc:title>Vase</dc:title>"),
+        VASE_XMP,
+        "Different",
+        [["XMP-dc:title", 'Vase"Vase"', 'VaseAlt["Vase"@x-default]']],
+        "1 field differs",
+    ),
+    "a list in another order": (
+        of_property("<dc:b><rdf:Seq><rdf:li>b</rdf:li><rdf:li>a</rdf:li></rdf:Seq></dc:b>"),
+        of_property("<dc:b><rdf:Seq><rdf:li>a</rdf:li><rdf:li>b</rdf:li></rdf:Seq></dc:b>"),
+        "Different",
+        [["XMP-dc:b", "b; a", "a; b"]],
+        "1 field differs",
+    ),
+    "two packets": (
+        VASE_XMP + BOWL_XMP,
+        BOWL_XMP + VASE_XMP,
+        "Different",
+        [["XMP-dc:title (1)", "Vase", "Bowl"], ["XMP-dc:title (2)", "Bowl", "Vase"]],
+        "",
+    ),
+    "a rare form": (RARE, VASE_XMP, PARTLY, [], "text between elements"),
+    "a rare form in both": (RARE, RARE, "Same Exif and IPTC, XMP not read", [], "the same bytes in both"),
+    "a packet in two kinds of segments": (
+        RARE,
+        segment(0xE1, made.xmp("text")),
+        "Same Exif and IPTC, XMP not read",
+        [],
+        "and its bytes differ",
+    ),
+    "extended XMP in both": (extended(TITLE, "1"), extended(TITLE, "1"), "Same Exif, IPTC and XMP", [], "mean the same: 3 fields. Even"),
+    "damaged XMP in both": (DAMAGED, DAMAGED, PARTLY, [], "The Exif of both pictures means the same: 1 field."),
+    "extended XMP that is missing": (
+        MISSING,
+        MISSING[:-90] + b" " * 90,
+        PARTLY,
+        [],
+        "missing or can’t be joined to a packet (both pictures have it)",
+    ),
+    "extended XMP in one picture": (
+        of_property(TITLE.format("Vase") + "<dc:b>1</dc:b>"),
+        extended(TITLE.format("Vase"), "1"),
+        "Same Exif, IPTC and XMP",
+        [],
+        "Their bytes differ",
+    ),
+    "extended XMP of two packets": (OF_TWO, OF_TWO, PARTLY, [], "the same bytes in both"),
+    "one property in both packets": (extended("<dc:b>1</dc:b>", "1"), extended("<dc:b>1</dc:b>", "1"), PARTLY, [], "the same bytes"),
+    "a wrong packet": (VASE_XMP, WRONG, PARTLY, [], "XmpNoRdf at byte 0"),
+    "more XMP": (VASE_XMP, extended(TITLE.format("Vase"), "1"), "Different", [["XMP-dc:b", "not there", "1"]], "1 field differs"),
+    "other extended XMP": (extended("", "1"), extended("", "2"), "Different", [["XMP-dc:b", "1", "2"]], "1 field differs"),
+    "a piece of another length": (
+        extended("", "1"),
+        extended("", "1").replace(TOTAL.to_bytes(4, "big"), (TOTAL + 1).to_bytes(4, "big")),
+        PARTLY,
+        [],
+        "can’t be joined",
+    ),
+    "a piece at another place": (
+        extended("", "1"),
+        extended("", "1").replace(TOTAL.to_bytes(4, "big") + bytes(4), TOTAL.to_bytes(4, "big") + b"\0\0\0\1"),
+        PARTLY,
+        [],
+        "can’t be joined",
+    ),
+    "other damaged XMP": (DAMAGED, extended("", "1"), PARTLY, [], "its bytes differ"),
+    "a known difference": (
+        VASE_XMP + made.extension(b"<x/>")[0][0],
+        BOWL_XMP + made.extension(b"<x/>")[0][0],
+        "Different",
+        [["XMP-dc:title", "Vase", "Bowl"]],
+        "can’t be joined to a packet (both pictures have it)",
+    ),
+    "a resource": (
+        VASE_XMP,
+        VASE_XMP + made.app13(made.resource(0x0424, made.xmp(""))),
+        PARTLY,
+        [],
+        "XMP in Photoshop’s resources",
+    ),
+    "another segment": (VASE_XMP, VASE_XMP + OTHER, PARTLY, [], "may find metadata (only the second picture has it)"),
+}
+
+
+@pytest.mark.parametrize("case", OF_XMP)
+def test_xmp_of_two_pictures(browser, folder, case):
+    """Equal Exif beside it. Where XMP isn't read, nothing is called the same."""
+    first, second, title, differing, words = OF_XMP[case]
+    paths = put(folder, *(made.jpeg(made.app1(ONE), xmp) for xmp in (first, second)))
+    assert compare(browser, *paths) == title
+    assert words in text(browser) and "The touch" not in text(browser)
+    if title == "Different":
+        assert rows(browser, "What differs") == differing
+
+
+def xmp_pictures():
+    """Pictures with XMP of each kind, alone and beside other metadata."""
+    packets = {xmp for first, second, *_ in OF_XMP.values() for xmp in (first, second)}
+    packets |= {
+        extended("", "1", b"A" * 32),
+        extended("", "x" * 900)[:-430],
+        extended("", "x" * 900),
+        of_property(f"<xmp:d><rdf:Seq>{EVENTS}</rdf:Seq></xmp:d>"),
+        of_property("<xmp:d>1</xmp:d>"),
+    }
+    packets.add(of_property(f"<xmp:d><rdf:Seq>{EVENTS.replace('8', '9')}</rdf:Seq></xmp:d>"))
+    blocks = [made.app1(ONE) + xmp for xmp in sorted(packets)] + [VASE_XMP, made.with_record(made.iim(b"Vase")) + BOWL_XMP, b""]
+    return [made.jpeg(block) for block in blocks]
+
+
+@pytest.mark.parametrize(
+    "more, title, verdict, details",
+    [
+        (of_property(""), "Different", "different", "One picture has one more packet of XMP, which has no properties."),
+        (
+            OTHER,
+            "Same as far as read",
+            "same as far as read",
+            "second: a segment APP1 of an unknown kind that isn't read; not all XMP is read, and its bytes differ",
+        ),
+    ],
+)
+def test_xmp_in_a_list(browser, folder, more, title, verdict, details):
+    for side, xmp in (("first", b""), ("second", more)):
+        (folder / side).mkdir()
+        (folder / side / "a.jpg").write_bytes(made.jpeg(xmp))
+    compare_folders(browser, folder / "first", folder / "second")
+    assert rows(browser, title) == [["a.jpg", verdict, details]]
+
+
+def test_pairs_with_xmp_are_answered_as_by_exifnorm_pictures(browser, folder, checks):
+    """The page says `the same` only where `compare` does, and `different` only where it doesn't; the same properties differ."""
+    some = xmp_pictures()
+    pairs = [(number, other) for number in range(len(some)) for other in range(len(some)) if number != other]
+    for side, at in (("first", 0), ("second", 1)):
+        (folder / side).mkdir()
+        for pair in pairs:
+            (folder / side / f"{pair[0]}-{pair[1]}.jpg").write_bytes(some[pair[at]])
+    compare_folders(browser, folder / "first", folder / "second")
+    browser.ask("document.querySelector('[data-filter=all]').click()")
+    while browser.ask("document.querySelector('.more')?.click() === undefined && document.querySelector('.more') !== null"):
+        pass
+    found = {row[0]: row[1:] for row in rows(browser, "All pictures")}
+    known = [exifnorm_pictures.read(path) for path in put(folder, *some)]
+    for number, other in pairs:
+        verdict, details = found[f"{number}-{other}.jpg"]
+        comparison = exifnorm_pictures.compare(known[number], known[other])
+        name = f"{number} {other}: {verdict}, {details}; {comparison.result}: {comparison.note}"
+        checks.check(name, verdict != "the same" or comparison.same is True)
+        checks.check(name, verdict != "different" or comparison.same is not True)
+        if verdict == "different" and comparison.same is False and "ExtendedXMP" not in details:
+            names = {due.replace(" (second XMP)", "") for due, *_ in differences(comparison)}
+            checks.check(f"{name}; {names}", all(due in re.sub(r" \(\d\)", "", details) for due in names))
+    verdicts = [verdict for verdict, _ in found.values()]
+    assert len(found) == len(pairs) and min(map(verdicts.count, ("the same", "different", "same as far as read"))) >= 2
+
+
+def test_hostile_packets(browser, folder, checks):
+    """Packets with mistakes by chance, in folders: the page says `the same` only where `compare` does."""
+    chance, some = Random(SEED), [PACKET.encode(), *(packet for packet in small_packets() if len(packet) < 5000)]
+    for side in ("first", "second"):
+        (folder / side).mkdir()
+    for number in range(PAIRS):
+        packet = chance.choice(some)
+        other = chance.choice([packet + b" ", changed(packet, chance), chance.choice(some), PACKET.encode()])
+        both = chance.choice([packet, packet, changed(packet, chance)]), other
+        for side, octets in zip(("first", "second"), both):
+            (folder / side / f"{number}.jpg").write_bytes(made.jpeg(made.app1_xmp(octets)))
+    compare_folders(browser, folder / "first", folder / "second")
+    browser.ask("document.querySelector('[data-filter=all]').click()")
+    found = {row[0]: row[1:] for row in rows(browser, "All pictures")}
+    for name, (verdict, details) in found.items():
+        comparison = exifnorm_pictures.compare(folder / "first" / name, folder / "second" / name)
+        checks.check(f"{name}: {verdict}, {details}; {comparison.note}", verdict != "the same" or comparison.same is True)
+        checks.check(f"{name}: {verdict}, {details}; {comparison.note}", verdict != "different" or comparison.same is False)
+    verdicts = [verdict for verdict, _ in found.values()]
+    assert len(found) == PAIRS and min(map(verdicts.count, ("the same", "different", "same as far as read"))) >= 5, verdicts
+
+
+def test_words_for_xmp_are_those_of_exifnorm_pictures(browser, folder, checks):
+    """A value that looks like the other one has its exact form behind it."""
+    some = [picture for picture in xmp_pictures() if picture.count(b"xmpmeta") == 2 and b"Extended" not in picture]
+    some += [made.jpeg(extended(TITLE.format(word), "x" * 900)) for word in ("Vase", "Bowl")]
+    for one, other in combinations(some, 2):
+        paths = put(folder, one, other)
+        browser.ask("document.getElementById('anew').click()")
+        title, due = compare(browser, *paths), sorted(differences(exifnorm_pictures.compare(*paths)))
+        found = sorted(rows(browser, "What differs"))
+        checks.equal(f"{title}: {found}", [row[0] for row in found], [row[0] for row in due] if title == "Different" else [])
+        for row, words in zip(found, due):
+            are_alike = (cell.startswith(word) or (cell, word) == ("not read", "not there") for cell, word in zip(row, words))
+            checks.check(f"{row} {words}", all(are_alike))
+
+
+@pytest.mark.parametrize(
+    "xmp, title, words",
+    [
+        (VASE_XMP, "Valid", "The picture has valid XMP: 1 field."),
+        (RARE, "XMP not read", "rare form"),
+        (WRONG, "Refused", "not x:xmpmeta around one rdf:RDF"),
+        (extended(TITLE.format("Vase"), "1"), "Valid", "The picture has valid XMP: 2 fields."),
+        (OTHER, "No Exif, IPTC or XMP that is read", "may find metadata (the picture has it)"),
+        (MISSING, "Valid, XMP not wholly read", "missing or can’t be joined to a packet (the picture has it)"),
+        (made.app1(ONE) + RARE, "Valid, XMP not read", "The picture has valid Exif: 1 field."),
+    ],
+)
+def test_xmp_of_one_picture(browser, folder, xmp, title, words):
+    assert compare(browser, *put(folder, made.jpeg(xmp))) == title
+    assert words in text(browser)
+
+
+def test_captions_and_values_of_xmp_are_text(browser, folder):
+    markup = (
+        TITLE.format("&lt;img src=x onerror=alert(1)>\u202e")
+        + "<dc:subject><rdf:Bag><rdf:li>urn</rdf:li><rdf:li>clay</rdf:li></rdf:Bag></dc:subject>"
+    )
+    assert compare(browser, *put(folder, made.jpeg(of_property(markup)))) == "Valid"
+    shown = "<img src=x onerror=alert(1)>\\u202e"
+    assert rows(browser, "Captions") == [["title (XMP)", shown], ["keywords (XMP)", "clay; urn"]]
+    assert rows(browser, "Fields") == [["XMP-dc:subject", "clay; urn"], ["XMP-dc:title", shown]]
+    assert browser.ask("document.querySelectorAll('main img').length") == 0
+
+
+def test_the_normal_form_of_a_packet(browser, folder):
+    browser.call("Browser.setDownloadBehavior", behavior="allow", downloadPath=str(folder))
+    compare(browser, *put(folder, made.jpeg(VASE_XMP)))
+    browser.ask("document.querySelector('.downloads button').click()")
+    (file,) = saved(folder, "0.xmp")
+    assert file.read_bytes() == exifnorm.xmp_normal(made.xmp(TITLE.format("Vase")))
+
+
+def test_more_properties_than_are_listed(browser, folder):
+    """The difference is in the last one, and in the last character of a long text."""
+    many = [of_property("".join(f"<dc:a{number:04}/>" for number in range(3500)) + f"<dc:z>{word}</dc:z>") for word in "ab"]
+    assert compare(browser, *put(folder, *map(made.jpeg, many))) == "Different"
+    assert rows(browser, "What differs") == [["XMP-dc:z", "a", "b"]] and "3,500 equal fields" in text(browser)
+    browser.ask("document.getElementById('anew').click()")
+    long = [of_property(f"<dc:z>{'x' * 9_000}{word}</dc:z>") for word in "ab"]
+    assert compare(browser, *put(folder, *map(made.jpeg, long))) == "Different"
+    ((_, one, other),) = rows(browser, "What differs")
+    assert one.endswith('a" ..') and other.endswith('b" ..') and "character 9,001: .. x" in one
 
 
 def test_refused_with_its_remedy(browser):
@@ -206,6 +486,14 @@ def test_pictures_that_are_not_read(browser, folder):
         assert compare(browser, given) == "Not read" and words in text(browser) and "XMP" not in text(browser)
 
 
+def test_forms_that_are_much_longer_than_their_packets(browser, folder):
+    """Each property of a form repeats its namespace: of these packets one has 16 MB, and a few would fill the memory."""
+    properties = "".join(f"<n:a{number}/>" for number in range(320))
+    packet = made.app1_xmp(made.xmp(properties, f"xmlns:n='http://{'x' * 50_000}/'"))
+    assert compare(browser, *put(folder, made.jpeg(packet * 3))) == "Not read"
+    assert "has more XMP than this page reads" in text(browser)
+
+
 def test_normal_forms(browser, folder):
     browser.call("Browser.setDownloadBehavior", behavior="allow", downloadPath=str(folder))
     compare(browser, BOWL)
@@ -218,7 +506,7 @@ def test_normal_forms(browser, folder):
 def test_a_long_head(browser, folder):
     """Of a file more is read until its head is whole."""
     padding = segment(0xFE, bytes(65_000)) * 20
-    assert compare(browser, *put(folder, picture(padding, exif(ONE)), picture(exif(ONE)))) == "Same Exif and IPTC"
+    assert compare(browser, *put(folder, picture(padding, exif(ONE)), picture(exif(ONE)))) == "Same Exif, IPTC and XMP"
     assert rows(browser, "")[0] == ["IFD0:Orientation", "turn 90° clockwise to view"]
 
 
@@ -241,7 +529,7 @@ def test_folders(browser, is_dropped):
     assert [row[:2] for row in rows(browser, "All pictures")] == [
         ["arrivals/DSC_0042.jpg", "moved"],
         ["arrivals/IMG_20240502.jpg", "refused"],
-        ["ceramics/1998-7-vase.jpg", "same as far as read"],
+        ["ceramics/1998-7-vase.jpg", "the same"],
         ["ceramics/2003-12-bowl.jpg", "different"],
         ["paintings/1974-31-portrait.tif", "not read"],
         ["press/vase.jpg", "the same"],
@@ -264,11 +552,12 @@ def test_moved_pictures(browser, folder):
 
     first = {"a/1.jpg": b"Vase", "a/2.jpg": b"Vase", "a/x.jpg": b"Bowl", "a/p.jpg": b"Tile", "a/q.jpg": b"Tile", "a/none.jpg": None}
     second = {"b/2.jpg": b"Vase", "b/1.jpg": b"Vase", "b/y.jpg": b"Bowl", "b/r.jpg": b"Tile", "b/s.jpg": b"Tile", "b/nothing.jpg": None}
-    for side, files in (("first", first), ("second", second)):
+    for side, files, xmp in (("first", first, VASE_XMP), ("second", second, LIKE_VASE)):
         for name, word in files.items():
             path = folder / side / name
             path.parent.mkdir(parents=True, exist_ok=True)
             path.write_bytes(caption(word) if word else picture())
+        (folder / side / f"{side}-xmp.jpg").write_bytes(picture(xmp))
     compare_folders(browser, folder / "first", folder / "second")
     browser.ask("document.querySelector('[data-filter=all]').click()")
     found = {row[0]: row[1:] for row in rows(browser, "All pictures")}
@@ -276,8 +565,9 @@ def test_moved_pictures(browser, folder):
         "a/1.jpg": "to b/1.jpg",
         "a/2.jpg": "to b/2.jpg",
         "a/x.jpg": "to b/y.jpg",
+        "first-xmp.jpg": "to second-xmp.jpg",
     }
-    assert found["a/p.jpg"] == ["only in the first", "the same Exif and IPTC as 2 pictures only in the second"]
+    assert found["a/p.jpg"] == ["only in the first", "the same Exif, IPTC and XMP as 2 pictures only in the second"]
     assert found["b/nothing.jpg"] == ["only in the second", ""]
 
 
@@ -304,7 +594,7 @@ def test_pictures_that_may_not_be_moved(browser, folder):
 
 def saved(folder, pattern, count=1):
     """The files that the page has saved in a folder."""
-    end = time.monotonic() + 60
+    end = time.monotonic() + PATIENCE
     while time.monotonic() < end:
         files = sorted(folder.glob(pattern))
         if len(files) == count and not [*folder.glob("*.crdownload")]:
@@ -443,11 +733,29 @@ def verdict_by_library(first, second):
         return "refused" if why.kind else "not read"
     if same is False:
         return "different"
-    packets = [
-        [octets[part.start : part.start + part.size] for part in exifnorm.jpeg_parts(octets) if "xmp" in part.kind]
-        for octets in (first, second)
-    ]
-    return "the same" if same is True and packets[0] == packets[1] else "same as far as read"
+    xmp = xmp_verdict(xmp_of(first), xmp_of(second))
+    return "different" if xmp == "different" else "the same" if same is True and xmp == "same" else "same as far as read"
+
+
+def xmp_of(octets):
+    """The normal forms of packets, None for those without one, and the bytes of other segments APP1."""
+    parts = [(part, octets[part.start : part.start + part.size]) for part in exifnorm.jpeg_parts(octets) if part.marker == 0xE1]
+    packets, others = ([data for part, data in parts if part.kind == kind] for kind in ("xmp", ""))
+    return [exifnorm.xmp_normal(packet) if accepted_packet(packet) else None for packet in packets], others
+
+
+def accepted_packet(packet):
+    try:
+        return bool(exifnorm.xmp_normal(packet))
+    except exifnorm.XmpRefused:
+        return False
+
+
+def xmp_verdict(first, second):
+    if None in first[0] + second[0] or first[1] != second[1]:
+        are_known = len(first[0]) == len(second[0]) and any(one and other and one != other for one, other in zip(first[0], second[0]))
+        return "different" if are_known else "unread"
+    return "same" if first[0] == second[0] else "different"
 
 
 def test_hostile_pictures(browser, folder):
@@ -491,7 +799,7 @@ def many_fields(last):
 def test_a_block_with_more_fields_than_are_listed(browser, folder):
     """The engine compares all of them, and the page says that it lists the first."""
     first, same, second = put(folder, many_fields(b"a"), many_fields(b"a") + b"\0", many_fields(b"b"))
-    assert compare(browser, first, same) == "Same Exif and IPTC"
+    assert compare(browser, first, same) == "Same Exif, IPTC and XMP"
     assert "at least 20,000 fields" in text(browser) and "the first 20,000 fields are listed" in text(browser)
     browser.ask("document.getElementById('anew').click()")
     assert compare(browser, first, second) == "Different"

@@ -1,4 +1,4 @@
-"""The page's words for fields are those of exifnorm_pictures, for generated fields of each tag and type."""
+"""The page's words for fields are those of exifnorm_pictures, for generated fields of each tag and type, and properties of each form."""
 
 import hashlib
 import json
@@ -10,15 +10,40 @@ import pytest
 
 import exifnorm
 from commands import TOP
+from exifnorm_pictures import xmp
 from exifnorm_pictures.fields import names
+from exifnorm_pictures.fields.listing import shortened
 from exifnorm_pictures.fields.normal_form import fields_of_form
+from exifnorm_pictures.fields.xmp_properties import fields_of_statements
+from exifnorm_pictures.model.xmp_names import _SPACES
+from exifnorm_pictures.model.xmp_values import texts_in
 from kinds import small_kinds
 from meanings import ASCII, NOT_PLAIN, RATIONAL, TYPES, UNDEFINED, Exif, Layout, Value, laid
+from packets import PACKET
+from small_packets import small_packets
+from test_javascript import properties
 
 HERE = TOP / "tests" / "web"
-SEED, BLOCKS = 5, 300
+SEED, BLOCKS, PACKETS = 5, 300, 400
+RDF = "http://www.w3.org/1999/02/22-rdf-syntax-ns#"
 TEXTS = ["", "Vase", "Köln am Rhein", "日本の花瓶", "a\tb\nc", "x\x1b[31m", "2003:05:24 22:21:01", "  :  :     :  :  ", "2008-07-31T10:38+02:00"]
-TEXTS += ["0231", "N", "W", "K", "20030524", "00000000", "120000+0100", "constructor", " padded  ", "\u202eexe", "x" * 500, "\ufeffbom"]
+TEXTS += [
+    "0231",
+    "N",
+    "W",
+    "w",
+    "West",
+    "south",
+    "K",
+    "20030524",
+    "00000000",
+    "120000+0100",
+    "constructor",
+    " padded  ",
+    "\u202eexe",
+    "x" * 500,
+    "\ufeffbom",
+]
 OCTETS = [
     b"",
     b"\0",
@@ -42,6 +67,16 @@ COMMENTS += [
     b"WRONG\0\0\0abc",
 ]
 COMMENTS += [b"ASCII\0\0\0" + b"long " * 20 + b"\0rest", b"UNICODE\0" + b"\0" * 9]
+COMMENTS += [b"ASCII   Vase", b"UNICODE " + "Zürich".encode("utf-16-le"), b"JIS     " + "日本".encode("iso2022_jp"), b" " * 8 + b"Vase"]
+COMMENTS += [
+    b"ASCII\0\0\0Z\xfcrich\0rest",
+    b"Z\xfcrich am See\0\0",
+    b"A bowl of clay\0rest",
+    b"Vase\0rest",
+    b"Z\xfc",
+    b"\xd0\xe0\xf0 a",
+    b"Z\x81rich",
+]
 NUMBERS = [0, 1, 2, 3, 5, 6, 10, 13, 25, 60, 100, 125, 255, 1000, 1250, 3600, 65535, 1 << 20, (1 << 31) - 1, (1 << 32) - 1]
 
 
@@ -93,6 +128,76 @@ def record_block(chance):
     return b"".join(b"\x1c" + bytes(name) + len(data).to_bytes(2, "big") + data for *name, data in datasets)
 
 
+# of XMP: some texts are in another order by the units of UTF-16, or as elements of a form, than by their characters
+XMP_TEXTS = [
+    *TEXTS,
+    "a & b",
+    "\U0001f3fa vase",
+    "\ufb01gure",
+    '\\ "quoted"',
+    "\xad\u3000",
+    "<b>",
+    "a" * 70_000,
+    "\t" * 33_000,
+    "x" * 20_000,
+]
+LANGUAGES = ["", "", "x-default", "de", "en-us", "X-Default"]
+SPACES = [*_SPACES, "http://e/x/", "http://purl.org/dc/elements/1.1/title/", "u:no-slash", "http://e/#"]
+LOCALS = ["title", "a", "value", "Z-1", "b.c", "subject", "_x"]
+
+
+def escaped_text(text):
+    for character, word in (("&", "&amp;"), ("<", "&lt;"), ("\r", "&#13;")):
+        text = text.replace(character, word)
+    return "".join(character for character in text if character in "\t\n" or character >= " ")
+
+
+def value(chance, depth):
+    """What is behind the name of an element: a value of XMP, and the end of its tag."""
+    kind = chance.choice(["text"] * 5 + ["resource"] + ["list", "structure"] * (3 if depth < 4 else 0))
+    if kind == "text":
+        text = chance.choice(XMP_TEXTS if depth == 0 or chance.random() < 0.02 else XMP_TEXTS[:-3])
+        language = chance.choice(LANGUAGES)
+        return (f" xml:lang='{language}'" if language else "") + f">{escaped_text(text)}"
+    if kind == "resource":
+        return f" r:resource='{chance.choice(['http://e/?a&amp;b', 'u:1', 'u:' + 'x' * 90])}'>"
+    if kind == "structure":
+        return f" r:parseType='Resource'>{several(chance, depth + 1)}"
+    container = chance.choice(["Alt", "Bag", "Bag", "Seq"])
+    members = "".join(f"<r:li{value(chance, depth + 1)}</r:li>" for _ in range(chance.choice([0, 1, 2, 3, 12])))
+    return f"><r:{container}>{members}</r:{container}>"
+
+
+def several(chance, depth):
+    """Properties with different names."""
+    pairs = {
+        (chance.choice(SPACES[:-4] if chance.random() < 0.7 else SPACES), chance.choice(LOCALS)) for _ in range(chance.choice([1, 2, 4]))
+    }
+    pairs = sorted({space + local: (space, local) for space, local in pairs if space != RDF or local == "value"}.values())
+    return "".join(f"<n:{local} xmlns:n='{space}'{value(chance, depth)}</n:{local}>" for space, local in pairs)
+
+
+def packets():
+    """Packets with values of each form, one in another."""
+    chance = Random(SEED)
+    made = [f"<r:RDF xmlns:r='{RDF}'><r:Description>{several(chance, 0)}</r:Description></r:RDF>".encode() for _ in range(PACKETS)]
+    found = [*made, *small_packets(), PACKET.encode()]
+    return [packet for packet in found if has_form(packet)]
+
+
+def has_form(packet):
+    try:
+        return bool(exifnorm.xmp_normal(packet))
+    except exifnorm.XmpRefused:
+        return False
+
+
+def described(packet):
+    """The properties as exifnorm_pictures has them. The form has the members of a Bag in another order than the packet."""
+    for field in fields_of_statements(xmp.statements(exifnorm.xmp_normal(packet), {}, set())):
+        yield [field.name, field.text, shortened(field.exact), [text for one in field.content for text in texts_in(one)]]
+
+
 @pytest.fixture(scope="module")
 def blocks(library):
     chance = Random(SEED)
@@ -116,7 +221,14 @@ def test_names_and_values(blocks, node, folder, checks):
     (folder / "package.json").write_text('{"type": "module"}', encoding="ascii")
     (folder / "tables").write_text(page.json_of(page.tables()), encoding="utf-8")
     (folder / "listings").write_text(json.dumps([exifnorm.show(block) for block in blocks]), encoding="ascii")
-    answer = json.loads(node("plain.mjs", "tables", "listings", folder=folder))
+    of_xmp = packets()
+    (folder / "properties").write_text(json.dumps([properties(packet) for packet in of_xmp]), encoding="ascii")
+    answer = json.loads(node("plain.mjs", "tables", "listings", "properties", folder=folder))
+    for packet, found in zip(of_xmp, answer["properties"]):
+        for row, due in zip(found, sorted(described(packet))):
+            checks.equal(packet[:300], row, due)
+        checks.equal(packet[:300], len(found), len([*described(packet)]))
+    checks.check("there are many properties", sum(map(len, answer["properties"])) > 800)
     count = 0
     for block, found in zip(blocks, answer["fields"]):
         expected = [(field, [field.name, field.text]) for field in fields_of_form(exifnorm.normal(block))]
@@ -128,4 +240,5 @@ def test_names_and_values(blocks, node, folder, checks):
     checks.check("there are many fields", count > 10_000, count)
     sizes = [0, 1, 55, 56, 63, 64, 65, 119, 120, 1000]
     octets = [bytes(7 * number % 256 for number in range(size)) for size in sizes]
-    checks.equal("SHA-256", answer["digests"], [hashlib.sha256(data).hexdigest() for data in octets])
+    due = [[hashlib.sha256(data).hexdigest(), hashlib.md5(data, usedforsecurity=False).hexdigest().upper()] for data in octets]
+    checks.equal("SHA-256 and MD5", answer["digests"], due)

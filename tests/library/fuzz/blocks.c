@@ -11,10 +11,19 @@
 enum { MOST_BLOCKS = PARTS + 2, MOST_RESOURCES = LONGEST_HEAD / 12, FILLER = 0xA5, UNSET = 0x5EED5EED };
 
 typedef struct exifnorm_jpeg_block Block;
+typedef struct exifnorm_jpeg_packet Packet;
 typedef struct exifnorm_jpeg_part Part;
 typedef struct exifnorm_photoshop_resource Resource;
 typedef struct exifnorm_picture_fault PictureFault;
 typedef struct exifnorm_unread_part Place;
+
+/* What the call for XMP returned, or must return. */
+struct xmp {
+    uint32_t status;
+    Packet packet;
+    Place unread;
+    struct exifnorm_jpeg_fault fault;
+};
 
 /* What the call for blocks returned, or must return. */
 struct blocks {
@@ -127,6 +136,20 @@ static Place first_place(void) {
     return NO_PLACE;
 }
 
+/* The packet of XMP, if no other one and no extended XMP is in the head; otherwise the second of these, or the first that is extended. */
+static struct xmp expected_xmp(void) {
+    struct xmp it = {EXIFNORM_DONE, {0, 0, 0}, {UNSET, UNSET, UNSET}, {UNSET, UNSET}};
+    for (size_t i = 0; i < head.count; i++) {
+        const Part *part = &head.parts[i];
+        int is_packet = part->kind == EXIFNORM_JPEG_XMP;
+        if (is_packet && !it.packet.found)
+            it.packet = (Packet){1, part->start, part->size};
+        else if (is_packet || part->kind == EXIFNORM_JPEG_EXTENDED_XMP)
+            return (struct xmp){EXIFNORM_NOT_READ, {UNSET, UNSET, UNSET}, {1, 0, part->start}, it.fault};
+    }
+    return it;
+}
+
 /* The fault of one block, by `check`, which tells the kinds apart by the first bytes. The cause is 0 if there is none. */
 static struct exifnorm_fault fault_of(const unsigned char *block, size_t length, int is_record) {
     struct exifnorm_fault fault = {0, 0};
@@ -201,6 +224,12 @@ static struct blocks blocks_of(size_t length, size_t room, size_t joined_room) {
     return found;
 }
 
+static struct xmp xmp_of(size_t length) {
+    struct xmp it = {UNSET, {UNSET, UNSET, UNSET}, {UNSET, UNSET, UNSET}, {UNSET, UNSET}};
+    it.status = exifnorm_jpeg_xmp(picture(length), length, &it.packet, &it.unread, &it.fault);
+    return it;
+}
+
 static int is_block(Block one, Block other) {
     return one.kind == other.kind && one.joined == other.joined && one.start == other.start && one.size == other.size;
 }
@@ -226,6 +255,12 @@ static void expect_one_less(void) {
 
 static int is_place(Place one, Place other) {
     return one.found == other.found && one.joined == other.joined && one.start == other.start;
+}
+
+static int is_xmp(struct xmp one, struct xmp other) {
+    return one.status == other.status && one.packet.found == other.packet.found && one.packet.start == other.packet.start &&
+           one.packet.size == other.packet.size && is_place(one.unread, other.unread) && one.fault.cause == other.fault.cause &&
+           one.fault.place == other.fault.place;
 }
 
 /* ---- laws */
@@ -278,6 +313,8 @@ static void judge_cut(size_t length) {
                                 found.fault.place == head.begin[part]);
     holds(LAW_BLOCKS_FAULT, status == EXIFNORM_REFUSED && fault.cause == EXIFNORM_JPEG_HEAD_CUT && fault.place == head.begin[part] &&
                                 place.found == UNSET);
+    struct xmp cut = {EXIFNORM_REFUSED, {UNSET, UNSET, UNSET}, {UNSET, UNSET, UNSET}, {EXIFNORM_JPEG_HEAD_CUT, head.begin[part]}};
+    holds(LAW_XMP_CUT, is_xmp(xmp_of(length), cut));
     expect_blocks(part);
     if (part > 0 && head.parts[part - 1].kind == EXIFNORM_JPEG_EXIF && may_continue(head.bytes + head.begin[part], length - head.begin[part]))
         expect_one_less();
@@ -329,6 +366,7 @@ void judge_blocks(const unsigned char *block, size_t length) {
     expect_blocks(head.count);
     Place place = first_place();
     judge_places();
+    holds(LAW_XMP_PLACE, is_xmp(xmp_of(head.length), expected_xmp()));
     judge_unread(place);
     judge_same(place);
     judge_cut(2 + next(&script) * 32 % (head.length - 2));

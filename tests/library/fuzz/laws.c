@@ -76,7 +76,7 @@ static int open_area(struct area *area, size_t size) {
 
 int open_room(void) {
     return open_area(&block_area, 2 * LONGEST + 64) && open_area(&other_area, 2 * LONGEST + 64) && open_area(&out_area, ROOM) && open_heads() &&
-           open_blocks() && open_pictures();
+           open_blocks() && open_pictures() && open_packets();
 }
 
 /* Appends one part to another. */
@@ -434,6 +434,7 @@ unsigned judge(const unsigned char *given, size_t length) {
     if (seen.blocks % 4 == 2)
         judge_blocks(block, length);
     judge_heads(block, length);
+    uint32_t of_packet = judge_packet(block, length);
     holds(LAW_READ_ONLY, memcmp(block, given, length) == 0);
-    return first.status == EXIFNORM_REFUSED ? first.fault.cause : 0;
+    return first.status == EXIFNORM_REFUSED && of_packet != EXIFNORM_DONE ? first.fault.cause : 0;
 }

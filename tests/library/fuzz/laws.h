@@ -58,10 +58,20 @@
     LAW(BLOCKS_CHECKED, "a picture is refused for the first block that check refuses, Exif before IPTC, and otherwise the same as itself") \
     LAW(UNREAD, "the place that is not read is the first one by the rules of the format, or there is none") \
     LAW(UNREAD_MEMORY, "a failed allocation while such a place is looked for is NO_MEMORY, or makes no difference") \
+    LAW(XMP_PLACE, "the packet of XMP of a picture is that of the only such segment, or there is none, or more of them is the first place") \
+    LAW(XMP_CUT, "a head that is cut has no packet of XMP, and this fault") \
     LAW(NOT_READ, "pictures that are the same but for a place that is not read are not called the same, and the first such place is named") \
     LAW(PICTURES, "two pictures are the same exactly if they have as many blocks, and these mean the same") \
     LAW(PICTURE_FAULT, "a picture with a refused block is refused, with the block's kind, number, cause and offset, on either side") \
-    LAW(PICTURE_MEMORY, "a failed allocation while pictures are compared is NO_MEMORY, and sets nothing")
+    LAW(PICTURE_MEMORY, "a failed allocation while pictures are compared is NO_MEMORY, and sets nothing") \
+    LAW(PACKET, "a packet of XMP has a form, or a cause of its status and an offset in the packet") \
+    LAW(PACKET_CHECK, "xmp_normalise accepts what xmp_check accepts, with the same fault otherwise, and sets nothing else") \
+    LAW(PACKET_ROOM, "for an output that is too short for a packet's form its length is returned, and nothing is written, nor after a form") \
+    LAW(PACKET_FORM, "a packet's form is a packet, and its own form") \
+    LAW(PACKET_PROPERTIES, "exifnorm_fields.h finds a property for each start tag of a packet's form, and passes all of it") \
+    LAW(PACKET_CHANGES, "what is around a packet, comments, white space, x:xmpmeta and another description change no form") \
+    LAW(PACKET_ORDER, "the properties of two packets have one form in both orders, or stand twice in both") \
+    LAW(PACKET_MEMORY, "a failed allocation is NO_MEMORY for a packet, and sets nothing")
 
 #define LAW_NUMBER(name, text) LAW_##name,
 enum { LAWS(LAW_NUMBER) LAW_COUNT };
@@ -88,6 +98,7 @@ int open_room(void);
 int open_heads(void);
 int open_blocks(void);
 int open_pictures(void);
+int open_packets(void);
 
 /* Judges a head and Photoshop's resources that are made from the bytes of a block. */
 void judge_heads(const unsigned char *block, size_t length);
@@ -98,10 +109,13 @@ void judge_blocks(const unsigned char *block, size_t length);
 /* Judges pictures that are made of a block, whose check returned this cause, or 0, and this offset. */
 void judge_pictures(const unsigned char *block, size_t length, uint32_t cause, uint32_t place);
 
+/* Judges a block that begins as a packet of XMP does. Returns the status, or EXIFNORM_REFUSED for any other block. */
+uint32_t judge_packet(const unsigned char *block, size_t length);
+
 /* The longest block that is judged here. */
 size_t longest_block(void);
 
-/* Judges a block, by itself and beside the one that was accepted last. Returns the cause, or 0 if it is accepted. */
+/* Judges a block, by itself and beside the one that was accepted last. Returns the cause, or 0 if it is accepted, also as a packet of XMP. */
 unsigned judge(const unsigned char *block, size_t length);
 
 #endif

@@ -101,6 +101,15 @@
     MISTAKE(UNREAD_IN_PICTURE, "a place in the joined bytes is one in the picture") \
     MISTAKE(UNREAD_OF_CUT, "all of a head that is cut is read") \
     MISTAKE(UNREAD_IGNORES_NULL, "all of a picture is read if an allocation failed") \
+    MISTAKE(XMP_FIRST, "the first of two packets of XMP is the picture's") \
+    MISTAKE(XMP_NONE, "a picture with two packets of XMP has none") \
+    MISTAKE(XMP_MISSED, "no picture has a packet of XMP") \
+    MISTAKE(XMP_WITH_MARK, "a packet of XMP begins with the mark before it") \
+    MISTAKE(XMP_SHORT, "the last byte of a packet of XMP is missing") \
+    MISTAKE(XMP_PLACE_BESIDE, "the place of a second packet of XMP is one too high") \
+    MISTAKE(XMP_SETS_PLACE, "a place that is not read is set although the packet of XMP is the only one") \
+    MISTAKE(XMP_OF_CUT, "a head that is cut has no packet of XMP, and no fault") \
+    MISTAKE(XMP_SETS_REFUSED, "the packet of XMP of a head that is cut is set to none") \
     MISTAKE(SAME_THOUGH_UNREAD, "pictures are the same although a part is not read") \
     MISTAKE(DIFFERENT_SINCE_UNREAD, "pictures are different because a part is not read") \
     MISTAKE(SECOND_UNREAD_IS_SAME, "only a part of the first picture that is not read makes a difference") \
@@ -117,7 +126,24 @@
     MISTAKE(PICTURE_OF_NO_KIND, "a refused block is always Exif") \
     MISTAKE(PICTURE_SETS, "the result is set although a picture is refused") \
     MISTAKE(PICTURE_IGNORES_NULL, "pictures are different if an allocation failed") \
-    MISTAKE(PICTURE_SETS_WITHOUT_MEMORY, "the fault is set although an allocation failed")
+    MISTAKE(PICTURE_SETS_WITHOUT_MEMORY, "the fault is set although an allocation failed") \
+    MISTAKE(PACKET_CAUSE_OF_RARE, "a packet that is wrong has the cause of a rare one") \
+    MISTAKE(PACKET_PLACE_OUTSIDE, "the offset of a packet's fault is after the packet") \
+    MISTAKE(PACKET_ACCEPTED, "xmp_check accepts every packet") \
+    MISTAKE(PACKET_WRITES_REFUSED, "xmp_normalise writes the length of a packet that has no form") \
+    MISTAKE(PACKET_ROOM_LENGTH, "for an output that is too short for a packet's form its own length is returned") \
+    MISTAKE(PACKET_ROOM_FILLED, "an output that is too short for a packet's form is cleared") \
+    MISTAKE(PACKET_BEHIND, "a byte is written after a packet's form") \
+    MISTAKE(PACKET_IS_FORM, "the form of a packet is the packet") \
+    MISTAKE(PACKET_FORM_CUT, "the last byte of a packet's form is missing") \
+    MISTAKE(PACKET_TAB, "a packet's form has a tab in place of the first space in its properties") \
+    MISTAKE(PACKET_WITH_COMMENT, "a packet with a comment is refused") \
+    MISTAKE(PACKET_BARE, "a packet without x:xmpmeta is refused") \
+    MISTAKE(PACKET_UNSORTED, "the form of a packet that looks like a form is the packet") \
+    MISTAKE(PACKET_LEAKS, "every tenth xmp_check keeps its memory") \
+    MISTAKE(PACKET_TAKES_MUCH, "xmp_check allocates two megabytes") \
+    MISTAKE(PACKET_IGNORES_NULL, "a failed allocation is returned as a refusal of the packet") \
+    MISTAKE(PACKET_SETS_WITHOUT_MEMORY, "the length of a packet's form is set although an allocation failed")
 
 #define MISTAKE(name, text) name,
 enum { NONE, MISTAKES COUNT };
@@ -132,7 +158,9 @@ typedef uint32_t Parts(const unsigned char *, size_t, struct exifnorm_jpeg_part 
 typedef uint32_t Resources(const unsigned char *, size_t, struct exifnorm_photoshop_resource *, size_t, size_t *);
 typedef uint32_t Blocks(const unsigned char *, size_t, struct exifnorm_jpeg_block *, size_t, unsigned char *, size_t, struct exifnorm_jpeg_sizes *, struct exifnorm_jpeg_fault *);
 typedef uint32_t Unread(const unsigned char *, size_t, struct exifnorm_unread_part *, struct exifnorm_jpeg_fault *);
+typedef uint32_t Xmp(const unsigned char *, size_t, struct exifnorm_jpeg_packet *, struct exifnorm_unread_part *, struct exifnorm_jpeg_fault *);
 typedef uint32_t Compare(const unsigned char *, size_t, const unsigned char *, size_t, uint32_t *, struct exifnorm_fault *);
+typedef uint32_t Packet(const unsigned char *, size_t, struct exifnorm_fault *);
 typedef uint32_t Same(const unsigned char *, size_t, const unsigned char *, size_t, uint32_t *, struct exifnorm_unread_part *, struct exifnorm_picture_fault *);
 
 static Check *right_check;
@@ -142,7 +170,10 @@ static Parts *right_parts;
 static Resources *right_resources;
 static Blocks *right_blocks;
 static Unread *right_unread;
+static Xmp *right_xmp;
 static Same *right_same;
+static Packet *right_xmp_check;
+static Text *right_xmp_normalise;
 static int wrong;
 static const char *alone;
 static unsigned long calls;
@@ -155,7 +186,10 @@ Parts its_jpeg_parts;
 Resources its_photoshop_resources;
 Blocks its_jpeg_blocks;
 Unread its_jpeg_unread;
+Xmp its_jpeg_xmp;
 Same its_jpeg_same;
+Packet its_xmp_check;
+Text its_xmp_normalise;
 #define ITS(type, name) its_##name
 #define FIND_RIGHT()
 #else
@@ -181,7 +215,10 @@ __attribute__((constructor)) static void open_right(void) {
     right_resources = ITS(Resources, photoshop_resources);
     right_blocks = ITS(Blocks, jpeg_blocks);
     right_unread = ITS(Unread, jpeg_unread);
+    right_xmp = ITS(Xmp, jpeg_xmp);
     right_same = ITS(Same, jpeg_same);
+    right_xmp_check = ITS(Packet, xmp_check);
+    right_xmp_normalise = ITS(Text, xmp_normalise);
     while (wrong < COUNT && strcmp(names[wrong], name) != 0)
         wrong++;
     if (wrong == COUNT)
@@ -606,6 +643,33 @@ uint32_t exifnorm_jpeg_unread(const unsigned char *bytes, size_t length, struct 
     return status;
 }
 
+uint32_t exifnorm_jpeg_xmp(const unsigned char *bytes, size_t length, struct exifnorm_jpeg_packet *packet, struct exifnorm_unread_part *unread, struct exifnorm_jpeg_fault *fault) {
+    static const struct exifnorm_jpeg_packet none = {0, 0, 0};
+    if (is_right("jpeg_xmp"))
+        return right_xmp(bytes, length, packet, unread, fault);
+    if (wrong == NONE_OF_THEM_ANSWERS)
+        return EXIFNORM_DONE;
+    uint32_t status = right_xmp(bytes, length, packet, unread, fault);
+    if ((status == EXIFNORM_NOT_READ && wrong == XMP_NONE) || (status == EXIFNORM_REFUSED && wrong == XMP_OF_CUT) ||
+        (status == EXIFNORM_DONE && wrong == XMP_MISSED))
+        return *packet = none, EXIFNORM_DONE;
+    if (status == EXIFNORM_NOT_READ && wrong == XMP_FIRST)
+        return *packet = (struct exifnorm_jpeg_packet){1, unread->start, 0}, EXIFNORM_DONE;
+    if (status == EXIFNORM_NOT_READ && wrong == XMP_PLACE_BESIDE)
+        unread->start++;
+    if (status == EXIFNORM_REFUSED && wrong == XMP_SETS_REFUSED)
+        *packet = none;
+    if (status != EXIFNORM_DONE || !packet->found)
+        return status;
+    if (wrong == XMP_WITH_MARK)
+        packet->start -= 29, packet->size += 29;
+    if (wrong == XMP_SHORT && packet->size > 0)
+        packet->size--;
+    if (wrong == XMP_SETS_PLACE)
+        *unread = (struct exifnorm_unread_part){0, 0, 0};
+    return status;
+}
+
 /* A mistake in the result for two pictures that are the same, or are different, as far as they are read. */
 static uint32_t changed_same(const unsigned char *first, size_t first_length, uint32_t *same, struct exifnorm_unread_part *unread, uint32_t status) {
     struct exifnorm_unread_part place = {0, 0, 0};
@@ -650,4 +714,84 @@ uint32_t exifnorm_jpeg_same(const unsigned char *first, size_t first_length, con
     if (wrong == PICTURE_SETS)
         *same = 0;
     return wrong == PICTURE_OF_FIRST ? EXIFNORM_REFUSED : status;
+}
+
+/* ---- packets of XMP */
+
+/* Whether a packet is refused by mistake. */
+static int is_packet_refused(const unsigned char *packet, size_t length) {
+    return (wrong == PACKET_WITH_COMMENT && memmem(packet, length, "<!--", 4)) || (wrong == PACKET_BARE && !memmem(packet, length, "xmpmeta", 7));
+}
+
+/* A mistake in the status of a packet, or in its fault. */
+static uint32_t changed_packet(const unsigned char *packet, size_t length, struct exifnorm_fault *fault, uint32_t status) {
+    if (status == EXIFNORM_NO_MEMORY && wrong == PACKET_IGNORES_NULL)
+        return refused(fault, EXIFNORM_XMP_NO_ROOT, 0);
+    if ((status == EXIFNORM_DONE || status == EXIFNORM_TOO_LITTLE_ROOM) && is_packet_refused(packet, length))
+        return refused(fault, EXIFNORM_XMP_BAD_MARKUP, 0);
+    if (status != EXIFNORM_REFUSED && status != EXIFNORM_RARE)
+        return status;
+    if (wrong == PACKET_CAUSE_OF_RARE)
+        fault->cause = EXIFNORM_XMP_RARE_TEXT;
+    if (wrong == PACKET_PLACE_OUTSIDE)
+        fault->place = (uint32_t)length + 1;
+    return status;
+}
+
+uint32_t exifnorm_xmp_check(const unsigned char *packet, size_t length, struct exifnorm_fault *fault) {
+    volatile unsigned char seen = 0;
+    if (is_right("xmp_check"))
+        return right_xmp_check(packet, length, fault);
+    calls++;
+    if (wrong == NONE_OF_THEM_ANSWERS || wrong == PACKET_ACCEPTED)
+        return EXIFNORM_DONE;
+    if (wrong == PACKET_LEAKS && calls % 10 == 0)
+        seen = malloc(10) != NULL;
+    if (wrong == PACKET_TAKES_MUCH)
+        free(malloc(2 << 20));
+    (void)seen;
+    return changed_packet(packet, length, fault, right_xmp_check(packet, length, fault));
+}
+
+/* A mistake in a packet's form. */
+static uint32_t changed_packet_form(const unsigned char *packet, size_t length, unsigned char *out, size_t room, size_t *written) {
+    static const char head[] = "<x:xmpmeta xmlns:x=\"adobe:ns:meta/\"><rdf:RDF xmlns:rdf=\"http://www.w3.org/1999/02/22-rdf-syntax-ns#\"><rdf:Description rdf:about=\"\">";
+    int is_like_form = length == *written && memcmp(packet, head, sizeof head - 1) == 0;
+    if (wrong == PACKET_IS_FORM || (wrong == PACKET_UNSORTED && is_like_form))
+        return put(packet, length, out, room, written);
+    if (wrong == PACKET_FORM_CUT)
+        *written -= 1;
+    unsigned char *space = *written < sizeof head ? NULL : memchr(out + sizeof head - 1, ' ', *written - (sizeof head - 1));
+    if (wrong == PACKET_TAB && space)
+        *space = '\t';
+    if (wrong == PACKET_BEHIND && room > *written)
+        out[*written] = 0;
+    return EXIFNORM_DONE;
+}
+
+uint32_t exifnorm_xmp_normalise(const unsigned char *packet, size_t length, unsigned char *out, size_t room, size_t *written, struct exifnorm_fault *fault) {
+    if (is_right("xmp_normalise"))
+        return right_xmp_normalise(packet, length, out, room, written, fault);
+    if (wrong == NONE_OF_THEM_ANSWERS)
+        return EXIFNORM_DONE;
+    size_t kept = *written;
+    uint32_t given = right_xmp_normalise(packet, length, out, room, written, fault);
+    uint32_t status = changed_packet(packet, length, fault, given);
+    if (status != given) {
+        *written = kept;
+        return status;
+    }
+    if (status == EXIFNORM_DONE)
+        return changed_packet_form(packet, length, out, room, written);
+    if (status == EXIFNORM_TOO_LITTLE_ROOM) {
+        if (wrong == PACKET_IS_FORM)
+            return put(packet, length, out, room, written);
+        if (wrong == PACKET_ROOM_FILLED)
+            memset(out, 0, room);
+        *written = wrong == PACKET_ROOM_LENGTH ? room : *written - (wrong == PACKET_FORM_CUT);
+        return status;
+    }
+    if ((status == EXIFNORM_NO_MEMORY && wrong == PACKET_SETS_WITHOUT_MEMORY) || (status != EXIFNORM_NO_MEMORY && wrong == PACKET_WRITES_REFUSED))
+        *written = 0;
+    return status;
 }

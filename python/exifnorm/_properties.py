@@ -1,0 +1,113 @@
+"""Properties from the normal form of a packet of XMP (docs/FORMAT.md, section 10): it has one way of writing, and needs no checks."""
+
+from __future__ import annotations
+
+import re
+from typing import Any, List, NamedTuple, Tuple, Union
+
+
+class XmpText(NamedTuple):
+    """A text of XMP.
+
+    - `text`: the text
+    - `language`: its language in small letters, as "x-default" or "de-at"; empty if it has none
+    """
+
+    text: str
+    language: str = ""
+
+
+class XmpResource(NamedTuple):
+    """A resource of XMP.
+
+    - `uri`: its URI
+    """
+
+    uri: str
+
+
+class XmpContainer(NamedTuple):
+    """A container of XMP.
+
+    - `kind`: "Bag", whose members have no order and are sorted; "Seq", whose members have one; "Alt", whose members are alternatives, as a text
+      in several languages
+    - `members`: its values
+    """
+
+    kind: str
+    members: "Tuple[XmpValue, ...]"
+
+
+class XmpStructure(NamedTuple):
+    """A structure of XMP, or a text with qualifiers, of which the property `value` of RDF is the text.
+
+    - `properties`: its properties
+    """
+
+    properties: "Tuple[XmpProperty, ...]"
+
+
+XmpValue = Union[XmpText, XmpResource, XmpContainer, XmpStructure]
+
+
+class XmpProperty(NamedTuple):
+    """A property of a packet of XMP, or of a structure in it.
+
+    - `namespace`: the URI of its namespace. One that ends with a letter or a digit is without these, which begin the name
+    - `name`: its name in the namespace
+    - `value`: its value: `XmpText`, `XmpResource`, `XmpContainer` or `XmpStructure`
+
+    >>> XmpProperty("http://purl.org/dc/elements/1.1/", "format", XmpText("image/jpeg"))
+    XmpProperty(namespace='http://purl.org/dc/elements/1.1/', name='format', value=XmpText(text='image/jpeg', language=''))
+    """
+
+    namespace: str
+    name: str
+    value: XmpValue
+
+
+_HEAD = (
+    '<x:xmpmeta xmlns:x="adobe:ns:meta/"><rdf:RDF xmlns:rdf="http://www.w3.org/1999/02/22-rdf-syntax-ns#"><rdf:Description rdf:about="">'
+)
+_TAIL = "</rdf:Description></rdf:RDF></x:xmpmeta>"
+_ITEM = (
+    '<(?:p:([^ ]*) xmlns:p="([^"]*)"|rdf:li)'  # of a property its name and its namespace, or a member of a container
+    '(?: rdf:resource="([^"]*)"/>| rdf:parseType="(Resource)">|(?: xml:lang="([^"]*)")?>(?:<rdf:(Bag|Seq|Alt)>|([^<]*)</[^>]*>))'
+    "|</(?:rdf:(?:Bag|Seq|Alt)></)?[^>]*>"  # the end of a structure or a container
+)
+
+
+def _decoded(octets: str) -> str:
+    """A text as the form has it, without its references."""
+    if "&" not in octets:
+        return octets
+    return octets.replace("&lt;", "<").replace("&gt;", ">").replace("&#13;", "\r").replace("&amp;", "&")
+
+
+def properties_of_form(form: bytes) -> List[XmpProperty]:
+    """The properties of a normal form.
+
+    >>> properties_of_form((_HEAD + '<p:a xmlns:p="http://d/" xml:lang="de">Krug &amp;amp;</p:a>' + _TAIL).encode())
+    [XmpProperty(namespace='http://d/', name='a', value=XmpText(text='Krug &amp;', language='de'))]
+    """
+    octets = form.decode("utf-8")
+    inside: List[Any] = []  # what the innermost structure or container has
+    outside: List[Tuple[Any, ...]] = []  # of each that is open the name, the namespace and the kind, and what was read around it
+    items = re.compile(_ITEM)  # only now: to compile it takes longer than to import the package
+    for item in items.finditer(octets, len(_HEAD), len(octets) - len(_TAIL)):
+        name, space, uri, structure, language, kind, text = item.groups()
+        value: XmpValue
+        if text is not None:
+            value = XmpText(_decoded(text), language or "")
+        elif uri is not None:
+            value = XmpResource(_decoded(uri))
+        elif structure or kind:
+            outside.append((name, space, kind, inside))
+            inside = []
+            continue
+        else:
+            name, space, kind, around = outside.pop()
+            value = XmpContainer(kind, tuple(inside)) if kind else XmpStructure(tuple(inside))
+            inside = around
+        inside.append(value if name is None else XmpProperty(space, name, value))
+    return inside

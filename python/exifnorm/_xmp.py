@@ -1,0 +1,55 @@
+"""The normal form of a packet of XMP, and its properties."""
+
+from __future__ import annotations
+
+from typing import List
+
+from ._calls import Block, _copied
+from ._errors import XmpRefused
+from ._library import Status, library
+from ._properties import XmpProperty, properties_of_form
+
+
+def xmp_normal(packet: Block) -> bytes:
+    """The packet's normal form: a packet of the same properties, in one order and one way of writing. Two packets with equal forms have
+    the same properties, with the same values and languages. Prefixes, the order of properties, whether one is an attribute or an element,
+    white space between elements, comments, `rdf:about`, `x:xmptk` and the padding make no difference; neither does the order in an
+    `rdf:Bag`. Extended XMP is a packet of its own.
+
+    Raises XmpRefused if the packet is wrong, or in a rare form of RDF/XML; MemoryError and LibraryMissing. Which form a packet has is
+    tested and, unlike that of a block, not proved.
+
+    >>> rdf = "<r:RDF xmlns:r='http://www.w3.org/1999/02/22-rdf-syntax-ns#' xmlns:d='http://d/'><r:Description {}</r:RDF>"
+    >>> first = rdf.format("d:a='Vase'/>").encode()
+    >>> second = rdf.format("><d:a>Vase</d:a></r:Description>").encode()
+    >>> xmp_normal(first) == xmp_normal(second)
+    True
+    >>> xmp_normal(first)[131:-40]
+    b'<p:a xmlns:p="http://d/">Vase</p:a>'
+    """
+    octets = packet if type(packet) is bytes else _copied(packet)
+    form = library().xmp_normalise(octets)
+    if not isinstance(form, tuple):
+        return form
+    status, cause, place = form
+    if status == Status.NO_MEMORY:
+        raise MemoryError
+    if status in (Status.REFUSED, Status.RARE):
+        raise XmpRefused(library().cause_name(cause), place, octets)
+    raise AssertionError(f"libexifnorm answered the status {status}")
+
+
+def xmp_properties(packet: Block) -> List[XmpProperty]:
+    """The packet's properties, in the order of its normal form. Two packets have equal properties exactly if their forms are equal. So the
+    members of a Bag, which have no order, are sorted; those of a Seq and an Alt are in their order.
+
+    Raises what `xmp_normal` raises. What the properties are is tested, and not proved.
+
+    >>> rdf = "<r:RDF xmlns:r='http://www.w3.org/1999/02/22-rdf-syntax-ns#' xmlns:d='http://d/'><r:Description {}</r:RDF>"
+    >>> packet = rdf.format("d:a='Vase'><d:b><r:Bag><r:li>urn</r:li><r:li>bowl</r:li></r:Bag></d:b></r:Description>").encode()
+    >>> for namespace, name, value in xmp_properties(packet):
+    ...     print(namespace, name, value)
+    http://d/ a XmpText(text='Vase', language='')
+    http://d/ b XmpContainer(kind='Bag', members=(XmpText(text='bowl', language=''), XmpText(text='urn', language='')))
+    """
+    return properties_of_form(xmp_normal(packet))
