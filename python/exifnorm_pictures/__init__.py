@@ -22,11 +22,13 @@ from __future__ import annotations
 
 TYPE_CHECKING = False  # that of `typing`, which isn't imported here: a program may yet have the current folder in its search path
 if TYPE_CHECKING:
-    from typing import List
+    from typing import Any, List
 
-    from .api import *  # noqa: F403 (type checkers take the names of __all__)
+    from .api import Comparison, Difference, NoPicture, NotReadable, compare, read, read_bytes
     from .fields.field import Field
+    from .fields.labels import Caption
     from .many import read_all
+    from .picture import Block, Picture, Position, Refusal
 
 __all__ = [
     "Block",
@@ -46,14 +48,14 @@ __all__ = [
 ]
 
 
-def __getattr__(name: str) -> object:
+def __getattr__(name: str) -> Any:
     """What a program asks for is imported then, which the commands need not wait for."""
     if name not in __all__:
         raise AttributeError(f"module {__name__!r} has no attribute {name!r}")
-    from . import api, many
+    from . import api, many, picture
+    from .fields import field, labels
 
-    value: object = getattr(many if name == "read_all" else api, name)
-    return value
+    return next(vars(module)[name] for module in (api, many, picture, field, labels) if name in vars(module))
 
 
 def __dir__() -> List[str]:

@@ -12,9 +12,10 @@ from typing import Deque, Iterable, Iterator, List, Optional, Sequence, Tuple, U
 
 from exifnorm import LibraryMissing
 
-from .api import NoPicture, NotReadable, PathLike, Picture, _read
+from .api import NoPicture, NotReadable, PathLike, _read
 from .files.session import Session
 from .model.problems import Problem
+from .picture import Picture
 
 CHUNK = 8  # pictures that a process gets at once
 AHEAD = 4  # such chunks of each process that are given out before the first result is taken
@@ -25,9 +26,8 @@ Result = Union[Picture, OSError, NoPicture, NotReadable]
 def read_all(paths: Iterable[PathLike], *, jobs: Optional[int] = None) -> Iterator[Tuple[PathLike, Result]]:
     """Reads many pictures in several processes, in their order: each path with its picture, or with the exception that `read` raises.
 
-    `jobs` is the number of processes: as many as there are processors if it isn't given, and with 1 this process reads. At most 32 paths a
-    process are taken before the first result is, so paths and results may be more than fit into memory. A picture at which a process
-    dies is `NotReadable`. Raises `exifnorm.LibraryMissing`, `ValueError` for fewer jobs than one, and `TypeError` for a single path.
+    `jobs` is the number of processes, by default that of processors; with 1 this process reads. At most 32 paths a process are taken ahead, so
+    there may be more paths and results than fit into memory. A picture at which a process dies is `NotReadable`. Raises `exifnorm.LibraryMissing`, `ValueError` for fewer jobs than one, and `TypeError` for a single path.
     """
     if isinstance(paths, (str, bytes, os.PathLike)):  # whose letters would be taken for paths
         raise TypeError("several paths are expected: of one path read reads the picture")

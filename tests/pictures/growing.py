@@ -31,6 +31,8 @@ from made_more_files import application, gif, gif_xmp, psd
 from made_raw import fuji
 from studio import SMALL_JPEG
 
+from exifnorm_pictures.model import budgets
+
 BYTE = 1
 EXIF, IPTC, XMP = KINDS = ("exif", "iptc", "xmp")  # as `show --json` names them
 MARKUP = "http://www.w3.org/1999/02/22-rdf-syntax-ns#XMLLiteral"
@@ -379,6 +381,18 @@ def one_packet(number, mark):
     return Whole(sharing(packet, number, 0x02BC, BYTE), {XMP: number})
 
 
+def one_record(number, mark):
+    """As many pages as the record has keywords, which all of them share. As many are shown as a command shows of one picture."""
+    record = b"".join(iim(b"%s%d" % (mark, it)) for it in range(number))
+    return Whole(sharing(record, number, 0x83BB, BYTE), {IPTC: min(number * number, budgets.SHOWN_FIELDS)})
+
+
+def one_packet_of_many(number, mark):
+    """As many pages as the packet has properties, which all of them share."""
+    packet = xmp("".join(f"<dc:a{it}>{mark.decode()}</dc:a{it}>" for it in range(number)))
+    return Whole(sharing(packet, number, 0x02BC, BYTE), {XMP: min(number * number, budgets.SHOWN_FIELDS)})
+
+
 def texts_as_long_as_many(number, mark):
     """Fields, keywords and members of a list: so many bytes of each, in as many texts as each has bytes. They begin alike, so that who compares
     a text with another one reads all of it."""
@@ -400,6 +414,17 @@ def plain_hole(number, mark):
     return Whole(jpeg(app1(small_tiff((0x010F, ASCII, mark + b"ab\0")))), {EXIF: 1}, None, number << 20)
 
 
+OF_SHARED = (
+    "show A",
+    "show A --csv",
+    "compare A B --no-exiftool",
+    "compare A B --json --no-exiftool --ignore dc:none",
+    "captions A",
+    "captions A --json",
+    "captions A --csv",
+    "conflicts A --json",
+    "explain A",
+)
 OF_FILES = ("show A", "captions P", "conflicts P --all", "list P --json --where title=x --jobs 1 --quiet")
 OF_TEXTS = (
     "show A --json",
@@ -415,6 +440,8 @@ OF_TEXTS = (
 OTHERS = {
     "texts as long as they are many": ("tif", Growth(texts_as_long_as_many, 90_000, 1_000_000, (), OF_TEXTS)),
     "pages of one packet": ("tif", Growth(one_packet, 300, 2000, (), OF_FILES)),
+    "pages of one record": ("tif", Growth(one_record, 300, 2000, (), OF_SHARED)),
+    "pages of one packet of many": ("tif", Growth(one_packet_of_many, 300, 2000, (), OF_SHARED)),
     "a hole": ("jpg", Growth(plain_hole, 10, 100, ("written", "memory"))),
     "a hole after a refused block": ("jpg", Growth(hole, 10, 100, ("written", "memory"))),
     "lines of a rare text": ("png", Growth(lines, 3000, 30_000)),

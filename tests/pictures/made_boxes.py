@@ -63,9 +63,10 @@ def heif(
     large=False,
     base=None,
     lengths=True,
+    index=0,
 ):
     """A HEIF with these items. `padding` separates their parts. `version` is that of iloc, `size` the bytes of its offsets, and `base` where
-    they count from, if that isn't 0."""
+    they count from, if that isn't 0; before each offset are `index` bytes."""
     head = box(b"ftyp", brand + b"\0\0\0\0mif1" + brand)
     number = "I" if version == 2 else "H"
     idat = b"".join(it.data for it in items if it.method == 1)
@@ -80,7 +81,7 @@ def heif(
             places += struct.pack(">H", len(parts))
             for part in parts:
                 at += len(padding) if it.method != 1 else 0
-                places += (inside if it.method == 1 else at - (base or 0)).to_bytes(size, "big")
+                places += b"\1" * index + (inside if it.method == 1 else at - (base or 0)).to_bytes(size, "big")
                 places += len(part).to_bytes(size, "big") if lengths else b""
                 inside, at = (inside + len(part), at) if it.method == 1 else (inside, at + len(part))
         return full(
@@ -95,7 +96,7 @@ def heif(
             full(
                 b"iloc",
                 version,
-                bytes((size << 4 | size * lengths, 0 if base is None else 4 << 4)),
+                bytes((size << 4 | size * lengths, (0 if base is None else 4 << 4) | index)),
                 struct.pack(">" + number, len(items)),
                 places,
             ),

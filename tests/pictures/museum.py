@@ -27,25 +27,15 @@ class Clock(datetime.datetime):
 
 
 @contextlib.contextmanager
-def standing_clock():
-    """A clock that stands still, in UTC."""
+def standing_clock(zone="UTC"):
+    """A clock that stands still."""
     with pytest.MonkeyPatch.context() as patch:
-        patch.setenv("TZ", "UTC")
+        patch.setenv("TZ", zone)
         time.tzset()
         for name in CLOCKS:
             patch.setattr(f"exifnorm_pictures.{name}.datetime", Clock)
         yield
     time.tzset()
-
-
-@contextlib.contextmanager
-def in_folder(folder):
-    before = os.getcwd()
-    os.chdir(folder)
-    try:
-        yield
-    finally:
-        os.chdir(before)
 
 
 def run(line, folder):
@@ -94,8 +84,9 @@ def make(folder):
         done(f"index archive --jobs 1 --catalogue {name}{words}", folder)
     shutil.copy(".plain", ".before")
     shutil.copy(".full", ".full.before")
-    shutil.rmtree("archive")
+    os.rename("archive", ".first")  # as long as these files are there, no new file can get the inode of one of them
     made_museum.put("archive", made_museum.second_night(), made_museum.TIME + 86_400, before=first)
+    shutil.rmtree(".first")
     for name, words in ((".plain", ""), (".full", WHOLE)):
         done(f"index archive --jobs 1 --catalogue {name}{words}", folder)
     done("index one/desk --jobs 1 --pixels --catalogue .few", folder)
@@ -105,7 +96,7 @@ def make(folder):
 @pytest.fixture(scope="session")
 def museum_of_this_process(tmp_path_factory):
     folder = tmp_path_factory.mktemp("museum")
-    with standing_clock(), in_folder(folder):
+    with standing_clock(), contextlib.chdir(folder):
         make(folder)
     return folder
 
@@ -114,7 +105,7 @@ def museum_of_this_process(tmp_path_factory):
 def museum(museum_of_this_process):
     """The folder in which commands are called: `one` and `archive` are the pictures of both nights, `before` and `plain` their catalogues,
     `full.before` and `full` these with --pixels --maker-notes --sidecars, `few` a catalogue of few pictures."""
-    with standing_clock(), in_folder(museum_of_this_process):
+    with standing_clock(), contextlib.chdir(museum_of_this_process):
         for path in museum_of_this_process.iterdir():  # what an earlier test has written
             if path.name not in ("one", "archive", "bag") and not path.name.startswith("."):
                 shutil.rmtree(path) if path.is_dir() else path.unlink()

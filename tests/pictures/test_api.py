@@ -9,6 +9,7 @@ import multiprocessing
 import os
 import pickle
 import re
+import struct
 import subprocess
 import sys
 from datetime import date, datetime, time, timedelta, timezone
@@ -17,7 +18,7 @@ from pathlib import Path
 from xml.etree import ElementTree
 
 import pytest
-from made_blocks import BLOCKS, with_exif
+from made_blocks import ASCII, BLOCKS, block, entry, with_exif
 from made_boxes import Item, box, heif, item_exif, jp2, jxl, uuid
 from made_files import app1, app1_xmp, chunk, exif, jpeg, png, png_xmp, resource, title, webp, xmp
 from made_more_files import gif, gif_xmp, psd
@@ -30,8 +31,10 @@ from test_cr3 import cr3, structures
 import exifnorm
 import exifnorm_pictures as pictures
 from exifnorm_pictures import many
+from exifnorm_pictures.catalogue import texts
 from exifnorm_pictures.extract import readers
-from exifnorm_pictures.fields import packing, xmp_types
+from exifnorm_pictures.fields import labels, packing, xmp_types
+from exifnorm_pictures.fields.field import Field
 
 BEFORE, AFTER = (Path(TOP) / "samples" / it for it in ("before", "after"))
 BOWL = "ceramics/2003-12-bowl.jpg"
@@ -52,6 +55,52 @@ def test_values_have_types():
     assert bowl and 3 not in bowl and bowl.get("IFD0:Model") in ("Canon EOS 5D Mark II", *bowl)
     with pytest.raises(KeyError, match="0"):
         bowl[0]
+
+
+@pytest.mark.parametrize(
+    "name, meant",
+    [
+        ("IPTC:Keyword", "IPTC:Keywords"),
+        ("IFD0:Modle", "IFD0:Model"),
+        ("exposuretimes", "ExposureTime"),
+        ("GPS:GPSLatitud", "GPS:GPSLatitude"),
+        ("title", "texts('title')"),
+        ("IFD0:Artist", ""),
+        ("dc:title", ""),
+        ("no name at all", ""),
+        ("*" * 200_000, ""),
+        (0, ""),
+    ],
+)
+def test_a_name_of_no_field_is_told_with_the_one_that_is_meant(name, meant):
+    """A name that fields have by their standard is none that was mistyped."""
+    with pytest.raises(KeyError) as raised:
+        pictures.read(BEFORE / BOWL)[name]
+    said = str(raised.value)
+    assert meant in said and ("(" in said) == bool(meant) and len(said) < 300 and raised.value.args == (name,)
+    assert str(pickle.loads(pickle.dumps(raised.value))) == said
+
+
+def test_names_are_also_those_of_the_standards():
+    found = pictures.read_bytes(png(png_xmp(xmp("<dc:title><rdf:Alt><rdf:li xml:lang='x-default'>Vase</rdf:li></rdf:Alt></dc:title>"))))
+    assert found["dc:title"] == found["XMP-dc:title"] == found["DC:Title"] == "Vase" and len(found.find("dc:title")) == 1
+    bowl = pictures.read(BEFORE / BOWL)
+    assert bowl["2:25"] == ("bowl", "celadon") and bowl["0x829A"] == Fraction(1, 60) and "2:26" not in bowl
+    assert dict(bowl) == {name: bowl[name] for name in bowl.names}
+    unnamed = pictures.read_bytes(jpeg(app1(block([entry(0xFE01, ASCII, 4, b"abc\0")]))))
+    assert [len(unnamed.find(name)) for name in ("IFD0:0xfe01", "0xfe01")] == [1, 1]
+
+
+def test_a_label_may_be_written_in_other_ways():
+    bowl = pictures.read(BEFORE / BOWL)
+    assert bowl.texts("Keywords") == bowl.texts("keywords") == ("bowl", "celadon") and bowl.texts("Date-Created")
+    for wrong, meant in (("keyword", "'keywords'"), ("serial", ""), ("position", "")):
+        with pytest.raises(ValueError, match="is no label") as raised:
+            bowl.texts(wrong)
+        assert f"perhaps {meant} is meant" in str(raised.value) if meant else "perhaps" not in str(raised.value)
+    for call in (bowl.texts, bowl.find, bowl.get):
+        with pytest.raises(TypeError, match="str, and not int"):
+            call(3)
 
 
 def test_dates_and_numbers_of_iptc():
@@ -319,6 +368,34 @@ def test_a_field_names_its_block():
     assert len(set(found.find("Make"))) == 2, "the block is no part of what a field means"
 
 
+def shared(pages, record):
+    """A TIFF with one IPTC record that all of its pages have."""
+    octets = b"MM\0*" + struct.pack(">I", 8 + len(record)) + record
+    for number in range(pages):
+        behind = len(octets) + 18 if number < pages - 1 else 0
+        octets += struct.pack(">HHHIII", 1, 0x83BB, 7, len(record), 8, behind)
+    return octets
+
+
+def test_pages_that_share_a_block_cost_it_once(monkeypatch, folder, called):
+    """A file of 50 kB can have 20 million fields. Neither a name nor the texts need a copy of them for each page."""
+    pages, keywords = 40, [b"word %d" % number for number in range(200)]
+    (folder / "a.tif").write_bytes(shared(pages, b"".join(data_set(25, it) for it in keywords)))
+    read, copied, in_block = [], [], Field.in_block
+    monkeypatch.setattr(Field, "in_block", lambda field, name: copied.append(name) or in_block(field, name))
+    monkeypatch.setattr(texts, "of_labelled", lambda fields: read.append(fields) or labels.of_labelled(fields))
+    picture = pictures.read("a.tif")
+    assert picture.get("Keywords") == tuple(it.decode() for it in keywords) and "Headline" not in picture
+    assert picture.names == ("IPTC:Keywords",) and picture.position is None and picture.texts("keywords") == picture["2:25"]
+    assert [it.block for it in picture.captions] == ["", *(f"IPTC of page {number}" for number in range(2, pages + 1))]
+    assert (len(read), copied) == (1, [])
+    again = pickle.loads(pickle.dumps(picture))
+    assert again.get("Keywords") == picture.get("Keywords") and not again.find("Headline")
+    assert len(picture.find("Keywords")) == len(list(picture.fields)) == pages * len(keywords)
+    status, printed, _ = called("captions", "a.tif")
+    assert status == 0 and printed.count("word 0; word 1;") == 1 and len(read) == 2
+
+
 @pytest.mark.parametrize("cause", sorted(it for it in BLOCKS if len(BLOCKS[it]) < 60_000))
 def test_each_cause_has_a_sentence(cause):
     found = pictures.read_bytes(with_exif(SMALL_JPEG, BLOCKS[cause]))
@@ -450,6 +527,17 @@ def test_where_and_when(tmp_path):
     assert found.position == pictures.Position(46.5, -7.25, -12.0)
     assert found.taken == datetime(2019, 3, 12, 11, 20, 45, 500000, timezone(timedelta(hours=2)))
     assert found["GPS:GPSAltitudeRef"] == 1
+
+
+@pytest.mark.parametrize("reference, sign", [("0", 1), ("1", -1), ("2", 1), ("3", -1)])
+def test_a_position_of_xmp(reference, sign):
+    """By XMP part 2 (8.7.5), and the four references of Exif 3.0: above and below the ellipsoid, above and below the sea."""
+    place = "xmlns:exif='http://ns.adobe.com/exif/1.0/' exif:GPSLatitude='46,30.0N' exif:GPSLongitude='7,15,0W'"
+    found = pictures.read_bytes(png(png_xmp(xmp("", f"{place} exif:GPSAltitude='25/2' exif:GPSAltitudeRef='{reference}'"))))
+    assert found.position == pictures.Position(46.5, -7.25, 12.5 * sign)
+    assert pictures.read_bytes(png(png_xmp(xmp("", place)))).position == pictures.Position(46.5, -7.25, None)
+    for wrong in (place.replace("7,15,0W", ""), place.replace("46", "91"), place.replace("N", "E")):
+        assert pictures.read_bytes(png(png_xmp(xmp("", wrong)))).position is None
 
 
 def facts(it):

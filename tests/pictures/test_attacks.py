@@ -386,7 +386,7 @@ def test_a_signal_in_a_long_query(number, archive):
             assert started.stdout.readline() == b"begun\n"
             time.sleep(0.2)
             started.send_signal(number)
-            assert started.wait(30) == (130 if number == signal.SIGINT else -number)
+            assert started.wait(300) == (130 if number == signal.SIGINT else -number)
         finally:
             started.kill()
 

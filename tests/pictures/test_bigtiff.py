@@ -13,7 +13,7 @@ from pairs import DIFFERENT, SAME, UNDECIDED, Pair, of_pairs
 from studio import needs, run, write
 
 from exifnorm_pictures.extract import coded_picture
-from exifnorm_pictures.extract.formats import bigtiff
+from exifnorm_pictures.extract.formats.tiff import read_big
 from exifnorm_pictures.model import budgets
 
 LONG8, SLONG8, IFD8 = 16, 17, 18
@@ -119,8 +119,9 @@ BROKEN = {
 @pytest.mark.parametrize("octets", BROKEN.values(), ids=BROKEN)
 def test_broken(octets):
     """A line with the reason, and no blocks."""
-    found = bigtiff.read(io.BytesIO(octets))
-    assert (found.type, found.problem, found.blocks) == ("BigTIFF", "BigTIFF", []) and "can't be read: " in found.detail
+    found = read_big(io.BytesIO(octets))
+    assert (found.type, found.problem, found.blocks) == ("BigTIFF", "BigTIFF", [])
+    assert found.detail.startswith(f"{found.problem.text}: "), found.detail
 
 
 def test_a_file_with_a_hole(tmp_path):
@@ -145,7 +146,7 @@ def test_many_entries(monkeypatch):
     entries = b"".join(struct.pack("<HHQ8s", 0xC000, SHORT, 1, b"") for _ in range(1000))
     parts = [struct.pack("<Q", 1000) + entries + struct.pack("<Q", 16 + (number + 1) * (16 + len(entries))) for number in range(1001)]
     with pytest.raises(budgets.TooMuch, match="entries of directories"):
-        bigtiff.read(io.BytesIO(b"II+\0\x08\0\0\0" + struct.pack("<Q", 16) + b"".join(parts)))
+        read_big(io.BytesIO(b"II+\0\x08\0\0\0" + struct.pack("<Q", 16) + b"".join(parts)))
 
 
 @settings(max_examples=400)
@@ -157,7 +158,7 @@ def test_damaged(data):
         at = data.draw(st.integers(8, len(octets) - 1))
         with_ = data.draw(st.one_of(st.binary(min_size=1, max_size=8), st.sampled_from((b"\xff" * 8, bytes(8), struct.pack("<Q", at)))))
         octets[at : at + len(with_)] = with_
-    found = bigtiff.read(io.BytesIO(bytes(octets)))
+    found = read_big(io.BytesIO(bytes(octets)))
     for it in found.blocks:
         values = values_of(it.data) if it.kind == "exif" else [it.data]
         assert all(value in octets for value in values), it
@@ -179,7 +180,7 @@ def values_of(block):
 def test_beside_exiftool(tmp_path):
     """ExifTool shows the same tags of a BigTIFF and of its block."""
     octets, shown = big(fields((0x011A, 5, struct.pack("<II", 300, 1)), (0x0100, LONG8, 1))), []
-    for name, data in (("a.btf", octets), ("a.tif", next(it.data for it in bigtiff.read(io.BytesIO(octets)).blocks if it.kind == "exif"))):
+    for name, data in (("a.btf", octets), ("a.tif", next(it.data for it in read_big(io.BytesIO(octets)).blocks if it.kind == "exif"))):
         write(tmp_path / name, data)
         said = run(["exiftool", "-config", "", "-q", "-q", "-m", "-G1", "-s", "-IFD0:all", "-ExifIFD:all", name], tmp_path).stdout.decode()
         shown.append({it for it in said.splitlines() if not any(word in it for word in ("Strip", "ApplicationNotes", "IPTC-NAA"))})

@@ -3,7 +3,6 @@
 import csv
 import io
 import json
-import os
 import re
 import struct
 import subprocess
@@ -79,19 +78,9 @@ def test_limits_are_those_of_iim(checks):
 @needs("exiftool")
 def test_dates_as_exiftool_writes_them(captions, folder):
     (folder / "a.jpg").write_bytes(SMALL_JPEG)
-    tool(
-        folder,
-        "exiftool",
-        "-q",
-        "-overwrite_original",
-        "-SubSecTimeOriginal=25",
-        "-DateTimeOriginal=2003:05:24 22:21:01",
-        "-OffsetTimeOriginal=+02:00",
-        "-IPTC:DateCreated=2003:05:24",
-        "-IPTC:TimeCreated=22:21:01+02:00",
-        "-XMP-photoshop:DateCreated=2003:05:24 22:21:01+02:00",
-        "a.jpg",
-    )
+    texts = ["-SubSecTimeOriginal=25", "-DateTimeOriginal=2003:05:24 22:21:01", "-OffsetTimeOriginal=+02:00"]
+    texts += ["-IPTC:DateCreated=2003:05:24", "-IPTC:TimeCreated=22:21:01+02:00", "-XMP-photoshop:DateCreated=2003:05:24 22:21:01+02:00"]
+    tool(folder, "exiftool", "-q", "-overwrite_original", *texts, "a.jpg")
     _, out = captions("--json", "a.jpg")
     found = {it["field"]: it["texts"] for it in json.loads(out)["captions"]}
     assert found == {
@@ -101,21 +90,46 @@ def test_dates_as_exiftool_writes_them(captions, folder):
     }
 
 
+@needs("exiftool")
+def test_fields_in_another_directory_than_that_of_their_tag(captions, folder):
+    """Names and texts are those of ExifTool."""
+    entries = [entry(0x9003, ASCII, 20, 38), entry(0x9286, ASCII, 8, 58)]
+    (folder / "a.jpg").write_bytes(jpeg(app1(block(entries) + b"2003:05:24 22:21:01\0Kitchen\0"), base=SMALL_JPEG))
+    (folder / "b.jpg").write_bytes(SMALL_JPEG)
+    tool(folder, "exiftool", "-q", "-overwrite_original", "-IFD0:Artist=Anna", "-ExifIFD:Artist=Otto", "-ExifIFD:Copyright=Museum", "b.jpg")
+    tags = ["-EXIF:DateTimeOriginal", "-EXIF:UserComment", "-IFD0:Artist", "-EXIF:Copyright"]
+    words = ["exiftool", "-config", "", "-j", "-G1", "-d", "%Y-%m-%d %H:%M:%S", *tags, "a.jpg", "b.jpg"]
+    expected = {}
+    for texts in json.loads(subprocess.run(words, cwd=folder, capture_output=True, check=True).stdout):
+        expected.update({(texts["SourceFile"], name): text for name, text in texts.items() if name != "SourceFile"})
+    found = {
+        (name, it["field"]): it["texts"][0] for name in ("a.jpg", "b.jpg") for it in json.loads(captions("--json", name)[1])["captions"]
+    }
+    assert len(expected) == 4 and found == expected
+
+
+def test_a_date_in_two_directories(captions):
+    """By CIPA DC-008, 4.6.5, DateTimeOriginal is a tag of the Exif directory."""
+    main, inside = b"2001:01:01 00:00:00\0", b"2003:05:24 22:21:01\0"
+    entries = [entry(0x8769, LONG, 1, 38), entry(0x9003, ASCII, 20, 56)]
+    octets = block(entries) + table([entry(0x9003, ASCII, 20, 76)]) + main + inside
+    _, out = captions("--json", a=jpeg(app1(octets)))
+    assert [(it["field"], it["texts"]) for it in json.loads(out)["captions"]] == [("ExifIFD:DateTimeOriginal", ["2003-05-24 22:21:01"])]
+
+
+@needs("exiftool")
+def test_a_time_in_another_form(captions, folder):
+    """Its digits are apart from those of the day, as in the value of ExifTool."""
+    record = with_record(data_set(55, b"20030524"), data_set(60, b"222101.25"))
+    (folder / "a.jpg").write_bytes(jpeg(record, base=SMALL_JPEG))
+    words = ["exiftool", "-config", "", "-s3", "-IPTC:TimeCreated", "a.jpg"]
+    time = subprocess.run(words, cwd=folder, capture_output=True, text=True, check=True).stdout.strip()
+    assert json.loads(captions("--json", "a.jpg")[1])["captions"][0]["texts"] == [f"2003-05-24 {time}"]
+
+
 # Lines
 
 ALL = jpeg(with_texts(artist=b"Anna"), with_record(data_set(80, b"Anna"), data_set(5, b"Vase")), app1_xmp(xmp("<dc:format>x</dc:format>")))
-
-
-def test_equal_texts_are_one_line_with_all_fields(captions):
-    status, out = captions(a=ALL)
-    assert status == 0
-    assert [it.split("   ")[-1] for it in out.splitlines()] == ["[IPTC:ObjectName]", "[IFD0:Artist, IPTC:By-line]"]
-
-
-def test_different_texts_are_marked(captions):
-    _, out = captions(a=jpeg(with_texts(artist=b"Anna"), with_record(data_set(80, b"Otto"))))
-    assert [it.split()[1] for it in out.splitlines()] == ["Anna", "Otto"]
-    assert all(it.endswith("they differ") for it in out.splitlines())
 
 
 @pytest.mark.parametrize(
@@ -143,10 +157,42 @@ def test_a_guess_is_named_and_a_confirmed_one_is_not(captions):
     assert "guessed" not in out and "[IPTC:ObjectName, XMP-dc:title]" in out
 
 
-def test_the_default_language_of_xmp(captions):
-    items = "<rdf:li xml:lang='de'>Krug</rdf:li><rdf:li xml:lang='x-default'>Vase</rdf:li>"
-    _, out = captions("--json", a=jpeg(app1_xmp(xmp(f"<dc:title><rdf:Alt>{items}</rdf:Alt></dc:title>"))))
-    assert json.loads(out)["captions"][0]["texts"] == ["Vase"]
+def with_comment(kind, octets):
+    """A picture whose UserComment has this type."""
+    inside = table([entry(0x9286, kind, len(octets), 8 + 2 + 12 + 4 + 2 + 12 + 4)]) + octets
+    return jpeg(app1(block([entry(0x8769, LONG, 1, 26)]) + inside), base=SMALL_JPEG)
+
+
+@needs("exiftool")
+@pytest.mark.parametrize("kind", [ASCII, UNDEFINED])
+@pytest.mark.parametrize(
+    "octets",
+    [
+        b"Vase here\0",
+        b"Vase here\0\0\0\0",
+        b"Vase here   \0\0",
+        "Z\u00fcrich here\0\0".encode(),
+        b"ASCII text\0\0",
+        b"ASCII\0\0\0Vase\0\0",
+        b"UNICODE\0" + "Z\u00fcrich".encode("utf-16-le"),
+        bytes(8) + b"Vase\0\0",
+        bytes(12),
+        b"     \0\0\0",
+    ],
+)
+def test_comments_of_each_type_are_those_of_exiftool(kind, octets, captions, folder):
+    """Whether a character set is in front or not, and whatever pads the text."""
+    status, out = captions("--json", a=with_comment(kind, octets))
+    words = ["exiftool", "-config", "", "-j", "-UserComment", "-charset", "UTF8", "a.jpg"]
+    expected = json.loads(subprocess.run(words, cwd=folder, capture_output=True, check=True).stdout)[0]["UserComment"].rstrip()
+    assert [it["texts"] for it in json.loads(out)["captions"]] == [[expected]] * bool(expected) and status == 0
+
+
+@pytest.mark.parametrize("kind", [ASCII, 129])  # 129: UTF-8 (CIPA DC-008, Exif 3.0)
+@pytest.mark.parametrize("padding", [b"\0", b"\0\0\0"])
+def test_a_comment_of_a_text_type_in_latin_1(padding, kind, captions):
+    _, out = captions("--json", a=with_comment(kind, "Z\u00fcrich here".encode("latin-1") + padding))
+    assert [it["texts"] for it in json.loads(out)["captions"]] == [["Z\u00fcrich here"]]
 
 
 def test_a_comment_and_a_text_can_not_control_the_terminal(captions):
@@ -172,40 +218,11 @@ def test_a_refused_block_is_read_after_its_repair(captions):
     assert status == 2 and "repair" in found["refused"][0] and [it["texts"] for it in found["captions"]] == [["Vase"]]
 
 
-@pytest.mark.parametrize("octets", [b"", b"no picture", SMALL_JPEG[:100]])
-def test_other_files_have_a_line(octets, captions):
-    status, out = captions(a=octets)
-    assert status in (0, 2) and len(out.splitlines()) >= 1
-
-
-def test_a_block_by_itself(captions):
-    _, out = captions("--block", "--json", a=data_set(5, b"Vase"))
-    assert json.loads(out)["captions"][0]["texts"] == ["Vase"]
-
-
-def test_names_that_are_no_utf8(captions, folder):
-    with open(os.fsencode(folder) + b"/\xe9.jpg", "wb") as file:
-        file.write(ALL)
-    _, out = captions("--json", ".")
-    assert json.loads(out)["path_hex"] == b"./\xe9.jpg".hex()
-
-
 # Tables
 
 
 def rows(out):
     return list(csv.DictReader(io.StringIO(out)))
-
-
-def test_a_row_for_each_picture_of_a_folder(captions, folder):
-    (folder / "notes.txt").write_bytes(b"no picture")
-    (folder / "below").mkdir()
-    (folder / "below" / "b.jpg").write_bytes(jpeg(with_record(data_set(25, b"clay"), data_set(25, b"vase"))))
-    (folder / "a.jpg").write_bytes(ALL)
-    status, out = captions("--csv", ".")
-    found = {it["picture"]: it for it in rows(out)}
-    assert status == 0 and list(found) == ["./a.jpg", "./below/b.jpg"]
-    assert (found["./a.jpg"]["creator"], found["./below/b.jpg"]["keywords"]) == ("Anna", "clay; vase")
 
 
 LONG_NAME = "Anna-Katharina von der Hohenfriedeburg-Waldenfels"
@@ -245,20 +262,6 @@ def test_a_text_is_no_formula(text, captions):
 def test_a_text_with_line_ends_is_one_cell(captions):
     _, out = captions("--csv", a=jpeg(with_record(data_set(120, b'a, "b"\nc\x1b'))))
     assert rows(out)[0]["caption"] == 'a, "b"\nc\\x1b'
-
-
-def test_captions_of_a_catalogue(called, folder):
-    """As of the pictures, which are gone. What is no picture is passed over."""
-    texts = [b"Ein Gef\xe4\xdf aus K\xf6ln. " * 30, b"Vase"]
-    for name, text in zip("ab", texts):
-        (folder / f"{name}.jpg").write_bytes(jpeg(with_record(data_set(120, text), data_set(25, b"clay"), data_set(25, b"blue"))))
-    (folder / "text").write_text("no picture")
-    assert called("index", ".", "--catalogue", "c", "--quiet")[0] in (0, 2)
-    printed = [called("captions", *words, str(folder / "a.jpg"), str(folder / "b.jpg"))[1] for words in ([], ["--csv"], ["--json"])]
-    for name in "ab":
-        (folder / f"{name}.jpg").unlink()
-    assert [called("captions", *words, "c")[1] for words in ([], ["--csv"], ["--json"])] == printed
-    assert called("conflicts", "c")[0] == 0
 
 
 @pytest.mark.parametrize("key", ["2:05", "2:80", "2:120", "1:5"])

@@ -433,10 +433,10 @@ def test_a_group_by_fields_is_never_proved_and_keeps_nothing(run, folder):
     run("index", "p", "--catalogue", "c", "--quiet")
     group, last = (json.loads(it) for it in run("same", "--catalogue", "c", "--json", "--ignore", "Make")[1])
     assert (group["basis"], group["digests"], group["wholly_read"]) == ("fields", {}, False)
-    assert group["description"] == "IPTC is the same in the same bytes, but for the fields left out"
+    assert group["description"] == "IPTC is the same byte for byte, but for the fields left out"
     assert [it["keep"] for it in group["pictures"]] == [None] * 3 and last["groups"] == 1
     lines = run("same", "--catalogue", "c", "--ignore", "Make")[1]
-    assert lines[-1] == "Fields are left out by their listing, which is tested, and not proved."
+    assert lines[-1] == "A result with fields left out is tested, and not proved."
     (group, _) = (json.loads(it) for it in run("same", "--catalogue", "c", "--json", "--ignore", "Artist")[1])
     assert (group["basis"], group["count"]) == ("meaning", 2)
     for words, status in ((["--ignore", "*"], 3), (["--ignore", "Makr"], 3), (["--kind", "iptc", "--only", "dc:title"], 3)):

@@ -167,6 +167,7 @@ if "--version" in sys.argv:
 elif b"has no end" in open(sys.argv[-1], "rb").read():
     time.sleep(1000)
 """
+SHORT = "4"  # seconds, in which a program of Python begins and ends also on a busy machine
 WITHOUT_END = {
     "silent": "time.sleep(1000)",
     "slow": "[(print(' ', end='', flush=True), time.sleep(0.1)) for _ in range(10_000)]",
@@ -208,12 +209,12 @@ def test_an_exiftool_without_end(end, called, folder, monkeypatch):
         ["show", "p/a.exv", "p/b.exv"],
         ["captions", "p/a.exv", "p/b.exv"],
     ):
-        status, out, messages = called(*words, "--limit", "1")
+        status, out, messages = called(*words, "--limit", SHORT)
         assert status == 2 and "internal" not in out + messages, (words, out, messages)
     with sqlite3.connect("c") as base:
         (first,), (second,) = base.execute("SELECT problem FROM pictures ORDER BY path")
     assert first in ("TooSlow", "ToolFailed") and second is None
-    assert time.monotonic() - began < 60, "the limit of a second is far from reached"
+    assert time.monotonic() - began < 500, "it was waited for as long as the program runs"
 
 
 def test_an_exiftool_without_end_at_what_is_read_here(called, folder, monkeypatch):
@@ -230,7 +231,7 @@ def test_an_exiftool_without_end_at_maker_notes(end, called, folder, monkeypatch
     """The picture's own fields are known, and its MakerNote is a part that was not read, which the next run asks for again; that of the next
     picture is read. `compare` knows nothing of it."""
     asked(folder, monkeypatch, WITHOUT_END[end], a_jpg=noted(more=[COMMENT]), b_jpg=noted())
-    index = ["index", "p", "--catalogue", "c", "--quiet", "--jobs", "1", "--limit", "1", "--maker-notes"]
+    index = ["index", "p", "--catalogue", "c", "--quiet", "--jobs", "1", "--limit", SHORT, "--maker-notes"]
     assert called(*index)[:2] == (0, "2 accepted\n")
     query = "SELECT problem, exif != '', readings IS NOT NULL, pictures.not_read != '' FROM pictures LEFT JOIN maker_notes ON picture = id ORDER BY path"
     with sqlite3.connect("c") as base:
@@ -269,7 +270,7 @@ def test_mend_without_end(stage, called, folder, monkeypatch):
     (folder / "out").mkdir()
     calls, run = [], programs.run
     monkeypatch.setattr(programs, "run", lambda *words: (calls.append(words), run(*words))[1])
-    status, printed, messages = called("mend", "--files-from", "list", "out", "--limit", "1", "--json")
+    status, printed, messages = called("mend", "--files-from", "list", "out", "--limit", SHORT, "--json")
     first, second, _ = map(json.loads, printed.splitlines())
     assert (status, first.get("problem"), second.get("step")) == (2, "TooSlow", "repair"), printed + messages
     assert [it.name for it in (folder / "out").iterdir()] == ["b.jpg"]
@@ -336,11 +337,11 @@ def tool_path(name):
 
 def test_what_explain_tries_has_the_time_of_one_call(called, folder, monkeypatch):
     """Each call of ExifTool ends in time, and all of them don't."""
-    programs_of(folder, monkeypatch, "time.sleep(0.4)")
+    programs_of(folder, monkeypatch, "time.sleep(2)")
     (folder / "a.jpg").write_bytes(with_exif(SMALL_JPEG, b"II*\0\xff\xff\0\0" + MARK))
     allowed, run = [], programs.run
     monkeypatch.setattr(programs, "run", lambda words, seconds, *more: (allowed.append(seconds), run(words, seconds, *more))[1])
-    status, out, messages = called("explain", "a.jpg", "--limit", "1")
-    assert status == 2 and "isn't known: it takes longer than 1 second" in out, out + messages
-    assert len(allowed) > 1 and allowed == sorted(allowed, reverse=True) and allowed[-1] < 0.7, allowed
-    assert json.loads(called("explain", "a.jpg", "--limit", "1", "--json")[1].splitlines()[0])["mend"] is None
+    status, out, messages = called("explain", "a.jpg", "--limit", "5")
+    assert status == 2 and "isn't known: it takes longer than 5 seconds" in out, out + messages
+    assert len(allowed) > 1 and allowed == sorted(allowed, reverse=True) and allowed[-1] < 3.5, allowed
+    assert json.loads(called("explain", "a.jpg", "--limit", "5", "--json")[1].splitlines()[0])["mend"] is None

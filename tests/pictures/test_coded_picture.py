@@ -10,12 +10,14 @@ import itertools
 import json
 import os
 import random
+import re
 import struct
 import zlib
 
 import pytest
 from made_blocks import ASCII, LONG, SHORT, segment
 from made_files import A, B, Placed, app1, app1_xmp, app13, chunk, iim, jpeg, mpf, page, png, png_xmp, profile, resource, tiff, title, webp
+from made_more_files import gif
 from made_raw import dng, srw
 from studio import SMALL_JPEG, needs, put, tool, write
 
@@ -162,7 +164,6 @@ NONE = {
     "nothing": b"",
     "a JPEG without an end": SMALL_JPEG[:-2],
     "a JPEG without a scan": b"\xff\xd8" + app1(A) + b"\xff\xd9",
-    "a PNG without an end": png()[:-12],
     "a WebP that is cut": webp((b"VP8 ", VP8))[:-3],
     "a TIFF with a strip outside": tiff(pixel(b"abcd", x111=(LONG, 0x7FFFFFF0))),
     "TIFF, strips without lengths": tiff([it for it in pixel(b"abcd") if it[0] != 0x117]),
@@ -214,6 +215,15 @@ def test_damage(name, tmp_path):
     write(tmp_path / "a", NONE[name])
     damage = coded_picture.of_file(bytes(tmp_path / "a"), Budget()).damage
     assert bool(damage) == (name.split()[0] == "a" and "old tables" not in name), damage
+
+
+def test_a_png_that_is_cut_anywhere_says_in_which_chunk():
+    parts = [b"\x89PNG\r\n\x1a\n", *(chunk(kind, bytes(9)) for kind in (b"IHDR", b"tEXt", b"IDAT", b"IDAT")), chunk(b"IEND", b"")]
+    starts = [0, *itertools.accumulate(map(len, parts))]
+    for start, end in zip(starts[1:], starts[2:]):
+        for length in range(start, end):
+            found = coded_picture.of_stream(io.BytesIO(b"".join(parts)[:length]), Budget())
+            assert (found.digest, int(re.findall(r"\d+", found.damage)[-1])) == ("", start), length
 
 
 def test_the_whole_file_is_kept(folder, called):
@@ -347,7 +357,8 @@ OTHER = SMALL_JPEG[: SCAN + 16] + b"\x11" + SMALL_JPEG[SCAN + 17 :]
 
 
 def test_same(folder, called_lines):
-    """Groups of files with the same coded picture. Each group says which of their metadata are the same."""
+    """Groups of files with the same coded picture. Each group says which of their metadata are the same. Others may show the same, but a file of
+    XMP doesn't."""
     put(
         folder,
         {
@@ -356,11 +367,12 @@ def test_same(folder, called_lines):
             "p/c.jpg": jpeg(app1(A), base=OTHER),
             "p/d.xmp": T,
             "p/e.jpg": jpeg(app1(A))[:-9],
+            "p/f.gif": gif(),
         },
     )
     called_lines("index", "p", "--catalogue", "c", "--pixels", "--quiet")
     status, lines, _ = called_lines("same", "--catalogue", "c", "--kind", "pixels")
-    assert status == 0 and lines[0] == "2 pictures: the coded picture is the same; XMP is the same, Exif is different, no IPTC:"
+    assert status == 2 and lines[0] == "2 pictures: the coded picture is the same; XMP is the same, Exif is different, no IPTC:"
     assert [os.path.basename(it) for it in lines[1:3]] == ["a.jpg", "b.jpg"] and lines[3] == "1 group of 2 pictures", lines
     assert [it.partition(" ")[0] for it in lines[4:7]] == ["3", "1", "1"] and lines[6].endswith("damaged"), lines
     (group, summary) = (json.loads(it) for it in called_lines("same", "--catalogue", "c", "--kind", "pixels", "--json")[1])
@@ -472,6 +484,11 @@ class TestChanged:
         }
         put(folder, {"a/new/x.jpg": jpeg(app1(B))})
         assert moved()[1]["x.jpg"] == ("moved and edited", "new/x.jpg")
+
+    def test_a_copy_of_a_picture_that_stays(self, folder, moved):
+        """It may have come from that one, as whatever has the same coded picture."""
+        put(folder, {"b/x.jpg": jpeg(app1(A)), "b/y.jpg": jpeg(app1(B)), "a/y.jpg": jpeg(app1(B)), "a/z.jpg": jpeg(app1(B))})
+        assert moved()[1] == {"x.jpg": ("missing after", None), "z.jpg": ("missing before", None)}
 
     def test_another_picture_in_its_place(self, folder, moved):
         put(folder, {"b/x.jpg": jpeg(app1(A)), "a/y.jpg": jpeg(app1(B), base=OTHER)})

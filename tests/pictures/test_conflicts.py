@@ -3,13 +3,16 @@
 import csv
 import io
 import json
+import re
+import struct
 
 import pytest
-from made_files import jpeg
-from studio import SMALL_JPEG, TOP, needs, tool
+from made_files import app1, app1_xmp, jpeg, xmp
+from studio import SMALL_JPEG, needs, tool
 from test_captions import CREATOR, LONG_NAME, data_set, with_record, with_texts
 
 CAPTION = "Ein Gefäß aus Köln. " * 150
+PLACE = ["-GPSLatitude=51.5074123", "-GPSLatitudeRef=N", "-GPSLongitude=0.1277583", "-GPSLongitudeRef=W"]
 # What ExifTool writes, and what is found: the kind of each label that is in two standards
 ROWS = {
     "all have the same": (["-IFD0:Artist=Anna", "-IPTC:By-line=Anna", "-XMP-dc:Creator=Anna"], {}),
@@ -81,6 +84,12 @@ ROWS = {
         ["-IPTC:DateCreated=2003:05:24", "-IPTC:TimeCreated=22:21:01+02:00", "-XMP-photoshop:DateCreated=2003:05:24 20:21:01Z"],
         {},
     ),
+    "a position in both": ([*PLACE, "-XMP-exif:GPSLatitude=51.5074123", "-XMP-exif:GPSLongitude=-0.1277583"], {}),
+    "a position on the other side of Greenwich": (
+        [*PLACE, "-XMP-exif:GPSLatitude=51.5074123", "-XMP-exif:GPSLongitude=0.1277583"],
+        {"position": "different"},
+    ),
+    "half a position in XMP": ([*PLACE, "-XMP-exif:GPSLongitude=5"], {}),
     "a city that only one names": (["-IPTC:City=Köln", "-IPTC:Country-PrimaryLocationName=Germany", "-XMP-photoshop:City=Köln"], {}),
 }
 
@@ -93,17 +102,8 @@ def written(session_folder):
     (folder / "bare.jpg").write_bytes(SMALL_JPEG)
     words = []
     for number, (row, _) in enumerate(ROWS.values()):
-        words += [
-            "-q",
-            "-q",
-            "-m",
-            *(it.replace("\r", "&#13;").replace("\n", "&#10;") for it in row),
-            "-E",
-            "-o",
-            f"{number}.jpg",
-            "bare.jpg",
-            "-execute",
-        ]
+        texts = [it.replace("\r", "&#13;").replace("\n", "&#10;") for it in row]
+        words += ["-q", "-q", "-m", *texts, "-E", "-o", f"{number}.jpg", "bare.jpg", "-execute"]
     (folder / "words").write_text("\n".join(words), encoding="utf-8")
     tool(folder, "exiftool", "-@", "words")
     return folder
@@ -126,19 +126,6 @@ def test_what_exiftool_writes(number, name, written, run):
 
 CONTRADICTION = jpeg(with_texts(artist=b"Anna"), with_record(data_set(80, b"Otto")))
 CUT = jpeg(with_record(data_set(80, LONG_NAME[:32].encode())), CREATOR)
-
-
-def test_both_texts_are_listed_with_their_fields(run):
-    status, out = run(a=CONTRADICTION)
-    lines = [it.split() for it in out.splitlines()]
-    assert status == 1 and lines[:4] == [["a.jpg"], ["creator"], ["IFD0:Artist", "Anna"], ["IPTC:By-line", "Otto"]]
-
-
-def test_differences_of_form_are_only_counted(run):
-    status, out = run(a=CUT)
-    assert status == 0 and "a.jpg" not in out and "IPTC has cut 1" in out
-    status, out = run("--all", "a.jpg")
-    assert status == 0 and out.startswith("a.jpg\n  creator: IPTC:By-line is cut after 32 bytes\n")
 
 
 def test_an_unreadable_block_makes_the_answer_open(run):
@@ -175,9 +162,52 @@ def test_a_table(run):
     assert [it["kind"] for it in csv.DictReader(io.StringIO(out))] == ["different", "cut"]
 
 
-def test_the_samples(run):
-    """Their titles in IPTC are inventory numbers, and those in XMP are words."""
-    status, out = run("--json", f"{TOP}/samples/before/ceramics")
-    *found, summary = [json.loads(it) for it in out.splitlines()]
-    assert summary["labels"] == {"title": 1} and summary["contradicting"] == 1
-    assert status == 1 and [[one["label"] for one in it["conflicts"]] for it in found] == [["title"]]
+# Forms of XMP part 2, 8.7.5, of 51 degrees 30 minutes 26.68 seconds, which are 30.4447 minutes, in Exif in hundredths of a second
+FORMS = {
+    "51,30,26.68N": True,
+    "51,30,26.67N": True,  # which was cut off
+    "51,30,26.66N": False,
+    "51,30,26N": True,
+    "51,30,27N": True,
+    "51,30,28N": False,
+    "51,30.4447N": True,
+    "51,30.44N": True,
+    "51,30.45N": True,
+    "51,30.46N": False,
+    "51,30N": True,
+    "51,31N": True,
+    "51,32N": False,
+    "51,30,26.68S": False,
+    "51,30.4447": None,  # no form of XMP, so that there is no position
+}
+
+
+@pytest.mark.parametrize("form, is_same", FORMS.items())
+def test_positions_within_their_last_place(form, is_same, run):
+    """A position in a shorter form is rounded or cut off, and no contradiction. The longitude is the same line from either side."""
+    angles = [(51, 1), (30, 1), (2668, 100)], [(180, 1), (0, 1), (0, 1)]
+    packet = xmp("", f"xmlns:exif='http://ns.adobe.com/exif/1.0/' exif:GPSLatitude='{form}' exif:GPSLongitude='180,0.0W'")
+    status, out = run("--json", a=jpeg(app1(with_position(*angles)), app1_xmp(packet)))
+    *_, summary = map(json.loads, out.splitlines())
+    kinds = {it["label"]: it["detail"] for line in out.splitlines()[:-1] for it in json.loads(line)["conflicts"]}
+    assert (status, list(kinds)) == ((1, ["position"]) if is_same is False else (0, [])), kinds
+    assert summary["in_several_standards"] == int(is_same is not None)
+
+
+def with_position(latitude, longitude):
+    """A block of Exif with a position in the north and in the east."""
+    values = b"".join(struct.pack("<II", *part) for part in (*latitude, *longitude))
+    at = 8 + 2 + 12 + 4 + 2 + 4 * 12 + 4
+    rows = ((1, 2, 2, b"N\0\0\0"), (2, 5, 3, struct.pack("<I", at)), (3, 2, 2, b"E\0\0\0"), (4, 5, 3, struct.pack("<I", at + 24)))
+    gps = struct.pack("<H", 4) + b"".join(struct.pack("<HHI", *row[:3]) + row[3] for row in rows) + bytes(4)
+    return b"II*\0" + struct.pack("<IHHHIII", 8, 1, 0x8825, 4, 1, 26, 0) + gps + values
+
+
+def test_how_far_two_positions_are_apart(run):
+    """A minute of latitude is a sea mile of 1,852 m."""
+    packet = xmp("", "xmlns:exif='http://ns.adobe.com/exif/1.0/' exif:GPSLatitude='51,31,26.68N' exif:GPSLongitude='180,0.0W'")
+    block = with_position([(51, 1), (30, 1), (2668, 100)], [(180, 1), (0, 1), (0, 1)])
+    printed = run(a=jpeg(app1(block), app1_xmp(packet)))[1]
+    apart = re.search(r"position: ([\d,]+) m apart", printed)
+    assert apart and abs(int(apart[1].replace(",", "")) - 1852) < 10, printed
+    assert run("--ignore", "position", "a.jpg")[0] == 0

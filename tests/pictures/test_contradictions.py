@@ -9,7 +9,6 @@ from pathlib import Path
 import pytest
 from made_blocks import BLOCKS
 from made_files import app1, app1_xmp, jpeg, xmp
-from studio import TOP
 from test_captions import CREATOR, LONG_NAME, data_set, with_record, with_texts
 
 LONG = "Ein Gefäß aus Köln, zerbrochen und geklebt. " * 20
@@ -96,8 +95,3 @@ def test_some_pictures(reported, folder):
     (folder / "list").write_text("p/cut.jpg\np/one standard.jpg\n", encoding="utf-8")
     section = reported("--files-from", "list")
     assert "None in 1 picture with metadata in more than one" in section
-
-
-def test_the_samples(reported):
-    reported.run("index", f"{TOP}/samples/before", "--catalogue", "s", "--quiet")
-    assert sorted(listed(reported.run("report", "--catalogue", "s", "--json"))) == ["1974-31-portrait.tif", "1998-7-vase.jpg", "vase.jpg"]

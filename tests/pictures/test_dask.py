@@ -8,7 +8,7 @@ from types import SimpleNamespace
 from unittest import mock
 
 from studio import needs, run, write
-from with_cluster import EXV, GOOD, WithCluster
+from with_cluster import EXV, GOOD, Task, WithCluster
 
 from exifnorm_pictures.extract import programs
 from exifnorm_pictures.model.records import PictureRecord, Stamp
@@ -89,18 +89,6 @@ class Cluster(WithCluster):
 
 
 FAR = "tcp://127.0.0.1:9"
-
-
-class Task:
-    """A task of a cluster: what it returns, or raises."""
-
-    def __init__(self, outcome):
-        self.outcome = outcome
-
-    def result(self):
-        if isinstance(self.outcome, Exception):
-            raise self.outcome
-        return self.outcome
 
 
 class Near:

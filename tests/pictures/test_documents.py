@@ -11,7 +11,7 @@ import shutil
 import subprocess
 
 import exifnorm_pictures
-from exifnorm_pictures.cli import parser
+from exifnorm_pictures.cli import parser, statuses
 from exifnorm_pictures.refusals import causes
 from made_blocks import BLOCKS
 from made_files import app1, exif, jpeg, turned
@@ -108,12 +108,16 @@ class Documents(WithPictures):
         self.assertEqual(re.findall(r'(?m)^\.TP\n\.BI "(\w+) ', page), [*commands])
 
     def test_statuses_of_the_manual_page(self):
-        """It and --help name the same commands at each."""
-        whole = parser.parsers()[0]
-        names = whole._subparsers._group_actions[0].choices
+        """It and --help have the same ones, and name the same commands at 1 and 2."""
+        whole, commands = parser.parsers()
         page = read(os.path.join(TOP, "docs", "exifnorm-pictures.1")).decode().partition(".SH EXIT STATUS\n")[2].partition(".SH ")[0]
         parts = re.split(r"(?m)^\.TP\n\.B (\d+)\n", page)
-        stated = {number: set(re.findall(r"\w+", text)) & set(names) for number, text in zip(parts[1::2], parts[2::2])}
-        parts = re.split(r"(?m)^  (\d+) ", whole.epilog.partition("\nIf several")[0])
-        help_ = {number: {it for it in names if re.search(rf"\b{it}[:,]", text)} for number, text in zip(parts[1::2], parts[2::2])}
-        self.assertEqual(stated, help_)
+        stated = {number: set(re.findall(r"\w+", text)) & set(commands) for number, text in zip(parts[1::2], parts[2::2])}
+        helps = {name: re.findall(r"(?m)^  (\d+)  ", it.format_help().partition("\nStatuses:")[2]) for name, it in commands.items()}
+        self.assertEqual([*stated], re.findall(r"(?m)^  (\d+)  ", whole.format_help().partition("\nStatuses:")[2]))
+        self.assertEqual([stated[it] for it in "12"], [{name for name, numbers in helps.items() if it in numbers} for it in "12"])
+
+    def test_statuses_of_the_recipes(self):
+        """The page has the table of `--help`, of which each cell is tested."""
+        self.assertIn(f"\n\n{statuses.table()}\n\n", read(os.path.join(TOP, "docs", "RECIPES.md")).decode())
+        self.assertEqual([*statuses.STATUSES], [*parser.parsers()[1]])

@@ -308,4 +308,4 @@ class PartsOfBlocks(unittest.TestCase):
             ("thumb", "strip", "Strip"),
             ("xmp", "dc:title", "dc:title"),
         ):
-            self.assertEqual((names.name_of(where, key), names.full_name(where, key)), (name, f"{where}:{name}"))
+            self.assertEqual(names.name_of(where, key), name)

@@ -17,6 +17,7 @@ from made_more_files import gif
 from studio import SMALL_JPEG, TOP, needs, put, tool
 from test_captions import data_set, with_record, with_texts
 from test_groups import FILES as TWINS, with_short_note
+from test_maker_notes import noted
 
 from exifnorm_pictures.export.rows import FieldRows
 from exifnorm_pictures.export.tables import Tables
@@ -83,6 +84,23 @@ def test_positions_are_decimals(run, exported, folder):
         assert found.pop("none") == (None, None) and found.keys() == places.keys(), words
         for name, place in places.items():
             assert found[name] == pytest.approx(place, abs=1e-6), (words, name)
+
+
+@needs("exiftool")
+def test_small_angles_have_the_form_of_others(run, folder):
+    """A position near the equator or near Greenwich has no exponent, on a line and in each table."""
+    north, east = 0.00001, -0.000012
+    put(folder, {"p/a.jpg": SMALL_JPEG})
+    words = [f"-GPSLatitude={north}", f"-GPSLongitude={-east}", "-GPSLatitudeRef=N", "-GPSLongitudeRef=W"]
+    tool(folder, "exiftool", "-q", "-overwrite_original", *words, "p/a.jpg")
+    run("index", "p", "--catalogue", "c", "--quiet")
+    texts = {"captions": run("captions", "p"), "list": run("list", "c", "--columns", "position")}
+    for words in ("captions p", "captions c", "list c --columns position"):
+        (row,) = csv.DictReader(io.StringIO(run(*words.split(), "--csv")))
+        texts[words] = f"{row['latitude']}, {row['longitude']}"
+    for words, text in texts.items():
+        (place,) = re.findall(r"(-?[0-9.]+), (-?[0-9.]+)$", text, re.M)
+        assert tuple(map(float, place)) == (north, east), words
 
 
 @needs("exiftool")
@@ -200,6 +218,22 @@ def test_captions_are_those_of_the_files(run, folder):
 
 
 @needs("exiftool")
+@needs("exiftool")
+def test_values_of_maker_notes(run, folder):
+    """As ExifTool prints them, where `index --maker-notes` has asked it; of the others it is said that they weren't read."""
+    put(folder / "p", {"a.jpg": noted(b"Annette"), "b.jpg": jpeg(app1(exif(b"Nik")))})
+    run("index", "p", "--catalogue", "c", "--quiet")
+    assert "MakerNotes were not read: 1 picture" in run("export", "c", "t")
+    assert asked(sqlite3.connect("t"), "SELECT count(*) FROM maker_notes") == [(0,)]
+    run("index", "p", "--catalogue", "c", "--quiet", "--again", "--maker-notes")
+    assert "MakerNote" not in run("export", "c", "t")
+    assert json.loads(run("export", "c", "t", "--json"))["maker_notes_not_read"] == 0
+    read = json.loads(tool(folder, "exiftool", "-j", "-G1", "-n", "-MakerNotes:all", "p/a.jpg"))[0]
+    names = {f"{group.partition(':')[0]}:{group.partition(':')[2]}": str(value) for group, value in read.items() if group != "SourceFile"}
+    rows = asked(sqlite3.connect("t"), "SELECT name, value FROM maker_notes JOIN pictures ON id = picture WHERE path LIKE '%a.jpg'")
+    assert dict(rows) == names and names["Canon:OwnerName"] == "Annette"
+
+
 def test_groups_by_maker_notes(run, folder):
     """ExifTool is asked, as by `same`. None is marked to keep, since nobody knows which MakerNote is whole."""
     (folder / "p").mkdir()

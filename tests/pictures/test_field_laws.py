@@ -6,6 +6,7 @@ the same; and the form of JSON's value follows from the type and the tag. The no
 
 import json
 import pickle
+import re
 from random import Random
 
 import exifnorm
@@ -128,6 +129,25 @@ def test_what_is_kept_is_the_value(meaning):
         assert list(labels.of_block(again)) == list(labels.of_block(fields))
 
 
+@given(BLOCKS)
+def test_raw_bytes_are_those_of_the_normal_form(meaning):
+    normal = exifnorm.normal(laid(meaning, Layout("<", chance=Random(1))))
+    sizes = {**dict.fromkeys(("SHORT", "SSHORT"), 2), **dict.fromkeys(("LONG", "SLONG", "FLOAT", "WHOLE"), 4)}
+    sizes.update(dict.fromkeys(("RATIONAL", "SRATIONAL", "DOUBLE"), 8))
+    for field in normal_form.fields_of_form(normal):
+        assert field.raw in normal and len(field.raw) == field.count * sizes.get(field.type, 1), field
+
+
+@given(BLOCKS)
+def test_what_is_made_together_is_what_is_made_one_by_one(meaning):
+    """An export asks for both texts of a value together, and for a number only of fields that may be one."""
+    fields = fields_of(meaning)
+    for field in (*fields, *unpacked(packed(fields).octets)):
+        value = typed.typed(field)
+        assert plain_values.plain_and_exact(field) == (plain_values.plain(field), exact(field)), field
+        assert typed.number_of(field) == (value if isinstance(value, (int, float)) else None), (field, value)
+
+
 FORMS = {ASCII: str, UTF8: str, BYTE: int, SBYTE: int, SHORT: int, LONG: int, UNDEFINED: dict, RATIONAL: (int, float, type(None))}
 COMMENT, VERSION = 0x9286, 0x9000  # UNDEFINED, and texts by CIPA DC-008 4.6
 
@@ -211,3 +231,12 @@ def test_fields_of_xmp_are_equal_exactly_if_they_mean_the_same(one, other, chanc
     again = [unpacked(packed(it).octets) for it in fields]
     assert again == fields
     assert [list(map(made_of, it)) for it in again] == [list(map(made_of, it)) for it in fields]
+
+
+@given(PROPERTIES, st.builds(Random, st.integers(0, 1000)))
+def test_a_qualifier_of_a_list_takes_no_text_away(properties, chance):
+    """As ExifTool reads both. Another property of the node of a list is about the whole list (XMP part 1, 6.4)."""
+    plain = packet(properties, chance)
+    both = [statements_of.statements(it, {}, set()) for it in (plain, re.sub(rb"<rdf:(Bag|Seq)>", rb"<rdf:\1 xmp:q='1'>", plain))]
+    texts = [[(it.field, it.texts) for it in labels.of_block(xmp_properties.fields_of_statements(it))] for it in both]
+    assert texts[0] == texts[1]

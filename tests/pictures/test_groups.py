@@ -48,6 +48,12 @@ FILES = {
     "k1": with_short_note(64),
 }
 CONTENT = {octets: name[0] for name, octets in FILES.items()}
+# Files of which XMP or all blocks may be lost with the end, and one that is compared after a repair and has a part that isn't read
+OPEN = {
+    "l1": FILES["d1"][: FILES["d1"].index(b"http://ns.adobe.com")],
+    "l2": FILES["a1"][:40],
+    "m1": jpeg(app1(UNSORTED), behind=b"one"),
+}
 
 
 @pytest.fixture
@@ -155,27 +161,47 @@ def change_file(number, name, afterwards):
 
 
 @pytest.mark.parametrize(
-    "one, other, basis",
+    "one, other, basis, status",
     [
-        ("a1", "a2", "meaning"),
-        ("a1", "b1", None),
-        ("c1", "c2", "repair"),
-        ("c1", "c3", "repair"),
-        ("d1", "e1", None),
-        ("g1", "h1", None),
-        ("i1", "a1", None),
-        ("f1", "f1", "bytes"),
-        ("i1", "i1", "bytes"),
+        ("a1", "a2", "meaning", 0),
+        ("a1", "b1", None, 0),
+        ("c1", "b1", None, 0),
+        ("c1", "c2", "repair", 2),
+        ("c1", "c3", "repair", 2),
+        ("d1", "e1", None, 0),
+        ("g1", "h1", None, 2),
+        ("g1", "a1", None, 2),
+        ("g1", "b1", None, 0),
+        ("i1", "a1", None, 2),
+        ("f1", "f1", "bytes", 2),
+        ("i1", "i1", "bytes", 2),
+        ("l1", "d1", None, 2),
+        ("l2", "a1", None, 2),
+        ("m1", "c1", None, 2),
+        ("m1", "b1", None, 0),
     ],
 )
-def test_what_a_group_rests_on(asked, folder, one, other, basis):
+def test_what_a_group_rests_on(asked, folder, one, other, basis, status):
+    """The status is 2 also where nobody knows whether the pictures are the same."""
     (folder / "p").mkdir()
-    (folder / "p/1.jpg").write_bytes(FILES[one])
-    (folder / "p/2.jpg").write_bytes(FILES[other])
+    for name, octets in zip("12", map({**FILES, **OPEN}.__getitem__, (one, other))):
+        (folder / f"p/{name}.jpg").write_bytes(octets)
     indexed(asked, "p")
-    *found, _ = asked("same", "--catalogue", "c", status=2 if basis == "repair" else 0)
+    *found, _ = asked("same", "--catalogue", "c", status=status)
     assert [it["basis"] for it in found] == ([basis] if basis else [])
     assert all(it["wholly_read"] is (basis == "meaning") for it in found)
+
+
+def test_a_picture_that_was_not_read_may_be_the_same(asked, called, folder):
+    (folder / "p").mkdir()
+    for name, octets in {"a.jpg": FILES["a1"], "b.dng": b"II*\0\xff\xff\xff\xff", "c.txt": b"text"}.items():
+        (folder / "p" / name).write_bytes(octets)
+    called("index", "p", "--catalogue", "c", "--quiet", "--pixels")
+    for words in ([], ["--kind", "iptc"], ["--kind", "pixels"]):
+        assert asked("same", "--catalogue", "c", *words, status=2)[-1]["undecided"] == 1, words
+    (folder / "p/b.dng").unlink()
+    called("index", "p", "--catalogue", "c", "--quiet")
+    assert asked("same", "--catalogue", "c")[-1]["undecided"] == 0, "a text is no picture, and the other one is gone"
 
 
 def test_a_later_group_has_one_of_each_earlier_one(asked, folder):
@@ -207,6 +233,18 @@ def test_names_of_one_file_are_links(asked, folder):
     assert "deletes the picture" in how["linked/a.jpg"] and "deletes the picture" in how["linked/sub/copy.jpg"]
 
 
+def test_beside_a_table_the_status_2_has_a_reason(called, folder):
+    """A refused block may have what is asked for."""
+    (folder / "p").mkdir()
+    for name, octets in {"a": jpeg(app1(exif(b"abc"))), "b": jpeg(app1(BLOCKS["Doubled"]))}.items():
+        (folder / f"p/{name}.jpg").write_bytes(octets)
+    called("index", "p", "--catalogue", "c", "--quiet")
+    status, printed, _ = called("same", "c", "--only", "creator")
+    assert status == 2
+    (reason,) = [line for line in printed.splitlines() if line.startswith("1 picture ")]
+    assert called("same", "c", "--only", "creator", "--csv")[::2] == (2, f"exifnorm-pictures: note: {reason}\n")
+
+
 @pytest.mark.parametrize("kind", [[], ["--kind", "pixels"]], ids=["all", "pixels"])
 def test_groups_of_which_all_files_are_gone(called, folder, kind):
     """As where a disk isn't mounted: no group may seem to be none at all."""
@@ -218,7 +256,7 @@ def test_groups_of_which_all_files_are_gone(called, folder, kind):
     (folder / "p").rename(folder / "q")
     words = "1 more is not listed, because its files are gone or have changed since they were indexed"
     assert words in called("same", "--catalogue", "c", *kind)[1].splitlines()
-    assert called("same", "--catalogue", "c", "--csv", *kind)[2] == f"exifnorm-pictures: note: {words}\n"
+    assert f"exifnorm-pictures: note: {words}\n" in called("same", "--catalogue", "c", "--csv", *kind)[2]
     assert json.loads(called("same", "--catalogue", "c", "--json", *kind)[1])["absent_groups"] == 1
     assert called("report", "--catalogue", "c", "--html", "page")[0] == 0
     assert "No two pictures have the same metadata" not in (folder / "page").read_text()
@@ -285,7 +323,7 @@ def test_maker_notes(asked, folder, other, result, status, basis):
     for side, octets in (("before", one), ("after", other)):
         (folder / side).mkdir()
         (folder / side / "a.jpg").write_bytes(octets)
-    (found, _) = asked("changed", "before", "after", "--all", "--each", status=status)
+    (found, _) = asked("changed", "before", "after", "--all", status=status)
     assert found["result"] == result or (status == 1 and found["result"] in ("different", "only MakerNote differs"))
     values = [(it["before"], it["after"]) for it in (found["maker_note"] or {"values": []})["values"]]
     assert (("Annette", "Ottilie") in values) is (b"Ottilie" in other)

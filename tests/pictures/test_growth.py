@@ -16,7 +16,7 @@ import shutil
 from collections import Counter
 
 import pytest
-from growing import FOLDERS, FORMATS as MAKERS, IN_EACH_FORMAT, KINDS, OTHERS, Whole
+from growing import FOLDERS, FORMATS as MAKERS, IN_EACH_FORMAT, KINDS, OF_SHARED, OTHERS, Whole
 from work import COUNTED, Counting, Work, compiled
 
 from exifnorm_pictures.cli.parser import parsers
@@ -208,7 +208,7 @@ def start(counting, tmp_path_factory):
     def put(number, mark, side):
         (side / f"a.{ending}").write_bytes(make(IN_EACH_FORMAT["fields"].make(number, mark).parts))
 
-    return of_size(counting, tmp_path_factory.mktemp("start"), put, 1).works(EACH)
+    return of_size(counting, tmp_path_factory.mktemp("start"), put, 1).works(list(dict.fromkeys([*EACH, *OF_SHARED])))
 
 
 @pytest.fixture

@@ -62,6 +62,7 @@ READ = {
     "iloc of version 2": (heif(*ONE, version=2), IN_ONE),
     "long offsets": (heif(*ONE, size=8, padding=b"-"), IN_ONE),
     "a base": (heif(*ONE, base=100), IN_ONE),
+    "indexes of parts": (heif(PICTURE, of_exif(A, (1,), parts=3), mime(T, (1,)), version=2, index=8), IN_ONE),
     "a long length": (heif(*ONE, large=True), IN_ONE),
     "blocks that describe nothing": (heif(PICTURE, of_exif(A), mime(T)), IN_ONE),
     "no main picture": (heif(PICTURE, of_exif(A, (1,)), mime(T, (1,)), primary=0), IN_ONE),

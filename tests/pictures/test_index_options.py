@@ -6,7 +6,8 @@ import sqlite3
 import pytest
 from made_blocks import BLOCKS
 from made_files import app1, exif, jpeg
-from studio import put
+from studio import needs, put
+from test_maker_notes import noted
 
 from exifnorm_pictures.scan import batches
 
@@ -84,16 +85,18 @@ def test_what_to_do_next(folder, called):
     for name, octets in {"a": ONE, "b": ONE, "c": OTHER, "d": OTHER, "e": jpeg(app1(exif(b"new")))}.items():
         (folder / "p" / name).write_bytes(octets)
     (folder / "p" / "bad").write_bytes(jpeg(app1(BLOCKS["HeaderCut"])))
+    os.link(folder / "p" / "e", folder / "p" / "another name of e")
+    (folder / "p" / "linked").symlink_to("e")
     name = "my catalogue's"
     lines = called("index", "p", "--catalogue", name)[1].splitlines()
     assert "HeaderCut" in lines[0]
     assert lines[1:] == [
-        "5 accepted, 1 refused",
-        "2 groups of pictures that mean the same: exifnorm-pictures same 'my catalogue'\"'\"'s'",
+        "7 accepted, 1 refused",
+        "2 groups of pictures whose metadata mean the same: exifnorm-pictures same 'my catalogue'\"'\"'s'",
         "1 refused or unreadable: exifnorm-pictures report 'my catalogue'\"'\"'s' --html report.html",
     ]
     assert called("same", "--catalogue", name)[1].splitlines()[-3].startswith("2 groups")
-    assert called("index", "p", "--catalogue", name)[1].splitlines() == ["6 unchanged", *lines[2:]]
+    assert called("index", "p", "--catalogue", name)[1].splitlines() == ["8 unchanged", *lines[2:]]
 
 
 def test_quiet_prints_the_counts_alone(folder, called):
@@ -115,3 +118,30 @@ def test_how_nightly_looks_at_pictures(folder, called, monkeypatch):
     monkeypatch.setattr(batches.How, "__init__", lambda self, *given, **more: hows.append(self) or how(self, *given, **more))
     _, printed, _ = called("nightly", "p", "--catalogue", "n", "--exclude", "*.tmp.jpg", "--maker-notes")
     assert "1 picture" in printed and hows[-1].maker_notes
+
+
+@needs("exiftool")
+def test_options_that_unchanged_files_go_without_are_noted(folder, called, capsys, monkeypatch):
+    """A catalogue that was made without them would seem to have all that they read, as the serial numbers in MakerNotes."""
+    (folder / "p").mkdir()
+    for name, octets in {"a.jpg": noted(), "b.jpg": ONE}.items():
+        (folder / "p" / name).write_bytes(octets)
+    run = ("index", "p", "--catalogue", "c", "--quiet")
+    assert called(*run)[2] == ""
+    assert called(*run, "--maker-notes")[2].splitlines() == [
+        "exifnorm-pictures: note: 1 picture with a MakerNote that was not read: --again --maker-notes reads all"
+    ]
+    assert called(*run, "--maker-notes", "--again")[2] == ""
+    assert called(*run, "--maker-notes")[2] == "", "it was read"
+    of_new = ("index", "p", "--catalogue", "d", "--quiet", "--maker-notes")
+    with monkeypatch.context() as without:
+        without.setenv("PATH", "/nowhere")
+        notes = called(*of_new)[2]
+    assert notes.count("note: ") == 1 and "later runs ask again" in notes
+    assert called(*of_new)[1:] == ("1 accepted, 1 unchanged\n", ""), "it was asked again"
+    noted_of = "note: 2 pictures unchanged, and not read again by --whole: --again --whole reads all"
+    assert noted_of in called(*run[:-1], "--whole")[2] and noted_of not in called(*run[:-1], "--whole", "--again")[2]
+    for command in ("captions", "conflicts"):
+        with pytest.raises(SystemExit) as refused:
+            called(command, "p", "c", "--whole")
+        assert refused.value.code == 3 and capsys.readouterr().out == ""

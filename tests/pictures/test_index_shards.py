@@ -78,7 +78,7 @@ def test_a_folder_that_is_gone_forgets_nothing(archive, called_lines):
     (archive / "p" / "b").rename(archive / "unmounted")
     status, lines, _ = called_lines("index", "p", "--shards", "shards")
     assert status == 2
-    assert lines[0].endswith("/p/b: Unreadable: the folder is empty, isn't there or can't be read; its 2 pictures stay as they were")
+    assert lines[0].endswith("/p/b: Unreadable: the folder is empty, isn't there or can't be read; its 2 pictures stay as before")
     assert rows(archive) == before
     status, lines, _ = called_lines("index", "p", "--shards", "shards", "--json")
     assert status == 2 and '"problem": "Unreadable"' in lines[0]
@@ -97,7 +97,7 @@ def test_a_folder_that_is_empty_forgets_nothing(archive, called_lines, name):
     folder.rename(archive / "unmounted")
     folder.mkdir()
     status, lines, _ = called_lines("index", "p", "--shards", "shards")
-    assert status == 2 and sum("stay as they were" in line for line in lines) == (1 if name else 3)
+    assert status == 2 and sum(" as before" in line for line in lines) == (1 if name else 3)
     assert rows(archive) == before
     folder.rmdir()
     (archive / "unmounted").rename(folder)
@@ -114,7 +114,7 @@ def test_one_of_the_folders(archive, called_lines):
     assert len(names(archive)) == 3 and {row[0] for row in rows(archive)} == {row[0] for row in before}
     (archive / "p" / "a").rename(archive / "unmounted")
     status, lines, _ = called_lines("index", "p/a", "--shards", "shards")
-    assert status == 2 and "its 3 pictures stay as they were" in lines[0] and lines[1] == "1 not readable"
+    assert status == 2 and "its 3 pictures stay as before" in lines[0] and lines[1] == "1 not readable"
     (archive / "unmounted").rename(archive / "p" / "a")
     (archive / "above").mkdir()
     (archive / "p").rename(archive / "above" / "p")
@@ -185,18 +185,19 @@ def test_what_is_wrong(archive, called_lines, capsys):
         (("nothing", "--shards", "shards"), "there is no folder"),
         (("p", "--shards", "full"), "is no folder of catalogues"),
         (("p", "--shards", "full/file"), "is no folder of catalogues"),
-        (("p", "--shards", "shards", "--keep-old", "old"), "--keep-old"),
-        (("p", "--shards", "shards", "--elsewhere", "/x"), "--elsewhere"),
     ):
         status, lines, messages = called_lines("index", *words)
         assert (status, lines) == (3, []) and text in messages, words
         assert not (archive / "shards").exists() and not (archive / "p" / "shards").exists(), words
-    for words in (("--shards", "shards", "--catalogue", "c"), ()):
-        assert called_lines("index", "p", *words)[:2] == (3, [])
+    assert called_lines("index", "p")[:2] == (3, [])
     (archive / "mine").mkdir()
     shards.put_list(str(archive / "mine"), ["mine.catalogue"])
     status, _, messages = called_lines("index", "p", "--shards", "mine")
     assert status == 3 and "mine.catalogue, which isn't of index --shards" in messages
+    called_lines("index", "p", "--shards", "shards")
+    for words in (("--keep-old", "old"), ("--elsewhere", "/x")):
+        status, _, messages = called_lines("index", "p", "--catalogue", "shards", *words)
+        assert status == 3 and words[0] in messages and "shards is a folder" in messages
 
 
 def test_counts_and_next_steps(archive, called_lines):

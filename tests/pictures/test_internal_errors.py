@@ -13,7 +13,7 @@ from exifnorm_pictures.cli import main
 from exifnorm_pictures.comparison import changed, pairs
 from exifnorm_pictures.extract import extraction, readers
 from exifnorm_pictures.extract.formats import png
-from exifnorm_pictures.files import opening
+from exifnorm_pictures.files import opening, signals
 from exifnorm_pictures.fields import lines, packing
 from exifnorm_pictures.fields.listing import exact
 from exifnorm_pictures.judge import judge
@@ -68,6 +68,7 @@ def of_pictures(name, *paths):
         (["changed", "c", "c"], pairs.Pairs, "_pair"),
         (["changed", "c", "c", "--all"], pairs, "picture_of_row"),
         (["report", "--catalogue", "c", "--json"], store, "picture_of_row"),
+        (["report", "c", "--since", "c", "--html", "page"], pairs.Pairs, "_pair_of_row"),
     ],
 )
 def test_a_mistake_is_no_damage(command, monkeypatch, words, module, name):
@@ -109,6 +110,14 @@ def test_errors_of_sqlite_and_of_values(tmp_path, call, error, is_damaged):
         call(made)
     damage = str(made.failure(Damaged(""))).rstrip(": ")
     assert str(raised.value).startswith(damage) is is_damaged
+    made.close()
+
+
+def test_a_signal_that_ends_a_query_is_no_error_of_the_catalogue(tmp_path):
+    made = of_pictures(tmp_path / "c")
+    made.base.create_function("stop", 0, lambda: signals._interrupt(2, None))
+    with pytest.raises(KeyboardInterrupt), made.guarded():
+        made.base.execute("SELECT stop()")
     made.close()
 
 

@@ -30,19 +30,8 @@ def call(request, folder):
 @pytest.mark.skipif(not shutil.which("strace"), reason="not installed: strace")
 def test_the_keyboard_while_modules_are_imported(call, folder):
     # a shell that ran these tests in the background would have the signal ignored
-    words = [
-        "env",
-        "--default-signal=INT",
-        "strace",
-        "-o",
-        folder / "log",
-        "-P",
-        LATE,
-        "-e",
-        "inject=openat:signal=SIGINT",
-        *call,
-        "--version",
-    ]
+    traced = ["strace", "-o", folder / "log", "-P", LATE, "-e", "inject=openat:signal=SIGINT"]
+    words = ["env", "--default-signal=INT", *traced, *call, "--version"]
     done = subprocess.run(words, capture_output=True, env=Studio.environment(), stdin=subprocess.DEVNULL)
     assert "SIGINT" in (folder / "log").read_text(), "the signal was not sent"
     assert (done.returncode, done.stdout, done.stderr) == (-signal.SIGINT, b"", b"")

@@ -6,8 +6,8 @@ import os
 import sqlite3
 
 import pytest
-from made_blocks import segment
-from made_files import app1, chunk, exif, jpeg, png, turned
+from made_blocks import ASCII, LONG, segment
+from made_files import app1, chunk, exif, jpeg, page, png, tiff, turned
 from studio import SMALL_JPEG, put
 
 A = exif(b"abc")
@@ -19,6 +19,8 @@ COMMENT = jpeg(app1(A), segment(0xFE, b"scanned by Anna"))
 PNG_A, PNG_B = png(chunk(b"eXIf", A)), png(chunk(b"eXIf", A), chunk(b"tEXt", b"Comment\0by Anna"))
 PNG_C, PNG_D = png(chunk(b"eXIf", A), chunk(b"iCCP", b"x\0\0abc")), png(chunk(b"eXIf", A), chunk(b"tIME", b"1234567"))
 NOT_KNOWN = "whether its picture is that of another one isn't known: index --pixels finds out"
+NO_STRIP = tiff(page((0x010F, ASCII, b"abc\0"), (0x0117, LONG, bytes(8))))  # two lengths of one strip
+NO_LENGTHS = "damaged: the strips of the directory at 16 have no lengths"
 DAMAGED = "damaged: the file ends before the end mark of its picture"
 ALONE = "no other one has the same picture"
 BESIDE = "one with the same picture has another colour profile or comment"
@@ -35,6 +37,7 @@ CASES = {
     "a comment": ({"a": MASTER, "b": COMMENT, "c": MASTER}, (True, NOT_KNOWN, False), (True, BESIDE, False)),
     "PNG": ({"a": PNG_A, "b": PNG_B, "c": PNG_C, "d": PNG_D}, (NOT_KNOWN,) * 4, (True, BESIDE, BESIDE, False)),
     "all cut alike": ({"a": CUT, "b": CUT}, (DAMAGED, DAMAGED), (DAMAGED, DAMAGED)),
+    "equal files without a picture": ({"a": NO_STRIP, "b": NO_STRIP}, (NO_LENGTHS, NO_LENGTHS), (NO_LENGTHS, NO_LENGTHS)),
     "two pictures twice": ({"a": MASTER, "b": SMALLER, "c": AGAIN, "d": SMALLER}, None, (True, True, False, False)),
 }
 

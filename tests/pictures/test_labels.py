@@ -55,16 +55,6 @@ def test_a_label_wins_over_a_field(folder, called):
     assert "perhaps creator is meant" in called("compare", "a.jpg", "b.jpg", "--only", "creatoor")[2]
 
 
-def test_groups_by_a_label(folder, called):
-    put(
-        folder / "p",
-        {"a.jpg": jpeg(with_record(data_set(80, b"Anna"))), "b.jpg": jpeg(with_record(data_set(80, b"Anna") + data_set(5, b"b")))},
-    )
-    called("index", "p", "--catalogue", "c", "--quiet")
-    printed = called("same", "--catalogue", "c", "--only", "creator")[1]
-    assert "1 group of 2 pictures" in printed and "creator stands for " in printed
-
-
 @pytest.mark.parametrize("words, status", [([], 1), (["--ignore", "title"], 1), (["--only", "headline"], 0)])
 def test_contradictions(words, status, folder, called):
     octets = jpeg(with_texts(artist=b"Anna"), with_record(data_set(80, b"Otto")))

@@ -18,6 +18,7 @@ from largest import FILLINGS, SIZES, made, of_name
 from test_attacks import NO_CLOCK, run_each
 from test_captions import data_set
 
+import exifnorm_pictures as pictures
 from exifnorm_pictures.cli.parser import parsers
 from exifnorm_pictures.model import budgets
 
@@ -138,13 +139,15 @@ def test_texts_behind_the_fields_that_are_read(folder, called):
     )
     assert called("index", "p", "--catalogue", "c", "--quiet")[0] == 0
     where = "the fields of IPTC after the first 100,000"
+    picture = pictures.read(folder / "p" / "a.tif")
+    assert picture.too_many == (where,) and picture.texts("caption") == ("another caption",)
     for given in ("p", "c"):
         status, text, _ = called("captions", given)
         assert (
             (status, text.count(where)) == (2, 1) and "another caption" in text and "the caption" not in text.replace("another", "")
         ), text[-300:]
         status, text, _ = called("captions", given, "--json")
-        assert (status, json.loads(text)["not_read"]) == (2, [where])
+        assert (status, json.loads(text)["too_many"]) == (2, [where])
         status, text, _ = called("captions", given, "--csv")
         assert status == 2 and text.count(where) == 1
         for more in ((), ("--json",), ("--csv",)):

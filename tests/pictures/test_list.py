@@ -138,8 +138,12 @@ def fits(question, texts):
 
 
 @pytest.mark.parametrize("seed", range(4))
-def test_questions(folder, called, asked, seed):
-    """Each drawn question lists exactly the pictures whose texts fit it, from a catalogue as from the folder."""
+def test_questions(folder, called, asked, seed, monkeypatch):
+    """Each drawn question lists exactly the pictures whose texts fit it, from a catalogue as from the folder, and by each way to find them."""
+    from exifnorm_pictures.catalogue import asking
+
+    monkeypatch.setattr(asking, "_FEW", (0, 3, 10_000, 10_000)[seed])  # texts that differ, up to which each is tested once
+    monkeypatch.setattr(asking, "_SHARE", (0, 2, 20, 10_000)[seed])  # of all pictures, from which on their paths are gone through
     rng = random.Random(seed)
     known = {}
     for number in range(30):
@@ -179,8 +183,24 @@ def test_what_was_not_read_is_counted_apart(folder, called, asked):
     assert asked("--with", "title") == (["whole.jpg"], 2, {**asked("--with", "title")[2], "pictures": 3, "listed": 1, "not_known": 1})
     listed, status, summary = asked("--without", "title")
     assert (listed, status, summary["not_known"]) == (["none.jpg"], 2, 1)
-    assert asked("--where", "title = A or title != A")[2]["not_known"] <= 1
     assert "1 more may fit" in called("list", "c", "--without", "title")[1]
+
+
+def test_each_picture_fits_or_does_not_or_may(folder, called, asked):
+    """A question and its opposite list each picture once, but for those of which it isn't known. Damage is known where texts aren't, and texts
+    where damage isn't."""
+    rng, whole = random.Random(1), picture([("title", "clay"), ("keywords", "7")])
+    broken = {"cut.jpg": whole[:-20], "lost.jpg": whole[:40], "refused.jpg": picture([], app1(b"II*\0\xff\xff\0\0")), "a.gif": gif()}
+    put(folder / "p", {"whole.jpg": whole, **broken})
+    called("index", "p", "--catalogue", "c", "--pixels", "--quiet")
+    for _ in range(40):
+        question = f"{text_of(drawn(rng))} {rng.choice(('and', 'or'))} {rng.choice(('with', 'without'))} damage"
+        (fit, status, last), (others, *opposite) = asked("--where", question), asked("--where", f"not ({question})")
+        assert len(fit) + len(others) + last["not_known"] == len({*fit, *others}) + last["not_known"] == 5, question
+        assert status == opposite[0] == 2 * bool(last["not_known"]) and opposite[1]["not_known"] == last["not_known"], question
+        counted = called("list", "c", "--count", "keywords", "--json", "--where", question)
+        counts = json.loads(counted[1].splitlines()[-1])  # of those that fit surely
+        assert (counted[0], counts["pictures"]) == (2 * bool(last["not_known"] or counts["not_known"]), len(fit)), question
 
 
 _PHOTOSHOP = "xmlns:photoshop='http://ns.adobe.com/photoshop/1.0/'"
@@ -216,10 +236,13 @@ def test_fields_of_each_standard(folder, called, asked):
         ("b", "-XMP-dc:Creator=Anna Wirth", "-XMP-exif:GPSLatitude=33.5 S", "-XMP-exif:GPSLongitude=7.25 E"),
         ("c", "-GPSLatitude=51.5", "-GPSLatitudeRef=N", "-GPSLongitude=0.12", "-GPSLongitudeRef=W", "-ExifIFD:SerialNumber=K-77"),
         ("d", "-IPTC:By-line=anna  wirth", "-XMP-aux:OwnerName=Otto"),
+        ("e", "-XMP-photoshop:DateCreated=1950"),
     ):
         tool(folder, "exiftool", "-q", "-overwrite_original", *words, f"p/{name}.jpg")
     called("index", "p", "--catalogue", "c", "--quiet")
     assert asked("--where", "creator = anna wirth")[0] == ["a.jpg", "b.jpg", "d.jpg"]
+    found = [asked("--where", f"date created {it}")[0] for it in ("= 1950", "< 1951", "> 1949", "< 1950-03", "> 1950-03", "= 1950-03")]
+    assert found == [["e.jpg"]] * 3 + [[]] * 3  # a year is neither before nor after a month of it
     assert asked("--with", "position")[0] == ["b.jpg", "c.jpg"]
     assert asked("--where", "serial = k-77 or owner = OTTO")[0] == ["c.jpg", "d.jpg"]
     printed = called("list", "c", "--csv", "--with", "position", "--columns", "position")[1]
@@ -251,11 +274,18 @@ def test_owners_in_maker_notes(folder, called, asked):
     put(folder / "p", {"canon.jpg": noted(b"Annette"), "plain.jpg": picture([])})
     called("index", "p", "--catalogue", "c", "--quiet")
     assert asked("--without", "owner")[:2] == (["plain.jpg"], 2) and asked("--with", "owner")[2]["not_known"] == 1
-    assert "MakerNote" in called("list", "c", "--with", "owner")[1] and "MakerNote" in called("list", "c", "--count", "owner")[1]
+    for words in (["--with", "owner"], ["--count", "owner"]):  # which says why, and nothing that isn't so
+        said = called("list", "c", *words)[1]
+        assert "--maker-notes" in said and "wholly" not in said, said
     assert asked("--without", "creator")[1] == 0
     called("index", "p", "--catalogue", "c", "--quiet", "--again", "--maker-notes")
     assert asked("--where", "owner = annette")[:2] == (["canon.jpg"], 0)
     assert asked("--without", "owner")[:2] == (["plain.jpg"], 0)
+    put(folder / "p", {"refused.jpg": jpeg(app1(b"II*\0\xff\xff\0\0"))})
+    called("index", "p", "--catalogue", "c", "--quiet", "--maker-notes")
+    for words in (["--with", "owner"], ["--count", "owner"]):
+        said = called("list", "c", *words)[1]
+        assert "wholly" in said and "MakerNote" not in said, said
 
 
 # Counts
@@ -275,6 +305,25 @@ def test_counts_of_a_label(folder, called):
     ]
     assert (last["pictures"], last["with"], last["not_known"]) == (8, 7, 0)
     assert called("list", "c", "--count", "creator", "--where", "creator like otto*")[1].count("\n") == 3
+
+
+def test_spellings_of_long_texts(folder, called):
+    """Short and long texts are apart in a catalogue: a spelling may be one of either."""
+    long = "The harbour of Riverside, by K.L."  # 33 characters, and 41 with more spaces between the signs
+    texts = [long, long.upper(), long.replace(" ", " - "), "Vase", "vase", "Bowl", "x" * 39, "x" * 40]
+    put(folder / "p", {f"{number}.jpg": picture([("title", text)]) for number, text in enumerate(texts)})
+    *rows, last = map(json.loads, called("list", "p", "--count", "title", "--json")[1].splitlines())
+    assert [(it["text"], it["like"]) for it in rows] == [
+        (long.upper(), None),
+        (long.replace(" ", " - "), long.upper()),
+        (long, long.upper()),
+        ("Vase", None),
+        ("vase", "Vase"),
+        ("Bowl", None),
+        ("x" * 39, None),
+        ("x" * 40, None),
+    ]
+    assert all(it["pictures"] == 1 for it in rows) and last["with"] == len(texts)
 
 
 @pytest.mark.parametrize("seed", range(3))
@@ -313,6 +362,25 @@ def test_forms_say_the_same(folder, called):
     assert called("list", "c", "-0")[1] == "".join(f"{row[0]}\0" for row in rows[1:])
 
 
+@pytest.mark.parametrize("at_once", [1, 2, 3, 1000])
+@pytest.mark.parametrize("question", [[], ["--with", "title"], ["--without", "title"]], ids=" ".join)
+def test_each_picture_has_its_own_texts(at_once, question, folder, called, monkeypatch):
+    """However many are asked for at once: also pictures without a text, and a long text before a short one."""
+    from exifnorm_pictures.catalogue import asking
+
+    long = "clay from the banks of the river, dug by hand"
+    keywords = {"a": [], "b": [long, "x"], "c": ["x", long], "d": [], "e": ["y"], "f": [long], "g": []}
+    titles = {"a": ["A"], "b": [], "c": ["C"], "d": [], "e": ["E"], "f": ["F"], "g": []}
+    words = {name: [*(("title", it) for it in titles[name]), *(("keywords", it) for it in keywords[name])] for name in keywords}
+    put(folder / "p", {f"{name}.jpg": picture(words[name]) for name in words})
+    called("index", "p", "--catalogue", "c", "--quiet")
+    monkeypatch.setattr(asking, "_AT_ONCE", at_once)
+    printed = called("list", "c", "--json", "--columns", "keywords,title", *question)[1]
+    fitting = [name for name in words if not question or bool(titles[name]) == (question[0] == "--with")]
+    texts = [json.loads(line)["texts"] for line in printed.splitlines()[:-1]]
+    assert texts == [{"keywords": keywords[name], "title": titles[name]} for name in fitting]
+
+
 # Since
 
 
@@ -331,6 +399,9 @@ def test_since(folder, called, asked, monkeypatch):
         called("index", "p", "--catalogue", "c", "--quiet", "--again", "--jobs", jobs)
         assert asked("--since", "2021-01-01")[0] == [f"{number}.jpg" for number in range(1, int(jobs) + 1)], jobs
     assert "older one" in called("list", "c", "--since", "1971-01-01")[1]
+    counts = called("list", "c", "--count", "title", "--since", "2021-01-01")[1].splitlines()[-1]
+    assert "2 pictures with" in counts and "2021-01-01" in counts
+    assert "since" not in called("list", "c", "--count", "title")[1].splitlines()[-1]
     for words in (("changed", "2026-11-20", "c"), ("report", "c", "--since", "2026-11-20", "--html", "page")):
         status, _, messages = called(*words)
         assert status == 4 and "list CATALOGUE --since 2026-11-20" in messages
@@ -352,7 +423,7 @@ def test_damage(folder, called, asked):
     assert (status, printed) == (2, f"{folder}/p/cut.jpg\0")
 
 
-UNREAD = ": their pictures were not read, as index --pixels reads those of JPEG, PNG, TIFF, WebP and raw files\n"
+UNREAD = ": their pictures were not read for damage; index --pixels reads those of JPEG, PNG, TIFF, WebP and raw files\n"
 
 
 # Wrong questions
@@ -366,9 +437,13 @@ UNREAD = ": their pictures were not read, as index --pixels reads those of JPEG,
         (["--where", "title"], "="),
         (["--where", "(title = A"], ")"),
         (["--where", 'title = "A'], "quotes"),
+        (["--where", "title = 'A"], "quotes"),
+        (["--where", "title = 'A' and creator = 'Otto's son'"], "quotes"),
         (["--where", "date created < spring"], "date"),
         (["--where", "title == A"], "comparisons"),
         (["--where", "title <> A"], "comparisons"),
+        (["--where", "title = 10*"], "like"),
+        (["--where", "not title has *"], "like"),
         (["--where", ""], "empty"),
         (["--where", "(" * 200], "brackets"),
         (["--with", "nothing"], "labels are"),
@@ -381,6 +456,16 @@ def test_wrong_questions_are_explained(folder, called, words, marked):
     called("index", "p", "--catalogue", "c", "--quiet")
     status, printed, messages = called("list", "c", *words)
     assert (status, printed) == (3, "") and marked in messages and "Traceback" not in messages
+
+
+def test_a_star_in_quotes_is_a_character(folder, asked, called):
+    put(folder / "p", {"a.jpg": picture([("title", "10*")]), "b.jpg": picture([("title", "100")])})
+    called("index", "p", "--catalogue", "c", "--quiet")
+    assert [asked("--where", it)[0] for it in ("title = '10*'", "title has '*'", "title like 10*")] == [
+        ["a.jpg"],
+        ["a.jpg"],
+        ["a.jpg", "b.jpg"],
+    ]
 
 
 def test_the_place_of_a_mistake_is_marked(folder, called):
@@ -399,59 +484,80 @@ def test_the_place_of_a_mistake_is_marked(folder, called):
 # Costs
 
 
-def test_a_question_visits_few_rows(folder, called):
-    """A text is looked up, however many pictures have others: SQLite's steps at ten times as many pictures."""
+def steps_of(name, question, count):
+    """SQLite's steps for a question about so many pictures, each with a creator of its own and one of 50 keywords. It fits one of them."""
     from exifnorm_pictures.catalogue.asking import Answer
     from exifnorm_pictures.catalogue.label_texts import kept_text
     from exifnorm_pictures.catalogue.store import Catalogue, put_rows, put_text
     from exifnorm_pictures.fields.questions import question_of
     from exifnorm_pictures.model.records import PictureRecord
 
-    steps = {}
-    for count in (1_000, 10_000):
-        name = str(folder / f"c{count}")
-        with Catalogue(name, make=True) as catalogue:
-            run = catalogue.begin_run("2026-01-01T00:00:00Z")
-            empty = {"exif": "", "iptc": "", "xmp": "", "not_read": "", "other_not_read": ""}
-            pictures = [PictureRecord(path=b"/p/%06d" % number, root=b"/p", **empty) for number in range(count)]
-            with catalogue.transaction():
-                put_rows(catalogue.base, run, 1, pictures)
-                texts = (
-                    (number, at, *kept_text(*text))
-                    for number in range(1, count + 1)
-                    for at, text in enumerate((("creator", f"Name {number}"), ("title", "Vase")))
-                )
-                catalogue.base.executemany(put_text("texts"), texts)
-                catalogue.set_prepared(count)
-        with Catalogue(name) as catalogue:
-            counted = 0
+    with Catalogue(name, make=True) as catalogue:
+        run = catalogue.begin_run("2026-01-01T00:00:00Z")
+        empty = {"exif": "", "iptc": "", "xmp": "", "not_read": "", "other_not_read": ""}
+        pictures = [PictureRecord(path=b"/p/%06d" % number, root=b"/p", **empty) for number in range(count)]
+        with catalogue.transaction():
+            put_rows(catalogue.base, run, 1, pictures)
+            texts = (
+                (number, at, *kept_text(*text))
+                for number in range(1, count + 1)
+                for at, text in enumerate((("creator", f"Name {number}"), ("title", "Vase"), ("keywords", f"clay {number % 50}")))
+            )
+            catalogue.base.executemany(put_text("texts"), [*texts, (77, 3, *kept_text("keywords", "Kiln 7"))])
+            catalogue.set_prepared(count)
+    with Catalogue(name) as catalogue:
+        counted = 0
 
-            def count_steps():
-                nonlocal counted
-                counted += 1
+        def count_steps():
+            nonlocal counted
+            counted += 1
 
-            catalogue.base.set_progress_handler(count_steps, 1)
-            answer = Answer(catalogue, question_of("creator = 'name 77'"))
-            assert len(list(answer.pictures())) == 1
-            steps[count] = counted
-    assert steps[10_000] < 2 * steps[1_000], steps
+        catalogue.base.set_progress_handler(count_steps, 1)
+        answer = Answer(catalogue, question_of(question))
+        assert len(list(answer.pictures())) == 1 and answer.count() == count and answer.not_known() == 0
+        return counted
+
+
+@pytest.mark.parametrize(
+    "question", ["creator = 'name 77'", "keywords has kiln", "keywords like 'kiln*'", "keywords = 'kiln 7' and title = vase"]
+)
+def test_a_question_visits_few_rows(question, folder, called):
+    """A text is looked up, however many pictures have others: SQLite's steps at ten times as many pictures. Only what fits costs its rows."""
+    few, many = (steps_of(str(folder / f"c{count}"), question, count) for count in (1_000, 10_000))
+    rows = 9_000 * question.count("vase")
+    assert many < 2 * few + 10 * rows, (few, many)
+
+
+def test_the_texts_of_many_pictures_are_asked_for_at_once(folder):
+    from exifnorm_pictures.catalogue.asking import Answer
+    from exifnorm_pictures.catalogue.store import Catalogue
+
+    steps_of(str(folder / "c"), "creator = 'name 77'", 2_500)
+    with Catalogue(str(folder / "c")) as catalogue:
+        answer = Answer(catalogue, None)
+        statements = []
+        catalogue.base.set_trace_callback(statements.append)
+        texts = [texts for _, texts in answer.pictures(["creator", "keywords"])]
+        catalogue.base.set_trace_callback(None)
+    assert texts[0] == (("Name 1",), ("clay 1",)) and texts[-1] == (("Name 2500",), ("clay 0",)) and len(texts) == 2_500
+    assert sum(statement.startswith("SELECT") for statement in statements) < 20
 
 
 @pytest.mark.parametrize("question", ["without credit", "creator != anna", "not keywords has clay or title = x"])
-def test_a_question_that_many_pictures_fit_reads_rows_in_their_order(question, folder, called):
-    """By an index of paths each row is read from another place, and so is each row of the temporary tables."""
+def test_the_names_of_many_pictures_are_read_from_the_index_of_paths(question, folder, called):
+    """Their rows are long, and lie in another order. What is damaged, too, is found without a row for each."""
     from exifnorm_pictures.catalogue.asking import Answer
     from exifnorm_pictures.catalogue.store import Catalogue
     from exifnorm_pictures.fields.questions import question_of
 
-    put(folder / "p", {"a.gif": gif()})
+    put(folder / "p", {"a.gif": gif(), "b.jpg": picture([("title", "B")])[:-2]})
     called("index", "p", "--catalogue", "c", "--quiet")
     with Catalogue("c") as catalogue:
         statements = []
         answer = Answer(catalogue, question_of(question))
         catalogue.base.set_trace_callback(statements.append)
-        fitting = list(answer.pictures())
+        names = [path for paths in answer.paths() for path in paths]
         catalogue.base.set_trace_callback(None)
-        plan = [row[3] for row in catalogue.base.execute(f"EXPLAIN QUERY PLAN {statements[-1]}")]
-    scans = [step for step in plan if re.match(r"SCAN (TABLE pictures AS )?p\b", step)]
-    assert len(fitting) == 1 and len(scans) == 1 and "INDEX" not in scans[0], plan
+        plan = [row[3] for statement in statements for row in catalogue.base.execute(f"EXPLAIN QUERY PLAN {statement}")]
+        assert [it.path for it, _ in answer.pictures()] == names and len(names) == 2
+    assert plan and all("COVERING INDEX" in step for step in plan), plan

@@ -118,6 +118,30 @@ def test_links_in_the_folder_of_copies(called, folder, without_programs, target,
     assert os.path.exists(folder / "out" / "p" / "deep" / "a.jpg") == (status == 0)
 
 
+@pytest.mark.parametrize("out, status", [("new", 0), ("new/", 0), ("new/below", 3), ("file", 3), ("nothing", 3), ("file/below", 3)])
+def test_a_new_folder_of_copies(called, folder, without_programs, out, status):
+    """It is made, as the folder of a report is, but not in a folder that isn't there, as of a disk that isn't mounted."""
+    (folder / "p").mkdir()
+    (folder / "p" / "a.jpg").write_bytes(BAD)
+    (folder / "file").write_bytes(b"")
+    os.symlink("nowhere", folder / "nothing")
+    called("index", "p", "--catalogue", "c", "--quiet")
+    if status:
+        with pytest.raises(SystemExit) as refused:
+            called("mend", "c", out)
+        assert refused.value.code == status
+    else:
+        assert called("mend", "c", out)[0] == 0 and os.listdir(folder / out) == ["a.jpg"]
+    assert (folder / "new").exists() == (status == 0) and (folder / "file").read_bytes() == b"" and not (folder / "nowhere").exists()
+
+
+def test_no_folder_is_made_for_no_copies(called, folder, without_programs):
+    (folder / "p").mkdir()
+    (folder / "p" / "a.jpg").write_bytes(GOOD)
+    called("index", "p", "--catalogue", "c", "--quiet")
+    assert called("mend", "c", "new")[:2] == (0, "0 pictures\n") and not (folder / "new").exists()
+
+
 def test_a_refused_picture_without_a_remedy_is_not_copied(called, folder, without_programs):
     (folder / "a.jpg").write_bytes(with_exif(SMALL_JPEG, BLOCKS["Doubled"]))
     assert called("mend", "a.jpg", "b.jpg")[0] == 2 and not (folder / "b.jpg").exists()

@@ -83,9 +83,9 @@ def test_a_list_chooses_of_a_catalogue(archive, called_lines):
     assert status == 0 and lines[-1] == "1 picture: 1 mended without loss"
 
 
-def test_the_folder_must_be_there(archive, called):
+def test_one_folder_is_given(archive, called):
     called("index", "p", "--catalogue", "c", "--quiet")
-    for words in (("absent",), ("out", "out")):
+    for words in ((), ("out", "out")):
         with pytest.raises(SystemExit) as ended:
             called("mend", "--catalogue", "c", *words)
         assert ended.value.code == 3

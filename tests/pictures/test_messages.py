@@ -16,11 +16,10 @@ from unittest import mock
 from studio import WithPictures, read, write
 
 from exifnorm_pictures.catalogue.store import VERSION, Catalogue, NoCatalogue
-from exifnorm_pictures.cli import index, main, names, objects, output, parser, report
+from exifnorm_pictures.cli import main, names, objects, output, parser, report
 from exifnorm_pictures.extract import exiftool, extraction, programs
 from exifnorm_pictures.files import atomic, opening, session, signals
 from exifnorm_pictures.model import records
-from exifnorm_pictures.model.found import NotRead
 from exifnorm_pictures.model.problems import TEXTS
 from exifnorm_pictures.model.records import BlockRecord, Damaged, PictureRecord, Stamp
 from exifnorm_pictures.scan import looking, progress, walk, workers
@@ -33,10 +32,8 @@ class CommandLine(unittest.TestCase):
         """All arguments with their texts, in golden/help.txt."""
         with mock.patch.dict(os.environ, COLUMNS="120"):
             whole, commands = parser.parsers()
-            end = whole.format_help().partition("\n\nStatuses:")[2]
-            texts = [it.format_help() for it in commands.values()]
-        self.assertEqual({it.partition("\n\nStatuses:")[2] for it in texts}, {end})
-        self.golden("help.txt", "\n\n".join([whole.format_help(), *(it.partition("\n\nStatuses:")[0] for it in texts)]) + "\n")
+            texts = [it.format_help() for it in (whole, *commands.values())]
+        self.golden("help.txt", "\n".join(texts))
 
     def test_numbers(self):
         """What is left out, and what is given."""
@@ -71,7 +68,9 @@ class CommandLine(unittest.TestCase):
             (("changed", "a", "b\0"), "argument AFTER: a name is empty"),
             (("show", ""), "argument PICTURE: a name is empty"),
             (("merge", "", "--catalogue", "c"), "argument CATALOGUE: a name is empty"),
-            (("index", "", "--catalogue", "c"), "argument CATALOGUE: a name is empty"),
+            (("index", "", "--catalogue", "c"), "argument CATALOGUE or FOLDER: a name is empty"),
+            (("nightly", ""), "argument CATALOGUE or FOLDER: a name is empty"),
+            (("verify", "c", ""), "argument FOLDER: a name is empty"),
             *((("index", f"--{it}", ""), f"argument --{it}: a name is empty") for it in ("catalogue", "keep-old", "elsewhere")),
             *((("report", f"--{it}", ""), f"argument --{it}: a name is empty") for it in ("catalogue", "since", "html")),
             (("same", "--catalogue", ""), "argument --catalogue: a name is empty"),
@@ -99,6 +98,8 @@ class CommandLine(unittest.TestCase):
             ("show a --json b --nonsense", "there is no option --nonsense"),
             ("compare a --json b c", "unrecognized arguments: c"),
             ("show a --csv b --json", "argument --json: not allowed with argument --csv"),
+            ("show a -0", "argument -0/--null: not allowed without argument --files-from"),
+            ("list c --null --json", "argument --json: not allowed with argument -0/--null"),
             ("--nonsense show a", "there is no option --nonsense"),
         ):
             self.assertEqual(self.refused(*words.split()), message, words)
@@ -286,7 +287,7 @@ class Messages(WithPictures):
         self.assertEqual(self.raised(NoCatalogue, Catalogue, name), f"there is no catalogue {name}")
         self.assertEqual(
             self.raised(NoCatalogue, Catalogue, self.folder),
-            f"{self.folder} is a folder, and no catalogue. Make one of it: exifnorm-pictures index {self.folder} --catalogue NEW",
+            f"{self.folder} is a folder and not a catalogue. To make one: exifnorm-pictures index {self.folder} --catalogue NEW",
         )
         other = f"{name} is no catalogue"
         for octets, text in (
@@ -303,14 +304,6 @@ class Messages(WithPictures):
             if octets:
                 self.assertEqual(self.raised(NoCatalogue, Catalogue, name, True), text)
             self.assertEqual((read(name), os.listdir(self.folder)), (octets, ["c"]))
-        self.assertEqual(
-            self.raised(
-                NoCatalogue,
-                index.run,
-                argparse.Namespace(source=None, folders=[""], files_from=None, catalogue=name, shards=None, null=False, limit=60),
-            ),
-            "a name is empty",
-        )
         os.remove(name)
         with Catalogue(name, make=True) as made:
             self.assertEqual(str(made.failure(sqlite3.OperationalError("disk I/O error"))), f"{name}: disk I/O error")
@@ -322,15 +315,16 @@ class Messages(WithPictures):
         text = f"the list {self.path('list')} contains a NUL: if its names end with NUL, give -0"
         self.assertEqual(self.raised(walk.BadList, list, walk.names_in_list(self.path("list"), False)), text)
         self.assertEqual(list(walk.names_in_list(self.path("list"), True)), [b"a", b"b"])
-        self.assertEqual(list(walk.names_in_list("-", False, stdin=io.BytesIO(b"a\n\nb"))), [b"a", b"b"])
+        for octets, by_nul, listed in ((b"a\n\nb", False, [b"a", b"b"]), (b"a\nb\0\0c", True, [b"a\nb", b"c"])):
+            with mock.patch.object(sys, "stdin", io.TextIOWrapper(io.BytesIO(octets))):
+                self.assertEqual(list(walk.names_in_list("-", by_nul)), listed)
         with mock.patch.object(sys, "stdin", None):
             self.assertEqual(self.raised(walk.BadList, list, walk.names_in_list("-", False)), "standard input is closed")
-            self.assertEqual(list(walk.names_in_list("-", True, stdin=io.BytesIO(b"a\nb\0\0c"))), [b"a\nb", b"c"])
         asked = argparse.Namespace(files_from=None, null=False, command="show")
         self.assertEqual(self.raised(walk.BadList, names.named, asked, ["a\0b"]), "a name contains a NUL")
         with contextlib.redirect_stderr(io.StringIO()) as printed, self.assertRaises(SystemExit) as ended:
             names.named(asked, [])
-        self.assertEqual((printed.getvalue().splitlines()[-1], ended.exception.code), ("exifnorm-pictures show: no name was given", 3))
+        self.assertEqual((printed.getvalue().splitlines()[-1], ended.exception.code), ("exifnorm-pictures show: give at least one name", 3))
         asked = argparse.Namespace(files_from=self.path("list"), null=True)
         self.assertEqual(names.named(asked, ["x", "y"]), [b"x", b"y", b"a", b"b"])
         self.assertEqual(names.chosen_paths(asked), {os.path.abspath(b"a"), os.path.abspath(b"b")})
@@ -499,80 +493,16 @@ class OfPictures(unittest.TestCase):
 
     maxDiff = None
 
-    def test_each_result(self):
-        digest, octets = "d" * 64, "0" * 64
-        good = BlockRecord("iptc", "IPTC", "somewhere", "own", "accepted", digest, None, None, 7, octets)
-        refused = BlockRecord("exif", "second Exif", "somewhere", "own", "refused", None, "Overlap", 34, 100, octets)
-        at_0, packet = refused._replace(name="Exif", place=0), BlockRecord(
-            "xmp", "XMP", "somewhere", "own", "unreadable", None, "NoRDF", None, 9, octets
-        )
-        failed, long = (
+    def test_a_block_of_which_no_form_was_made(self):
+        refused = BlockRecord("exif", "second Exif", "somewhere", "own", "refused", None, "Overlap", 34, 100, "0" * 64)
+        blocks = tuple(
             refused._replace(status=one, cause=cause, place=None)
             for one, cause in (("failed", "OutOfMemory"), ("too long", "NormalTooLong"))
         )
-        parts = (NotRead("a trailer", ""), NotRead("a chunk", "1" * 64))
-        cut = "the rest of a damaged file (the file ends inside the segment at 20)"
-        common = {"kind": "exif", "name": "second Exif", "length": 100}
-        for more, printed, members in (
-            ({}, [], {"blocks": [], "not_read": []}),
-            (
-                {"blocks": (good,)},
-                [],
-                {"blocks": [{"kind": "iptc", "name": "IPTC", "status": "accepted", "digest": digest, "length": 7}], "not_read": []},
-            ),
-            ({"problem": "NoPicture", "detail": "text"}, [], {"problem": "NoPicture", "detail": "text", "blocks": [], "not_read": []}),
-            (
-                {"problem": "Unreadable", "detail": "why"},
-                ["Unreadable: why"],
-                {"problem": "Unreadable", "detail": "why", "blocks": [], "not_read": []},
-            ),
-            ({"unread": parts}, [], {"blocks": [], "not_read": ["a trailer", "a chunk"]}),
-            (
-                {"unread": (NotRead(cut, ""),), "blocks": (good,)},
-                [f"not wholly read: {cut}"],
-                {
-                    "blocks": [{"kind": "iptc", "name": "IPTC", "status": "accepted", "digest": digest, "length": 7}],
-                    "not_read": [cut],
-                    "damage": "the file ends inside the segment at 20",
-                    "not_known": ["exif", "xmp"],
-                },
-            ),
-            (
-                {"blocks": (at_0, good, packet), "unread": parts[:1]},
-                ["Exif: refused: Overlap at 0", "XMP: unreadable: NoRDF"],
-                {
-                    "blocks": [
-                        {**common, "name": "Exif", "status": "refused", "cause": "Overlap", "offset": 0},
-                        {"kind": "iptc", "name": "IPTC", "status": "accepted", "digest": digest, "length": 7},
-                        {"kind": "xmp", "name": "XMP", "status": "unreadable", "cause": "NoRDF", "length": 9},
-                    ],
-                    "not_read": ["a trailer"],
-                },
-            ),
-            (
-                {"blocks": (failed, long)},
-                ["second Exif: failed: OutOfMemory", "second Exif: too long: NormalTooLong"],
-                {
-                    "blocks": [
-                        {**common, "status": "failed", "cause": "OutOfMemory"},
-                        {**common, "status": "too long", "cause": "NormalTooLong"},
-                    ],
-                    "not_read": [],
-                },
-            ),
-        ):
-            it = PictureRecord.of(b"/a\n\xff", b"/", type="JPEG", **more)
-            self.assertEqual(output.record_lines(it), [f"/a\\n\\xff: {line}" for line in printed])
-            shape = {
-                "schema": "exifnorm-pictures/index/1",
-                "record": "picture",
-                "path": "/a\\n\\xff",
-                "path_hex": "2f610aff",
-                "type": "JPEG",
-            }
-            expected = {**shape, "problem": None, "detail": None, "damage": None, "not_known": [], **members}
-            expected["blocks"] = [{"digest": None, "cause": None, "offset": None, **block} for block in members["blocks"]]
-            self.assertEqual([json.loads(line) for line in objects.record_lines(it)], [expected])
+        it = PictureRecord.of(b"/a", b"/", type="JPEG", blocks=blocks)
+        self.assertEqual(output.record_lines(it), ["/a: second Exif: failed: OutOfMemory", "/a: second Exif: too long: NormalTooLong"])
+        members = [(it["status"], it["cause"], it["offset"]) for it in json.loads(objects.record_lines(it)[0])["blocks"]]
+        self.assertEqual(members, [("failed", "OutOfMemory", None), ("too long", "NormalTooLong", None)])
 
     def test_a_folder_that_cannot_be_read(self):
         """It is in no folder of a catalogue; a file that can't be read has its own row."""

@@ -14,9 +14,8 @@ import tempfile
 import unittest
 from unittest import mock
 
-from made_blocks import BLOCKS, with_exif
 from made_files import app1_xmp, chunk, exif, page, png, tiff, title
-from studio import SMALL_JPEG, TOP, WithPictures, needs, read, tool, write
+from studio import TOP, WithPictures, needs, read, tool, write
 
 from exifnorm_pictures.catalogue.store import Catalogue, NoCatalogue
 from exifnorm_pictures.cli import main, mend as mend_cli, page_file, same
@@ -229,15 +228,6 @@ class Extracted(WithPictures):
                     png_.read(io.BytesIO(bytes(damaged)))
 
 
-class LeftOut(WithPictures):
-    def test_how_many_are_in_no_group(self):
-        os.mkdir(self.path("p"))
-        for count, words in ((1, ["1", "picture"]), (2, ["2", "pictures"])):
-            write(self.path("p", f"{count}.jpg"), with_exif(SMALL_JPEG, BLOCKS["Loop"]))
-            self.asked("index", "p", "--catalogue", "c", "--quiet")
-            self.assertIn(words, [it.split()[:2] for it in self.asked("same", "--catalogue", "c")])
-
-
 class Parts(unittest.TestCase):
     def test_what_was_not_read(self):
         """Its digest is that of the names and of the bytes, in the order of the file; without the bytes there is none."""
@@ -264,33 +254,10 @@ class Printed(unittest.TestCase):
 
 class Listed(unittest.TestCase):
     def test_a_thumbnail_is_after_its_fields(self):
-        """As in the listing (docs/FORMAT.md, 7)."""
-        names = [
-            ("iptc", "2:25"),
-            ("thumb", "strip"),
-            ("thumb", "jpeg"),
-            ("thumb", "ffff"),
-            ("thumb", "0112"),
-            ("gps", "0001"),
-            ("main", "010f"),
-            ("iptc", "2:5"),
-            ("exif", "9003"),
-        ]
-        found = differing.differences([], [Field(where, key, "SHORT", 1, (1,)) for where, key in names])
-        self.assertEqual(
-            [it.change_name for it in found],
-            [
-                "main:Make",
-                "exif:DateTimeOriginal",
-                "gps:GPSLatitudeRef",
-                "thumb:Orientation",
-                "thumb:Tag ffff",
-                "thumb:JPEG thumbnail",
-                "thumb:Strip",
-                "iptc:ObjectName",
-                "iptc:Keywords",
-            ],
-        )
+        in_order = "main 010f, exif 9003, gps 0001, thumb 0112, thumb ffff, thumb jpeg, thumb strip, iptc 2:5, iptc 2:25".split(", ")
+        found = differing.differences([], [Field(*it.split(), "SHORT", 1, (1,)) for it in reversed(in_order)])
+        self.assertEqual([f"{it.directory} {it.tag}" for it in found], in_order)
+        self.assertEqual([it.name for it in found[5:7]], ["IFD1:ThumbnailImage", "IFD1:ThumbnailTIFF"])
 
     def test_texts_with_a_character_set(self):
         """UserComment, GPSProcessingMethod and GPSAreaInformation begin with eight bytes for it (CIPA DC-008, 4.6.6 and 4.6.7)."""

@@ -1,7 +1,5 @@
 """`index`: a folder that moved is one line, and not one for each of its pictures."""
 
-import json
-import os
 import re
 import shutil
 
@@ -22,22 +20,6 @@ def archive(folder, called):
 
 def moves(printed):
     return [it for it in printed.splitlines() if ": Moved: " in it]
-
-
-def test_a_folder(archive, called):
-    (archive / "monday").rename(archive / "tuesday")
-    status, printed, _ = called("index", "p", "--catalogue", "c")
-    assert (
-        status == 0
-        and moves(printed) == [f"{archive}/monday: Moved: 4 pictures to {archive}/tuesday"]
-        and "4 accepted, 4 moved since an earlier run" in printed
-    )
-
-
-def test_objects_are_of_pictures(archive, called):
-    (archive / "monday").rename(archive / "tuesday")
-    objects = [json.loads(it) for it in called("index", "p", "--catalogue", "c", "--json")[1].splitlines()]
-    assert sorted(os.path.basename(it["path"]) for it in objects[:-1] if it["problem"] == "Moved") == ["a.jpg", "b.jpg", "c.jpg", "d.jpg"]
 
 
 def test_single_pictures_have_their_names(archive, called):
@@ -63,6 +45,14 @@ def test_a_folder_and_a_picture(archive, called):
     ]
 
 
+@pytest.mark.parametrize("form, least", [("--quiet", 0), ("--json", 4)])
+def test_a_folder_has_no_line_without_lines_for_people(form, least, archive, called):
+    """With --json each of its pictures has an object."""
+    (archive / "monday").rename(archive / "tuesday")
+    printed = called("index", "p", "--catalogue", "c", form)[1]
+    assert not moves(printed) and printed.count('"problem": "Moved"') == least
+
+
 def test_a_folder_that_moved_into_another_one(archive, called):
     """The folder above it has stayed, and isn't named."""
     put(archive / "wednesday", {"e.jpg": jpeg(app1(exif(b"eee")))})
@@ -78,4 +68,21 @@ def test_a_folder_that_moved_into_another_one(archive, called):
     texts = re.sub(r"<[^>]*>", " ", (archive.parent / "page.html").read_text(encoding="utf-8"))
     assert "monday to year/monday" in " ".join(texts.split())
     status, printed, _ = called("changed", "before", "c")
-    assert status == 1 and "4 moved" in printed and "1 same" in printed, printed
+    assert status == 1 and "4 moved: monday to year/monday (4 pictures)\n" in printed and "1 same" in printed, printed
+
+
+def test_the_summary_of_changed_names_folders_and_the_other_pictures(archive, called):
+    """A picture that went elsewhere has its own name; one that was edited, too, is no picture that only moved."""
+    shutil.copytree(archive, archive.parent / "q")
+    (archive.parent / "q/monday/a.jpg").rename(archive.parent / "q/first.jpg")
+    (archive.parent / "q/monday").rename(archive.parent / "q/tuesday")
+    printed = called("changed", "p", "q")[1]
+    assert "4 moved: monday to tuesday (3 pictures), monday/a.jpg to first.jpg\n" in printed, printed
+    assert "raw/d.jpg" not in printed and len(called("changed", "p", "q", "--each")[1].splitlines()) > 4
+
+
+def test_all_pictures_into_a_folder(archive, called):
+    """The folder that was looked at has no name below itself."""
+    shutil.copytree(archive / "monday", archive.parent / "q")
+    printed = called("changed", "q", "p")[1]
+    assert "4 moved: . to monday (4 pictures)\n" in printed, printed

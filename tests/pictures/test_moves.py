@@ -22,6 +22,7 @@ CASES = {
     "another one, beside others like it": (FIRST, OTHER, {"c.jpg": THIRD}, False, MISSING, MISSING),
     "another one, of another machine": (ALONE, ALONE_OTHER, {"c.jpg": THIRD}, False, MOVED, MISSING),
     "another one, with its time": (FIRST, OTHER, {"c.jpg": THIRD}, True, MOVED, MISSING),
+    "another one, with its time and inode": (FIRST, OTHER, {"c.jpg": THIRD}, True, MOVED, MISSING),
     "one of two, with their time": (FIRST, FIRST, {}, True, MISSING, MOVED),
     "a raw picture, copied and deleted": (cr2(), cr2(), {"c.jpg": cr2()}, False, MISSING, MOVED),
 }
@@ -37,8 +38,12 @@ def test_what_became_of_a_picture_that_is_gone(name, pixels, called, folder):
     assert called("index", "p", "--catalogue", "before", *words)[0] == 0
     for path in {folder / "p" / "a.jpg", *(folder / "p").glob("deleted.jpg")}:
         os.rename(path, folder / f"{path.name} elsewhere")  # keeps its inode, which no new file gets
+    if name.endswith("inode"):
+        os.renames(folder / "a.jpg elsewhere", folder / "p" / "new" / "b.jpg")
     put(folder / "p" / "new", {"b.jpg": new}, time=1_767_225_600 + DAY * (not keeps_time))
-    assert called("index", "p", "--catalogue", "before", "--keep-old", "older", *words)[0] == 0
+    _, printed, _ = called("index", "p", "--catalogue", "before", "--keep-old", "older", "--json", *words)
+    gone_to = {it["path"]: it["detail"] for it in map(json.loads, printed.splitlines()) if it.get("problem") == "Moved"}
+    assert gone_to.get(str(folder / "p" / "a.jpg")) == (f"to {folder / 'p' / 'new' / 'b.jpg'}" if answers[pixels] == MOVED else None)
     assert called("index", "p", "--catalogue", "after", *words)[0] == 0
     for catalogues in (("older", "before"), ("older", "after")):  # of `index` by itself, and of two catalogues
         _, printed, _ = called("changed", *catalogues, "--json")

@@ -4,7 +4,9 @@ import collections
 import csv
 import json
 import os
+import pathlib
 import random
+import re
 import shutil
 
 import pytest
@@ -13,6 +15,9 @@ from museum import WHOLE, done, run
 from studio import needs
 
 pytestmark = [pytest.mark.xdist_group("museum")]
+GOLDEN = pathlib.Path(__file__).parent / "golden" / "museum"
+# What is counted, in the outputs of commands
+NOUNS = "picture file group field row rule block folder catalogue text value line name label byte list copy contradiction".split()
 LABELS = "title,caption,creator,copyright,keywords,credit,city,headline,date created"
 OPPOSITE = {"missing after": "missing before", "missing before": "missing after", "damaged": "damaged before"}
 OPPOSITE.update({after: before for before, after in OPPOSITE.items()})
@@ -37,6 +42,17 @@ def files_of(folder, top):
 def fields_of(picture, first="before", second="after"):
     """The fields that differ, each with what both sides have."""
     return sorted((it["name"], *(json.dumps(it[side]) for side in (first, second))) for it in picture["fields"])
+
+
+@needs("exiftool")
+def test_index_and_same_count_the_same_groups(museum):
+    """`index` counts those by meaning. The lines of `same` have as many of each kind as its objects."""
+    done("index archive --jobs 1 --catalogue new", museum)
+    (line,) = [it for it in run("index archive --jobs 1 --catalogue new", museum)[1] if "groups of pictures" in it]
+    bases = collections.Counter(it["basis"] for it in objects("same new", museum, 2) if it["record"] == "group")
+    assert int(line.partition(" ")[0]) == bases["meaning"] > 4
+    (total,) = [it for it in run("same new", museum)[1] if re.match(r"\d+ groups? of", it)]
+    assert [int(it) for it in re.findall(r"(\d+) (?:by|only)", total)] == list(bases.values())
 
 
 @needs("exiftool")
@@ -72,7 +88,7 @@ def test_the_table_of_captions_leaves_no_cell_empty(museum):
 @needs("exiftool")
 def test_changed_says_what_compare_says(museum):
     """Each picture of both nights: its result and the fields that differ are those of `compare` with its two files."""
-    pictures = by_path(objects("changed full.before full --all --exact", museum))
+    pictures = by_path(objects("changed full.before full --all", museum))
     pictures = {name: it for name, it in pictures.items() if not name.startswith("sidecars/")}  # which `compare` doesn't read
     names = [
         it for it in pictures if all((museum / top / it).is_file() for top in ("one", "archive")) and "\n" not in it and "\\" not in it
@@ -116,16 +132,6 @@ def test_text_csv_and_json_say_the_same(words, museum):
     assert ended == status
 
 
-def test_only_and_ignore_make_the_whole(museum):
-    """What --only leaves and what --ignore leaves, for one pattern, are together all that differs."""
-    found = {}
-    for words in ("", "--only 'IPTC:*'", "--ignore 'IPTC:*'"):
-        pictures = by_path(objects(f"changed full.before full {words} --all", museum))
-        found[words] = {(name, it["name"]) for name, picture in pictures.items() for it in picture["fields"]}
-    whole, *parts = found.values()
-    assert whole == set.union(*parts) and not set.intersection(*parts) and all(parts)
-
-
 @needs("exiftool")
 def test_the_order_of_names_says_nothing(museum):
     """A catalogue that is filled in another order, in two runs, prints the same."""
@@ -167,3 +173,11 @@ def test_another_mount_point(museum):
     summary = objects("index mounted --jobs 1 --catalogue other --quiet --sidecars --pixels --maker-notes", museum)[-1]
     assert set(summary["counts"]) <= {"unchanged", "LinkToNothing as before"}, summary
     assert os.stat("mounted/work/touched.jpg").st_mtime == TIME
+
+
+def test_each_number_agrees_with_its_noun():
+    """In all that commands print of the museum: 1 picture, and 2 pictures."""
+    nouns = "|".join(NOUNS)
+    wrong = re.compile(rf"(?<![\w.,:/-])(?:1 (?:{nouns})s|(?:0|[2-9]|[\d,]*\d\d) (?:{nouns}))(?![\w-])")
+    lines = [line for path in sorted(GOLDEN.iterdir()) for line in path.read_text(encoding="utf-8", errors="replace").splitlines()]
+    assert len(lines) > 1000 and not [line for line in lines if wrong.search(line)]

@@ -6,10 +6,12 @@ import os
 import random
 import re
 import shutil
+import sqlite3
 import subprocess
 import sys
 import unicodedata
 import zlib
+from contextlib import closing
 
 import pytest
 from made_files import app1, app1_xmp, app13, exif, jpeg, resource, xmp
@@ -17,6 +19,8 @@ from studio import SMALL_JPEG, TOP, Studio, needs, put, read
 from test_list import record
 from test_nights import CUT, NEVER_WHOLE
 
+from exifnorm_pictures.catalogue import nights
+from exifnorm_pictures.catalogue.store import Catalogue
 from exifnorm_pictures.cli import letter, nightly
 from exifnorm_pictures.comparison.news import Kind, Named, News
 
@@ -46,7 +50,7 @@ def night(called):
         status, printed, messages = called("nightly", "p", "--catalogue", "c.catalogue", "--json", *words)
         assert (status == 0) == (printed + messages == ""), (status, printed, messages)
         *news, summary = map(json.loads, printed.splitlines()) if printed else [None]
-        return status, {(it["news"], it["about"]): it["count"] for it in news}, summary
+        return status, {(it["news"], it["about"], *filter(None, [it["to"]])): it["count"] for it in news}, summary
 
     return run
 
@@ -73,7 +77,7 @@ def lose(pictures):
 def move(pictures):
     os.rename(pictures / "scans/old", pictures / "scans/older")
     shutil.copy(pictures / "ceramics/0.jpg", pictures / "new.jpg")
-    return {("folder moved", f"{pictures}/scans/old {pictures}/scans/older"): 4, ("new", None): 1}
+    return {("folder moved", f"{pictures}/scans/old", f"{pictures}/scans/older"): 4, ("new", None): 1}
 
 
 def another_raw(pictures):
@@ -175,6 +179,16 @@ def test_a_rule_that_is_new_is_no_news(archive, night, folder):
     assert (summary["broken_pictures"], summary["broken_pictures_before"]) == (12, 12)
 
 
+def test_what_may_break_a_rule_is_told_once(archive, night, folder):
+    """A picture with a refused block: on the night on which it comes, and not when it moves."""
+    (folder / "rules").write_text("every picture needs credit\n")
+    night("--rules", "rules")
+    put(archive, {"web/refused.jpg": jpeg(app1(b"II*\0\xff\xff\0\0"))})
+    assert night("--rules", "rules")[:2] == (2, {("new", None): 1, ("not wholly read", None): 1})
+    os.rename(archive / "web/refused.jpg", archive / "scans/elsewhere.jpg")
+    assert night("--rules", "rules")[:2] == (1, {("moved", None): 1})
+
+
 def test_a_damaged_picture(archive, night):
     """One that ends early, one that is another one now, and one of zeros."""
     night("--pixels")
@@ -209,7 +223,8 @@ def test_a_disk_that_is_not_mounted(name, is_empty, archive, night, folder):
     known = sum(it.startswith(name) for it in NAMES)
     absent = "scans" if name == "scans/old" else name  # the highest folder without a file
     for _ in range(2):
-        assert night()[:2] == (2, {("folder not there", str(archive / absent)): known})
+        status, news, summary = night()
+        assert (status, news, summary["with_news"]) == (2, {("folder not there", str(archive / absent)): known}, 0)
     if is_empty:
         (archive / name).rmdir()
     os.rename(folder / "disk", archive / name)
@@ -219,14 +234,34 @@ def test_a_disk_that_is_not_mounted(name, is_empty, archive, night, folder):
     assert night()[:2] == (1, {("text changed", "title"): 1})
 
 
+def test_folders_whose_names_are_no_unicode_are_in_json_that_strict_parsers_take(archive, called, monkeypatch):
+    """They refuse half of a surrogate pair. A folder that moved, and one that isn't there, have such names."""
+    old, new, absent = b"de\xffsk", b"wo\xfek", b"ga\xffe"
+    monkeypatch.chdir(archive)
+    os.rename("web", old)
+    os.rename("ceramics", absent)
+    called("nightly", str(archive), "--catalogue", "c.catalogue", "--json")
+    os.rename(old, new)
+    shutil.rmtree(absent)
+    printed = called("nightly", str(archive), "--catalogue", "c.catalogue", "--json")[1]
+    news = {it["news"]: it for it in map(json.loads, printed.splitlines()) if "news" in it}
+    json.dumps(list(news.values()), ensure_ascii=False).encode()
+    moved, gone = news["folder moved"], news["folder not there"]
+    (was,), (absent_now,) = moved["pictures"], gone["pictures"]
+    assert [bytes.fromhex(it["path_hex"]) for it in (was, was["to"], absent_now)] == [old, new, absent]
+    paths = [f"{archive}/{it['path']}" for it in (was, was["to"], absent_now)]
+    assert [moved["about"], moved["to"], gone["about"]] == paths
+
+
 def test_a_folder_that_was_removed(archive, night, called):
     """It is in each letter until `forget`. If one of its pictures was found elsewhere, somebody emptied it."""
     night()
     os.rename(archive / "web/0.jpg", archive / "0.jpg")
     shutil.rmtree(archive / "web")
     shutil.rmtree(archive / "ceramics")
-    status, news, _ = night()
+    status, news, summary = night()
     assert (status, news) == (2, {("folder not there", str(archive / "ceramics")): 4, ("moved", None): 1, ("gone", None): 3})
+    assert summary["with_news"] == 4, "nothing is known of the pictures of a folder that isn't there"
     called("forget", str(archive / "ceramics"), "--catalogue", "c.catalogue")
     assert night()[0] == 0
 
@@ -318,6 +353,60 @@ def test_two_runs_at_once(archive, night, folder):
     other.kill()
     other.communicate()
     assert night()[0] == 1
+
+
+def aged_catalogue(name):
+    """Makes a catalogue one of an earlier release, with a log beside it."""
+    with closing(sqlite3.connect(name)) as base, base:
+        base.execute("PRAGMA user_version = 4")
+        base.execute("DROP INDEX pictures_by_other_exif")
+    name.with_name(f"{name.name}-wal").write_bytes(b"log")
+
+
+@pytest.mark.parametrize("stops", (None, "_keep_earlier", "keep"))
+def test_a_catalogue_of_an_earlier_release(stops, archive, night, called, folder, monkeypatch):
+    """nightly makes a new catalogue, says so once even if a run is killed, keeps the old one, and is quiet on later nights."""
+    rules = folder / "r.txt"
+    rules.write_text("every picture needs copyright\n", encoding="ascii")
+    night("--pixels")
+    aged_catalogue(folder / "c.catalogue")
+    old, taken = (folder / "c.catalogue").read_bytes(), folder / "c.version4.catalogue"
+    taken.write_bytes(b"of somebody else")
+    if stops:
+
+        def stopped(self, *words):
+            if stops == "_keep_earlier":
+                kept(self)
+            raise KeyboardInterrupt
+
+        kept = nights.Nights._keep_earlier
+        with monkeypatch.context() as patched:
+            patched.setattr(nights.Nights, stops, stopped)
+            called("nightly", "p", "--catalogue", "c.catalogue", "--rules", "r.txt")
+    status, printed, messages = called("nightly", "p", "--catalogue", "c.catalogue", "--rules", "r.txt")
+    assert (status, messages) == (1, "") and "earlier release" in printed and "c.version4.2.catalogue" in printed
+    assert f"{len(NAMES)} pictures" in printed and "break a rule" in printed
+    assert (folder / "c.version4.2.catalogue").read_bytes() == old and taken.read_bytes() == b"of somebody else"
+    assert (folder / "c.version4.2.catalogue-wal").read_bytes() == b"log" and not (folder / "c.catalogue-wal").exists()
+    with Catalogue("c.catalogue") as new:
+        assert new.has_digests()  # as the other had
+    assert called("nightly", "p", "--catalogue", "c.catalogue", "--rules", "r.txt") == (0, "", "")
+    lose(archive)
+    assert night()[0] == 1 and (folder / "c.version4.2.catalogue").read_bytes() == old
+
+
+def test_a_disk_that_is_not_mounted_while_the_release_changes(archive, called, folder, night):
+    """Nothing is known of its pictures but by the catalogue of the earlier release, which stays where it is."""
+    night()
+    aged_catalogue(folder / "c.catalogue")
+    old = (folder / "c.catalogue").read_bytes()
+    os.rename(archive, folder / "elsewhere")
+    for is_empty in (False, True):
+        if is_empty:
+            archive.mkdir()
+        status, printed, messages = called("nightly", "p", "--catalogue", "c.catalogue")
+        assert status not in (0, 1) and printed == "" and "mounted" in messages
+        assert (folder / "c.catalogue").read_bytes() == old and not list(folder.glob("*version*"))
 
 
 def test_a_catalogue_that_is_written_meanwhile(archive, night, called, monkeypatch):

@@ -3,7 +3,8 @@
 import json
 
 import pytest
-from made_files import A, app1, jpeg, webp
+from made_files import A, app1, app1_xmp, jpeg, title, webp
+from studio import needs
 from test_never_the_same import reached
 
 import exifnorm_pictures as pictures
@@ -54,3 +55,31 @@ def test_one_list_in_all_commands(name, folder, called):
     assert [it["not_read"] for it in json.loads(called("compare", "--json", name, name)[1])["pictures"]] == [expected] * 2
     (conflict, *_) = map(json.loads, called("conflicts", "--json", name)[1].splitlines())
     assert conflict["record"] == "summary" or conflict["not_read"] == expected
+
+
+TITLED = title("Bowl")
+HIDDEN = {
+    "behind garbage.jpg": jpeg(app1(A), b"\0\0garbage", app1_xmp(TITLED)),
+    "trailer.jpg": jpeg(app1(A), behind=app1_xmp(TITLED)),
+    "drawing.svg": b"<svg xmlns='http://www.w3.org/2000/svg' width='5' height='5'><metadata>" + TITLED + b"</metadata></svg>",
+    "only a MakerNote reaches.jpg": PARTS["note.jpg"],
+    "whole.jpg": jpeg(app1(A), app1_xmp(TITLED)),
+}
+
+
+@needs("exiftool")
+@pytest.mark.parametrize("name", HIDDEN)
+def test_a_text_may_be_where_nobody_read(name, folder, called):
+    """`captions` and `conflicts` say so by their status where `list` says that the picture may fit, of files and of a catalogue."""
+    (folder / "p").mkdir()
+    (folder / "p" / name).write_bytes(HIDDEN[name])
+    called("index", "p", "--catalogue", "c", "--quiet")
+    may_fit = json.loads(called("list", "c", "--where", "title = Bowl and title = Vase", "--json")[1].splitlines()[-1])["not_known"]
+    assert may_fit == (name not in ("only a MakerNote reaches.jpg", "whole.jpg"))
+    for source in (f"p/{name}", "p", "c"):
+        for words in ([], ["--csv"], ["--json"]):
+            assert called("captions", source, *words)[0] == 2 * may_fit, (source, words)
+            status, printed, _ = called("conflicts", source, *words)
+            assert status == 2 * may_fit and (
+                "not read" in printed or "not wholly read" in printed or not may_fit or words == ["--json"]
+            ), printed

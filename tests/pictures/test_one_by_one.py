@@ -45,7 +45,7 @@ def answered(process, name, wanted, end=b"\n"):
     """What a command prints for a name, up to a line with some bytes."""
     process.stdin.write(os.fsencode(name) + end)
     printed = b""
-    while wanted not in printed[: printed.rfind(b"\n") + 1]:
+    while wanted not in printed or not printed.endswith(b"\n"):  # a read can end within a line
         assert select.select([process.stdout], [], [], PATIENCE)[0], f"no answer to {name} while more names may come; so far: {printed!r}"
         piece = process.stdout.read(1 << 16)
         assert piece, f"ended with {process.wait()} after {printed!r}"

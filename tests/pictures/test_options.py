@@ -1,11 +1,9 @@
 """An option that a command accepts has an effect, or is refused."""
 
 import argparse
-import ast
 import csv
 import importlib
 import io
-import json
 import re
 import shutil
 from pathlib import Path
@@ -74,7 +72,8 @@ def archive(folder, called):
 @pytest.mark.parametrize("command", [name for name, *_ in parser._COMMANDS])
 def test_each_option_is_looked_at(command, archive, capsys):
     """An option that no statement looks at would be accepted and have no effect. `main` itself looks at --debug, --limit and --xlsx."""
-    arguments = parser.parsers()[0].parse_args([command, *COMMANDS[command]], Recorded())
+    words = (*COMMANDS[command], *(("--evidence", "sums") if command == "verify" else ()))  # by which --form is looked at
+    arguments = parser.parsers()[0].parse_args([command, *words], Recorded())
     accepted = set(vars(arguments)) - {"read", "command", "version", "debug", "limit", "xlsx"}
     arguments.session = Session()
     arguments.read.clear()
@@ -95,19 +94,8 @@ def of_each_command(*spellings):
     return [(name, spelling) for spelling in spellings for name, of_command in options() if spelling in of_command]
 
 
-def functions(body):
-    """The functions and other statements of a module, also those of its classes."""
-    for statement in body:
-        yield from functions(statement.body) if isinstance(statement, ast.ClassDef) else [statement]
-
-
-def words_of(statement):
-    texts = (node.value for node in ast.walk(statement) if isinstance(node, ast.Constant) and isinstance(node.value, str))
-    return {word for text in texts for word in text.split()}
-
-
 TRACEBACKS, LIMITS, SHEETS, LISTS = (of_each_command(it) for it in ("--debug", "--limit", "--xlsx", "--files-from"))
-WHOLE, OBJECTS, HOWS = of_each_command("--whole"), of_each_command("--json"), of_each_command("--jobs", "--sidecars", "--pixels")
+WHOLE, HOWS = of_each_command("--whole"), of_each_command("--jobs", "--sidecars", "--pixels")
 CHOICES = [it for it in of_each_command("--ignore", "--only", "--ignore-file", "--only-file", "--equal-numbers") if it[0] != "conflicts"]
 NAMED = {  # whose catalogue can be given in two ways, which comes first or last among the names
     "index": ("c", "p"),
@@ -125,33 +113,6 @@ NAMED = {  # whose catalogue can be given in two ways, which comes first or last
     "export": ("c", "tables"),
     "mend": ("c", "q"),
 }
-# What the tests below try with each command
-EVERYWHERE = {*TRACEBACKS, *LIMITS, *SHEETS, *LISTS, *WHOLE, *OBJECTS, *HOWS, *CHOICES}
-EVERYWHERE |= {(name, "-0") for name, _ in LISTS} | {(name, "--csv") for name, _ in SHEETS} | {(name, "--catalogue") for name in NAMED}
-
-
-def command_lines(module):
-    """The words of what may be a command line in a module: the arguments of a call, a list, or a text. The words of a function are one too."""
-    yield from map(words_of, functions(module.body))
-    for node in ast.walk(module):
-        if isinstance(node, (ast.Call, ast.List, ast.Tuple)):
-            parts = node.args if isinstance(node, ast.Call) else node.elts
-            yield {word for part in parts for word in words_of(part)}
-        elif isinstance(node, ast.Constant) and isinstance(node.value, str):
-            yield set(node.value.split())
-
-
-def test_each_option_of_each_command_has_a_test(checks):
-    """One that gives it to this command: below, or in words that name no other command. In a function `index` may make the catalogue."""
-    every, tried = set(parser.parsers()[1]), set(EVERYWHERE)
-    for path in Path(__file__).parent.glob("test_*.py"):
-        if path.name != Path(__file__).name:
-            for words in command_lines(ast.parse(path.read_text(encoding="utf-8"))):
-                named = (words & every) - {"index"} or words & every
-                tried |= {(name, word) for name in named for word in words if len(named) == 1}
-    for name, spellings in options():
-        is_tried = any((name, it) in tried for it in spellings)
-        checks.check(f"{name} {' '.join(sorted(spellings))}", is_tried, "no test gives it to this command")
 
 
 def in_fonts(text):
@@ -282,13 +243,6 @@ def test_each_byte_is_read_by_each_command(command, option, archive, called, mon
     read.clear()
     called(command, *words, option)
     assert any(read)
-
-
-@pytest.mark.parametrize("command, option", OBJECTS)
-def test_objects_of_each_command(command, option, archive, called):
-    """Each line is one."""
-    _, printed, messages = called(command, *COMMANDS[command], option)
-    assert printed and all(isinstance(json.loads(line), dict) for line in printed.splitlines()), messages
 
 
 @pytest.mark.parametrize("command, option", HOWS)

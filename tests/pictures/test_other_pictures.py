@@ -3,7 +3,7 @@
 import json
 
 import pytest
-from made_files import A, B, app1, jpeg, segment
+from made_files import A, B, app1, jpeg, png, segment
 from made_more_files import gif
 from studio import SMALL_JPEG, put
 
@@ -47,6 +47,15 @@ def test_changed(name, folder, called):
     found, printed, _ = called("compare", "a/x.jpg", "b/x.jpg", "--json", "--no-exiftool")
     it = json.loads(printed)
     assert (found, it["result"]) == (statuses[1], result) and it["coded_picture"] in (coded, "the same")
+
+
+def test_what_was_asked_is_not_advised(folder, called):
+    """The data of two formats are never compared."""
+    put(folder / "a", {"x": MASTER})
+    put(folder / "b", {"x": png()})
+    for words in ([], ["--pixels"]):
+        text = called("changed", "a", "b", "--no-exiftool", *words)[1]
+        assert ("--pixels compares" in text, "two formats" in text) == (not words, bool(words)), text
 
 
 PARTS = (segment(0xE2, b"ICC_PROFILE\0\1\1other colours"), segment(0xFE, b"a comment"))

@@ -10,7 +10,7 @@ from made_files import app1, app13
 from studio import WithPictures, write
 
 from exifnorm_pictures.extract import exiftool, programs, readers
-from exifnorm_pictures.extract.formats import bigtiff, tiff
+from exifnorm_pictures.extract.formats import tiff
 from exifnorm_pictures.files.session import Session
 from exifnorm_pictures.model.found import Blocks, NotRead
 from exifnorm_pictures.model.problems import TEXTS
@@ -68,7 +68,7 @@ class Answers(unittest.TestCase):
                 read = readers.reader_of(b"II*\0" + bytes(12), f"/a.b/c.{name}".encode())
                 self.assertEqual((read is None, read is tiff.read), (is_left, not is_left), name)
                 self.assertIs(readers.reader_of(b"II*\0" + bytes(12), f"/a.b/c.{name[:-1]}".encode()), tiff.read)
-        for name, head, expected in ((b"c.nef", b"GIF8", None), (b"c.rwl", b"IIU\0", tiff.read), (b"c.nef", b"MM\0+", bigtiff.read)):
+        for name, head, expected in ((b"c.nef", b"GIF8", None), (b"c.rwl", b"IIU\0", tiff.read), (b"c.nef", b"MM\0+", tiff.read_big)):
             self.assertIs(readers.reader_of(head + bytes(12), name), expected, name)
 
 
@@ -95,7 +95,7 @@ class Files(WithPictures):
     def test_what_is_not_extracted(self):
         answer = {"FileType": "GIF", "MIMEType": "image/gif", "XMP": "<x>"}
         digest = hashlib.sha256(b"abc").hexdigest()
-        what = "what ExifTool does not extract from a GIF file"
+        what = "what ExifTool does not extract from this GIF file"
         for most, whole, why, expected in (
             (3, False, "", (what, digest)),
             (2, False, "", (what, "")),

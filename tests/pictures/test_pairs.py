@@ -127,7 +127,7 @@ class Jpeg(Pairs):
     def test_a_refusal_hides_no_other_change(self):
         refused = app1(BLOCKS["Overlap"])
         words = self.not_same(jpeg(refused, app13(resource(0x404, K))), jpeg(refused, app13(resource(0x404, L))))
-        self.assertEqual(words, "IPTC is different, Exif is refused in the same bytes, no XMP")
+        self.assertEqual(words, "IPTC is different, Exif is refused, the same bytes, no XMP")
         self.not_same(jpeg(refused), jpeg(app1(BLOCKS["Doubled"])), "refused")
         self.not_same(jpeg(refused), jpeg(refused), "refused, the same bytes")
         words = self.not_same(jpeg(app1(A), app1_xmp(b"<x")), jpeg(app1(A), app1_xmp(b"<y")), "unreadable")

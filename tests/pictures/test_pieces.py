@@ -174,12 +174,12 @@ class Results(unittest.TestCase):
             (
                 [(exif, "refused", True), (iptc, "refused", False), (xmp_, "unreadable", False)],
                 (),
-                "IPTC is refused, Exif is refused in the same bytes, XMP is unreadable",
+                "IPTC is refused, Exif is refused, the same bytes, XMP is unreadable",
             ),
             (
                 [(exif, "refused", True), (iptc, "refused", True), (xmp_, "unreadable", True)],
                 (),
-                "Exif and IPTC are refused in the same bytes, XMP is unreadable in the same bytes",
+                "Exif and IPTC are refused, the same bytes, XMP is unreadable, the same bytes",
             ),
             (
                 [(exif, "absent", False), (iptc, "absent", False), (xmp_, "absent", False)],

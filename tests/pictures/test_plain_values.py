@@ -1,5 +1,6 @@
 """Values and names in plain words, beside ExifTool's own."""
 
+import datetime
 import json
 import re
 import subprocess
@@ -7,11 +8,16 @@ from xml.etree import ElementTree
 
 import pytest
 from exact_fields import field
+from made_blocks import LONG, UNDEFINED
+from made_files import app1, jpeg, small_tiff
 from studio import SMALL_JPEG, needs, tool
 
+from exifnorm_pictures.fields.field import Field
 from exifnorm_pictures.fields.names import _EXIF, _GPS, _IIM, _INTEROP, _TIFF
 from exifnorm_pictures.fields.plain_names import group_name, plain_name
+from exifnorm_pictures.fields.plain_texts import comment
 from exifnorm_pictures.fields.plain_values import plain
+from exifnorm_pictures.fields.typed import value_of
 
 
 def shown(where, key, kind, value):
@@ -212,8 +218,6 @@ def test_flash(value, words):
         ("gps", "0002", "RATIONAL", "47/1 33/0 0/1", "47, unknown, 0"),
         ("gps", "0007", "RATIONAL", "1/1", "1"),
         ("iptc", "2:55", "octets", '"2003"', "2003"),
-        ("iptc", "2:55", "octets", '"20030524"', "2003-05-24"),
-        ("iptc", "2:60", "octets", '"222101+0200"', "22:21:01+02:00"),
         ("iptc", "2:120", "octets", "0x5afc72696368", "Zürich"),
         ("main", "013b", "ASCII", '""', "(empty)"),
         ("exif", "9000", "UNDEFINED", '"0231"', "2.31"),
@@ -243,3 +247,79 @@ def test_no_value_is_an_error(tag):
         ("RATIONAL", ""),
     ):
         assert isinstance(plain(field(*key, kind, 1, value)), str)
+
+
+@needs("exiftool")
+def test_dates_times_and_numbers_of_iptc_are_those_of_exiftool(checks):
+    """For people and for programs, in the two records whose texts are read. Nobody is known to write the numbers of previews and of ARM."""
+    listed = subprocess.run(["exiftool", "-listx", "-IPTC:All"], capture_output=True, text=True, check=True).stdout
+    samples = {
+        "digits": (b"20240229", datetime.date(2024, 2, 29), "2024-02-29"),
+        "string": (b"222101+0200", datetime.time(22, 21, 1, tzinfo=datetime.timezone(datetime.timedelta(hours=2))), "22:21:01+02:00"),
+        "int16u": (b"\0\4", 4, "4"),
+    }
+    for record, table in ((1, "EnvelopeRecord"), (2, "ApplicationRecord")):
+        rows = listed.partition(f"<table name='IPTC::{table}'")[2].partition("</table>")[0]
+        for number, kind, rest in re.findall(r"<tag id='(\d+)'[^>]* type='(\w+)'([^>]*)>", rows):
+            for form, (octets, value, text) in samples.items():
+                dataset = Field("iptc", f"{record}:{number}", "octets", len(octets), octets)
+                if form == kind and ("'Time'" in rest or form == "int16u") and dataset.tag not in ("1:120", "1:122", "2:200", "2:201"):
+                    checks.equal(f"{dataset.tag} {form}", (value_of(dataset), plain(dataset)), (value, text))
+                else:
+                    checks.check(f"{dataset.tag} {form}", isinstance(value_of(dataset), (str, bytes)), "a text")
+
+
+@pytest.mark.parametrize(
+    "head, encoding, text",
+    [
+        (b"ASCII", "ascii", "A vase"),
+        (b"JIS", "iso2022_jp", "A vase, \u6771\u4eac"),
+        (b"UNICODE", "utf-16-be", "A vase, Z\u00fcrich"),
+        (b"UNICODE", "utf-16-le", "A vase, Z\u00fcrich"),
+        (b"", "utf-8", "A vase, Z\u00fcrich"),
+        (b"", "cp1252", "A vase, Z\u00fcrich"),
+    ],
+)
+@pytest.mark.parametrize("filled_by", [b"\0", b" "])
+@pytest.mark.parametrize("where, key", [("exif", "9286"), ("gps", "001b"), ("gps", "001c")])
+def test_comments_in_each_character_set(where, key, filled_by, head, encoding, text):
+    """CIPA DC-008 (Exif 2.32), 4.6.6; also with blanks in place of NULs, as ExifTool reads them."""
+    octets = head.ljust(8, filled_by) + text.encode(encoding)
+    commented = Field(where, key, "UNDEFINED", len(octets), octets)
+    assert (comment(octets), plain(commented), value_of(commented)) == (text, text, text)
+
+
+@pytest.mark.parametrize(
+    "octets, text",
+    [
+        (b"ASCII\0\0\0Z\xfcrich", "Zürich"),
+        (b"Z\xfcrich am See", "Zürich am See"),
+        (b"Z\xfcr", "Zür"),
+        (b"Vase on a table\0\0rest", "Vase on a table"),
+        (b"Vase\0\0 ", "Vase"),
+        (b"Vase\0\1\2", None),
+        (b"\xd0\xe0\xf0\xd0\xe0\xf0", None),
+        (b"Vase\1", None),
+        (b"  \0\0", ""),
+        (b"ASCII\0\0\0  ", ""),
+    ],
+)
+def test_comments_as_programs_write_them(octets, text, folder, called):
+    """What isn't declared, or is another text than is declared, is guessed, and is never empty if there is one. What questions find is the same."""
+    assert comment(octets) == text
+    (folder / "a.jpg").write_bytes(jpeg(app1(small_tiff((0x8769, LONG, [(0x9286, UNDEFINED, octets)]), order=">"))))
+    printed = called("captions", "a.jpg")[1]
+    assert (f" {text}   [ExifIFD:UserComment]" in printed) == bool(text), printed
+    assert called("list", ".", "--with", "comment")[1].endswith(f"{int(bool(text))} of 1 picture\n"), text
+    assert ("(empty)" in called("show", "a.jpg")[1]) == (text == "")
+
+
+@pytest.mark.parametrize("letter, word", [(b"w", "west"), (b"West", "west"), (b"E", "east"), (b"S", "S"), (b"x", "x")])
+def test_directions_are_read_as_for_positions(letter, word):
+    assert plain(Field("gps", "0003", "ASCII", len(letter) + 1, letter + b"\0")) == word
+
+
+@pytest.mark.parametrize("where, key, is_text", [("exif", "9000", 1), ("exif", "a000", 1), ("interop", "0002", 1), ("exif", "9101", 0)])
+def test_versions_are_digits(where, key, is_text):
+    """CIPA DC-008 (Exif 2.32), 4.6.5: UNDEFINED, and four characters."""
+    assert (value_of(Field(where, key, "UNDEFINED", 4, b"0231")) == "0231") == bool(is_text)

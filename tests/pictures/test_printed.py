@@ -61,11 +61,11 @@ class Commands(InProcess):
     def test_same(self):
         self.indexed()
         same = ("same", "--catalogue", "@/c")
-        text = self.transcript((0, *same), (0, *same, "--kind", "iptc"), (0, *same, "--json"))
+        text = self.transcript((2, *same), (0, *same, "--kind", "iptc"), (2, *same, "--json"))
         for name in ("k.jpg", "l.jpg"):
             write(self.path("p", name), jpeg(app1(A)) + REST)
         self.indexed()
-        self.golden("same.txt", text + self.transcript((0, *same), (0, *same, "--json")))
+        self.golden("same.txt", text + self.transcript((2, *same), (2, *same, "--json")))
 
     def test_changed(self):
         shutil.copytree(self.path("p"), self.path("q"))
@@ -80,13 +80,6 @@ class Commands(InProcess):
         each = ((2, *changed, *words) for words in ((), ("--each",), ("--exact",), ("--json",)))
         self.golden("changed.txt", self.transcript(*each, (0, "changed", "@/q", "@/q"), (0, "changed", "@/p", "@/p", "--all")))
 
-    def test_changed_moves(self):
-        self.indexed()
-        os.rename(self.path("p", "d.png"), self.path("p", "s", "d\n.png"))
-        self.printed("index", "@/p", "--keep-old", "@/old", *QUIET)
-        changed = ("changed", "@/old", "@/c")
-        self.golden("changed-moved.txt", self.transcript((1, *changed), (1, *changed, "--each"), (1, *changed, "--json")))
-
     def test_show(self):
         names = self.named("a.jpg", "c.jpg", "d.png", "e.jpg", "f.jpg", "j\n.jpg", "nothing.jpg", "a.jpg")
         write(self.path("block"), K)
@@ -98,38 +91,6 @@ class Commands(InProcess):
                 (0, "show", *self.named("e.jpg")),
                 (2, "show", "--block", "@/nothing", "@/block"),
                 (2, "show", *self.named("c.jpg", "f.jpg", "s/g.jpg", "nothing"), "--json"),
-            ),
-        )
-
-    def test_captions(self):
-        """A caption can't control a terminal; what is guessed says so."""
-        write(
-            self.path("p", "a.jpg"),
-            jpeg(app1(A), with_record(K + b"\x1c\2\x78\0\5a\x1bb\xfc\n" + b"\x1c\2\x50\0\2\xc3\xbc"), app1_xmp(T)),
-        )
-        self.golden(
-            "captions.txt",
-            self.transcript(
-                (2, "captions", *self.named("a.jpg", "c.jpg", "d.png", "e.jpg")), (0, "captions", *self.named("a.jpg", "e.jpg"), "--json")
-            ),
-        )
-
-    def test_explain(self):
-        write(self.path("block"), BLOCKS["DataSetCut"])
-        names = self.named("a.jpg", "c.jpg", "j\n.jpg")
-        self.golden(
-            "explain.txt", self.transcript((2, "explain", *names), (2, "explain", "--block", "@/block"), (2, "explain", *names, "--json"))
-        )
-
-    def test_merge(self):
-        self.printed("index", "@/p/s", "--catalogue", "@/one", "--quiet")
-        self.printed("index", "@/p/a.jpg", "@/p/b.jpg", "--catalogue", "@/two", "--quiet")
-        self.golden(
-            "merge.txt",
-            self.transcript(
-                (0, "merge", "@/one", "@/two", "--catalogue", "@/all"),
-                (0, "merge", "@/one", "--catalogue", "@/all", "--json"),
-                (4, "merge", "@/one", "@/all", "--catalogue", "@/all"),
             ),
         )
 
@@ -150,7 +111,8 @@ class Commands(InProcess):
             os.mkdir(self.path(side))
             write(self.path(side, "a.jpg"), hidden)
         for command in ("show", "captions", "explain"):
-            found = [self.objects(command, "@/x/a.jpg", *it) for it in ([], ["--whole"])]
+            status = 2 if command == "captions" else 0
+            found = [self.objects(command, "@/x/a.jpg"), self.objects(command, "@/x/a.jpg", "--whole", status=status)]
             self.assertEqual([any(it.get("not_read") for it in some) for some in found], [False, True])
         for jobs in ("1", "2"):
             index = ("index", "@/x", "--catalogue", f"@/c{jobs}", "--jobs", jobs, "--quiet")

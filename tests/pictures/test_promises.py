@@ -1,9 +1,7 @@
 """What docs/exifnorm-pictures.1, README.md and the last section of docs/RECIPES.md promise, each by runs of the commands."""
 
-import argparse
 import contextlib
 import hashlib
-import io
 import json
 import os
 import re
@@ -14,14 +12,13 @@ from unittest import mock
 
 import exifnorm
 from in_process import InProcess
-from made_blocks import ASCII, BLOCKS, LONG, UNDEFINED, block, entry, segment, table
+from made_blocks import ASCII, BLOCKS, LONG, UNDEFINED, segment
 from made_files import A, B, K, L, T, T_OTHERWISE, U, XMP_HEAD, turned, xmp
 from made_files import app1, app13, app1_xmp, chunk, extension, jpeg, mpf, page, png, png_xmp, profile, resource, tiff, webp, with_record
 from studio import SMALL_JPEG, errors, needs, read, run, without_own_script, write
 
-from exifnorm_pictures.cli import looking, mend as mend_cli
-from exifnorm_pictures.refusals import mend
-from exifnorm_pictures.scan import batches, index
+from exifnorm_pictures.cli import looking
+from exifnorm_pictures.scan import index
 from exifnorm_pictures.extract.formats import jpeg_tail
 
 DOUBLED = BLOCKS["Doubled"]
@@ -100,20 +97,6 @@ class WhatIsCompared(Promises):
         found = self.compared(jpeg(app1(A), behind=b"one"), jpeg(app1(A), behind=b"two"), status=2)
         self.assertEqual((found["result"], found["kinds"]["exif"]), ("not wholly read", "same"))
         self.assertEqual(self.result(*[jpeg(app1(A), behind=b"one")] * 2), "same")
-
-    def test_results(self):
-        note = [jpeg(app1(block([entry(0x8769, LONG, 1, 26)]) + table([entry(0x927C, UNDEFINED, 4, it)]))) for it in (b"note", b"mote")]
-        for one, other, status, expected in (
-            (jpeg(app1(A)), jpeg(app1(B)), 1, "different"),
-            (*note, 1, "only MakerNote differs"),
-            (jpeg(app1(A)), jpeg(app1(DOUBLED)), 2, "refused"),
-            (with_packet(T), with_packet(b"<x"), 2, "unreadable"),
-            (jpeg(), jpeg(behind=b"rest"), 2, "not wholly read"),
-        ):
-            self.assertEqual(self.result(one, other, status=status), expected)
-        os.rename(self.path("y", "a.jpg"), self.path("y", "b.jpg"))
-        found = self.objects("changed", "@/x", "@/y", status=1)[:2]
-        self.assertEqual([(it["path"], it["result"]) for it in found], [("a.jpg", "missing after"), ("b.jpg", "missing before")])
 
     def test_formats(self):
         """Where no other program is installed. The entries that lead to pixels are left out of a block."""
@@ -268,40 +251,6 @@ class WhatIsCompared(Promises):
 
 
 class Catalogues(Promises):
-    def test_index(self):
-        self.files("p", a=jpeg(app1(A)), s__b=jpeg(app1(B)))
-        self.files(".", direct=jpeg(app1(A)))
-        first = self.printed("index", "@/p", "@/direct.jpg", "--catalogue", "@/c")
-        self.assertEqual((first[0], self.names("c")), ("3 accepted", ["direct.jpg", "p/a.jpg", "p/s/b.jpg"]))
-        self.assertIn("3 of 3 pictures", self.complaint)
-        self.assertEqual((self.index("@/p", "@/direct.jpg"), self.complaint), (["3 unchanged"], ""))
-        self.assertEqual(self.index("@/p", "@/direct.jpg", "--again"), ["3 accepted"])
-        self.assertEqual(read(self.path("c"))[:16], b"SQLite format 3\0")
-        write(self.path("text"), b"a text")
-        self.printed("index", "@/p", "--catalogue", "@/text", "--quiet", status=4)
-        self.assertEqual(read(self.path("text")), b"a text")
-        self.assertEqual([batches.How().processes, batches.How(3).processes], [len(os.sched_getaffinity(0)), 3])
-
-    def test_keep_old(self):
-        """An earlier copy is replaced, and no other file."""
-        self.files("p", a=jpeg(app1(A)))
-        self.index("@/p")
-        self.files("p", b=jpeg(app1(B)))
-        kept = [self.index("@/p", "--keep-old", "@/old") and self.names("old") for _ in range(2)]
-        self.assertEqual(kept, [["p/a.jpg"], ["p/a.jpg", "p/b.jpg"]])
-        write(self.path("text"), b"a text")
-        self.index("@/p", "--keep-old", "@/text", status=4)
-        self.assertEqual(read(self.path("text")), b"a text")
-
-    def test_pictures_that_are_gone(self):
-        self.files("p", a=jpeg(app1(A)), b=jpeg(app1(B)), c=jpeg())
-        self.index("@/p")
-        os.rename(self.path("p", "a.jpg"), self.path("p", "new.jpg"))
-        os.remove(self.path("p", "c.jpg"))
-        self.index("@/p")
-        found = self.rows("c", "SELECT path, problem FROM pictures WHERE problem IS NOT NULL ORDER BY path")
-        self.assertEqual([(os.path.basename(path), it) for path, it in found], [(b"a.jpg", "Moved"), (b"c.jpg", "Vanished")])
-
     def test_files_of_a_catalogue(self):
         self.files("p", a=jpeg(app1(A)), b=jpeg(behind=b"rest"))
         seen = set()
@@ -309,24 +258,6 @@ class Catalogues(Promises):
             self.index("@/p")
         counts = [self.rows("c", f"SELECT count(*) FROM {it}")[0][0] for it in ("runs", "pictures", "blocks", "not_read")]
         self.assertEqual((counts, sorted(seen)), ([1, 2, 1, 1], ["c", "c-shm", "c-wal", "p"]))
-
-    def test_same(self):
-        record = with_record(K)
-        self.files(
-            "p",
-            a=jpeg(app1(A), record),
-            b=jpeg(app1(turned(A)), record),
-            c=jpeg(app1(B), record),
-            d=jpeg(app1(DOUBLED), record),
-            e=jpeg(app1(DOUBLED), record),
-            f=jpeg(app1_xmp(b"<x")),
-            g=jpeg(app1_xmp(b"<x")),
-        )
-        self.index("@/p")
-        for kind, expected in (("all", ["ab", "de", "fg"]), ("exif", ["ab", "de"]), ("iptc", ["abcde"]), ("xmp", ["fg"])):
-            *groups, _ = self.objects("same", "--catalogue", "@/c", "--kind", kind)
-            self.assertEqual(["".join(it["path"][-5] for it in group["pictures"]) for group in groups], expected, kind)
-        self.assertTrue(self.printed("same", "--catalogue", "@/c")[-2].startswith("4 pictures can't be the same by meaning"))
 
     def test_pairs_of_changed(self):
         """By the path below a folder if each side has one, otherwise by the whole path. No progress is shown."""
@@ -376,28 +307,10 @@ class Catalogues(Promises):
 
 
 class Pictures(Promises):
-    def test_show_and_captions(self):
-        captions = K + b"\x1c\2\x78\0\4Vase" + b"\x1c\2\x50\0\3Lee" + b"\x1c\2\x74\0\4Mine"
-        self.files("p", a=jpeg(app1(block([entry(0x013B, ASCII, 4, b"Ann\0")])), with_record(captions)))
-        fields = [field["name"] for it in self.objects("show", "@/p/a.jpg")[0]["blocks"] for field in it["fields"]]
-        self.assertEqual(fields, ["IFD0:Artist", "IPTC:Keywords", "IPTC:By-line", "IPTC:CopyrightNotice", "IPTC:Caption-Abstract"])
-        labels = [one["label"] for it in self.objects("captions", "@/p/a.jpg") for one in it["captions"]]
-        self.assertEqual(sorted(labels), ["caption", "copyright", "creator", "creator", "keywords"])
-
     def test_long_values(self):
         write(self.path("long"), bytes.fromhex("4d4d002a00000008 0001 9999 0007 000000c8 0000001a 00000000") + bytes(200))
         found = re.findall(r"\[(\d+)\] .*sha256:([0-9a-f]+)$", self.printed("show", "--exact", "--block", "@/long")[-1])
         self.assertEqual(found, [("200", sha256(bytes(200))[:12])])
-
-    def test_explain(self):
-        """The cause, the entry, both owners of shared bytes, the bytes around the offset, who writes such blocks, and what helps."""
-        self.files("p", a=jpeg(app1(BLOCKS["Overlap"])))
-        (found,) = self.objects("explain", "@/p/a.jpg", status=2)
-        self.assertEqual((found["cause"], found["offset"]), ("Overlap", 34))
-        self.assertIn("Software (0131)", found["here"][0])
-        self.assertEqual(found["here"][1].count("the value of "), 2)
-        self.assertTrue(any(it.endswith("^^ 34") for it in found["bytes"]), found["bytes"])
-        self.assertTrue(all(found[it] for it in ("sentence", "meaning", "writers", "remedy", "cost")), found)
 
     @needs("exiftool")
     def test_a_plain_copy(self):
@@ -410,21 +323,6 @@ class Pictures(Promises):
         self.assertEqual(found, [(0o100640, 10**18)] * 2)
         self.assertEqual(read(self.path("copy.jpg")), read(self.path("p", "a.jpg")))
 
-    def test_names(self):
-        """Lists end names with a line's end or NUL; without --json each name is on one line."""
-        self.files("p", a=jpeg(app1(A)), **{"b\nc": jpeg(app1(A))})
-        write(os.path.join(os.fsencode(self.folder), b"p", b"\xff.jpg"), jpeg(app1(A)))
-        for name, it in {"lines": b"@/p/a.jpg\n", "nuls": b"@/p/a.jpg\0@/p/b\nc.jpg\0"}.items():
-            write(self.path(name), it.replace(b"@", os.fsencode(self.folder)))
-        self.index("@/p")
-        self.assertEqual(self.printed("show", "--files-from", "@/lines"), ["== F/p/a.jpg", *self.printed("show", "@/p/a.jpg")])
-        heads = [it for it in self.printed("show", "--files-from", "@/nuls", "-0") if it.startswith("== ")]
-        self.assertEqual(heads, ["== F/p/a.jpg", "== F/p/b\\nc.jpg"])
-        same = ("same", "--catalogue", "@/c")
-        self.assertEqual(self.objects(*same, "--files-from", "@/lines")[:-1], [])
-        self.assertEqual(self.objects(*same, "--files-from", "@/nuls", "--null")[0]["count"], 2)
-        self.assertEqual(self.printed(*same)[1:-2], ["  F/p/a.jpg", "  F/p/b\\nc.jpg", "  F/p/\\xff.jpg"])
-
     def test_names_for_changed(self):
         """Paths below the folder, or whole ones; from standard input, too."""
         for folder, octets in (("p", K), ("q", L)):
@@ -432,15 +330,6 @@ class Pictures(Promises):
         for name in ("a.jpg", self.path("p", "a.jpg")):
             lines = self.asked("changed", "p", "q", "--files-from", "-", "--json", given=os.fsencode(f"{name}\n"), status=1)
             self.assertEqual(json.loads(lines[-1])["counts"], {"different": 1})
-
-    def test_blocks_and_whole_files(self):
-        write(self.path("block"), b"\x1c\x02\x78\0\x04Vase")
-        for command, word in (("show", "Vase"), ("captions", "Vase"), ("explain", "ok")):
-            self.assertIn(word, self.printed(command, "--block", "@/block")[-1].split())
-        self.files("p", a=with_tail(app1(A), b""))
-        self.index("@/p")
-        self.assertEqual([len(self.printed("show", "@/p/a.jpg", *it)) for it in ([], ["--whole"])], [1, 2])
-        self.assertEqual([self.index("@/p", *it)[-1] for it in (["--whole"], ["--again", "--whole"])], ["1 unchanged", "1 no block"])
 
     def test_version_and_help(self):
         version, help_ = (run(["exifnorm-pictures", it], self.folder).stdout.decode() for it in ("--version", "--help"))
@@ -458,42 +347,6 @@ class Pictures(Promises):
             [(it.returncode, b"Abc" in it.stdout, b"none.so" in it.stderr) for it in found], [(0, True, False), (4, False, True)]
         )
 
-    def test_statuses(self):
-        """Each with what the page names for it; the greatest counts."""
-        files = {
-            "refused": jpeg(app1(DOUBLED)),
-            "unread": jpeg(app1(A), behind=b"rest"),
-            "unreadable": jpeg(app1(A), app1_xmp(b"<x")),
-            "also_differs": jpeg(app1(B), app1_xmp(b"<x")),
-        }
-        for name, octets in {**files, "differs": jpeg(app1(B)), "one": jpeg(app1(A))}.items():
-            self.files(name, a=octets)
-        self.files("moved", b=jpeg(app1(A)))
-        self.files("missing", c=jpeg(app1(B)))
-        for after, status, of_picture in (
-            ("refused", 2, 2),
-            ("unreadable", 2, 2),
-            ("also_differs", 1, 2),
-            ("unread", 2, 0),
-            ("differs", 1, 0),
-        ):
-            self.printed("changed", "@/one", f"@/{after}", status=status)
-            for command in ("show", "captions", "explain"):
-                self.printed(command, f"@/{after}/a.jpg", status=of_picture)
-        for before, after, status in (("one", "moved", 1), ("one", "missing", 1), ("refused", "refused", 0)):
-            self.printed("changed", f"@/{before}", f"@/{after}", status=status)
-        self.printed("show", "@/one/a.jpg", "@/refused/a.jpg", status=2)
-        self.printed("show", "@/absent", "@/refused/a.jpg", status=2)
-        self.assertEqual(self.index("@/refused", "@/one")[-1], "1 accepted, 1 refused")
-        self.assertEqual(self.index("@/absent", "@/one", catalogue="d", status=2)[-1], "1 accepted, 1 not readable")
-        self.assertEqual(run(["exifnorm-pictures", "show"], self.folder).returncode, 3)
-        for lost, step, status in ((["a value"], "rebuild", 1), ([], "none", 2)):
-            with mock.patch.object(
-                mend, "mend", return_value=mend.Mended(mend.Remedy(step), {}, lost, is_written=bool(lost))
-            ), contextlib.redirect_stdout(io.StringIO()):
-                asked = argparse.Namespace(json=False, files_from=None, catalogue=None, lossless=False, session=None)
-                self.assertEqual(mend_cli._mend_one(asked, b"a", b"b")[0], status)
-
     @needs("exiftool")
     def test_no_picture_is_modified(self):
         self.files(
@@ -506,7 +359,7 @@ class Pictures(Promises):
         write(self.path("later", "a.jpg"), jpeg(app1(B), with_record(K), app1_xmp(T)))
         before = self.marks("p")
         self.index("@/p")
-        (group, _) = self.objects("same", "--catalogue", "@/c")
+        (group, _) = self.objects("same", "--catalogue", "@/c", status=2)
         (changed, *_) = self.objects("changed", "@/p", "@/later", status=1)
         self.assertEqual((sorted(group["digests"]), [it["name"] for it in changed["fields"]]), (["exif", "iptc", "xmp"], ["IFD0:Make"]))
         for command in ("show", "captions", "explain"):

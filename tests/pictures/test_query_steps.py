@@ -3,6 +3,7 @@
 The catalogues are made by SQL, with groups of every basis. The growths of test_growth.py have few pictures each, and read them.
 """
 
+import json
 import shutil
 import sqlite3
 from contextlib import closing
@@ -11,7 +12,9 @@ import pytest
 from test_scale import many_rows
 from work import Counting, compiled
 
-from exifnorm_pictures.catalogue.store import Catalogue
+from exifnorm_pictures.catalogue import store
+from exifnorm_pictures.catalogue.store import Catalogue, NoCatalogue
+from exifnorm_pictures.cli.parser import parsers
 from exifnorm_pictures.fields.field import Field
 from exifnorm_pictures.fields.packing import packed
 from exifnorm_pictures.model.found import EXIF
@@ -54,7 +57,9 @@ COMMANDS = (
     "list C --with damage --columns damage",
     "list C --where title=x",
     "check rules C",
+    "check one C",
     "history /archive/one/00000016.jpg C D",
+    "history /archive/one/00000017.jpg C D",
     "captions C --json",
     "conflicts C --json",
     "merge C D --catalogue E",
@@ -62,7 +67,10 @@ COMMANDS = (
     "relocate E /archive new",
     "verify --catalogue E --jobs 1 --quiet",
     "forget new --catalogue E",
+    "mend C new",
+    "nightly /archive --catalogue D --json",
 )
+OF_FILES = {"compare", "explain", "index", "show"}  # which test_growth.py counts
 
 
 def make(name, count):
@@ -95,7 +103,9 @@ def works(tmp_path_factory):
             for statement in EDITS:
                 base.execute(statement)
         (folder / "new" / "one").mkdir(parents=True)
-        (folder / "rules").write_text("every picture needs credit\ncreator is Otto\n", encoding="ascii")
+        unused = [f"{number} {'x' * 40}" for number in range(20)]  # texts that no picture has, longer than what the index has of a text
+        (folder / "rules").write_text(f"every picture needs credit\ncreator one of {', '.join(unused)}\n", encoding="ascii")
+        (folder / "one").write_text(f"every picture needs credit\ncreator one of {unused[0]}\n", encoding="ascii")
         for words in COMMANDS:
             work = counting.run(folder, *words.split())
             assert work.status in (0, 1, 2), (words, work.err[-2000:])
@@ -104,12 +114,82 @@ def works(tmp_path_factory):
     return found
 
 
+def test_each_command_that_reads_a_catalogue_is_counted():
+    assert {words.split()[0] for words in COMMANDS} | OF_FILES == set(parsers()[1])
+
+
 @pytest.mark.parametrize("words", COMMANDS)
 def test_twice_as_many_pictures_take_twice_the_steps(works, words):
     few, many = (works[words, size].steps for size in SIZES)
     assert many <= TIMES * few + FEW
 
 
+def test_forgetting_takes_no_memory_for_each_picture(tmp_path):
+    counting = Counting(compiled(tmp_path))
+    memory = []
+    for size in (15_000, 45_000):
+        make(tmp_path / str(size), size)
+        work = counting.run(tmp_path, "forget", "/archive", "--catalogue", str(size), "--json")
+        assert json.loads(work.out)["forgotten"] == size, work.err
+        memory.append(work.memory)
+    counting.close()
+    assert memory[1] < memory[0] + 100_000
+
+
+@pytest.mark.parametrize("at_once", [1, 7, 1000])
+def test_refused_pictures_are_read_some_at_once_and_others_can_write(tmp_path, monkeypatch, at_once):
+    make(tmp_path / "C", 300)
+    monkeypatch.setattr(store, "_AT_ONCE", at_once)
+    with Catalogue(str(tmp_path / "C")) as catalogue:
+        refused = [it.path for it in catalogue.pictures() if it.problem is None and None in it.meanings]
+        assert 50 < len(refused) < 100 and refused == sorted(refused)
+        paths = catalogue.refused()
+        first = next(paths)
+        with closing(sqlite3.connect(tmp_path / "C", isolation_level=None, timeout=0)) as other:
+            other.execute("DELETE FROM pictures WHERE path = ?", (refused[-1],))
+            assert [first, *paths] == refused[: None if at_once == 1000 else -1]
+            other.execute("UPDATE pictures SET path = CAST(path AS TEXT) WHERE path = ?", (refused[0],))
+        with pytest.raises(NoCatalogue):
+            list(catalogue.refused())
+
+
 def test_a_part_that_does_not_count_costs_three_times_as_much(works):
     plain, ignoring = (works[words, SIZES[1]] for words in (COMMANDS[0], COMMANDS[3]))
     assert ignoring.steps <= 3 * plain.steps and ignoring.calls <= 3 * plain.calls, (plain, ignoring)
+
+
+def test_twenty_texts_of_a_rule_that_no_picture_has_cost_little_more_than_one(works):
+    one, twenty = (works[f"check {name} C", SIZES[1]].steps for name in ("one", "rules"))
+    assert twenty <= 1.5 * one, (one, twenty)
+
+
+@pytest.mark.parametrize("is_written", [False, True], ids=["one that is read", "one that is written"])
+def test_the_folders_of_a_catalogue_are_looked_for_once_until_somebody_writes(tmp_path, is_written):
+    make(tmp_path / "C", 500)
+    with Catalogue(str(tmp_path / "C"), make=is_written) as catalogue:
+        steps = []
+        catalogue.base.set_progress_handler(lambda: steps.append(1), 1)
+        assert catalogue.roots() == [b"/archive"]
+        once = len(steps)
+        assert catalogue.roots() == [b"/archive"] and len(steps) < 1.1 * once
+        with closing(sqlite3.connect(tmp_path / "C", isolation_level=None)) as other:
+            other.execute("UPDATE pictures SET root = CAST('/other' AS BLOB) WHERE id % 2")
+        assert catalogue.roots() == [b"/archive", b"/other"]
+        if is_written:
+            catalogue.base.execute("UPDATE pictures SET root = CAST('/other' AS BLOB)")
+            assert catalogue.roots() == [b"/other"]
+
+
+def test_the_history_of_a_picture_goes_through_each_catalogue_once(works, tmp_path):
+    make(tmp_path / "C", SIZES[0])
+    passed = []
+    with closing(sqlite3.connect(tmp_path / "C")) as base:
+        base.set_progress_handler(lambda: passed.append(1), 1)
+        base.execute("SELECT DISTINCT root FROM pictures ORDER BY root").fetchall()
+    few, many = (works["history /archive/one/00000017.jpg C D", size].steps for size in SIZES)
+    assert 100 * (many - few) <= 2.5 * len(passed)
+
+
+def test_the_history_of_a_picture_that_stays_pairs_no_others(works):
+    gone, stays = (works[f"history /archive/one/{number}.jpg C D", SIZES[1]].steps for number in ("00000016", "00000017"))
+    assert 10 * stays <= gone

@@ -161,7 +161,7 @@ class Readers(unittest.TestCase):
             self.seen(jpeg(segment(0xE2, data)), [], [(f"MPF index that does not fit the file ({why})", data[4:])])
         rows = struct.pack(">IIIIIIII", 0, 4, 0, 0, 9, 7, 99, 3)
         data = b"MM\0*" + struct.pack(">IHHHII", 8, 2, 1, 7, 3, 4) + struct.pack(">HHII", 0xB002, 7, 32, 34) + rows
-        self.assertEqual(mpf_.further_pictures(data, 1000), [mpf_.Place(1099, 7)])
+        self.assertEqual(mpf_.further_pictures(data, 1000), [(1099, 7)])
 
     def test_after_a_jpeg(self):
         end = len(SMALL_JPEG)

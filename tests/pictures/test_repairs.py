@@ -61,6 +61,7 @@ REFUSED = {
     "empty": camera(empty=True),
     "little": camera("<", unsorted=True, shared=True),
     "all": camera(unsorted=True, shared=True, doubled=True),
+    "at the end": camera().replace(struct.pack(">HI", RATIONAL, 1) + b"\0\0\1\x40", struct.pack(">HII", RATIONAL, 1, 94)),
 }
 
 
@@ -69,29 +70,8 @@ def values_of(folder, blocks):
     for number, octets in enumerate(blocks):
         (folder / f"{number:04}.jpg").write_bytes(jpeg(app1(octets)))
     names = [f"{number:04}.jpg" for number in range(len(blocks))]
-    words = [
-        "exiftool",
-        "-config",
-        "",
-        "-q",
-        "-q",
-        "-m",
-        "-json",
-        "-a",
-        "-u",
-        "-n",
-        "-G1:4",
-        "-b",
-        "-x",
-        "File:all",
-        "-x",
-        "System:all",
-        "-x",
-        "ExifTool:all",
-        "-x",
-        "Composite:all",
-        *names,
-    ]
+    left_out = [word for group in ("File", "System", "ExifTool", "Composite") for word in ("-x", f"{group}:all")]
+    words = ["exiftool", "-config", "", *"-q -q -m -json -a -u -n -G1:4 -b".split(), *left_out, *names]
     done = subprocess.run(words, cwd=folder, capture_output=True, timeout=600)
     found = json.loads(done.stdout)
     assert [it.pop("SourceFile") for it in found] == names
@@ -147,6 +127,20 @@ def test_each_cause(golden):
         lines += [f"  {it.what}{' (loses ' + it.loses + ')' if it.loses else ''}" for it in (made.steps if made else ())]
         lines += [f"    {where}:{key} {shown}" for where, key, shown in (fields_of(made) if made else ())]
     golden("repairs.txt", "\n".join(lines) + "\n")
+
+
+def test_a_copied_value_begins_at_a_word():
+    """As TIFF 6.0, section 2, asks, also behind a block of an odd length."""
+    places = [struct.unpack_from(">I", lossless(camera(shared=True) + bytes(more)).block, 10 + 4 * 12 + 8) for more in range(4)]
+    assert places == [(400,), (402,), (402,), (404,)]
+
+
+@pytest.mark.parametrize("place", (300, 320, 344, 380))
+def test_a_maker_note_stays_where_it_is(place):
+    """What is in it may count from the block's beginning. The value with which it shares bytes is copied, in whichever directory that is."""
+    note = struct.pack(">HHII", 0x927C, 7, 8, place)
+    made = lossless(camera().replace(struct.pack(">HHII", 0x9204, 10, 1, 364), note))
+    assert note in made.block and len(made.block) > 400 and fields_of(made)
 
 
 @pytest.mark.parametrize("count, is_repaired", [(100, True), (101, False)])

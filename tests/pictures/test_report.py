@@ -9,8 +9,6 @@ from urllib.parse import unquote_to_bytes
 from made_blocks import BLOCKS, MAKE, MODEL, block, with_exif, with_iptc
 from studio import SMALL_JPEG, WithPictures, needs, read, run, write
 
-from exifnorm_pictures.report import templating as report
-
 GROUPS, REFUSED, CHANGED = {"One\0": 5, "Two\0": 3, "Ten\0": 2}, 4, 6
 
 
@@ -45,18 +43,17 @@ class Text(HTMLParser):
             return
         if not self.open or self.open.pop()[0] != tag:
             self.wrong.append((tag, "closed"))
+        if tag == "section":
+            self.within = ""
 
     def handle_data(self, data):
         for _, name in self.open:
             self.found.setdefault(name, []).append(data)
-        self.sections.setdefault(self.within, []).append(data)
+        if not {"script", "style"} & {tag for tag, _ in self.open}:  # which nobody reads
+            self.sections.setdefault(self.within, []).append(data)
 
     def texts(self, name):
         return [it.strip() for it in self.found.get(name, []) if it.strip()]
-
-    def rows(self, name):
-        """The texts of each row of the tables of a class: what is in a row comes without an end of a line."""
-        return "".join(self.found.get(name, [])).split("\n")
 
 
 class Report(WithPictures):
@@ -81,29 +78,6 @@ class Report(WithPictures):
         self.asked("index", "p", "--catalogue", "c", "--quiet")
         self.asked("report", "--catalogue", "c", "--since", "old", "--html", "r.html", "--title", "The <title>")
         self.page = read(self.path("r.html")).decode()
-
-    def test_each_count_group_and_change_is_there_once(self):
-        page = Text(self.page)
-        self.assertEqual((page.wrong, page.open), ([], []))
-        self.assertEqual(page.texts("h1"), ["The <title>"])
-        cards = page.texts("cards")
-        counts = dict(zip(cards[1::2], cards[0::2]))
-        self.assertEqual(counts[report.STATE_WORDS["accepted"]], "17")
-        self.assertEqual(counts[report.STATE_WORDS["refused"]], str(REFUSED))
-        self.assertEqual([*counts.values()][-2:], ["8", str(CHANGED + 3)])
-        heads = [it for it in page.texts("h3") if re.match(r"\d+ pictures", it)]
-        self.assertEqual(heads, [f"{CHANGED} pictures", "5 pictures", "3 pictures"])
-        self.assertLess(self.page.index(f"{CHANGED} pictures</h3>"), self.page.index(">alone.jpg</a></h3>"), "what is in many comes first")
-        rows = ["".join(it) for it in page.rows("fields")]
-        for value in ('"Old"', '"New"', '"Alo"', '"<b>"'):
-            self.assertEqual(sum(value in it for it in rows), 1, value)
-        changed = page.sections["changed"]
-        for name in ("added.jpg", "Ten1.jpg", *(f"changed{number}.jpg" for number in range(CHANGED))):
-            self.assertEqual(sum(name in it for it in changed), 1, name)
-        self.assertEqual(page.texts("cause"), ["Overlap"])
-        for number in range(REFUSED):
-            path = self.path("p", f"refused{number}.jpg")
-            self.assertIn(f"exifnorm-pictures mend {path} mended-refused{number}.jpg", " ".join(page.sections["refused"]))
 
     def test_each_picture_is_a_link_and_none_is_left_out(self):
         """Of 23 pictures that are there each is in the list by folder, with what the other lists say of it, and each link leads to a file."""

@@ -184,15 +184,24 @@ def test_nothing_else_is_replaced(what: str, small: Path, called: Called) -> Non
     assert tree(small) == before, "something was written"
 
 
-def test_a_run_that_fails_leaves_the_earlier_report(small: Path, called: Called, monkeypatch: pytest.MonkeyPatch) -> None:
+@pytest.mark.parametrize("error", [OSError(errno.ENOSPC, "full"), OSError(errno.EACCES, "no"), KeyboardInterrupt()])
+@pytest.mark.parametrize("call", ["tempfile.mkdtemp", "os.fsync", "os.rename", "ctypes.get_errno"])
+def test_a_run_that_fails_says_so_and_leaves_the_earlier_report(
+    call: str, error: BaseException, small: Path, called: Called, monkeypatch: pytest.MonkeyPatch
+) -> None:
+    """Where names can be exchanged at once, and where they can't."""
     called("report", "c", "--html", "report/", "--title", "One")
     before = tree(small)
-    for name, error in (("fsync", OSError(errno.ENOSPC, "full")), ("fsync", KeyboardInterrupt()), ("rename", OSError(errno.EACCES, "no"))):
-        with monkeypatch.context() as patched:
+    with monkeypatch.context() as patched:
+        if call == "ctypes.get_errno":
+            patched.setattr("ctypes.CDLL", lambda *_, **__: mock.Mock(renameat2=lambda *_: -1))
+            patched.setattr(call, lambda: getattr(error, "errno", errno.EIO))
+        else:
             patched.setattr(folders, "_exchange", lambda *_: False)
-            patched.setattr(os, name, mock.Mock(side_effect=error))
-            called("report", "c", "--html", "report/", "--title", "Two")
-        assert tree(small) == before, (name, error)
+            patched.setattr(call, mock.Mock(side_effect=error))
+        status, _, messages = called("report", "c", "--html", "report/", "--title", "Two")
+    assert tree(small) == before and status in (4, 130)
+    assert status == 130 or "isn't written" in messages and len(messages.splitlines()) == 1
 
 
 def test_what_a_killed_run_left_is_removed_by_the_next_one(small: Path, called: Called, monkeypatch: pytest.MonkeyPatch) -> None:
@@ -356,6 +365,18 @@ def test_damaged_pictures_come_first(folder: Path, called: Called) -> None:
     assert "damaged" in kinds[0] and "different" in kinds[1:]
 
 
+def test_a_picture_has_each_tag_once(folder: Path, called: Called) -> None:
+    """Also one that is cut off without a block, which its state and a list show."""
+    put(str(folder), {"p/1.jpg": picture(b"new"), "p/2.jpg": SMALL_JPEG[:12], "p/3.jpg": with_exif(SMALL_JPEG, BLOCKS["Overlap"])})
+    called("index", "p", "--catalogue", "c", "--pixels", "--quiet")
+    called("report", "c", "--html", "page.html")
+    page = (folder / "page.html").read_text(encoding="utf-8").rpartition('id="folders-')[2]
+    tags = {}
+    for item in re.findall(r"<li>(.*?)</li>", page, re.S):
+        tags[re.findall(r"(\d)\.jpg", item)[-1]] = re.findall(r'class="tag[^"]*"[^>]*>([^<]*)<', item)
+    assert tags["2"] and tags["3"] and all(len(it) == len(set(it)) for it in tags.values()), tags
+
+
 # Words
 
 
@@ -395,6 +416,17 @@ def test_long_texts_cost_a_limited_number_of_steps(monkeypatch: pytest.MonkeyPat
     first, second = marker.marked("x " + "a " * 30_000 + "y", "x " + "b " * 30_000 + "y")
     assert compared <= 1_000_000 and "".join(texts(first)) == "x " + "a " * 30_000 + "y"
     assert [it.is_changed for it in second or ()] == [False, True, False]
+
+
+def test_rules_have_the_notes_of_check(folder: Path, called: Called) -> None:
+    """Of a folder and of a text that may be mistyped."""
+    put(str(folder), {"p/a.jpg": jpeg(app1(exif(b"abc")))})
+    (folder / "rules").write_text('title never in wbe/\ncredit is "<Museum>"\n')
+    called("index", "p", "--catalogue", "c", "--quiet")
+    called("report", "c", "--rules", "rules", "--html", "page.html")
+    broken = " ".join(Text((folder / "page.html").read_text(encoding="utf-8")).sections["broken"])
+    notes = json.loads(called("check", "rules", "c", "--json")[1].splitlines()[-1])["notes"]
+    assert len(notes) == 2 and all(note in broken for note in notes), (notes, broken)
 
 
 def test_rules_and_moved_folders(folder: Path, called: Called) -> None:

@@ -9,7 +9,7 @@ import re
 import unicodedata
 
 import pytest
-from made_files import app1, jpeg
+from made_files import app1, app1_xmp, jpeg, xmp
 from studio import needs, put
 from test_list import DATASETS, picture
 from test_maker_notes import noted
@@ -121,6 +121,8 @@ def test_a_folder_a_catalogue_and_questions_agree(folder, called, seed):
         labels = rng.sample(list(DATASETS), rng.randrange(len(DATASETS)))
         texts = [(label, rng.choice(DATES if label == "date created" else TEXTS)) for label in labels]
         put(folder / "p", {f"{rng.choice(FOLDERS)}/{number:02}.jpg": picture(texts, *[refused] * (rng.random() < 0.2))})
+    year = xmp("", "photoshop:DateCreated='2001'", "xmlns:photoshop='http://ns.adobe.com/photoshop/1.0/'")
+    put(folder / "p", {"year.jpg": jpeg(app1_xmp(year))})
     asked = [(f"every picture needs {label}", f"without {label}") for label in DATASETS]
     asked += [(f"{label} never", f"with {label}") for label in DATASETS]
     asked += [("date created not after 2001", "date created > 2001"), ("date created not before 2001-01", "date created < 2001-01")]
@@ -135,12 +137,15 @@ def test_a_folder_a_catalogue_and_questions_agree(folder, called, seed):
             assert sorted({it["path"] for it in broken if it["line"] == line}) == sorted(filter(None, printed.split("\0"))), (rule, source)
             assert status <= of_catalogue[0], rule
     assert of_catalogue[0] == (2 if summary["not_known"] else 1)
+    assert not [
+        it for it in broken if it["path"].endswith("year.jpg") and " not " in it["rule"]
+    ]  # it is neither before nor after its month
 
 
 def test_nothing_is_broken(folder, called):
     put(folder / "p", {"a.jpg": picture([("title", "A")])})
     (folder / "rules").write_text("every picture needs title\ntitle is A\n")
-    assert called("check", "rules", "p")[:2] == (0, "0 of 2 rules broken, by 0 of 1 pictures\n")
+    assert called("check", "rules", "p")[:2] == (0, "0 of 2 rules broken, by 0 of 1 picture\n")
 
 
 def test_pictures_that_were_not_wholly_read(folder, called):
@@ -172,6 +177,59 @@ def test_a_folder_without_pictures_is_named(folder, called):
     assert "wbe/" in printed and "line 2" not in printed
 
 
+def test_each_folder_without_pictures_is_named(folder, called):
+    """Also one beside another folder of the rule, which has some."""
+    for name in ("web", "press"):
+        put(folder / "p" / name, {"a.jpg": picture([])})
+    (folder / "rules").write_text("serial never in web/, pres/, press/\nserial never in wep/, preß/\nserial never in web/\n")
+    lines = called("check", "rules", "p")[1].splitlines()
+    assert [line.partition(" below ")[0] for line in lines[:-1]] == [
+        "line 1: no picture lies in pres/",
+        "line 2: no picture lies in wep/ or preß/",
+    ]
+
+
+def test_a_text_that_no_picture_has_is_named_with_the_nearest(folder, called):
+    """Of several texts that a rule allows, those that are like none may be new."""
+    put(folder / "p", {"a.jpg": picture([("credit", "Riverside Museum")])})
+    (folder / "rules").write_text(
+        'credit is "Riversid Museum"\ncredit one of "City of Salt", "Riverside Museum"\ncredit one of "X", "Riverside Musem"\n'
+    )
+    *_, summary = map(json.loads, called("check", "rules", "p", "--json")[1].splitlines())
+    (first, third) = summary["notes"]
+    for line, text, note in ((1, "Riversid Museum", first), (3, "Riverside Musem", third)):
+        assert f"line {line}:" in note and f'"{text}"' in note and '"Riverside Museum"' in note, note
+
+
+def test_a_text_is_there_however_its_accents_are_composed_and_however_long_it_is(folder, called):
+    """A text that only has other capitals is another one."""
+    long = "x\u00e9" * 40
+    put(folder / "p", {"a.jpg": picture([("credit", "Zu\u0308rich"), ("caption", long), ("title", "Clay")])})
+    (folder / "rules").write_text(f"credit is Z\u00fcrich\ncaption is {composed(long)}\ntitle is clay\n", encoding="utf-8")
+    *_, summary = map(json.loads, called("check", "rules", "p", "--json")[1].splitlines())
+    (note,) = summary["notes"]
+    assert "line 3:" in note and '"clay"' in note and '"Clay"' in note
+
+
+def test_some_texts_that_no_picture_has_are_named_and_the_others_counted(folder, called):
+    put(folder / "p", {"a.jpg": picture([("credit", "Riverside Museum")])})
+    rules = [f"{label} is text{number}" for number in range(15) for label in ("credit", "caption")]
+    (folder / "rules").write_text("\n".join(rules), encoding="ascii")
+    *_, summary = map(json.loads, called("check", "rules", "p", "--json")[1].splitlines())
+    *named, rest = summary["notes"]
+    assert [f"line {number}:" in note for number, note in enumerate(named, 1)] == [True] * len(named)
+    assert 10 <= len(named) < 30 and f" {30 - len(named)} " in rest
+
+
+def test_a_rule_for_the_folder_that_was_indexed_itself(folder, called):
+    """It is about no picture, and the note has the folder below which rules name folders."""
+    put(folder / "work", {"a.jpg": picture([("title", "A")])})
+    (folder / "rules").write_text("title never in work/\n")
+    status, printed, _ = called("check", "rules", "work", "--json")
+    (note,) = json.loads(printed.splitlines()[-1])["notes"]
+    assert status == 0 and str(folder / "work") in note
+
+
 def test_each_mistake_is_named(folder, called):
     """All mistakes of a file are told at once, each with its line and a mark below it."""
     put(folder / "p", {"a.jpg": jpeg()})
@@ -192,6 +250,7 @@ def test_each_mistake_is_named(folder, called):
         "Artist is Anna",
         "title like ####",
         "position and serial never",
+        "title is 'A",
     )
     (folder / "rules").write_text("every picture needs title\n" + "\n".join(wrong))
     status, printed, messages = called("check", "rules", "p")
@@ -201,9 +260,14 @@ def test_each_mistake_is_named(folder, called):
     meant = {3: "creator", 12: "every picture needs", 13: "date created", 14: " is ", 15: "creator", 16: "comment", 17: "comma"}
     for number, proposal in meant.items():
         assert proposal in messages.split(f"line {number}: ")[1].splitlines()[0], number
+    assert messages.count("begins a comment") == 1
 
 
-@pytest.mark.parametrize("octets", (b"", b"# only a comment\n", b"\xff\xfe", b"title is A\n" * 2000))
+@pytest.mark.parametrize(
+    "octets",
+    (b"", b"# only a comment\n", b"\xff\xfe", b"title is A\n" * 2000, b"title is A\n" + b"#\n" * 5_000_000),
+    ids=lambda it: str(len(it)),
+)
 def test_files_that_are_no_rules(folder, called, octets):
     put(folder / "p", {"a.jpg": jpeg()})
     (folder / "rules").write_bytes(octets)

@@ -76,12 +76,10 @@ def called(words):
 
 @contextlib.contextmanager
 def inside(folder):
-    here = os.getcwd()
-    os.chdir(folder)
     try:
-        yield
+        with contextlib.chdir(folder):
+            yield
     finally:
-        os.chdir(here)
         shutil.rmtree(folder)
 
 
@@ -239,13 +237,37 @@ def test_a_folder_is_one_of_pictures_unless_its_list_says_otherwise(archive, cal
     assert called_lines("changed", "one", "two", "--no-exiftool")[0] == 1
     assert called_lines("list", "one")[1][-1] == called_lines("list", "two")[1][-1] == "1 of 1 picture"
     status, _, messages = called_lines("same", "--catalogue", "one")
-    assert status == 4 and "no catalogue" in messages
+    assert status == 4 and "not a catalogue" in messages
 
 
-def test_a_command_that_takes_one_catalogue_says_so(archive, called_lines):
-    for words in (("history", "one/one.jpg", "shards"), ("relocate", "shards", "one", "two")):
-        status, lines, messages = called_lines(*words)
-        assert (status, lines) == (4, []) and "shards is a folder of catalogues, and this command takes one of them" in messages, words
+@pytest.mark.parametrize(
+    "words, instead",
+    [
+        (("relocate", "shards", "one", "two"), "merge FOLDER --catalogue NEW"),
+        (("relocate", "shards/one.catalogue", "one", "two"), "merge FOLDER --catalogue NEW"),  # whose name index wouldn't find again
+        (("nightly", "one", "--catalogue", "shards"), "changed BEFORE shards"),
+    ],
+)
+def test_a_command_that_takes_one_catalogue_says_what_does_it(archive, called_lines, words, instead):
+    before = {it.name: it.read_bytes() for it in (archive / "shards").iterdir()}
+    status, lines, messages = called_lines(*words)
+    assert (status, lines) == (4, []) and instead in messages, messages
+    assert {it.name: it.read_bytes() for it in (archive / "shards").iterdir()} == before
+
+
+def test_history_is_that_of_the_merged_catalogues(archive, called_lines):
+    shutil.copytree("shards", "before")
+    (archive / "one" / "one.jpg").write_bytes(titled("new"))
+    assert called_lines("index", "one", "--catalogue", "shards/one.catalogue", "--quiet")[0] == 0
+    for name in ("before", "shards"):
+        assert called_lines("merge", name, "--catalogue", f"{name}-as-one")[0] == 0
+    status, lines, messages = called_lines("history", "one/one.jpg", "before", "shards")
+    assert (status, messages) == (1, "") and any("new" in line for line in lines), lines
+    merged_lines = called_lines("history", "one/one.jpg", "before-as-one", "shards-as-one")[1]
+    assert lines == [line.replace("-as-one", "") for line in merged_lines]
+    (archive / "shards" / "two.catalogue").unlink()
+    status, _, messages = called_lines("history", "one/one.jpg", "shards", "before")
+    assert status == 2 and "the answer is without the catalogue shards/two.catalogue" in messages
 
 
 def test_with_sidecars_and_without(archive, called_lines):

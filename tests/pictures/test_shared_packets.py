@@ -1,9 +1,12 @@
 """A packet that many pages of a TIFF share is read once by each command, however many pages there are."""
 
+import json
+
 import pytest
 from attacks import sharing
-from made_files import title, xmp
+from made_files import iim, title, xmp
 
+from exifnorm_pictures.comparison import changed
 from exifnorm_pictures.judge import judge
 
 COMMANDS = (
@@ -32,3 +35,25 @@ def test_a_packet_of_many_pages(words, called, folder, monkeypatch):
             assert called(*words)[0] in (0, 1, 2)
         counts[pages] = len(reads)
     assert counts[20] == counts[40] > 0, counts
+
+
+@pytest.mark.parametrize("most, is_different", ((1000, False), (8, True)))
+def test_pages_that_are_not_compared_are_not_called_the_same(most, is_different, called, folder, monkeypatch):
+    """All pages differ in what doesn't count. If those after a limit weren't compared by field, nobody knows that of them."""
+    monkeypatch.setattr(changed, "COMPARED_FIELDS", most)
+    for name, mark in (("a.tif", b"a"), ("b.tif", b"b")):
+        (folder / name).write_bytes(sharing(iim(mark) + iim(b"pot"), 9, 0x83BB, 1))
+    status, printed, _ = called("compare", "a.tif", "b.tif", "--ignore", "keywords", "--json")
+    assert (status, json.loads(printed)["result"] == "different") == (int(is_different), is_different), printed
+
+
+def test_what_is_left_out_of_shared_lists_is_said(called, folder):
+    """Each page has as many keywords as are shown of a picture, or nearly."""
+    for name, mark in (("a.tif", b"a"), ("b.tif", b"b")):
+        (folder / name).write_bytes(sharing(b"".join(iim(b"%s%d" % (mark, it)) for it in range(30_000)), 9, 0x83BB, 1))
+    compared = json.loads(called("compare", "a.tif", "b.tif", "--json")[1])
+    assert len(compared["fields"]) < 9 and compared["fields"][-1]["note"]
+    read = json.loads(called("captions", "a.tif", "--json")[1])
+    assert (len(read["captions"]), read["has_more_captions"]) == (2, True)
+    (folder / "c.tif").write_bytes(sharing(iim(b"pot"), 9, 0x83BB, 1))
+    assert json.loads(called("captions", "c.tif", "--json")[1])["has_more_captions"] is False

@@ -12,7 +12,7 @@ import shutil
 import sqlite3
 
 import pytest
-from made_files import A, app1, app1_xmp, jpeg, title
+from made_files import A, app1, app1_xmp, jpeg, title, xmp
 from studio import SMALL_JPEG, put, write
 
 from exifnorm_pictures.extract import sidecars
@@ -247,6 +247,8 @@ class TestCatalogue:
         assert called_lines("merge", "c", "--catalogue", "both")[0] == 0
         assert called_lines("changed", "both", "c")[0] == 0
         assert called_lines("changed", "p", "c")[0] == 0, "a folder is read as the catalogue was"
+        assert called_lines("forget", "p", "--catalogue", "plain")[0] == 0
+        assert called_lines("merge", "c", "--catalogue", "plain")[0] == 0, "a catalogue without pictures takes those of either kind"
 
 
 def test_the_bytes_of_all_sidecars_are_limited(tmp_path):
@@ -284,3 +286,17 @@ def test_a_picture_with_more_sidecars_than_are_read_is_never_the_same(called, fo
     with contextlib.closing(sqlite3.connect(folder / "c")) as base:
         assert base.execute("SELECT what FROM not_read").fetchall() == [("1 further XMP sidecar",)]
         assert base.execute("SELECT not_read FROM pictures WHERE CAST(path AS TEXT) LIKE '%abcdefg.jpg'").fetchone() == (None,)
+
+
+def test_a_picture_whose_title_is_beside_it_is_listed_with_a_note(called, folder):
+    """Without --sidecars the title of the XMP file is none of the picture's. Nothing is said where there are no such files, or they count."""
+    titled = xmp("<dc:title><rdf:Alt><rdf:li xml:lang='x-default'>Bowl</rdf:li></rdf:Alt></dc:title>")
+    put(folder, {"p/a.jpg": PICTURE, "p/a.xmp": titled, "q/a.jpg": PICTURE, "rules": b"every picture needs title\n"})
+    words = (("list", "{}", "--without", "title"), ("check", "rules", "{}"), ("index", "{}", "--catalogue", "{}.c"))
+    for name, *line in words:
+        for place, more, is_noted in (("p", [], True), ("p", ["--sidecars"], False), ("q", [], False)):
+            for old in folder.glob("*.c"):
+                old.unlink()
+            _, printed, messages = called(name, *(it.format(place) for it in line), *more)
+            assert ("1 XMP file counts as a file of its own" in printed + messages) == is_noted, (name, place, more)
+            assert name == "index" or ("a.jpg" in printed) == (not more), printed

@@ -85,29 +85,8 @@ class Steps(unittest.TestCase):
             self.assertEqual(self.called(mend._free_field, (0, printed)), ([ASKING], expected))
 
     def test_values_that_are_compared(self):
-        words = [
-            *EXIFTOOL,
-            "-q",
-            "-q",
-            "-m",
-            "-a",
-            "-u",
-            "-s",
-            "-G1",
-            "-x",
-            "System:all",
-            "-x",
-            "File:all",
-            "-x",
-            "Composite:all",
-            "-x",
-            "ExifTool:all",
-            "-x",
-            "JFIF:all",
-            "-all",
-            "-all#",
-            "p",
-        ]
+        left_out = [word for group in ("System", "File", "Composite", "ExifTool", "JFIF") for word in ("-x", f"{group}:all")]
+        words = [*EXIFTOOL, *"-q -q -m -a -u -s -G1".split(), *left_out, "-all", "-all#", "p"]
         lines = (
             b"[IFD0] Make      : A  b\n\n[IFD0] Make : A b\n[IFD1] ThumbnailOffset : 8\n[IFD1] Thumb : (Binary data 9 bytes, use -b option to extract)\n"
             b"[M] Start Of : 1\n[M] Started : \xff\n[E] Padding : 1\n[P] IPTCDigest : 0\n"
@@ -219,12 +198,12 @@ class Lines(WithPictures):
             ),
             (
                 mend.Mended(mend.Remedy("copy"), {}),
-                ["a\\n: no block is to be mended: a plain copy"],
+                ["a\\n: nothing to mend: a plain copy"],
                 {"step": "copy", "before": {}, "lost": [], "gained": []},
             ),
             (
                 mend.Mended(mend.Remedy("copy"), {}, damage=["the rest"]),
-                ["a\\n: damaged, which mend can't mend: the rest", "a\\n: no block is to be mended: a plain copy of what is there"],
+                ["a\\n: damaged, which mend can't mend: the rest", "a\\n: nothing to mend: a plain copy of what is there"],
                 {"step": "copy", "before": {}, "lost": [], "gained": [], "not_read": ["the rest"]},
             ),
             (

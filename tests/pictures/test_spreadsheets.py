@@ -87,13 +87,6 @@ def test_groups(run, folder):
     assert {it["pictures"] for it in found} == {"6"} and len({it["group"] for it in found}) == 1
 
 
-def test_keep_is_empty_where_nobody_knows(run, folder):
-    put(folder, PICTURE)
-    run("index", ".", "--catalogue", "c", "--quiet")
-    for words in (["--no-look"], ["--kind", "exif"]):
-        assert {it["keep"] for it in rows(run("same", "--catalogue", "c", "--csv", *words)[1])} == {""}
-
-
 def test_links_and_files_that_are_gone_are_not_to_be_deleted(run, folder):
     """To delete one of two names of a file, or a file through a linked folder, may delete the last copy."""
     (folder / "p").mkdir()
@@ -127,32 +120,6 @@ def test_a_repaired_block_says_so_in_each_row(run, folder):
     assert status == 2 and all("repair" in it["note"] for it in rows(out))
 
 
-def test_fields_that_differ(run, folder):
-    (folder / "a.jpg").write_bytes(jpeg(with_texts(artist=b"Anna")))
-    (folder / "b.jpg").write_bytes(jpeg(with_texts(artist=b"Otto", copyright=b"Museum")))
-    status, out = run("compare", "a.jpg", "b.jpg", "--csv")
-    found = {it["field"]: (it["before"], it["after"]) for it in rows(out)}
-    assert status == 1 and found == {"IFD0:Artist": ("Anna", "Otto"), "IFD0:Copyright": ("", "Museum")}
-    assert run("compare", "a.jpg", "a.jpg", "--csv") == (0, "field,before,after,exact before,exact after,note\r\n")
-
-
-def test_changes(run, folder):
-    for side, octets, other in (("p", b"Anna", b"+1"), ("q", b"Otto", b"Museum")):
-        (folder / side).mkdir()
-        put(folder / side, jpeg(with_texts(artist=octets, copyright=other)))
-        (folder / side / "same.jpg").write_bytes(PICTURE)
-    (folder / "p" / "gone.jpg").write_bytes(jpeg(app1(exif(b"abc"))))
-    status, out = run("changed", "p", "q", "--csv")
-    found = rows(out)
-    assert status == 1 and [it["result"] for it in found if it["picture"] == "gone.jpg"] == ["missing after"]
-    assert len({it["picture"] for it in found}) == len(NAMES) + 1
-    fields = {it["field"]: (it["before"], it["after"]) for it in found if it["field"]}
-    assert fields == {"IFD0:Artist": ("Anna", "Otto"), "IFD0:Copyright": ("'+1", "Museum")}
-    assert {it["picture"] for it in rows(run("changed", "p", "q", "--csv", "--all")[1])} >= {"same.jpg"}
-    status, out = run("changed", "p", "q", "--csv", "--ignore", "Copyright")
-    assert {it["field"] for it in rows(out)} == {"", "IFD0:Artist"} and any("IFD0:Copyright" in it["note"] for it in rows(out))
-
-
 def test_an_open_answer_has_a_row(run, folder):
     """A table without a row would say that nothing differs."""
     (folder / "a.jpg").write_bytes(jpeg(app1(BLOCKS["UnknownKind"])))
@@ -160,9 +127,3 @@ def test_an_open_answer_has_a_row(run, folder):
     for words in (["compare", "a.jpg", "b.jpg"], ["compare", "b.jpg", "nothing.jpg"], ["conflicts", "a.jpg"], ["conflicts", "nothing.jpg"]):
         status, out = run(*words, "--csv", "--no-exiftool") if words[0] == "compare" else run(*words, "--csv")
         assert status == 2 and any("refused" in cell or "NoFile" in cell for it in rows(out) for cell in it.values()), words
-
-
-def test_csv_and_json_are_not_given_together(run, capsys):
-    with pytest.raises(SystemExit) as wrong:
-        run("captions", "a.jpg", "--csv", "--json")
-    assert wrong.value.code == 3 and "not allowed" in capsys.readouterr().err

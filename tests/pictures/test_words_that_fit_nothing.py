@@ -15,7 +15,7 @@ PICTURE = jpeg(with_texts(artist=b"Anna"))
 ABSENT = ("serial", "owner", "credit", "GPS:*", "XMP-dc:title", "Model", "2:25")
 COMMANDS = (
     ("changed", "p", "q"),
-    ("changed", "p", "q", "--each"),
+    ("changed", "p", "q", "--all"),
     ("compare", "p/a.jpg", "q/a.jpg"),
     ("compare", "p/a.jpg", "q/b.jpg"),
     ("same", "--catalogue", "c"),

@@ -6,10 +6,13 @@ import re
 import subprocess
 import sys
 import unittest
+from unittest import mock
 from xml.etree import ElementTree
 
 from exifnorm_pictures.fields import xmp_properties as properties
-from exifnorm_pictures.xmp import CAUSES, by_rdflib, reader, tree
+from attacks import rare_text
+from exifnorm_pictures.model.budgets import Budget, TooLong, TooMuch
+from exifnorm_pictures.xmp import CAUSES, by_rdflib, reader, reading, tree
 from exifnorm_pictures.xmp.packets import Unreadable, rdf_of
 from exifnorm_pictures.xmp.reading import check_repeated
 from hypothesis import assume, given, settings
@@ -243,8 +246,8 @@ class Packets(unittest.TestCase):
 
         one = fields(xmp("<dc:format>one</dc:format><dc:subject><rdf:Bag><rdf:li>b</rdf:li><rdf:li>a</rdf:li></rdf:Bag></dc:subject>"))
         other = fields(xmp("<dc:format>two</dc:format><dc:subject><rdf:Bag><rdf:li>a</rdf:li><rdf:li>b</rdf:li></rdf:Bag></dc:subject>"))
-        found = [(it.change_name, bare(it.before), bare(it.after)) for it in differences(one, other)]
-        self.assertEqual(found, [("xmp:dc:format", '"one"', '"two"')])
+        found = [(it.name, bare(it.before), bare(it.after)) for it in differences(one, other)]
+        self.assertEqual(found, [("XMP-dc:format", '"one"', '"two"')])
         self.assertEqual((one[1].identity[1:4], listing.exact(one[1])), (("dc:subject", "Bag", 2), 'Bag["a", "b"]'))
         lines = list(listing.readable(one, "xmp"))
         self.assertEqual([it.split() for it in lines[1:3]], [["[XMP]"], ["dc:format", "text", '"one"']])
@@ -287,6 +290,12 @@ class Harm(unittest.TestCase):
         for packet, why in expected.items():
             self.assertEqual(cause(packet.encode()), why, packet[:100])
         self.assertEqual(cause(b"<a>\xff</a>"), "NotText")
+
+    def test_too_rare_is_a_packet_and_too_slow_a_picture(self):
+        for error, raised in ((TooMuch("many"), Unreadable), (TooLong("slow"), TooLong)):
+            budget = Budget()
+            with self.assertRaises(raised), mock.patch.object(budget, "spend", side_effect=error):
+                reading.statements(rare_text("one"), reading.Extensions({}, budget), set())
 
     def test_many_levels_do_not_exhaust_the_stack(self):
         self.assertEqual(cause(b"<a>" * 399_999), "NotWellFormed")

@@ -76,3 +76,18 @@ class WithCluster(WithPictures):
         write(self.path("bin", "exiftool"), text.encode())
         os.chmod(self.path("bin", "exiftool"), 0o755)
         return self.path("bin") + os.pathsep + Studio.environment()["PATH"]
+
+
+# Without a cluster
+
+
+class Task:
+    """A task of a cluster: what it returns, or raises."""
+
+    def __init__(self, outcome):
+        self.outcome = outcome
+
+    def result(self):
+        if isinstance(self.outcome, Exception):
+            raise self.outcome
+        return self.outcome

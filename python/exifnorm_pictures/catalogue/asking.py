@@ -1,23 +1,26 @@
 """Questions about the texts of a catalogue's pictures, answered by SQLite.
 
 Of a picture that was not wholly read, a text that isn't there may be in the part that wasn't read. So a question has three answers for it:
-it fits, it doesn't, or that is not known. SQLite is asked for the pictures that fit surely, and for those that may.
+it fits, it doesn't, or that is not known. SQLite finds the pictures of each condition, and their numbers are joined as sets of bits: of those
+that fit surely, and of those that may.
 """
 
 from __future__ import annotations
 
 import functools
-import itertools
-from dataclasses import dataclass
-from typing import Callable, Dict, Iterator, List, NamedTuple, Optional, Sequence, Tuple, Union
+from itertools import groupby, repeat
+from operator import and_, itemgetter, or_
+from typing import Callable, Dict, Iterator, List, NamedTuple, Optional, Sequence, Tuple
 
 from ..fields.folding import bare, folded
-from ..fields.labels import DAMAGE, DATE, is_in_maker_notes
+from ..fields.labels import DAMAGE, DATE, POSITION, UNCLEAR_POSITION, fields_by_label, is_in_maker_notes
 from ..fields.listing import LONGEST_TEXT
 from ..fields.questions import All, Any, Condition, Not, Question, With, fields_in, labels_of
 from ..model.columns import Damaged
+from ..model.numbers import Numbers
 from ..model.problems import NOT_THERE, Problem
 from ..model.records import has, has_short
+from ..model.words import Word
 from .kept_texts import Report, make_ready, say_nothing
 from .store import HEAD, NOT_WHOLE, Catalogue
 
@@ -28,20 +31,38 @@ _LAST = "\U0010ffff"  # sorts after each other character
 LEFT_OUT = (Problem.NO_PICTURE, *NOT_THERE)
 _LEFT_OUT = f"SELECT id FROM pictures WHERE ({NOT_WHOLE}) AND problem IN ({', '.join(repr(str(word)) for word in LEFT_OUT)})"
 IN_SCOPE = f"p.id NOT IN ({_LEFT_OUT})"
-# What makes a missing text unknown
-OPEN = f"p.id IN (SELECT id FROM pictures WHERE {NOT_WHOLE} UNION ALL SELECT picture FROM texts WHERE label = '')"
-# What makes a missing serial number or owner unknown, too: a MakerNote that ExifTool wasn't asked about
-NOTE_NOT_READ = "(p.maker_notes != '' AND p.id NOT IN (SELECT picture FROM maker_notes))"
-# What makes it unknown whether a file is damaged: nobody has read its picture, or none of its format is read
-_NOT_LOOKED_AT = "(p.damage = '' AND ifnull(p.coded_picture, '') = '')"
+_SINCE = "SELECT p.id FROM pictures p WHERE p.run IN (SELECT id FROM runs WHERE started >= ?)"
+_AT_ONCE = 1000  # rows that are read together
+_SHARE = 20  # of all pictures, from which on it costs less to go through the paths of all than to sort those of the ones that fit
+
+
+class Unread(Word):
+    """What makes it unknown whether a picture has a text."""
+
+    PICTURE = ("picture",)  # nobody has read its picture, or none of its format is read, so that nobody knows whether it is damaged
+    PARTS = ("parts",)  # it was not wholly read, or it has texts that aren't kept
+    POSITION = ("position",)  # it has a latitude and a longitude that make no position, and that other programs may show
+    MAKER_NOTE = ("MakerNote",)  # of which ExifTool wasn't asked, and which may have a serial number or an owner
+
+
+_UNREAD = {
+    Unread.PICTURE: ("SELECT id FROM pictures WHERE damage = '' AND ifnull(coded_picture, '') = ''",),
+    Unread.PARTS: (f"SELECT id FROM pictures WHERE {NOT_WHOLE}", "SELECT picture FROM texts WHERE label = ''"),
+    Unread.POSITION: (f"SELECT picture FROM texts WHERE label = '{UNCLEAR_POSITION}'",),
+    Unread.MAKER_NOTE: ("SELECT id FROM pictures WHERE maker_notes != '' AND id NOT IN (SELECT picture FROM maker_notes)",),
+}
+
+
+def _reasons(labels: Sequence[str]) -> List[Unread]:
+    """What can make it unknown whether a picture has a text of some labels."""
+    reasons = [Unread.PICTURE] * (DAMAGE in labels) + [Unread.PARTS] * (set(labels) != {DAMAGE})
+    reasons += [Unread.POSITION] * (POSITION in labels)
+    return reasons + [Unread.MAKER_NOTE] * any(map(is_in_maker_notes, labels))
 
 
 def unread(labels: Sequence[str]) -> str:
-    """What makes it unknown whether a picture has a text of some labels."""
-    reasons = [_NOT_LOOKED_AT] if DAMAGE in labels else []
-    reasons += [OPEN] if set(labels) != {DAMAGE} else []
-    reasons += [NOTE_NOT_READ] if any(map(is_in_maker_notes, labels)) else []
-    return f"({' OR '.join(reasons)})"
+    """The pictures of which it isn't known whether they have a text of some labels, in SQL."""
+    return f"p.id IN ({' UNION ALL '.join(query for reason in _reasons(labels) for query in _UNREAD[reason])})"
 
 
 class _Part(NamedTuple):
@@ -51,81 +72,107 @@ class _Part(NamedTuple):
     values: Tuple[object, ...] = ()
 
 
-def _joined(word: str, parts: Sequence[_Part]) -> _Part:
-    return _Part("(" + f" {word} ".join(part.sql for part in parts) + ")", tuple(value for part in parts for value in part.values))
+class _Sets(NamedTuple):
+    """The pictures that fit surely, and those that may fit."""
+
+    sure: Numbers
+    may: Numbers
 
 
-class _Tables:
-    """The pictures with the texts of each condition, each in a temporary table: several queries use them, and find them once."""
-
-    _numbers = itertools.count()
+class _Finder:
+    """Finds the pictures that fit a question, as sets of their numbers."""
 
     def __init__(self, catalogue: Catalogue) -> None:
         self._catalogue = catalogue
-        self._tables: Dict[Union[Condition, With], str] = {}
+        self._unread: Dict[Unread, Numbers] = {}
 
-    def table(self, question: Union[Condition, With]) -> str:
-        """The name of the table for a condition."""
-        if question not in self._tables:
-            self._tables[question] = name = f"temp.found{next(self._numbers)}"
-            # the texts of a label are in the order of their pictures, so that DISTINCT keeps nothing
-            picture = "DISTINCT picture" if isinstance(question, With) else "picture"
-            texts = _with(question.label) if isinstance(question, With) else _compared(question)
-            with self._catalogue.guarded():
-                self._catalogue.base.execute(f"CREATE TABLE {name} (picture INTEGER PRIMARY KEY)")
-                for part in texts:
-                    query = f"INSERT OR IGNORE INTO {name} SELECT {picture} FROM texts WHERE {part.sql}"
-                    self._catalogue.base.execute(query, part.values)
-        return self._tables[question]
-
-    def condition(self, question: Question, is_sure: bool) -> str:
-        """The pictures that fit a question surely, or that may fit it, in SQL."""
+    def of(self, question: Question) -> _Sets:
+        """The pictures that fit."""
         if isinstance(question, Not):
-            return f"NOT {self.condition(question.question, not is_sure)}"
+            sets = self.of(question.question)
+            return _Sets(~sets.may, ~sets.sure)
         if isinstance(question, (All, Any)):
-            word = " AND " if isinstance(question, All) else " OR "
-            return f"({word.join(self.condition(it, is_sure) for it in question.questions)})"
-        found = f"p.id IN (SELECT picture FROM {self.table(question)})"
-        return found if is_sure else f"({found} OR {unread([question.label])})"
+            joined = and_ if isinstance(question, All) else or_
+            parts = map(self.of, dict.fromkeys(question.questions))  # one after the other, so that few sets are in memory
+            return functools.reduce(lambda one, other: _Sets(*map(joined, one, other)), parts)
+        sure = self.with_label(question.label) if isinstance(question, With) else self._with_text(question)
+        return _Sets(sure, sure | self.unread([question.label]))
+
+    def with_label(self, label: str) -> Numbers:
+        """The pictures with a text of a label. Its texts are in the order of their pictures, so that DISTINCT keeps nothing."""
+        query = "SELECT DISTINCT picture FROM texts WHERE label = ? AND long = "
+        return self._catalogue.numbers(query + "0", (label,)) | self._catalogue.numbers(query + "1", (label,))
+
+    def unread(self, labels: Sequence[str]) -> Numbers:
+        """The pictures of which it isn't known whether they have a text of some labels."""
+        return functools.reduce(or_, map(self.unread_by, _reasons(labels)))
+
+    def unread_by(self, reason: Unread) -> Numbers:
+        """The pictures of which it isn't known by one reason."""
+        if reason not in self._unread:
+            self._unread[reason] = functools.reduce(or_, map(self._catalogue.numbers, _UNREAD[reason]))
+        return self._unread[reason]
+
+    def _with_text(self, question: Condition) -> Numbers:
+        """The pictures with a text that compares so."""
+        numbers = Numbers()
+        for table in self._catalogue.all_texts:
+            if question.comparison in _TESTS:
+                test, value = _test_of(question)
+                numbers |= self._short(table, question.label, test.format("head"), value)
+                parts = [_Part(f"long = 1 AND {test.format(_WHOLE)}", (value,))]
+            else:
+                parts = _compared(question)
+            for part in parts:
+                query = f"SELECT picture FROM {table} WHERE label = ? AND {part.sql}"
+                numbers |= self._catalogue.numbers(query, (question.label, *part.values))
+        return numbers
+
+    def _short(self, table: str, label: str, test: str, value: str) -> Numbers:
+        """The pictures with a short text that passes a test. If few texts differ, each is tested once, by steps in the index of texts, and not
+        once for each picture that has it."""
+        numbers, passing = Numbers(), []
+        for count, (head, passes) in enumerate(self._catalogue.rows(_DIFFERENT.format(table=table, test=test), (label, value))):
+            if count == _FEW:
+                query = f"SELECT picture FROM {table} WHERE label = ? AND long = 0 AND {test}"
+                return self._catalogue.numbers(query, (label, value))
+            passing += [head] * bool(passes)
+        for head in passing:
+            numbers |= self._catalogue.numbers(f"SELECT picture FROM {table} WHERE label = ? AND long = 0 AND head = ?", (label, head))
+        return numbers
 
 
-def _with(label: str) -> List[_Part]:
-    return [_Part(f"label = ? AND long = {long}", (label,)) for long in (0, 1)]
+_FEW = 10_000  # texts that differ. A step to the next one that does takes as long as five of the others
+_DIFFERENT = """WITH RECURSIVE heads (head) AS (
+    SELECT min(head) FROM {table} WHERE label = ?1 AND long = 0
+    UNION ALL
+    SELECT (SELECT min(head) FROM {table} WHERE label = ?1 AND long = 0 AND head > heads.head) FROM heads WHERE head IS NOT NULL
+) SELECT head, {test} FROM heads WHERE head IS NOT NULL"""
+# Tests of whole texts
+_TESTS = {"has": "instr({}, ?2)", "like": "{} GLOB ?2"}
+
+
+def _test_of(question: Condition) -> Tuple[str, str]:
+    """A test of a text in SQL, and its value."""
+    value = folded(question.value)
+    return _TESTS[question.comparison], value.replace("[", "[[]") if question.comparison == "like" else value
 
 
 def _compared(question: Condition) -> List[_Part]:
     """The texts of a comparison, as conditions that the index can answer; one of them has to hold."""
     value = folded(question.value)
     if question.label == DATE and question.comparison in _DATES:
-        parts = [part._replace(sql=f"{part.sql} AND head GLOB '[0-9][0-9][0-9][0-9]*'") for part in _DATES[question.comparison](value)]
-    elif question.comparison in _WORDS:
-        parts = _WORDS[question.comparison](value)
-    else:
-        number = f"CAST(head AS REAL) {question.comparison} ?"
-        parts = [_Part(f"long = 0 AND {number} AND head GLOB '[-+0-9]*' AND head NOT GLOB '?*[^0-9.]*'", (float(value),))]
-    return [_Part(f"label = ? AND {part.sql}", (question.label, *part.values)) for part in parts]
+        return [part._replace(sql=f"{part.sql} AND head GLOB '[0-9][0-9][0-9][0-9]*'") for part in _DATES[question.comparison](value)]
+    if question.comparison == "=":
+        return _equal(value)
+    number = f"CAST(head AS REAL) {question.comparison} ?"
+    return [_Part(f"long = 0 AND {number} AND head GLOB '[-+0-9]*' AND head NOT GLOB '?*[^0-9.]*'", (float(value),))]
 
 
 def _equal(value: str) -> List[_Part]:
     if len(value) < HEAD:
         return [_Part("long = 0 AND head = ?", (value,))]
     return [_Part(f"long = 1 AND head = ? AND {_WHOLE} = ?", (value[:HEAD], value))]
-
-
-def _has(value: str) -> List[_Part]:
-    return _in_all("instr({}, ?)", value)
-
-
-def _like(value: str) -> List[_Part]:
-    return _in_all("{} GLOB ?", value.replace("[", "[[]"))
-
-
-def _in_all(test: str, value: str) -> List[_Part]:
-    """A test of whole texts, short and long ones."""
-    return [_Part(f"long = {long} AND {test.format(text)}", (value,)) for long, text in ((0, "head"), (1, _WHOLE))]
-
-
-_WORDS: Dict[str, Callable[[str], List[_Part]]] = {"=": _equal, "has": _has, "like": _like}
 
 
 def _within(value: str) -> List[_Part]:
@@ -149,27 +196,6 @@ _DATES: Dict[str, Callable[[str], List[_Part]]] = {
     ">": _after,
     ">=": lambda value: [*_within(value), *_after(value)],
 }
-
-
-@dataclass(frozen=True)
-class Scope:
-    """The pictures that a question is about."""
-
-    since: Optional[str] = None  # that were looked at and new or changed in a run that began then or later, in UTC
-    only: Optional[str] = None  # a table of paths, as `Catalogue.choose` makes it
-
-    def condition(self) -> _Part:
-        """The same for SQLite."""
-        parts = [_Part(IN_SCOPE)]
-        if self.since is not None:
-            parts.append(_Part("p.run IN (SELECT id FROM runs WHERE started >= ?)", (self.since,)))
-        if self.only is not None:
-            parts.append(_Part(f"p.path IN {self.only}"))
-        return _joined("AND", parts)
-
-
-# The pictures in the order of their numbers, which temporary tables have, too. In that of their paths each row would be read from another place
-_IN_ORDER = "pictures p NOT INDEXED"
 
 
 class Fitting(NamedTuple):
@@ -206,6 +232,48 @@ def _counted(row: Tuple[str, int, str]) -> Tuple[str, int, str]:
     return row
 
 
+# How many of all pictures have a text of a label: a short one, or else a long one
+_HAVING = (
+    "SELECT count(DISTINCT picture) FROM texts WHERE label = ?1 AND long = 0",
+    "SELECT count(DISTINCT picture) FROM texts t WHERE label = ?1 AND long = 1"
+    " AND NOT EXISTS (SELECT 1 FROM texts s WHERE s.label = ?1 AND s.long = 0 AND s.picture = t.picture)",
+)
+_UNREAD_WITHOUT = (
+    "SELECT count(*) FROM temp.unread u"
+    " WHERE NOT EXISTS (SELECT 1 FROM texts t WHERE t.label = ? AND t.long IN (0, 1) AND t.picture = u.picture)"
+)
+_COUNTED = (
+    "DROP TABLE IF EXISTS temp.counted",
+    "DROP TABLE IF EXISTS temp.alike",
+    "CREATE TEMP TABLE counted (text TEXT, pictures INTEGER, bare TEXT)",
+    "CREATE TEMP TABLE alike (bare TEXT PRIMARY KEY, pictures INTEGER, text TEXT) WITHOUT ROWID",
+)
+# Spellings of one name are looked for by the index alone, which most texts that differ need no more than
+_ALIKE = (
+    "CREATE INDEX temp.counted_by_bare ON counted (bare)",
+    "INSERT INTO temp.alike SELECT bare, sum(pictures), min(text) FROM temp.counted"
+    " WHERE bare IN (SELECT bare FROM temp.counted GROUP BY bare HAVING count(*) > 1) GROUP BY bare",
+)
+_FREQUENT = (
+    "SELECT c.text, c.pictures, c.bare FROM temp.counted c LEFT JOIN temp.alike a ON a.bare = c.bare"
+    " WHERE c.pictures > 1 OR a.bare IS NOT NULL"
+    " ORDER BY ifnull(a.pictures, c.pictures) DESC, ifnull(a.text, c.text), c.pictures DESC, c.text"
+)
+# What one picture alone has follows, as many texts of a museum's objects do
+_SINGLE = "SELECT text, pictures, bare FROM temp.counted WHERE pictures = 1 AND bare NOT IN (SELECT bare FROM temp.alike) ORDER BY text"
+
+
+Texts = Sequence[Tuple[str, ...]]  # of a picture, for each of some labels
+# A row without a text for a picture that has none
+_SHOWN = "SELECT place, number, text FROM temp.shown LEFT JOIN {} t ON t.label = ?1 AND long IN (0, 1) AND t.picture = shown.picture"
+
+
+def _numbered_text(row: Tuple[int, Optional[int], str]) -> Tuple[int, Optional[int], str]:
+    if row[1] is not None:
+        has_text(row[2])
+    return row
+
+
 class Answer:
     """The answer of a catalogue to a question; without one, all pictures fit."""
 
@@ -213,11 +281,12 @@ class Answer:
         self,
         catalogue: Catalogue,
         question: Optional[Question],
-        scope: Scope = Scope(),
+        since: Optional[str] = None,
         report: Report = say_nothing,
         shown: Sequence[str] = (),
     ) -> None:
-        """`shown` are further labels and fields whose texts are asked for later."""
+        """It is about all pictures, or those that were new or changed in a run that began at `since`, in UTC, or later. `shown` are further
+        labels and fields whose texts are asked for later."""
         make_ready(catalogue, report)
         fields = fields_in([*(labels_of(question) if question else []), *shown])
         if fields:
@@ -226,98 +295,162 @@ class Answer:
             add_fields(catalogue, fields, report)
         self._catalogue = catalogue
         self.labels = labels_of(question) if question else []  # that are asked for
-        self._scope = scope.condition()
-        self._tables_of_texts = _Tables(catalogue)
-        sure, may = ([_Part(self._tables_of_texts.condition(question, is_sure))] if question else [] for is_sure in (True, False))
-        self._sure, self._may = _joined("AND", [self._scope, *sure]), _joined("AND", [self._scope, *may])
-        self._not_known: Optional[int] = None
-        self._open_for: Optional[str] = None  # the label for which `may_have` has a table
-        self._in_order = "pictures p" if scope.only is not None else _IN_ORDER
-        self._counted_in = self._in_order if question else "pictures p"
-        self._are_all = question is None and scope == Scope()
+        self._finder = _Finder(catalogue)
+        self._total = catalogue.count()
+        self._scope = ~catalogue.numbers(_LEFT_OUT)
+        if since is not None:
+            self._scope &= catalogue.numbers(_SINCE, (since,))
+        self._has_table = False
+        self._are_all = question is None and not ~self._scope
+        sets = self._finder.of(question) if question else _Sets(self._scope, self._scope)
+        self._sure, self._may = sets.sure & self._scope, sets.may & self._scope
 
     def count(self) -> int:
         """How many pictures the question is about."""
-        return self._count(self._scope)
+        return self._scope.count(self._total)
 
     def not_known(self) -> int:
         """Of how many pictures it isn't known whether they fit, because they were not wholly read."""
-        if self._not_known is None:
-            parts = [_Part(unread(self.labels)), self._may, _Part(f"NOT {self._sure.sql}", self._sure.values)]
-            self._not_known = self._count(_joined("AND", parts)) if self.labels else 0
-        return self._not_known
+        return self._not_known().count(self._total)
+
+    def _not_known(self) -> Numbers:
+        return self._finder.unread(self.labels) & self._may & ~self._sure if self.labels else Numbers()
+
+    def why_not_known(self, label: Optional[str] = None) -> List[Unread]:
+        """Why it isn't known of some pictures whether they fit; or of those that fit, whether they have a text of a label."""
+        if label is None:
+            numbers, labels = self._not_known(), self.labels
+        else:
+            numbers, labels = self._sure & self._finder.unread([label]) & ~self._finder.with_label(label), [label]
+        return [reason for reason in _reasons(labels) if self._finder.unread_by(reason) & numbers]
 
     def having(self, label: str) -> Tuple[int, int, int]:
         """Of the pictures that fit: how many have a text of a label, how many have none, and of how many that isn't known."""
+        unread_ = self._sure & self._finder.unread([label])
         if self._are_all:
-            return self._having_of_all(label)
-        fits, table = self._of_fitting(), self._tables_of_texts.table(With(label))
-        having = int(next(self._catalogue.rows(f"SELECT count(*) FROM {table} WHERE {fits.sql}", fits.values))[0])
-        without = _Part(f"p.id NOT IN (SELECT picture FROM {table})")
-        not_known = self._count(_joined("AND", [_Part(unread([label])), self._sure, without]))
-        return having, self._count(self._sure) - having - not_known, not_known
+            having = sum(self._catalogue.number_of(query, (label,)) for query in _HAVING)
+            self._put("unread", unread_)
+            not_known = self._catalogue.number_of(_UNREAD_WITHOUT, (label,))
+        else:
+            with_label = self._finder.with_label(label)
+            having = (self._sure & with_label).count(self._total)
+            not_known = (unread_ & ~with_label).count(self._total)
+        return having, self.fitting() - having - not_known, not_known
 
-    def _having_of_all(self, label: str) -> Tuple[int, int, int]:
-        """The same of all pictures. The texts of a label are in the order of the pictures, so that no table of these is made."""
-        fits, rows = self._of_fitting(), self._catalogue.rows
-        has_short = "SELECT 1 FROM texts s WHERE s.label = ?1 AND s.long = 0 AND s.picture = t.picture"
-        having = 0
-        for part in ("long = 0", f"long = 1 AND NOT EXISTS ({has_short})"):
-            query = f"SELECT count(DISTINCT picture) FROM texts t WHERE label = ?1 AND {part} AND {fits.sql}"
-            having += int(next(rows(query, (label,)))[0])
-        without = _Part("NOT EXISTS (SELECT 1 FROM texts t WHERE t.label = ? AND t.long IN (0, 1) AND t.picture = p.id)", (label,))
-        not_known = self._count(_joined("AND", [_Part(unread([label])), self._sure, without]))
-        return having, self._count(self._sure) - having - not_known, not_known
+    def fitting(self) -> int:
+        """How many pictures fit."""
+        return self._sure.count(self._total)
 
-    def _of_fitting(self) -> _Part:
-        """The texts of the pictures that fit. If all do, no picture is looked up."""
-        if self._are_all:
-            is_left_out = next(self._catalogue.rows(f"SELECT 1 FROM ({_LEFT_OUT}) LIMIT 1"), None)
-            return _Part(f"picture NOT IN ({_LEFT_OUT})" if is_left_out else "TRUE")
-        return _Part(f"picture IN (SELECT p.id FROM pictures p WHERE {self._sure.sql})", self._sure.values)
+    def damaged(self) -> int:
+        """How many of them are cut off or damaged."""
+        return self._damaged().count(self._total)
 
-    def _count(self, part: _Part) -> int:
-        return int(next(self._catalogue.rows(f"SELECT count(*) FROM {self._counted_in} WHERE {part.sql}", part.values))[0])
+    def _damaged(self) -> Numbers:
+        rows = self._few() or "pictures p NOT INDEXED"
+        return self._sure & self._catalogue.numbers(f"SELECT p.id FROM {rows} WHERE p.damage != ''")
 
-    def pictures(self) -> Iterator[Fitting]:
-        """The pictures that fit, by path."""
-        query = f"SELECT p.id, p.path, p.damage FROM {self._in_order} WHERE {self._sure.sql} ORDER BY p.path"
-        yield from self._catalogue.rows(query, self._sure.values, _fitting)
+    def _few(self) -> str:
+        """The pictures that fit, in SQL, if they are few, so that each row is read by its number."""
+        if self._sure.is_rest or self.fitting() * _SHARE > self._total:
+            return ""
+        return f"{self._table()} f CROSS JOIN pictures p ON p.id = f.picture"
+
+    def _table(self) -> str:
+        """A temporary table of the pictures that fit, or if all others do, of those that don't."""
+        if not self._has_table:
+            self._put("asked", ~self._sure if self._sure.is_rest else self._sure)
+            self._has_table = True
+        return "temp.asked"
+
+    def _put(self, name: str, numbers: Numbers) -> None:
+        """Makes a temporary table of numbers."""
+        with self._catalogue.guarded():
+            self._catalogue.base.execute(f"DROP TABLE IF EXISTS temp.{name}")
+            self._catalogue.base.execute(f"CREATE TEMP TABLE {name} (picture INTEGER PRIMARY KEY)")
+            self._catalogue.base.executemany(f"INSERT INTO temp.{name} VALUES (?)", ((number,) for number in numbers))
+
+    def pictures(self, labels: Sequence[str] = ()) -> Iterator[Tuple[Fitting, Texts]]:
+        """The pictures that fit, by path, each with its texts for some labels."""
+        damaged = self._damaged()
+        for rows in self._rows():
+            for (number, path), texts in zip(rows, self._texts_in_order(rows, labels)):
+                if number in damaged:
+                    query = "SELECT id, path, damage FROM pictures WHERE id = ?"
+                    yield from ((fitting, texts) for fitting in self._catalogue.rows(query, (number,), _fitting))
+                else:
+                    yield Fitting(number, path, ""), texts
+
+    def _texts_in_order(self, rows: Sequence[Tuple[int, bytes]], labels: Sequence[str]) -> Iterator[Texts]:
+        """The texts of some pictures, in their order. A query of each label has those of all these pictures, of which one is in memory."""
+        if not labels:
+            return repeat(())
+        with self._catalogue.guarded():
+            self._catalogue.base.execute("CREATE TEMP TABLE IF NOT EXISTS shown (place INTEGER PRIMARY KEY, picture INTEGER)")
+            self._catalogue.base.execute("DELETE FROM temp.shown")  # it can't be dropped while pictures are read
+            self._catalogue.base.executemany("INSERT INTO temp.shown (picture) VALUES (?)", ((number,) for number, _ in rows))
+        return zip(*map(self._shown_texts, labels))
+
+    def _shown_texts(self, label: str) -> Iterator[Tuple[str, ...]]:
+        """The texts of a label of each picture in the table of those that are shown next."""
+        query = " UNION ALL ".join(_SHOWN.format(table) for table in self._catalogue.all_texts)
+        rows = self._catalogue.rows(f"{query} ORDER BY place, number", (label,), _numbered_text)
+        for _, of_picture in groupby(rows, key=itemgetter(0)):
+            yield tuple([text for _, number, text in of_picture if number is not None])
+
+    def paths(self) -> Iterator[List[bytes]]:
+        """The paths of the pictures that fit, in their order, some at once."""
+        for rows in self._rows():
+            yield [path for _, path in rows]
+
+    def _rows(self) -> Iterator[List[Tuple[int, bytes]]]:
+        """The number and the path of each picture that fits, by path, some at once.
+
+        An index has the paths of all pictures in their order, so that no row is read. If few pictures fit, their paths are sorted.
+        """
+        few = self._few()
+        with self._catalogue.guarded():
+            cursor = self._catalogue.base.execute(f"SELECT p.id, p.path FROM {few or 'pictures p'} ORDER BY p.path")
+        while True:
+            with self._catalogue.guarded():
+                rows = cursor.fetchmany(_AT_ONCE)
+                if not {bytes}.issuperset(type(path) for _, path in rows):
+                    has(bytes, *(path for _, path in rows))
+            if not rows:
+                break
+            yield rows if few else self._sure.chosen(rows)
 
     def may_have(self, number: int, label: str) -> bool:
         """Whether a picture, by its number, may have a further text of a label, because it was not wholly read."""
-        if self._open_for != label:  # found once, because many pictures are asked for
-            with self._catalogue.guarded():
-                self._catalogue.base.execute("DROP TABLE IF EXISTS temp.open_pictures")
-                self._catalogue.base.execute("CREATE TEMP TABLE open_pictures (picture INTEGER PRIMARY KEY)")
-                self._catalogue.base.execute(f"INSERT INTO temp.open_pictures SELECT p.id FROM pictures p WHERE {unread([label])}")
-            self._open_for = label
-        return next(self._catalogue.rows("SELECT 1 FROM temp.open_pictures WHERE picture = ?", (number,)), None) is not None
+        return number in self._finder.unread([label])
 
     def texts_of(self, number: int, labels: Sequence[str]) -> List[Tuple[str, ...]]:
         """The texts of a picture, by its number, for some labels."""
         query = "SELECT text FROM texts WHERE label = ? AND long IN (0, 1) AND picture = ? ORDER BY number"
         return [tuple(self._catalogue.rows(query, (label, number), _text)) for label in labels]
 
+    def _of_fitting(self) -> str:
+        """The texts of the pictures that fit, in SQL. If all do, no picture is looked up."""
+        if self._sure.is_rest and not ~self._sure:
+            return "TRUE"
+        return f"picture {'NOT ' * self._sure.is_rest}IN (SELECT picture FROM {self._table()})"
+
     def counted(self, label: str) -> "Iterator[Tuple[str, int, str]]":
         """The texts of a label with the number of pictures that have each, the most frequent first, and beside it those that are spelled
         otherwise; and what is common to these."""
         base = self._catalogue.base
-        base.create_function("bare", 1, functools.lru_cache(1024)(bare), deterministic=True)
+        base.create_function("bare", 1, bare, deterministic=True)
+        fits = self._of_fitting()
+        counted = "picture" if label in fields_by_label() else "DISTINCT picture"  # a field may have a text twice
         with self._catalogue.guarded():
-            base.execute("DROP TABLE IF EXISTS temp.counted")
-            base.execute("CREATE TEMP TABLE counted (text TEXT, pictures INTEGER, bare TEXT)")
-            fits = self._of_fitting()
+            for statement in _COUNTED:
+                base.execute(statement)
             for kind in ("long = 0", "long = 1"):  # an index has short texts in their order
                 base.execute(
-                    "INSERT INTO temp.counted SELECT text, count(*), bare(text) FROM texts"
-                    f" WHERE label = ? AND {kind} AND {fits.sql} GROUP BY head, text",
-                    (label, *fits.values),
+                    f"INSERT INTO temp.counted SELECT text, count({counted}), bare(text) FROM texts"
+                    f" WHERE label = ? AND {kind} AND {fits} GROUP BY head, text",
+                    (label,),
                 )
-            base.execute("CREATE INDEX temp.counted_by_bare ON counted (bare)")
-        yield from self._catalogue.rows(
-            "SELECT c.text, c.pictures, c.bare FROM temp.counted c JOIN (SELECT bare, sum(pictures) AS pictures, min(text) AS text"
-            " FROM temp.counted GROUP BY bare) g ON g.bare = c.bare ORDER BY g.pictures DESC, g.text, c.pictures DESC, c.text",
-            (),
-            _counted,
-        )
+            for statement in _ALIKE:
+                base.execute(statement)
+        yield from self._catalogue.rows(_FREQUENT, (), _counted)
+        yield from self._catalogue.rows(_SINGLE, (), _counted)

@@ -33,7 +33,7 @@ def fill(catalogue: Catalogue, bag: str) -> None:
     while pictures := list(itertools.islice(files, _AT_ONCE)):
         catalogue.put(run, pictures)
         count += len(pictures)
-    if next(catalogue.rows("SELECT count(*) FROM pictures"))[0] < count:
+    if catalogue.number_of("SELECT count(*) FROM pictures") < count:
         raise NoBag(f"{manifest} lists a file twice, perhaps with two digests")
 
 

@@ -2,18 +2,29 @@
 
 from __future__ import annotations
 
+import difflib
 import os
 import unicodedata
-from typing import Iterator, List, NamedTuple, Optional, Sequence, Tuple
+from dataclasses import replace
+from itertools import groupby
+from typing import Dict, Iterator, List, NamedTuple, Optional, Sequence, Tuple
 
+from ..fields.folding import folded
+from ..fields.labels import POSITION, UNCLEAR_POSITION
 from ..fields.rules import AFTER, BEFORE, LENGTH, LIKE, NEEDS, NEVER, VALUES, Rule
 from ..model.records import has, has_short
+from ..model.texts import escaped, pictures_in_words, shown_path
 from .asking import IN_SCOPE, has_text, unread
 from .kept_texts import Report, make_ready, say_nothing
-from .store import Catalogue, root_of_row
+from .store import HEAD, Catalogue, root_of_row
 
 _DATED = "head GLOB '[0-9][0-9][0-9][0-9]*'"
 _LAST = "\U0010ffff"  # sorts after each other character
+_FEW = 20  # texts of a rule that are looked for; a list of words has many that no picture has
+_FREQUENT = 1000  # texts of pictures with which one of a rule is compared
+_SHORT = 100  # characters of a text that is compared with others
+_COMPARED = 500  # characters of all texts that are compared with others; it takes long
+_NAMED = 20  # texts that no picture has
 
 
 class Broken(NamedTuple):
@@ -24,6 +35,15 @@ class Broken(NamedTuple):
     label: str
     text: Optional[str]  # the one that the rule doesn't allow; None: there is none, and it needs one
     damage: str = ""  # where the file is cut off or damaged
+
+
+class Unused(NamedTuple):
+    """A text of a rule that no picture has."""
+
+    rule: Rule
+    label: str
+    text: str
+    near: str = ""  # the one that pictures have and that most looks like it; empty if none does
 
 
 class Checked:
@@ -92,19 +112,27 @@ class Checked:
 
     def rules_broken(self) -> int:
         """How many rules are broken."""
-        return self._number("SELECT count(DISTINCT number) FROM temp.broken")
+        return self._catalogue.number_of("SELECT count(DISTINCT number) FROM temp.broken")
 
     def pictures_broken(self) -> int:
         """How many pictures break a rule."""
-        return self._number("SELECT count(DISTINCT path) FROM temp.broken")
+        return self._catalogue.number_of("SELECT count(DISTINCT path) FROM temp.broken")
 
     def pictures(self) -> int:
         """How many pictures were checked."""
-        return self._number(f"SELECT count(*) FROM pictures p WHERE {IN_SCOPE}")
+        return self._catalogue.number_of(f"SELECT count(*) FROM pictures p WHERE {IN_SCOPE}")
 
     def not_known(self) -> int:
-        """How many of them were not wholly read, so that they may break further rules."""
-        return self._number(f"SELECT count(*) {self._unread()}")
+        """Of how many it isn't known whether they break further rules."""
+        return self._catalogue.number_of(f"SELECT count(*) {self._unread()}")
+
+    def unknown(self) -> str:
+        """A sentence about these pictures, with the reasons; empty if there are none. They are more than those of which a part was not read."""
+        why = "may break more rules: a block is refused or unreadable, or a part was not read"
+        is_asked = any(POSITION in rule.labels for rule in self.rules)
+        if is_asked and self._catalogue.number_of("SELECT count(*) FROM texts WHERE label = ?", (UNCLEAR_POSITION,)):
+            why += ", or a latitude and a longitude make no position, as without a direction"
+        return f"{pictures_in_words(self.not_known())} {why}" if self.not_known() else ""
 
     def paths_not_known(self) -> Iterator[bytes]:
         """These pictures."""
@@ -114,18 +142,73 @@ class Checked:
         labels = [label for rule in self.rules for label in rule.labels]
         return f"FROM pictures p WHERE {IN_SCOPE} AND {unread(labels)}"
 
-    def _number(self, query: str, values: Sequence[object] = ()) -> int:
-        return int(next(self._catalogue.rows(query, values))[0])
+    def notes(self) -> List[str]:
+        """The rules whose folders have no picture, and the texts of rules that no picture has, each in a sentence."""
+        notes = []
+        for rule, inside in self.about_nothing():
+            folders = self._catalogue.roots()
+            below = shown_path(folders[0]) if len(folders) == 1 else "the folders that were indexed"
+            notes.append(f"line {rule.line}: no picture lies in {' or '.join(inside)} below {below}")
+        has = "is known to have" if self.not_known() else "has"
+        unused, more = self.fit_no_text()
+        for rule, label, text, near in unused:
+            perhaps = f'; the nearest that pictures have is "{escaped(near)}"' if near else ""
+            notes.append(f'line {rule.line}: no picture {has} the {label} "{escaped(text)}"{perhaps}')
+        if more:
+            notes.append(f"no picture {has} {more:,} more of the texts that rules allow; which texts are near was not looked for")
+        return notes
 
-    def about_nothing(self) -> List[Rule]:
-        """The rules whose folders have no picture: a folder may be mistyped."""
-        left = [rule for rule in self.rules if rule.inside]
+    def fit_no_text(self) -> Tuple[List[Unused], int]:
+        """The first texts of rules that no picture has, as if they were mistyped, and how many more there are.
+        One of several texts that a rule allows may well be new: it is named only if a text is near."""
+        missing = [unused for number, rule in enumerate(self.rules) for unused in self._unused(number, rule)]
+        frequent: Dict[str, List[str]] = {}
+        named: List[Unused] = []
+        compared = 0
+        for at, unused in enumerate(missing):
+            if compared > _COMPARED or len(named) == _NAMED:
+                return named, len(missing) - at
+            compared += len(unused.text) * (len(unused.text) <= _SHORT)
+            if unused.label not in frequent:
+                frequent[unused.label] = self._frequent(unused.label)
+            near = _nearest(unused, frequent[unused.label])
+            if near or len(unused.rule.values) == 1:
+                named.append(unused._replace(near=near))
+        return named, 0
+
+    def _unused(self, number: int, rule: Rule) -> Iterator[Unused]:
+        """The texts of a rule that no picture has. The texts of a label are read once for a rule, and only if its index lacks one."""
+        in_index = "SELECT 1 FROM texts WHERE label = ? AND long = 0 AND head = ? AND text = ? LIMIT 1"
+        allowed = "(SELECT a.text FROM temp.allowed a WHERE a.number = ?)"
+        in_label = f"SELECT DISTINCT composed(text) FROM texts WHERE label = ? AND (text IN {allowed} OR composed(text) IN {allowed})"
+        for label in rule.labels if rule.kind == VALUES and len(rule.values) <= _FEW else ():
+            heads = [(text, folded(text)[:HEAD]) for text in rule.values]
+            absent = [text for text, head in heads if next(self._catalogue.rows(in_index, (label, head, text)), None) is None]
+            present = {row[0] for row in self._catalogue.rows(in_label, (label, number, number))} if absent else set()
+            yield from (Unused(rule, label, text) for text in absent if unicodedata.normalize("NFC", text) not in present)
+
+    def _frequent(self, label: str) -> List[str]:
+        """The most frequent texts of a label. One that is twice as long as another is none that looks like it."""
+        query = "SELECT text FROM texts WHERE label = ? AND length(text) <= ? GROUP BY text ORDER BY count(*) DESC, text LIMIT ?"
+        return [row[0] for row in self._catalogue.rows(query, (label, 2 * _SHORT, _FREQUENT)) if isinstance(row[0], str)]
+
+    def about_nothing(self) -> List[Tuple[Rule, List[str]]]:
+        """The rules with folders that have no picture, and these folders: a folder may be mistyped."""
+        left = [(rule, folder, replace(rule, inside=(folder,))) for rule in self.rules for folder in rule.inside]
         for path, root in self._catalogue.rows(f"SELECT p.path, p.root FROM pictures p WHERE {IN_SCOPE}") if left else ():
             has(bytes, path, root)
-            left = [rule for rule in left if not rule.is_about(_below(path, root))]
+            left = [one for one in left if not one[2].is_about(_below(path, root))]
             if not left:
                 break
-        return left
+        return [(rule, [one[1] for one in of_rule]) for rule, of_rule in groupby(left, lambda one: one[0])]
+
+
+def _nearest(unused: Unused, frequent: Sequence[str]) -> str:
+    """The text that most looks like one that no picture has; empty if none does, and of long texts, which take long to compare."""
+    if len(unused.text) > _SHORT:
+        return ""
+    others = [text for text in frequent if text not in unused.rule.values]
+    return next(iter(difflib.get_close_matches(unused.text, others, 1, 0.75)), "")
 
 
 def _composed(text: object) -> Optional[str]:

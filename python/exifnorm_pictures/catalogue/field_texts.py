@@ -4,21 +4,31 @@ What is damaged of a file, which is no field, is a text, too."""
 from __future__ import annotations
 
 from decimal import Decimal
+from functools import partial
 from typing import Any, Iterator, List, Sequence, Tuple
 
 from ..fields.choosing import Choice
 from ..fields.field import Field
 from ..fields.labels import DAMAGE
 from ..fields.listing import LONGEST_TEXT, is_rest
+from ..fields.places import is_angle, signed_degrees
 from ..fields.plain_values import plain
 from ..fields.typed import typed
 from ..model.found import NAMES
 from ..model.records import PictureRecord
-from .kept_texts import AT_ONCE, Report, say_nothing, show_as_texts
+from .kept_texts import Report, fill, say_nothing, show_as_texts
 from .label_texts import kept_text
 from .store import Catalogue, put_text, texts_table
 
 _FIELDS = "temp.field_texts"
+_TIME = ("gps", "0007")
+_NUMBERS = (("exif", "9101"), ("exif", "a300"), ("exif", "a301"))  # of type UNDEFINED, and numbers by the standard
+# Logarithms to the base 2 (APEX), whose units are powers of this exponent: seconds, and f-numbers
+_EXPONENTS = {
+    **dict.fromkeys(("9201", "exif:ShutterSpeedValue"), -1.0),
+    **dict.fromkeys(("9202", "9205", "exif:ApertureValue", "exif:MaxApertureValue"), 0.5),
+}
+_GREATEST = 100  # of the logarithm of a time that ExifTool reads; others are 0 seconds
 
 
 def add_fields(catalogue: Catalogue, words: Sequence[str], report: Report = say_nothing) -> None:
@@ -36,42 +46,58 @@ def add_fields(catalogue: Catalogue, words: Sequence[str], report: Report = say_
             damaged = catalogue.rows("SELECT id, damage FROM pictures WHERE damage != ''")
             base.executemany(put_text(_FIELDS), ((number, 0, *kept_text(DAMAGE, text)) for number, text in damaged))
     choices = [(word, Choice(only=[word])) for word in words if word != DAMAGE]
-    if not choices:
-        return
-    due = int(next(catalogue.rows("SELECT count(*) FROM pictures"))[0])
-    done, last = 0, 0
-    while done < due:
-        numbers = [row[0] for row in catalogue.rows("SELECT id FROM pictures WHERE id > ? ORDER BY id LIMIT ?", (last, AT_ONCE))]
-        with catalogue.guarded():
-            rows = (row for number in numbers for row in _rows(catalogue, number, choices))
-            base.executemany(put_text(_FIELDS), rows)
-        done, last = done + len(numbers), numbers[-1]
-        report(done, due)
+    if choices:
+        due = catalogue.number_of("SELECT count(*) FROM pictures")
+        fill(catalogue, _FIELDS, "SELECT id FROM pictures", due, partial(_rows, choices), report)
 
 
-def _rows(catalogue: Catalogue, number: int, choices: Sequence[Tuple[str, Choice]]) -> Iterator[Tuple[object, ...]]:
-    """The texts of a picture as rows, each once."""
+def _rows(choices: Sequence[Tuple[str, Choice]], catalogue: Catalogue, number: int) -> Iterator[Tuple[object, ...]]:
+    """The texts of a picture as rows. Of fields with the same texts one counts; a field may have a text twice, as 16 bits for each colour."""
     blocks = catalogue.blocks_with_fields(PictureRecord(number))
     for word, choice in choices:
-        texts = []
+        lists = []
         for block, fields in blocks:
             name = "" if block.name == NAMES[block.kind] else block.name
-            texts += [
-                text for field in choice.of(fields, name) if not is_rest(field.directory, field.tag) for text in texts_of_field(field)
-            ]
-        for at, text in enumerate(dict.fromkeys(texts)):
+            chosen = [field for field in choice.of(fields, name) if not is_rest(field.directory, field.tag)]
+            lists += [tuple(texts_of_field(field, fields)) for field in chosen]
+        for at, text in enumerate([text for texts in dict.fromkeys(lists) for text in texts]):
             yield (number, at, *kept_text(word, text))
 
 
-def texts_of_field(field: Field) -> List[str]:
-    """The values of a field as texts: numbers as `exiftool -n` has them, and what is no text or number in plain words.
+def texts_of_field(field: Field, fields: Sequence[Field] = ()) -> List[str]:
+    """The values of a field as texts: numbers as `exiftool -n` has them, and what is no text or number in plain words. An angle of GPS is one
+    number, with the sign that another of the fields of its block gives it; an APEX value is in seconds, or an f-number.
 
     >>> texts_of_field(Field("exif", "829a", "RATIONAL", 1, ((10, 1250),))), texts_of_field(Field("main", "013b", "ASCII", 5, b"Otto\\0"))
     (['0.008'], ['Otto'])
+    >>> parts = ((12, 1), (30, 1), (0, 1))
+    >>> texts_of_field(Field("gps", "0002", "RATIONAL", 3, parts)), texts_of_field(Field("gps", "0007", "RATIONAL", 3, parts))
+    (['12.5'], ['12:30:00'])
     """
+    if is_angle(field):
+        angle = signed_degrees(field, fields)
+        return [plain(field) if angle is None else _text(float(f"{float(angle):.15g}"))]
+    if (field.directory, field.tag) == _TIME:
+        return [plain(field).removesuffix(" UTC")]
+    if (field.directory, field.tag) in _NUMBERS and isinstance(field.content, bytes):
+        return list(map(str, field.content)) or [plain(field)]
     values = list(_members(typed(field)))
+    if field.tag in _EXPONENTS and field.directory in ("main", "exif", "xmp"):
+        values = [_power(value, _EXPONENTS[field.tag]) for value in values]
     known = [text for text in map(_text, values) if text and len(text) <= LONGEST_TEXT]
     return known if known and not any(isinstance(value, dict) for value in values) else [plain(field)[:LONGEST_TEXT]]
+
+
+def _power(logarithm: Any, exponent: float) -> Any:
+    """The seconds or the f-number of a logarithm; `Inf` for a greater one than a computer's numbers, as ExifTool has it."""
+    if not isinstance(logarithm, (int, float)):
+        return logarithm
+    if exponent < 0 and abs(logarithm) >= _GREATEST:
+        return 0
+    try:
+        return float(f"{2 ** (logarithm * exponent):.15g}")
+    except OverflowError:
+        return "Inf"
 
 
 def _members(value: Any) -> Iterator[Any]:

@@ -15,6 +15,7 @@ from .label_texts import rows_of
 from .store import Catalogue, NoCatalogue, put_text, texts_table
 
 Report = Callable[[int, int], None]  # of how many pictures the texts were added, and how many had none
+Rows = Callable[[Catalogue, int], Iterator[Tuple[object, ...]]]  # the texts of a picture, by its number
 
 AT_ONCE = 1000  # pictures of a transaction
 _OTHERS = "temp.other_texts"
@@ -35,7 +36,7 @@ def keep(name: str, report: Report = say_nothing) -> None:
         done = 0
         while True:
             with catalogue.transaction():
-                numbers = _add(catalogue, "main.texts", 0)  # another run may have added some meanwhile
+                numbers = _add(catalogue, "main.texts", catalogue.without_texts(), 0, _rows)  # another run may have added some meanwhile
                 if numbers:
                     catalogue.set_prepared(numbers[-1])
             if not numbers:
@@ -46,7 +47,7 @@ def keep(name: str, report: Report = say_nothing) -> None:
 
 def lacking(catalogue: Catalogue) -> int:
     """How many pictures have no texts yet."""
-    return int(next(catalogue.rows(f"SELECT count(*) FROM ({catalogue.without_texts()})"))[0])
+    return catalogue.number_of(f"SELECT count(*) FROM ({catalogue.without_texts()})")
 
 
 def make_ready(catalogue: Catalogue, report: Report = say_nothing) -> None:
@@ -59,25 +60,31 @@ def make_ready(catalogue: Catalogue, report: Report = say_nothing) -> None:
             catalogue.base.execute(texts_table(_OTHERS))
             catalogue.base.execute("CREATE INDEX temp.other_short_texts ON other_texts (label, head, text) WHERE long = 0")
         show_as_texts(catalogue, [*catalogue.texts, *[_OTHERS] * bool(due)])
+    fill(catalogue, _OTHERS, catalogue.without_texts(), due, _rows, report)
+
+
+def fill(catalogue: Catalogue, table: str, pictures: str, due: int, rows: Rows, report: Report) -> None:
+    """Adds the texts of so many pictures, of which a query has the numbers, to a table."""
     done, last = 0, 0
     while done < due:
-        numbers = _add(catalogue, _OTHERS, last)
+        numbers = _add(catalogue, table, pictures, last, rows)
         done, last = done + len(numbers), numbers[-1]
         report(done, due)
 
 
 def show_as_texts(catalogue: Catalogue, tables: Sequence[str]) -> None:
     """Makes the name `texts` stand for all rows of some tables."""
+    catalogue.all_texts = tuple(tables)
     if len(tables) > 1:
         catalogue.base.execute(f"CREATE TEMP VIEW texts AS {' UNION ALL '.join(f'SELECT * FROM {table}' for table in tables)}")
 
 
-def _add(catalogue: Catalogue, table: str, after: int) -> List[int]:
+def _add(catalogue: Catalogue, table: str, pictures: str, after: int, rows: Rows) -> List[int]:
     """Adds the texts of some pictures to a table: of the next ones after a number. Returns their numbers."""
-    query = f"SELECT id FROM ({catalogue.without_texts()}) WHERE id > ? ORDER BY id LIMIT ?"
+    query = f"SELECT id FROM ({pictures}) WHERE id > ? ORDER BY id LIMIT ?"
     numbers = [row[0] for row in catalogue.rows(query, (after, AT_ONCE))]
     with catalogue.guarded():
-        catalogue.base.executemany(put_text(table), (row for number in numbers for row in _rows(catalogue, number)))
+        catalogue.base.executemany(put_text(table), (row for number in numbers for row in rows(catalogue, number)))
     return numbers
 
 

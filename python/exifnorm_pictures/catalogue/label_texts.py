@@ -6,10 +6,10 @@ from itertools import chain
 from typing import Dict, Iterator, List, Mapping, NamedTuple, Optional, Sequence, Tuple
 
 from ..fields.folding import folded
-from ..fields.labels import POSITION, PRIVATE, decoded
+from ..fields.labels import POSITION, PRIVATE, UNCLEAR_POSITION, decoded
 from ..fields.field import Field
 from ..fields.listing import LONGEST_TEXT, is_rest
-from ..fields.places import position_of
+from ..fields.places import has_angles, position_of
 from ..model.records import BlockRecord
 from ..model.xmp_values import Long, texts_in
 from .store import HEAD
@@ -78,6 +78,8 @@ def _texts(labelled: PictureTexts, fields: Sequence[Field]) -> Iterator[Tuple[st
     place = position_of(fields)
     if place is not None:
         yield POSITION, place.text
+    elif has_angles(fields):
+        yield UNCLEAR_POSITION, "?"
     for field in fields:
         label = _PRIVATE.get((field.directory, field.tag))
         if label:

@@ -28,7 +28,7 @@ def merge(name: str, others: Sequence[str], before: Optional[Before] = None) -> 
     with Catalogue(name, make=True) as all_:
         for number, source in enumerate(others):
             _add(all_, source, others[:number], before)
-        return int(next(all_.rows("SELECT count(*) FROM pictures"))[0])
+        return all_.number_of("SELECT count(*) FROM pictures")
 
 
 def _check(name: str, others: Sequence[str]) -> None:
@@ -40,7 +40,7 @@ def _check(name: str, others: Sequence[str]) -> None:
             first = None if all_.is_empty() else all_
         for source in others:
             if os.path.exists(source) and os.path.exists(name) and os.path.samefile(source, name):
-                raise NoCatalogue(f"{source} is the catalogue to be written")
+                raise NoCatalogue(f"{source} is the catalogue to write, and can't be merged into itself")
             with Catalogue(source) as other:
                 if first and other.has_sidecars() != first.has_sidecars():
                     raise unlike(first, other)

@@ -4,6 +4,7 @@
     archive.before.catalogue    the state with which the last letter compared it
     archive.tonight.catalogue   what a run has found so far, while it works and after it was killed
     archive.catalogue.lock      the lock, with what tonight's catalogue was made from
+    archive.version6.catalogue  one of an earlier release, in place of which a new one was made
 
 A catalogue gets its name when it is whole and closed.
 """
@@ -12,15 +13,16 @@ from __future__ import annotations
 
 import contextlib
 import fcntl
+import itertools
 import os
 import shutil
 import stat
-from typing import IO, Iterator, List, Optional, Tuple
+from typing import IO, List, Optional, Tuple
 
 from ..files import atomic
 from ..model.errors import Failure
 from ..model.texts import shown_path
-from .store import Catalogue, head_is_ours
+from .store import VERSION, Catalogue, Earlier, earlier_release, head_is_ours
 
 _HEAD = "The lock of exifnorm-pictures nightly, and what its catalogue of tonight was made from:\n"
 _SQLITES = ("-wal", "-shm", "-journal")  # files that SQLite keeps beside a catalogue
@@ -38,7 +40,10 @@ class Nights:
         self.last = os.path.realpath(name) if os.path.islink(name) else name  # a file that is replaced is the one that a link leads to
         stem, ending = os.path.splitext(self.last)
         self.before, self.tonight = f"{stem}.before{ending}", f"{stem}.tonight{ending}"
-        self._about = about
+        self.is_first = False  # whether there was no night before to compare with
+        self.earlier: Optional[Earlier] = None  # the last catalogue, if it is of an earlier release ..
+        self.kept = ""  # .. and the name under which it is kept
+        self._about = f"{about}\n{VERSION}"
         self._lock: Optional[IO[str]] = None
         self._mark = ""
 
@@ -46,16 +51,11 @@ class Nights:
     def names(self) -> Tuple[str, ...]:
         """The names of all files, also of those that SQLite makes."""
         catalogues = (self.last, self.before, self.tonight)
-        return (*(name + ending for name in catalogues for ending in ("", *_SQLITES)), self._lock_name)
+        return (*(name + ending for name in catalogues for ending in ("", *_SQLITES)), self._lock_name, *[self.kept] * bool(self.kept))
 
     @property
     def _lock_name(self) -> str:
         return f"{self.last}.lock"
-
-    @property
-    def is_first(self) -> bool:
-        """Whether there was no night before."""
-        return not os.path.lexists(self.last)
 
     def __enter__(self) -> "Nights":
         # The lock is this process's own: one that it has started and that outlives it doesn't hold it, as it would with flock
@@ -66,6 +66,11 @@ class Nights:
             file.close()
             raise NotAlone(f"another nightly run works on {shown_path(self.last)}") from None
         self._lock = file
+        self.earlier = earlier_release(self.last)
+        self.is_first = self.earlier is not None or not os.path.lexists(self.last)
+        if self.earlier:
+            stem, ending = os.path.splitext(self.last)
+            self.kept = _name_for(self.last, f"{stem}.version{self.earlier.version}", ending)
         return self
 
     def __exit__(self, *_: object) -> None:
@@ -95,7 +100,17 @@ class Nights:
         if has_news and not self.is_first:
             _refuse_others(self.before)
             self._replace_before()
+        if self.earlier:
+            self._keep_earlier()
         os.replace(self.tonight, self.last)
+
+    def _keep_earlier(self) -> None:
+        """Gives a catalogue of an earlier release another name, with what SQLite has beside it after a run that was killed."""
+        if not os.path.lexists(self.kept):
+            _link(self.last, self.kept)
+        for ending in _SQLITES:
+            with contextlib.suppress(FileNotFoundError):
+                os.rename(self.last + ending, self.kept + ending)
 
     def _replace_before(self) -> None:
         """Gives the last catalogue a second name, so that it has one at each moment."""
@@ -103,10 +118,7 @@ class Nights:
         _refuse_others(beside)
         with contextlib.suppress(FileNotFoundError):
             os.unlink(beside)
-        try:
-            os.link(self.last, beside)
-        except OSError:  # a file system without links
-            shutil.copyfile(self.last, beside)
+        _link(self.last, beside)
         os.replace(beside, self.before)
 
     def _noted(self) -> str:
@@ -119,6 +131,20 @@ class Nights:
         self._lock.truncate(0)
         self._lock.write(_HEAD + text)
         self._lock.flush()
+
+
+def _link(name: str, other: str) -> None:
+    """Gives a file a second name, or makes a copy of it."""
+    try:
+        os.link(name, other)
+    except OSError:  # a file system without links
+        shutil.copyfile(name, other)
+
+
+def _name_for(name: str, stem: str, ending: str) -> str:
+    """The name for a catalogue of an earlier release: that which a run that was killed has given it, or a new one."""
+    names = itertools.chain([f"{stem}{ending}"], (f"{stem}.{number}{ending}" for number in itertools.count(2)))
+    return next(it for it in names if not os.path.lexists(it) or (os.path.exists(it) and os.path.samefile(it, name)))
 
 
 def _opened_lock(name: str) -> IO[str]:
@@ -162,17 +188,11 @@ def _is_ours(name: str) -> bool:
 
 def copy_over(catalogue: Catalogue, name: str, room: str) -> None:
     """Copies a catalogue to a new file or over an earlier copy. Raises `NotReplaced` for any other file."""
-    with _copied(catalogue, room) as copy, open(copy, "rb") as source:
+    copy = os.path.join(room, "old")
+    catalogue.copy_to(copy)
+    with open(copy, "rb") as source:
         try:
             atomic.replace(os.fsencode(name), lambda file: shutil.copyfileobj(source, file), head_is_ours, (catalogue.name,))
         except atomic.NotReplaced as error:
             raise atomic.NotReplaced(atomic.not_written(name, error)) from None
-
-
-@contextlib.contextmanager
-def _copied(catalogue: Catalogue, room: str) -> Iterator[str]:
-    """A copy of a catalogue in a temporary folder."""
-    copy = os.path.join(room, "old")
-    catalogue.copy_to(copy)
-    yield copy
     os.unlink(copy)

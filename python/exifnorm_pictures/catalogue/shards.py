@@ -13,7 +13,7 @@ from typing import BinaryIO, Iterator, List, NamedTuple, Optional, Sequence, Tup
 
 from ..files import atomic, opening
 from ..model.errors import WrongUse
-from ..model.texts import shown_path
+from ..model.texts import in_words, shown_path
 from .merge import merge
 from .store import LIST, LIST_HEAD, Catalogue, NoCatalogue, address, check_schema, connect, head_is_ours, list_of, unlike
 
@@ -45,12 +45,18 @@ def is_folder(name: str) -> bool:
     return os.path.isdir(name) and list_of(name) is not None
 
 
+def is_of_folder(name: str) -> bool:
+    """Whether a name is that of a folder of catalogues, or of a catalogue that such a folder lists."""
+    folder, file = os.path.split(name)
+    return is_folder(name) or (is_folder(folder or ".") and file in listed(folder or "."))
+
+
 def shards_of(folder: str) -> Shards:
     """The catalogues of a folder. Raises `NoCatalogue` if none is there."""
     names = [os.path.join(folder, name) for name in listed(folder)]
     there = [name for name in names if os.path.exists(name)]
     if not there:
-        raise NoCatalogue(f"{folder}: none of its {len(names):,} catalogues is there")
+        raise NoCatalogue(f"{folder}: none of its {in_words(len(names), 'catalogue')} is there")
     return Shards(folder, there, [name for name in names if name not in there], list(_unlisted(folder, there)))
 
 
@@ -130,8 +136,8 @@ def _are_apart(ranges: Sequence[Tuple[int, int]]) -> bool:
     >>> _are_apart([(1, 3), (0, 0), (4, 4)]), _are_apart([(1, 3), (3, 5)])
     (True, False)
     """
-    some = [ends for ends in ranges if ends != (0, 0)]
-    return all(before[1] < after[0] for before, after in zip(some, some[1:]))
+    filled = [ends for ends in ranges if ends != (0, 0)]
+    return all(before[1] < after[0] for before, after in zip(filled, filled[1:]))
 
 
 class Together(Catalogue):
@@ -165,19 +171,14 @@ class Together(Catalogue):
         for (shard, schema), (other, its) in itertools.combinations(zip(about, self._schemas), 2):
             if shard.paths[0] <= other.paths[1] and other.paths[0] <= shard.paths[1]:
                 if shard.numbers[1] - shard.numbers[0] > other.numbers[1] - other.numbers[0]:
-                    shard, schema, other, its = (
-                        other,
-                        its,
-                        shard,
-                        schema,
-                    )  # the smaller one is read, and each path is looked up in the other
+                    shard, schema, other, its = other, its, shard, schema  # the smaller one is read, and the other looked up
                 query = f"SELECT path FROM {schema}.pictures AS mine CROSS JOIN {its}.pictures AS other USING (path) LIMIT 1"
                 for (path,) in self.rows(query):
                     raise twice(path, shard.name, other.name)
 
     def without_texts(self) -> str:
         """A query for the numbers of the pictures whose texts aren't kept."""
-        kept = [self._number(f"SELECT ifnull(max(picture), 0) FROM {schema}.prepared") for schema in self._schemas]
+        kept = [self.number_of(f"SELECT ifnull(max(picture), 0) FROM {schema}.prepared") for schema in self._schemas]
         return " UNION ALL ".join(f"SELECT id FROM {schema}.pictures WHERE id > {number}" for schema, number in zip(self._schemas, kept))
 
 

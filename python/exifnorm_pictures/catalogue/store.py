@@ -27,6 +27,7 @@ from ..model.budgets import ROW_BYTES, ROW_NUMBER, SQL_STEPS
 from ..model.columns import Damaged
 from ..model.errors import Failure
 from ..model.found import NotRead
+from ..model.numbers import Numbers
 from ..model.problems import GONE, NO_BYTES
 from ..model.records import BLOCKS, PICTURES, BlockRecord, PictureRecord, Stamp, block_of_row, has_short, not_read_of_row, picture_of_row
 
@@ -117,6 +118,12 @@ _ADD_ROWS = (
     "INSERT INTO main.not_read SELECT picture + :pictures, number, what, digest FROM {other}.not_read",
     "INSERT INTO main.maker_notes SELECT picture + :pictures, readings FROM {other}.maker_notes",
 )
+# SQLite keeps the numbers of the rows that a statement deletes in memory, 24 bytes each, so that not all go by one
+_FORGET = "DELETE FROM pictures WHERE id IN (SELECT id FROM pictures WHERE path = ? OR (path > ? AND path < ?) LIMIT ?)"
+_FORGOTTEN = 10_000  # pictures of a statement
+_REFUSED = """SELECT path FROM pictures WHERE path > ? AND problem IS NULL AND (exif IS NULL OR iptc IS NULL OR xmp IS NULL)
+    ORDER BY path LIMIT ?"""
+_AT_ONCE = 1000  # paths that are read together
 _BEGIN_RUN = "INSERT INTO runs (id, started, sidecars) SELECT max(ifnull(max(id), 0), ?) + 1, ?, ? FROM runs"
 # What is equal of a picture that is read again and is as it was: nobody has written to its file or its sidecars
 _SAME = ("size", "modified", "changed", "inode", "sidecars", "problem", "exif_octets", "iptc_octets", "xmp_octets", "file")
@@ -202,9 +209,10 @@ def _check_head(name: str, make: bool) -> None:
         folder = shlex.quote(name)
         if list_of(name) is not None:
             raise NoCatalogue(
-                f"{name} is a folder of catalogues, and this command takes one of them: {os.path.join(name, LIST)} lists them"
+                f"{name} is a folder of catalogues, and this command takes one catalogue, such as all of them merged:"
+                f" exifnorm-pictures merge {folder} --catalogue NEW"
             )
-        raise NoCatalogue(f"{name} is a folder, and no catalogue. Make one of it: exifnorm-pictures index {folder} --catalogue NEW")
+        raise NoCatalogue(f"{name} is a folder and not a catalogue. To make one: exifnorm-pictures index {folder} --catalogue NEW")
     if not stat.S_ISREG(kind):
         raise NoCatalogue(f"{name} is no catalogue: it is no regular file")
     log = _mark(f"{name}-wal")
@@ -226,6 +234,38 @@ def _check_head(name: str, make: bool) -> None:
         )
     if version > VERSION:
         raise NoCatalogue(f"{name} is a catalogue of a later release (version {version}, here {VERSION})")
+
+
+class Earlier(NamedTuple):
+    """What is known of a catalogue of an earlier release, which can't be compared."""
+
+    version: int
+    pictures: Optional[int] = None  # None: its tables are others
+    pixels: bool = False  # whether it was made with --pixels
+    sidecars: bool = False
+
+
+def earlier_release(name: str) -> Optional[Earlier]:
+    """What is known of a catalogue of an earlier release; None of any other file, and of none. Raises `OSError`."""
+    if not os.path.isfile(name):
+        return None
+    head, _ = _head_of(name)
+    version = int.from_bytes(head[60:64], "big")
+    if not head_is_ours(head) or version >= VERSION:
+        return None
+    with contextlib.suppress(sqlite3.Error), contextlib.closing(connect(address(name))) as base:
+        kinds = base.execute("SELECT count(*) FROM sqlite_master WHERE name IN ('pictures', 'runs') AND sql LIKE 'CREATE TABLE%'")
+        if kinds.fetchone()[0] == 2:
+            values = [base.execute(query).fetchone()[0] for query in _OF_EARLIER]
+            return Earlier(version, int(values[0]), *map(bool, values[1:]))
+    return Earlier(version)
+
+
+_OF_EARLIER = (
+    "SELECT count(*) FROM pictures WHERE problem IS NOT 'NoPicture'",
+    "SELECT EXISTS (SELECT 1 FROM pictures WHERE coded_picture != '')",
+    "SELECT EXISTS (SELECT 1 FROM runs WHERE sidecars)",
+)
 
 
 def list_of(folder: str) -> Optional[bytes]:
@@ -312,10 +352,30 @@ def check_schema(base: sqlite3.Connection, name: str, schema: str = "main") -> N
         raise NoCatalogue(f"{name} is no catalogue: a table is missing")
 
 
+class _Guard:
+    """The context of `Catalogue.guarded`: a class, because it is entered for each query."""
+
+    __slots__ = ("_catalogue",)
+
+    def __init__(self, catalogue: "Catalogue") -> None:
+        self._catalogue = catalogue
+
+    def __enter__(self) -> None:
+        pass
+
+    def __exit__(self, kind: Optional[Type[BaseException]], error: Optional[BaseException], *_: object) -> None:
+        is_wrong_call = isinstance(error, sqlite3.ProgrammingError)  # of SQLite, which says nothing about the catalogue
+        if isinstance(error, (sqlite3.DatabaseError, Damaged, UnicodeDecodeError)) and not is_wrong_call:
+            raise self._catalogue.failure(error) from error
+
+
 class Catalogue:
     """A catalogue that is open. Use it in a `with`."""
 
+    _schemas: Sequence[str] = ("main",)  # the names of its files on the connection
     texts: Tuple[str, ...] = ("main.texts",)  # the tables of texts by label
+    all_texts: Tuple[str, ...] = ()  # the same with those that are made for a question, once they are
+    _roots: Optional[Tuple[List[int], List[bytes]]] = None  # what `roots` returned last, with the state that it was of
 
     def __init__(self, name: str, make: bool = False, adds: bool = False) -> None:
         """Opens a catalogue to read it, or with `make` to write to it; then a missing one is made. With `adds` one that is there is written to,
@@ -364,21 +424,13 @@ class Catalogue:
                     raise
             time.sleep(PATIENCE / 1000)
 
-    @contextlib.contextmanager
-    def guarded(self) -> Iterator[None]:
+    def guarded(self) -> "_Guard":
         """Raises `NoCatalogue` with the catalogue's name for an error of SQLite, and for a value that no catalogue has."""
-        try:
-            yield
-        except sqlite3.ProgrammingError:  # a wrong call of SQLite, which says nothing about the catalogue
-            raise
-        except (sqlite3.DatabaseError, Damaged, UnicodeDecodeError) as error:
-            raise self.failure(error) from error
+        return _Guard(self)
 
     def failure(self, error: BaseException) -> NoCatalogue:
-        """The error of this catalogue for one of SQLite, or for a value. Only a file that SQLite can't read is damaged, not a full disk.
-
-        Raises what a signal raised meanwhile.
-        """
+        """The error of this catalogue for one of SQLite, or for a value. Only a file that SQLite can't read is damaged, not a full disk. Raises
+        what a signal raised meanwhile."""
         signals.go_on_stopping()
         is_damaged = isinstance(error, (Damaged, UnicodeDecodeError)) or type(error) is sqlite3.DatabaseError
         return NoCatalogue(f"{self.name}{' is damaged' * is_damaged}: {error}")
@@ -461,14 +513,18 @@ class Catalogue:
         with contextlib.ExitStack() as attached:
             names = [attached.enter_context(self.attached(name, f"batch{number}")) for number, name in enumerate(files)]
             with self.transaction():
-                has_some = not self.is_empty()
-                earlier = [row for other in names if has_some for row in self._unchanged(other)]
+                has_earlier = self._has_earlier(run)
+                earlier = [row for other in names if has_earlier for row in self._unchanged(other)]
                 for other in names:
                     self.add_rows(other, run)
                 new = [it for it in {it.path: it for it in entries}.values() if not self._is_kept(run, it)]
-                earlier += filter(None, map(self._earlier, new if has_some else ()))
+                earlier += filter(None, map(self._earlier, new if has_earlier else ()))
                 put_rows(self.base, run, 1 + self.last_number(), new)
                 self.base.executemany("UPDATE main.pictures SET run = ? WHERE path = ?", earlier)
+
+    def _has_earlier(self, run: int) -> bool:
+        """Whether a picture of another run may be known. In a first run none is looked for."""
+        return self.base.execute("SELECT 1 FROM runs WHERE id != ? LIMIT 1", (run,)).fetchone() is not None and not self.is_empty()
 
     def _unchanged(self, other: str) -> "List[Tuple[int, bytes]]":
         """The pictures of an attached file that are as they were, as after `index --again`: each with the run in which it was new or changed."""
@@ -480,10 +536,8 @@ class Catalogue:
         """The same of a picture that was looked at."""
         same = " AND ".join(f"{column} IS ?" for column in _SAME)
         values = (picture.path, *(getattr(picture, column) for column in _SAME))
-        row: "Optional[Tuple[int, bytes]]" = self.base.execute(
-            f"SELECT run, path FROM main.pictures WHERE path = ? AND {same}", values
-        ).fetchone()
-        return row
+        query = f"SELECT run, path FROM main.pictures WHERE path = ? AND {same}"
+        return next(self.base.execute(query, values), None)
 
     @contextlib.contextmanager
     def attached(self, file: str, other: str) -> Iterator[str]:
@@ -507,11 +561,11 @@ class Catalogue:
 
     def greatest(self, table: str) -> int:
         """The greatest number of a row. Raises `NoCatalogue` if it is none that a catalogue has."""
-        return self._number(f"SELECT ifnull(max(id), 0) FROM main.{table}")
+        return self.number_of(f"SELECT ifnull(max(id), 0) FROM main.{table}")
 
     def prepared(self) -> int:
         """The number of a picture: the texts of the pictures up to it are kept."""
-        return self._number("SELECT ifnull(max(picture), 0) FROM main.prepared")
+        return self.number_of("SELECT ifnull(max(picture), 0) FROM main.prepared")
 
     def without_texts(self) -> str:
         """A query for the numbers of the pictures whose texts aren't kept."""
@@ -526,9 +580,10 @@ class Catalogue:
         """The greatest number of a picture that is or was there when texts were kept: a new one with an earlier number would seem to have texts."""
         return max(self.greatest("pictures"), self.prepared())
 
-    def _number(self, query: str) -> int:
+    def number_of(self, query: str, values: Sequence[object] = ()) -> int:
+        """The one number that a query has."""
         with self.guarded():
-            number = self.base.execute(query).fetchone()[0]
+            number = self.base.execute(query, values).fetchone()[0]
             if not isinstance(number, int) or number > ROW_NUMBER:
                 raise Damaged(f"{number} is no number of a row")
         return number
@@ -573,6 +628,14 @@ class Catalogue:
             for row in self.base.execute(query, values):
                 yield factory(row)
 
+    def numbers(self, query: str, values: Sequence[object] = ()) -> Numbers:
+        """The numbers of a query's rows, each of which has one."""
+        with self.guarded():
+            try:
+                return Numbers(self.base.execute(query, values))
+            except TypeError:
+                raise Damaged("a number of a picture is none") from None
+
     def runs(self) -> List[Run]:
         """Each run, the first one first."""
         return list(self.rows("SELECT started, ended, exifnorm, exiftool, exiv2 FROM runs ORDER BY id", (), _run_of_row))
@@ -584,13 +647,17 @@ class Catalogue:
             row = self.base.execute(query, (path,)).fetchone()
         return None if row is None else _known(row)
 
+    def picture(self, path: bytes) -> Optional[PictureRecord]:
+        """The picture with this path."""
+        return next(self.rows(f"SELECT {PICTURE_COLUMNS} FROM pictures WHERE path = ?", (path,), picture_of_row), None)
+
     def has(self, path: bytes) -> bool:
         """Whether a picture is known."""
         return self.known(path) is not None
 
     def with_maker_note(self) -> int:
         """How many pictures have a MakerNote."""
-        return int(next(self.rows("SELECT count(DISTINCT picture) FROM blocks WHERE note IS NOT NULL"))[0])
+        return self.number_of("SELECT count(DISTINCT picture) FROM blocks WHERE note IS NOT NULL")
 
     def is_empty(self) -> bool:
         """Whether no picture is known, as in a first run."""
@@ -602,6 +669,10 @@ class Catalogue:
         query = "SELECT id, path, problem FROM pictures WHERE path > ? AND path < ? AND run != ? ORDER BY path"
         yield from self.rows(query, (start, start[:-1] + b"0", run))
 
+    def count(self) -> int:
+        """How many files are known. SQLite counts those of a table, and goes through the rows of a view."""
+        return sum(self.number_of(f"SELECT count(*) FROM {schema}.pictures") for schema in self._schemas)
+
     def count_below(self, folder: bytes) -> int:
         """How many pictures are below a folder, without those that are gone."""
         return sum(problem not in GONE for _, _, problem in self.below(folder))
@@ -610,6 +681,18 @@ class Catalogue:
         """Each picture, by path; `only` is a table of paths, as `choose` makes it."""
         where = f"WHERE path IN {only}" if only else ""
         yield from self.rows(f"SELECT {PICTURE_COLUMNS} FROM pictures {where} ORDER BY path", (), picture_of_row)
+
+    def refused(self) -> Iterator[bytes]:
+        """The path of each picture with a block that isn't accepted, in their order. No query is open while one is returned, so that other
+        programs can write to the catalogue."""
+        after: object = float("-inf")  # which sorts before all values, also before one that is no path
+        last = b""
+        while paths := list(self.rows(_REFUSED, (after, _AT_ONCE), root_of_row)):
+            yield from paths
+            with self.guarded():
+                if paths[-1] <= last:
+                    raise Damaged("the paths of pictures are in no order")
+            after = last = paths[-1]
 
     def not_read_of(self, picture: PictureRecord) -> List[NotRead]:
         """The parts of a picture that were not read."""
@@ -643,16 +726,25 @@ class Catalogue:
         return "temp.chosen"
 
     def roots(self) -> List[bytes]:
-        """Each folder that was indexed."""
-        return list(self.rows("SELECT DISTINCT root FROM pictures ORDER BY root", (), root_of_row))
+        """Each folder that was indexed. No index has them, so all pictures are gone through: once, and again after somebody has written."""
+        state = self._state()
+        if self._roots is None or self._roots[0] != state:
+            self._roots = state, list(self.rows("SELECT DISTINCT root FROM pictures ORDER BY root", (), root_of_row))
+        return list(self._roots[1])
+
+    def _state(self) -> List[int]:
+        """What is other once anybody has written, also another program."""
+        return [*(next(self.rows(f"PRAGMA {schema}.data_version"))[0] for schema in self._schemas), self.base.total_changes]
 
     def forget(self, name: bytes) -> int:
         """Removes a file, or all files below a folder. Returns how many."""
         start = name.rstrip(b"/") + b"/"
+        values = (name, start, start[:-1] + b"0", _FORGOTTEN)
+        count = 0
         with self.transaction():
-            return self.base.execute(
-                "DELETE FROM pictures WHERE path = ? OR (path > ? AND path < ?)", (name, start, start[:-1] + b"0")
-            ).rowcount
+            while deleted := self.base.execute(_FORGET, values).rowcount:
+                count += deleted
+        return count
 
     def forget_pictures(self, numbers: Iterable[int]) -> None:
         """Removes some pictures, by their numbers."""
@@ -685,7 +777,7 @@ def _bounded(factory: Callable[[Tuple[Any, ...]], Made]) -> Callable[[Tuple[Any,
 
     def bounded(row: Tuple[Any, ...]) -> Made:
         nonlocal left
-        left -= sum(len(cell) for cell in row if isinstance(cell, (str, bytes)))
+        left -= sum([len(cell) for cell in row if isinstance(cell, (str, bytes))])
         if left < 0:
             raise Damaged("what it has of a picture is too long")
         return factory(row)
@@ -696,7 +788,7 @@ def _bounded(factory: Callable[[Tuple[Any, ...]], Made]) -> Callable[[Tuple[Any,
 def unlike(catalogue: Catalogue, other: Catalogue) -> NoCatalogue:
     """The error for two catalogues of which only one has XMP sidecars."""
     has, has_not = (catalogue, other) if catalogue.has_sidecars() else (other, catalogue)
-    return NoCatalogue(f"{has.name} was made by `index --sidecars`, and {has_not.name} without; make both alike")
+    return NoCatalogue(f"{has.name} was made by `index --sidecars`, and {has_not.name} without; make both in the same way")
 
 
 def make_rows(base: sqlite3.Connection) -> None:
@@ -723,7 +815,7 @@ def _rows_of_blocks(blocks: Sequence[BlockRecord]) -> Iterator[Tuple[object, ...
 
 
 def root_of_row(row: Tuple[bytes]) -> bytes:
-    """The folder of a row `root`."""
+    """The folder of a row `root`, or the path of one `path`."""
     has_short(bytes, row[0])
     return row[0]
 

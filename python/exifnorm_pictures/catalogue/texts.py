@@ -2,12 +2,13 @@
 
 from __future__ import annotations
 
-from typing import List, NamedTuple, Sequence, Set, Tuple
+from typing import Dict, List, NamedTuple, Optional, Sequence, Set, Tuple
 
-from ..fields.labels import LABEL_WORDS, LABELLED, LabelText, camera_of, not_kept, of_block, with_own
+from ..fields.labels import LABEL_WORDS, LABELLED, Caption, camera_of, not_kept, of_labelled, with_own
 from ..fields.block_fields import rests_of
 from ..fields.field import Field
 from ..fields.listing import rest_of
+from ..fields.places import Located, located, of_position
 from ..model.found import EXIF, IPTC, NAMES, STANDARDS, XMP
 from ..model.records import BlockRecord
 
@@ -15,10 +16,11 @@ from ..model.records import BlockRecord
 class PictureTexts(NamedTuple):
     """The texts of a picture, and what is known of those that aren't kept."""
 
-    texts: List[LabelText]
+    texts: List[Caption]
     long: Set[str]  # labels of which a text is too long
     behind: Set[str]  # labels of which a text may be among fields that are too many
     rests: List[str]  # which fields these are
+    located: Tuple[Optional[Located], Optional[Located]] = (None, None)  # where Exif and XMP have that it was taken
 
     @property
     def missing(self) -> Set[str]:
@@ -26,22 +28,36 @@ class PictureTexts(NamedTuple):
         return self.long | self.behind
 
 
+_BlockTexts = Tuple[List[Caption], Set[str]]  # the texts of a block, and the labels of those that are too long
+
+
+def _texts_of_block(fields: List[Field]) -> _BlockTexts:
+    labelled = [it for it in fields if (it.directory, it.tag) in LABELLED]
+    left = not_kept(labelled) if labelled else set()
+    return [it for it in of_labelled(labelled) if it.label not in left] if labelled else [], left
+
+
 _DIRECTORIES = {EXIF: ("main", "exif"), IPTC: ("iptc",), XMP: ("xmp",)}
 
 
 def texts_of(blocks: Sequence[Tuple[BlockRecord, List[Field]]], wanted: Sequence[str] = LABEL_WORDS) -> PictureTexts:
-    """The texts of a picture by its blocks, each with its fields."""
-    texts: List[LabelText] = []
+    """The texts of a picture by its blocks, each with its fields. Those that have the same list of fields have the same texts."""
+    texts: List[Caption] = []
     long: Set[str] = set()
     behind: Set[str] = set()
     camera = ("", "")
+    known: Dict[int, _BlockTexts] = {}  # pages of a TIFF may share a block of many fields
     for block, fields in blocks:
-        camera = camera if any(camera) else camera_of(fields)
-        part = "" if block.name == NAMES[block.kind] else block.name
-        labelled = [it for it in fields if (it.directory, it.tag) in LABELLED]
-        left = not_kept(labelled)
-        texts += [it._replace(block=part) if part else it for it in of_block(labelled) if it.label not in left]
-        long |= left & set(wanted)
+        if id(fields) not in known:
+            known[id(fields)] = _texts_of_block(fields)
+            camera = camera if any(camera) else camera_of(fields)
+        captions, left = known[id(fields)]
+        if captions or left:
+            part = "" if block.name == NAMES[block.kind] else block.name
+            texts += [it._replace(block=part) for it in captions] if part else captions
+            long |= left & set(wanted)
         if rest_of(fields):
             behind |= {word for (where, _), word in LABELLED.items() if where in _DIRECTORIES[block.kind]} & set(wanted)
-    return PictureTexts(with_own(sorted(texts, key=lambda it: STANDARDS.index(it.standard)), *camera), long, behind, rests_of(blocks))
+    in_order = with_own(sorted(texts, key=lambda it: STANDARDS.index(it.standard)), *camera)
+    angles = [it for block, fields in blocks if block.name == NAMES[block.kind] for it in of_position(fields)]
+    return PictureTexts(in_order, long, behind, rests_of(blocks), located(angles) if angles else (None, None))

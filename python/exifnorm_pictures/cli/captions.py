@@ -7,17 +7,19 @@ import os
 from typing import TYPE_CHECKING, Iterator, List
 
 from ..comparison.conflicts import best, conflicts, own_texts
-from ..fields.labels import LABEL_WORDS, LabelText
-from ..judge.reading import Reading
+from ..fields.labels import LABEL_WORDS, POSITION, Caption
+from ..fields.places import Place
+from ..fields.shown import Shown
 from ..model.found import damage
 from ..model.texts import Members, escaped, shown_path
+from ..picture import Picture
 from .columns import width
 from .exit_codes import SUCCESS, UNKNOWN
 from .labelled import is_of_many, is_open, members, not_read, origins, pictures, refused, together
 from .names import is_list
 from .not_read import OF_DAMAGED, no_block, picture_cut, unread
 from .objects import print_object
-from .output import print_line, table_of
+from .output import print_lines, table_of
 
 if TYPE_CHECKING:
     from .tables import Cell
@@ -32,59 +34,80 @@ def run(arguments: argparse.Namespace) -> int:
     table = table_of(arguments, ["picture", *LABEL_WORDS, "latitude", "longitude", "camera's text", "contradicts itself", "not read"])
     has_heads = is_list(arguments, arguments.pictures) or arguments.catalogue is not None
     has_heads = has_heads or any(is_of_many(os.fsencode(name)) for name in arguments.pictures[:1])
-    for reading in pictures(arguments):
-        worst = max(worst, UNKNOWN if is_open(reading) else SUCCESS)
+    for picture in pictures(arguments):
+        worst = max(worst, UNKNOWN if is_open(picture) else SUCCESS)
         if table:
-            table.row(*_row(reading))
+            table.row(*_row(picture))
         elif arguments.json:
-            print_object("captions", "picture", _members(reading))
+            print_object("captions", "picture", _members(picture))
         else:
-            for line in [f"== {shown_path(reading.name)}"] * has_heads + list(_lines(reading)):
-                print_line(line)
+            print_lines([*[f"== {shown_path(picture.path)}"] * has_heads, *_lines(picture)])
     return worst
 
 
-def _row(reading: Reading) -> List[Cell]:
+def _row(picture: Picture) -> List[Cell]:
     """A row of a table: the text of each label, of several standards one that is whole, and no camera's."""
-    known = conflicts(reading.texts)
-    texts = [best([one for one in reading.texts if one.label == word], known) for word in LABEL_WORDS]
-    problem = [f"{reading.problem}: {reading.detail}"] if reading.problem else []
-    rest = "; ".join([*problem, *refused(reading), *unread(reading, not_read(reading)), *picture_cut(reading)])
-    place: List[Cell] = [None, None] if reading.place is None else [round(degrees, 6) for degrees in reading.place]
-    return [reading.name, *texts, *place, "; ".join(own_texts(reading.texts)), "; ".join(one.label for one in known if one.is_real), rest]
+    known = conflicts(picture.labelled.texts, picture.labelled.located)
+    texts = [best([one for one in picture.labelled.texts if one.label == word], known) for word in LABEL_WORDS]
+    problem = [f"{picture.problem}: {picture.detail}"] if picture.problem else []
+    rest = "; ".join([*problem, *refused(picture), *unread(picture, not_read(picture)), *picture_cut(picture)])
+    return [
+        picture.path,
+        *texts,
+        *(_position(picture) or (None, None)),
+        "; ".join(own_texts(picture.labelled.texts)),
+        "; ".join(one.label for one in known if one.is_real),
+        rest,
+    ]
 
 
-def _lines(reading: Reading) -> Iterator[str]:
-    if reading.problem:
-        yield f"{reading.problem}: {reading.detail}"
+def _position(picture: Picture) -> List[float]:
+    """The degrees, north and east positive; empty without a position."""
+    place = picture.position
+    return [] if place is None else [round(place.latitude, 6), round(place.longitude, 6)]
+
+
+def _lines(picture: Picture) -> Iterator[str]:
+    if picture.problem:
+        yield f"{picture.problem}: {picture.detail}"
         return
-    yield from refused(reading)
-    known = {one.label: one for one in conflicts(reading.texts)}
+    yield from refused(picture)
+    known = {one.label: one for one in conflicts(picture.labelled.texts)}
     for word in LABEL_WORDS:
         conflict = known.get(word)
         mark = f"   <- {conflict.detail or 'they differ'}" if conflict and not conflict.is_alike else ""
-        for ours in together([one for one in reading.texts if one.label == word]):
+        for ours in together([one for one in picture.labelled.texts if one.label == word]):
             is_compared = not all(one.is_extra or one.block for one in ours)
             note = f"   <- {_OWN}" if any(one.is_own for one in ours) else mark if is_compared else ""
             yield f"{_padded(word)} {escaped(ours[0].line)}   [{origins(ours)}]{note}"
-    if not reading.blocks:
-        yield no_block(reading)
-    elif not refused(reading) and not reading.rests and all(one.is_empty for one in reading.texts):
-        yield "no title, caption, name, keyword or rights" + OF_DAMAGED * bool(damage(reading.not_read))
-    if not_read(reading):
-        yield f"not wholly read: {', '.join(unread(reading, not_read(reading)))}"
-    yield from picture_cut(reading)
+    if place := _position(picture):
+        yield f"{_padded(POSITION)} {Place(*place).text}"
+    if not picture.blocks:
+        yield no_block(picture)
+    elif not refused(picture) and not picture.too_many and all(one.is_empty for one in picture.labelled.texts):
+        yield "no title, caption, name, keyword or rights" + OF_DAMAGED * bool(damage(picture.not_read))
+    if not_read(picture):
+        yield f"not wholly read: {', '.join(unread(picture, not_read(picture)))}"
+    yield from picture_cut(picture)
 
 
 def _padded(word: str) -> str:
     return f"{word}:" + " " * (_WIDTH - width(word) - 1)
 
 
-def _members(reading: Reading) -> Members:
-    return {**members(reading), "captions": [text_members(one) for one in reading.texts if not one.is_empty]}
+def _members(picture: Picture) -> Members:
+    texts, shown = [text for text in picture.labelled.texts if not text.is_empty], Shown()
+    captions: List[Members] = []
+    for text in texts:
+        if shown.is_full:
+            break
+        captions.append(text_members(text))
+        shown.add(len(text.texts), len(text.line))
+    place = dict(zip(("latitude", "longitude"), _position(picture))) or None
+    return {**members(picture), "captions": captions, "has_more_captions": len(captions) < len(texts), "position": place}
 
 
-def text_members(text: LabelText) -> Members:
+def text_members(text: Caption) -> Members:
     """A text as a JSON object."""
     known: Members = {"label": text.label, "standard": text.standard, "field": text.field, "block": text.block or None}
     return {**known, "texts": list(text.texts), "guess": text.guess or None, "own": text.is_own}

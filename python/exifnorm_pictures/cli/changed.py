@@ -4,7 +4,6 @@ from __future__ import annotations
 
 import argparse
 import contextlib
-import itertools
 import json
 import os
 import shutil
@@ -21,7 +20,6 @@ from ..fields.choosing import Choice
 from ..fields.left_out import lines as lines_of_choice
 from ..fields.listing import MAKER_NOTE
 from ..fields.plain_names import group_name
-from ..files import signals
 from ..model.errors import WrongUse
 from ..model.results import Result
 from ..model.texts import shown_path
@@ -30,12 +28,8 @@ from .choice import choice_of, listings_of, note_absent, refuse_unknown
 from .exit_codes import status_of_results
 from .looking import catalogue_of, files_of, is_of_pictures
 from .names import from_list, refuse_pictures, say_unknown
-from .output import print_line, table_of
+from .output import print_line, print_lines, say_notes, table_of
 from .summary import lines
-
-
-class SidecarsDiffer(WrongUse):
-    """An option says how pictures are read, and they were read by an earlier `index` without it."""
 
 
 def run(arguments: argparse.Namespace) -> int:
@@ -44,15 +38,17 @@ def run(arguments: argparse.Namespace) -> int:
     refuse_pictures(arguments.before, arguments.after)
     _refuse_for_catalogues(arguments)
     names = from_list(arguments)
-    only = None if names is None else {*names, *(os.path.abspath(it) for it in names)}
+    only = None if names is None else {place for it in names for place in (os.path.normpath(it), os.path.abspath(it))}
     counts: "Counter[Result]" = Counter()
     pictures: "Counter[Coded]" = Counter()  # by what is known of the coded ones
     notes = _Notes(arguments, pictures)
     with contextlib.ExitStack() as open_:
         _go_on_with_sidecars(arguments)
         before, after = (open_.enter_context(catalogue_of(it, arguments, True)) for it in (arguments.before, arguments.after))
+        if before.has_digests() and after.has_digests():
+            notes.pixels = ""
         choice = choice_of(arguments)
-        refuse_unknown(choice, itertools.chain(listings_of(before), listings_of(after)))
+        refuse_unknown(choice, listings_of(before, after))
         comparisons = changes.changed(
             before, after, counts, only, arguments.all, None if arguments.no_exiftool else arguments.session, choice, pictures
         )
@@ -61,8 +57,7 @@ def run(arguments: argparse.Namespace) -> int:
         table = table_of(arguments, changed_tables.HEADS)
         if table:
             changed_tables.print_table(table, listed, choice)
-            for text in notes.of_pictures():
-                signals.say(f"exifnorm-pictures: note: {text}")
+            say_notes(*notes.of_pictures())
         elif arguments.json:
             changed_tables.print_objects(listed, counts, choice, pictures)
         elif arguments.each or arguments.all or arguments.exact:
@@ -80,8 +75,7 @@ Comparisons = Iterable[changes.Compared]
 def _then_noted(comparisons: Comparisons, choice: Choice, before: Catalogue, after: Catalogue) -> Iterator[changes.Compared]:
     """The pictures; when all are compared, it is noted which words fit no field of them."""
     yield from comparisons
-    listings = itertools.chain(listings_of(before), listings_of(after))
-    note_absent(choice, listings, max(before.with_maker_note(), after.with_maker_note()) if choice.asks_for_private else 0)
+    note_absent(choice, before, after)
 
 
 class _Notes:
@@ -103,14 +97,12 @@ class _Notes:
 
 
 def _print_each(arguments: argparse.Namespace, comparisons: Comparisons, counts: "Counter[Result]", choice: Choice, notes: _Notes) -> None:
-    """Each picture with its fields."""
     with contextlib.closing(changes.Equal()) as equal:
         for comparison in comparisons:
             equal.add(json.dumps(_parts_of(comparison, arguments.exact)), comparison.name, comparison.moved_to is not None)
         _print_equal(equal)
     print_line(", ".join(f"{counts[it]} {it}" for it in Result if counts[it]) or "no picture")
-    for text in [*notes.of_pictures(), *lines_of_choice(choice, True)]:
-        print_line(text)
+    print_lines([*notes.of_pictures(), *lines_of_choice(choice, True)])
 
 
 def _print_summary(comparisons: Comparisons, counts: "Counter[Result]", choice: Choice, notes: _Notes) -> None:
@@ -118,8 +110,7 @@ def _print_summary(comparisons: Comparisons, counts: "Counter[Result]", choice: 
     for comparison in comparisons:
         counted.add(comparison)
     screen = shutil.get_terminal_size().columns if sys.stdout.isatty() else None
-    for text in lines(counted, counts, [*notes.of_pictures(), *lines_of_choice(choice, True)], screen):
-        print_line(text)
+    print_lines(lines(counted, counts, [*notes.of_pictures(), *lines_of_choice(choice, True)], screen))
 
 
 def _knows(*sides: Catalogue) -> Callable[[bytes], bool]:
@@ -127,7 +118,7 @@ def _knows(*sides: Catalogue) -> Callable[[bytes], bool]:
     folders = [it for side in sides for it in side.roots()]
 
     def is_known(name: bytes) -> bool:
-        places = [os.path.abspath(name), *(os.path.join(it, name) for it in folders)]
+        places = [os.path.abspath(name), *(os.path.normpath(os.path.join(it, name)) for it in folders)]
         return any(side.has(it) for side in sides for it in places)
 
     return is_known
@@ -145,20 +136,20 @@ def _refuse_missing(*names: str) -> None:
 
 
 def _refuse_for_catalogues(arguments: argparse.Namespace) -> None:
-    """Raises `SidecarsDiffer` if an option is for folders, and two catalogues are compared."""
+    """Raises `WrongUse` if an option is for folders, and two catalogues are compared."""
     given = [it for it in ("pixels", "whole") if getattr(arguments, it)]
     if given and not any(map(is_of_pictures, (arguments.before, arguments.after))):
-        raise SidecarsDiffer(f"--{given[0]} is for folders: a catalogue has what index --{given[0]} read")
+        raise WrongUse(f"--{given[0]} is for folders: a catalogue has what index --{given[0]} read")
 
 
 def _go_on_with_sidecars(arguments: argparse.Namespace) -> None:
-    """A folder is read with XMP sidecars if the catalogue that it is compared with has them. Raises `SidecarsDiffer`."""
+    """A folder is read with XMP sidecars if the catalogue that it is compared with has them. Raises `WrongUse`."""
     asked = arguments.sidecars
     for name in (arguments.before, arguments.after):
         for file in files_of(name):
             with Catalogue(file) as catalogue:
                 if asked and not catalogue.has_sidecars() and not catalogue.is_empty():
-                    raise SidecarsDiffer(f"{catalogue.name} was made without --sidecars: leave it out, or make a new catalogue")
+                    raise WrongUse(f"{catalogue.name} was made without --sidecars: leave it out, or make a new catalogue")
                 arguments.sidecars = arguments.sidecars or catalogue.has_sidecars()
 
 
@@ -186,12 +177,9 @@ def _print_equal(equal: changes.Equal) -> None:
         grouped, head, lines = json.loads(text)
         if grouped and count > 1:
             print_line(f"{count:,} pictures: {head}")
-            for line in [f"  {it} in {count:,} pictures" for it in lines]:
-                print_line(line)
-            for name in names:
-                print_line(f"    {shown_path(name)}")
+            print_lines(f"  {it} in {count:,} pictures" for it in lines)
+            print_lines(f"    {shown_path(name)}" for name in names)
         else:
             for name in names:
                 print_line(f"{shown_path(name)}: {head}")
-                for line in lines:
-                    print_line(f"  {line}")
+                print_lines(f"  {line}" for line in lines)

@@ -37,9 +37,8 @@ def print_table(table: Table, comparisons: Comparisons, choice: Choice) -> None:
             values = (None,) * 4 if change.note else (*plain_sides(change), exact_side(change.before), exact_side(change.after))
             table.row(*about, change.name, *values, change.note or comparison.note, comparison.picture)
         for value in comparison.maker_note or ():
-            table.row(
-                *about, f"{_MAKER_NOTE} {value.name}", value.before, value.after, None, None, "as ExifTool reads it", comparison.picture
-            )
+            sides = (value.before, value.after, None, None)
+            table.row(*about, f"{_MAKER_NOTE} {value.name}", *sides, "as ExifTool reads it", comparison.picture)
         if not comparison.changes:
             table.row(*about, *(None,) * 5, comparison.note, comparison.picture)
     for text in lines(choice, True):
@@ -50,21 +49,11 @@ def print_objects(comparisons: Comparisons, counts: "Counter[Result]", choice: C
     """An object for each picture, and one for all."""
     for comparison in comparisons:
         print_object("changed", "picture", _members(comparison))
-    print_object(
-        "changed",
-        "summary",
-        {
-            "counts": dict(counts),
-            "left_out": dict(choice.left_out),
-            "labels": choice.labels(),
-            "coded_pictures": dict(pictures),
-            **members_of(choice),
-        },
-    )
+    known = {"counts": dict(counts), "left_out": dict(choice.left_out), "labels": choice.labels(), "coded_pictures": dict(pictures)}
+    print_object("changed", "summary", {**known, **members_of(choice)})
 
 
 def _members(comparison: Compared) -> Members:
-    """A picture that was compared."""
     members: Members = {**path_members(comparison.name), "result": comparison.result, "note": comparison.note or None}
     members["coded_picture"] = comparison.picture
     members["damage"] = {word: damage or None for word, damage in zip(("before", "after"), comparison.damage)}
@@ -86,12 +75,8 @@ def field_members(difference: FieldDifference) -> Members:
     """A field that differs, as an object."""
     plain = plain_sides(difference)
     sides = {"before": _side_members(plain[0], difference.before), "after": _side_members(plain[1], difference.after)}
-    name = {
-        "name": difference.name,
-        "directory": difference.directory,
-        "key": exact_key(difference.directory, difference.tag),
-        "block": difference.block or None,
-    }
+    key = exact_key(difference.directory, difference.tag)
+    name = {"name": difference.name, "directory": difference.directory, "key": key, "block": difference.block or None}
     return {**name, **sides, "equal_number": difference.is_equal_number, "note": difference.note or None}
 
 

@@ -10,13 +10,13 @@ from typing import TYPE_CHECKING, Dict, List, Tuple
 
 from ..catalogue.checking import Broken, Checked
 from ..fields.rules import MOST_WORDS, Rule, WrongRules, rules_of
-from ..files import opening, signals
-from ..model.texts import Members, escaped, path_members, shown_path
+from ..files import opening
+from ..model.texts import Members, escaped, in_words, path_members, pictures_in_words, shown_path
 from .exit_codes import DIFFERENCE, SUCCESS, UNKNOWN
-from .looking import Preparing, catalogue_for_questions, refuse_for_catalogues
+from .looking import Preparing, catalogue_for_questions, note_sidecars, refuse_for_catalogues
 from .names import is_catalogue
 from .objects import print_object
-from .output import print_line, table_of
+from .output import print_line, print_lines, say_notes, table_of
 from .sources import settle
 
 if TYPE_CHECKING:
@@ -34,6 +34,7 @@ def run(arguments: argparse.Namespace) -> int:
         raise WrongRules(f"{escaped(arguments.rules)} is a catalogue, and the rules come first. Write: exifnorm-pictures check {names}")
     rules = rules_of_file(arguments.rules)
     with catalogue_for_questions(source, arguments) as catalogue, catalogue.reading(is_answer=True):
+        note_sidecars(catalogue, source, arguments)
         checked = Checked(catalogue, rules, Preparing(arguments).report)
         table = table_of(arguments, ["picture", "line", "rule", "label", "text", "damage"])
         if table:
@@ -108,19 +109,13 @@ def _print_table(arguments: argparse.Namespace, table: Table, checked: Checked) 
 
 def _members(checked: Checked, broken: Broken) -> Members:
     rule = checked.rules[broken.number]
-    return {
-        **path_members(broken.path),
-        "line": rule.line,
-        "rule": rule.text,
-        "label": broken.label,
-        "text": broken.text,
-        "damage": broken.damage or None,
-    }
+    known = {"line": rule.line, "rule": rule.text, "label": broken.label, "text": broken.text}
+    return {**path_members(broken.path), **known, "damage": broken.damage or None}
 
 
 def _print_end(arguments: argparse.Namespace, checked: Checked) -> None:
-    """How many rules are broken, and by how many pictures; which rules are about no picture, and how many pictures weren't wholly read."""
-    nowhere = [f"line {rule.line}: no picture lies in {' or '.join(rule.inside)}" for rule in checked.about_nothing()]
+    """How many rules are broken, and by how many pictures; which rules are about no picture, and how many pictures may break more."""
+    nowhere = checked.notes()
     numbers: Dict[str, object] = {
         "rules": len(checked.rules),
         "broken_rules": checked.rules_broken(),
@@ -131,11 +126,9 @@ def _print_end(arguments: argparse.Namespace, checked: Checked) -> None:
     if arguments.json:
         print_object("check", "summary", {**numbers, "notes": nowhere})
         return
-    unread = "{not_known:,} pictures were not wholly read, and may break more".format(**numbers)
-    notes = [*nowhere, *[unread] * bool(checked.not_known())]
+    notes = [*nowhere, *filter(None, [checked.unknown()])]
     if arguments.csv:
-        for note in notes:
-            signals.say(f"exifnorm-pictures: note: {note}")
+        say_notes(*notes)
         return
-    for line in [*notes, "{broken_rules:,} of {rules:,} rules broken, by {broken_pictures:,} of {pictures:,} pictures".format(**numbers)]:
-        print_line(line)
+    rules = f"{checked.rules_broken():,} of {in_words(len(checked.rules), 'rule')} broken"
+    print_lines([*notes, f"{rules}, by {checked.pictures_broken():,} of {pictures_in_words(checked.pictures())}"])

@@ -17,10 +17,16 @@ LONGEST_FILE = 1 << 20  # bytes of a file with names
 
 def choice_of(arguments: argparse.Namespace) -> Choice:
     """The choice of a command line. Raises `UnknownField`."""
-    words = [
-        [*given, *_of_files(files)] for given, files in ((arguments.ignore, arguments.ignore_file), (arguments.only, arguments.only_file))
-    ]
-    return Choice(words[0], words[1], arguments.equal_numbers)
+    ignored = [*arguments.ignore, *_of_files(arguments.ignore_file)]
+    return Choice(ignored, [*arguments.only, *_of_files(arguments.only_file)], arguments.equal_numbers)
+
+
+def choice_for(arguments: argparse.Namespace, *catalogues: Catalogue) -> Choice:
+    """The same, once it is known which words fit no field of these catalogues. Raises `UnknownField`."""
+    choice = choice_of(arguments)
+    refuse_unknown(choice, listings_of(*catalogues))
+    note_absent(choice, *catalogues)
+    return choice
 
 
 def _of_files(names: Sequence[str]) -> Iterator[str]:
@@ -55,14 +61,15 @@ def refuse_unknown(choice: Choice, listings: Iterable[Listed]) -> None:
         raise UnknownField("; ".join(f"no field is named {escaped(it)}{hint(it)}" for it in wrong))
 
 
-def listings_of(catalogue: Catalogue) -> Iterator[Listed]:
-    """The fields of each block of a catalogue."""
-    for _, blocks in catalogue.packed_fields("name"):
-        for name, packed in blocks:
-            if packed:
-                with catalogue.guarded():
-                    fields = unpacked(packed)
-                yield other_name(name), fields
+def listings_of(*catalogues: Catalogue) -> Iterator[Listed]:
+    """The fields of each block of some catalogues."""
+    for catalogue in catalogues:
+        for _, blocks in catalogue.packed_fields("name"):
+            for name, packed in blocks:
+                if packed:
+                    with catalogue.guarded():
+                        fields = unpacked(packed)
+                    yield other_name(name), fields
 
 
 def other_name(name: str) -> str:
@@ -70,12 +77,12 @@ def other_name(name: str) -> str:
     return "" if name in NAMES.values() else name
 
 
-def note_absent(choice: Choice, listings: Iterable[Listed], maker_notes: int = 0) -> None:
-    """Notes which words fit no field of all pictures, for the answer: that none changed means nothing then. `maker_notes` is the number of
-    pictures with a MakerNote."""
-    for block, fields in listings if choice.unseen_words() else ():
+def note_absent(choice: Choice, *catalogues: Catalogue) -> None:
+    """Notes which words fit no field of all pictures, for the answer: that none changed means nothing then; and how many MakerNotes may have
+    what is asked for."""
+    for block, fields in listings_of(*catalogues) if choice.unseen_words() else ():
         choice.see(fields, block)
         if not choice.unseen_words():
             break
     choice.absent = choice.unseen_words()
-    choice.maker_notes = maker_notes if choice.asks_for_private else 0
+    choice.maker_notes = max(one.with_maker_note() for one in catalogues) if choice.asks_for_private else 0

@@ -5,7 +5,7 @@ from __future__ import annotations
 import argparse
 import os
 import shutil
-from typing import TYPE_CHECKING, Iterator, List, Optional, Sequence
+from typing import TYPE_CHECKING, Dict, Iterator, List, Optional, Sequence
 
 from ..comparison.coded import Coded, coded_result
 from ..comparison.proved import head_of_file
@@ -13,19 +13,21 @@ from ..comparison.two_pictures import MORE, ComparedPair, FieldRow, compare, rea
 from ..comparison.wording import NONE, tag_of
 from ..fields.block_fields import fields_of
 from ..fields.choosing import Choice
+from ..fields.field import Field
 from ..fields.left_out import lines, members_of
 from ..fields.typed import together
+from ..model.budgets import COMPARED_FIELDS
 from ..model.problems import NO_BYTES
-from ..model.records import PictureRecord
+from ..model.records import BlockRecord, PictureRecord
 from ..model.results import Result
 from ..model.texts import Members, escaped, shown_path
 from ..scan.batches import How
-from .choice import choice_of, note_absent, other_name, refuse_unknown
+from .choice import choice_of, other_name, refuse_unknown
 from .columns import columns
 from .exit_codes import SUCCESS, UNKNOWN, status_of_results
 from .names import refuse_folders
 from .objects import picture_object, print_object, unread_members
-from .output import print_line, table_of
+from .output import print_lines, table_of
 
 if TYPE_CHECKING:
     from .tables import Table
@@ -49,19 +51,37 @@ def run(arguments: argparse.Namespace) -> int:
     elif table:
         _print_table(table, comparison, rows, names, list(lines(choice)))
     else:
-        for line in _lines(comparison, rows, names, arguments.exact, list(lines(choice))):
-            print_line(line)
+        print_lines(_lines(comparison, rows, names, arguments.exact, list(lines(choice))))
     return _status(comparison)
 
 
 def _choice(arguments: argparse.Namespace, *records: PictureRecord) -> Choice:
     """The fields that count. Raises `UnknownField` for a name that is no field's, and that neither picture has."""
     choice = choice_of(arguments)
-    for block in (block for record in records for block in record.blocks) if choice else ():
-        choice.see(fields_of(block), other_name(block.name))
-    refuse_unknown(choice, ())
-    note_absent(choice, (), sum(any(block.note is not None for block in it.blocks) for it in records))
+    if choice and _sees_all(choice, [block for record in records for block in record.blocks]):
+        refuse_unknown(choice, ())
+        choice.absent = choice.unseen_words()
+        with_note = sum(any(block.note is not None for block in it.blocks) for it in records)
+        choice.maker_notes = with_note if choice.asks_for_private else 0
     return choice
+
+
+def _sees_all(choice: Choice, blocks: Sequence[BlockRecord]) -> bool:
+    """Lets a choice see the fields of blocks until all its words fit one. Whether it has seen all that matter: pages of a TIFF can share a block
+    of many fields, of which only a word with a bracket or a wildcard can tell them apart."""
+    names: Dict[int, List[Field]] = {}
+    left = COMPARED_FIELDS
+    for block in blocks:
+        if id(block.fresh) in names and not any(set("(*?") & set(word) for word in choice.unseen_words()):
+            continue
+        if id(block.fresh) not in names:
+            names[id(block.fresh)] = list({(it.directory, it.tag): it for it in fields_of(block)}.values())
+        fields = names[id(block.fresh)]
+        left -= len(fields)
+        if left < 0:
+            return False
+        choice.see(fields, other_name(block.name))
+    return True
 
 
 def _status(comparison: ComparedPair) -> int:
@@ -87,9 +107,8 @@ def _lines(comparison: ComparedPair, rows: Sequence[FieldRow], names: Sequence[b
     if any(it.problem for it in comparison.records):
         yield from (f"{shown_path(name)}: {it.problem}: {it.detail}" for name, it in zip(names, comparison.records) if it.problem)
         return
-    note = comparison.compared.note.removeprefix(
-        f"{coded_result(*comparison.records).note}; "
-    )  # which `_of_pictures` says of a damaged file
+    # `_of_pictures` says the rest of a damaged file
+    note = comparison.compared.note.removeprefix(f"{coded_result(*comparison.records)[1]}; ")
     yield f"{note[:1].upper()}{note[1:]}. {_of_pictures(comparison, names)}".rstrip()
     if any(not it.is_accepted for record in comparison.records for it in record.blocks):
         yield "More about a block that isn't accepted: exifnorm-pictures explain PICTURE"
@@ -100,7 +119,6 @@ def _lines(comparison: ComparedPair, rows: Sequence[FieldRow], names: Sequence[b
 
 
 def _sentence(comparison: ComparedPair, rows: Sequence[FieldRow]) -> str:
-    """The result."""
     if comparison.is_identical:
         return "The two files are identical, byte for byte."
     if comparison.is_empty:

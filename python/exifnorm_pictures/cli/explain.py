@@ -8,19 +8,17 @@ import tempfile
 from typing import Callable, List, Union
 
 from ..extract import programs
-from ..fields.block_fields import fields_of
 from ..files.session import Session
-from ..judge.reading import Reading
 from ..model import steps
 from ..model.budgets import TooMuch
-from ..model.found import EXIF, XMP, FoundBlock
-from ..model.records import BlockRecord
+from ..model.found import EXIF, XMP
 from ..model.sides import Status
 from ..model.texts import Members, path_members, reason
-from ..refusals import damage, explain, mend
-from .each_block import each_block, each_picture, status_of_reading
+from ..picture import Block, Picture
+from ..refusals import explain, mend
+from .each_block import each_block, each_picture, status_of
 from .exit_codes import SUCCESS
-from .not_read import damage_members
+from .not_read import damage_lines, damage_members, damage_remedy
 from .objects import block_object, picture_object, print_object
 
 Try = Callable[[bytes], Union[mend.Mended, str]]  # what `mend` does with a picture, or why that isn't known
@@ -33,18 +31,17 @@ def run(arguments: argparse.Namespace) -> int:
     if arguments.json:
         return _print_objects(arguments, tried)
 
-    def describe(name: bytes, at: FoundBlock, block: BlockRecord) -> List[str]:
-        line = f"{block.name}: {'ok' if block.is_accepted else block.line}"
+    def describe(picture: Picture, block: Block) -> List[str]:
         if block.is_accepted:
-            return [line]
-        mended = tried(name)
-        return [line, *_explained(at, block, mended).lines()[1:], *_repair(block), *_lines(mended)]
+            return [f"{block.name}: ok"]
+        mended = tried(picture.path)
+        return [f"{block.name}: {block.record.line}", *_explained(block, mended).lines()[1:], *_repair(block), *_lines(mended)]
 
-    return each_block(arguments, lambda: describe, True, damage.lines)
+    return each_block(arguments, lambda: describe, True, damage_lines)
 
 
-def _explained(at: FoundBlock, block: BlockRecord, mended: Union[mend.Mended, str]) -> explain.Explanation:
-    explained = explain.explain_packet(block) if block.kind == XMP else explain.explain(block.kind, at.data)
+def _explained(block: Block, mended: Union[mend.Mended, str]) -> explain.Explanation:
+    explained = explain.explain_packet(block.record) if block.kind == XMP else explain.explain(block.kind, block.data)
     explained.is_without_remedy = isinstance(mended, mend.Mended) and mended.remedy == mend.Remedy.NONE
     return explained
 
@@ -73,14 +70,14 @@ def _lines(tried: Union[mend.Mended, str]) -> List[str]:
     return [f"  Tried: mend makes a copy: {tried.remedy.text}; {values}"]
 
 
-def _repair(block: BlockRecord) -> List[str]:
+def _repair(block: Block) -> List[str]:
     """The repair in memory of a refused Exif block, and what it loses."""
     if not block.repair:
         return ["  Repair in memory: none is known"] if block.status == Status.REFUSED and block.kind == EXIF else []
-    fields = len(fields_of(block))
-    lines = [f"  Repair in memory: {steps.words(block.steps)}; then {fields} fields are read, see show"]
-    lost = steps.loses(block.steps)
-    return lines + [f"  That repair loses {' and '.join(lost)}: by it, nothing is called the same"] * bool(lost)
+    lines = [
+        f"  Repair in memory: {steps.words(block.record.steps)}; then {len(block.fields)} field{'s are' if len(block.fields) != 1 else ' is'} read, see show"
+    ]
+    return lines + [f"  That repair loses {' and '.join(block.loses)}: by it, nothing is called the same"] * bool(block.loses)
 
 
 # --json
@@ -92,24 +89,24 @@ _WITHOUT: Members = {"sentence": None, "meaning": None, "here": [], "bytes": [],
 def _print_objects(arguments: argparse.Namespace, tried: Try) -> int:
     """An object for each block, and one for a picture that wasn't read wholly or has no block."""
     worst = SUCCESS
-    for reading in each_picture(arguments):
-        worst = max(worst, status_of_reading(reading, True))
-        for block in reading.blocks:
-            mended = "" if block.is_accepted else tried(reading.name)
-            print_object("explain", "block", {**path_members(reading.name), **_block_members(reading.found_block(block), block, mended)})
-        if reading.problem or reading.not_read or reading.damage or not reading.blocks:
-            print_object("explain", "picture", _picture_members(reading))
+    for picture in each_picture(arguments):
+        worst = max(worst, status_of(picture, True))
+        for block in picture.blocks:
+            mended = "" if block.is_accepted else tried(picture.path)
+            print_object("explain", "block", {**path_members(picture.path), **_block_members(block, mended)})
+        if picture.problem or picture.not_read or picture.damage or not picture.blocks:
+            print_object("explain", "picture", _picture_members(picture))
     return worst
 
 
-def _block_members(at: FoundBlock, block: BlockRecord, mended: Union[mend.Mended, str]) -> Members:
-    explained = {} if block.is_accepted else _explained(at, block, mended).members()
+def _block_members(block: Block, mended: Union[mend.Mended, str]) -> Members:
+    explained = {} if block.is_accepted else _explained(block, mended).members()
     words = {key: explained.get(key, value) for key, value in _WITHOUT.items()}
     tried = None if isinstance(mended, str) else {"step": mended.remedy, "lost": mended.lost, "gained": mended.gained}
-    return {**block_object(block), **words, "repair": [one._asdict() for one in block.steps], "mend": tried}
+    return {**block_object(block.record), **words, "repair": [step._asdict() for step in block.record.steps], "mend": tried}
 
 
-def _picture_members(reading: Reading) -> Members:
-    about = {**picture_object(reading.name, reading.problem, reading.detail), "type": reading.read.type or None}
-    rest = {"not_read": reading.not_read, **damage_members(reading), "remedy": damage.remedy(reading)}
-    return {**about, "blocks": len(reading.blocks), **rest}
+def _picture_members(picture: Picture) -> Members:
+    about = {**picture_object(picture.path, picture.problem, picture.detail), "type": picture.type or None}
+    rest = {"not_read": picture.not_read, **damage_members(picture), "remedy": damage_remedy(picture)}
+    return {**about, "blocks": len(picture.blocks), **rest}

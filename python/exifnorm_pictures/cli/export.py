@@ -16,7 +16,7 @@ from ..export.tables import VERSION, Tables, head_is_ours, tables
 from ..fields.left_out import of_maker_notes
 from ..files import atomic
 from ..model.errors import WrongUse
-from ..model.texts import path_members, shown_path
+from ..model.texts import in_words, path_members, shown_path
 from .exit_codes import SUCCESS
 from .looking import files_of, opened
 from .names import chosen_paths, say_unknown
@@ -33,23 +33,21 @@ def run(arguments: argparse.Namespace) -> int:
         file = os.path.join(arguments.session.room, "export")
         with tables(file) as written:
             _add_about(written, catalogue)
-            work = Export(
-                catalogue, written, None if chosen is None else catalogue.choose(chosen), None if arguments.no_look else arguments.session
-            )
+            only = None if chosen is None else catalogue.choose(chosen)
+            work = Export(catalogue, written, only, None if arguments.no_look else arguments.session)
             work.all(arguments.quiet or not sys.stderr.isatty())
         _put(file, arguments)
         say_unknown(chosen or (), catalogue.has)
     counts = {name: written.counts.get(name, 0) for name in ("pictures", "fields", "captions", "conflicts", "groups")}
     if arguments.json:
-        left_out = {"texts_not_kept": work.missing, "absent_groups": work.groups.absent}
-        left_out["maker_notes_not_read"] = work.maker_notes
+        left_out = {"texts_not_kept": work.missing, "absent_groups": work.groups.absent, "maker_notes_not_read": work.maker_notes}
         print_object("export", "summary", {**path_members(os.fsencode(arguments.file)), "rows": counts, **left_out})
     else:
-        print_line(f"{shown_path(arguments.file)}: {', '.join(f'{count:,} rows of {name}' for name, count in counts.items())}")
+        rows = ", ".join(f"{in_words(count, 'row')} of {name}" for name, count in counts.items())
+        print_line(f"{shown_path(arguments.file)}: {rows}")
         if work.missing:
             which = "picture has" if work.missing == 1 else "pictures have"
-            why = "too long for the catalogue"
-            print_line(f"{work.missing:,} {which} a text that is NULL: it is {why}")
+            print_line(f"{work.missing:,} {which} a text that is NULL: it is too long for the catalogue")
         if work.maker_notes:
             print_line(of_maker_notes(work.maker_notes))
         if work.groups.absent:
@@ -58,16 +56,12 @@ def run(arguments: argparse.Namespace) -> int:
     return SUCCESS
 
 
-class NoTable(WrongUse):
-    """The name is one of a table, and what is written is a database."""
-
-
 def _refuse_table(name: str) -> None:
-    """Raises `NoTable` for the name of a file that a program for spreadsheets would open."""
+    """Raises `WrongUse` for the name of a file that a program for spreadsheets would open."""
     ending = os.path.splitext(name)[1].lower()
     if ending in (".csv", ".tsv", ".xls", ".xlsx", ".ods", ".json"):
         tables_ = "captions, changed, conflicts and same print tables with --csv, and write them with --xlsx"
-        raise NoTable(f"{shown_path(name)}: export writes a database of SQLite, whose name doesn't end with {ending}; {tables_}")
+        raise WrongUse(f"{shown_path(name)}: export writes a database of SQLite, whose name doesn't end with {ending}; {tables_}")
 
 
 def _add_about(written: Tables, catalogue: Catalogue) -> None:
@@ -83,7 +77,7 @@ def _add_about(written: Tables, catalogue: Catalogue) -> None:
         "indexed": runs[-1][0] if runs else "",
         "indexed by": (last[2] if last else None) or "",
     }
-    written.add("about", about.items())
+    written.add("about", list(about.items()))
 
 
 def _put(text: str, arguments: argparse.Namespace) -> None:

@@ -7,15 +7,15 @@ import contextlib
 import os
 from typing import Iterator
 
-from ..catalogue.store import Catalogue
 from ..comparison.changed import Compared
 from ..comparison.history import State, history
 from ..comparison.wording import line_of
 from ..model.texts import Members, escaped, path_members, shown_path
 from .changed_tables import field_members
-from .exit_codes import DIFFERENCE, SUCCESS, UNKNOWN
+from .exit_codes import SUCCESS, UNKNOWN, status_of_results
+from .looking import opened
 from .objects import print_object
-from .output import local_time, print_line
+from .output import local_time, print_lines
 from .parser import refuse
 
 
@@ -26,38 +26,44 @@ def run(arguments: argparse.Namespace) -> int:
     if not names:
         refuse("history", "give the catalogues: exifnorm-pictures history PICTURE CATALOGUE ..")
     with contextlib.ExitStack() as open_:
-        catalogues = [open_.enter_context(Catalogue(name)) for name in names]
-        for state in history(os.path.abspath(os.fsencode(arguments.picture)), catalogues):
+        catalogues = [open_.enter_context(opened(name, arguments, in_one_file=True)) for name in names]
+        for state in history(os.fsencode(arguments.picture), catalogues):
             status = max(status, _status(state))
             if arguments.json:
                 print_object("history", "state", _members(state))
             else:
-                for line in _lines(state):
-                    print_line(line)
+                print_lines(_lines(state))
     return status
 
 
 def _status(state: State) -> int:
-    if state.comparison is None:
-        return SUCCESS
-    has_changed = state.comparison.result.has_changed
-    return UNKNOWN if has_changed is None else DIFFERENCE if has_changed else SUCCESS
+    if state.may_be_elsewhere:
+        return UNKNOWN
+    return status_of_results([state.comparison.result] if state.comparison else [])
 
 
 def _lines(state: State) -> Iterator[str]:
     head = f"{local_time(state.when)}  {escaped(state.catalogue)}: "
     if state.comparison is None:
-        yield head + (f"first seen as {shown_path(state.path)}" if state.path is not None else "not there")
+        seen = "there again" if state.is_back else "first seen"
+        yield head + (f"{seen} as {shown_path(state.path)}" if state.path is not None else _absent(state, "not there"))
         return
-    yield head + _result(state.comparison, state.path)
+    yield head + (_result(state.comparison, state.path) if state.path is not None else _absent(state, "gone"))
     for change in state.comparison.changes:
         yield f"  {line_of(change)}"
 
 
-def _result(comparison: Compared, path: "bytes | None") -> str:
-    to = f" to {shown_path(path)}" if comparison.moved_to is not None and path is not None else ""
+def _absent(state: State, word: str) -> str:
+    return _ELSEWHERE if state.may_be_elsewhere else word
+
+
+_ELSEWHERE = "its name isn't there. Whether it has another name, and was edited too, only catalogues of index --pixels can tell"
+
+
+def _result(comparison: Compared, path: bytes) -> str:
+    to = f" to {shown_path(path)}" if comparison.moved_to is not None else ""
     note = f" ({comparison.note})" if comparison.note else ""
-    return ("gone" if path is None else comparison.result) + to + note
+    return comparison.result + to + note
 
 
 def _members(state: State) -> Members:
@@ -65,5 +71,5 @@ def _members(state: State) -> Members:
     members: Members = {"catalogue": state.catalogue, "when": state.when or None}
     members["picture"] = None if state.path is None else path_members(state.path)
     members["result"] = None if comparison is None else comparison.result
-    members["note"] = (comparison.note or None) if comparison else None
+    members["note"] = _ELSEWHERE if state.may_be_elsewhere else (comparison.note or None) if comparison else None
     return {**members, "fields": [field_members(change) for change in comparison.changes] if comparison else []}

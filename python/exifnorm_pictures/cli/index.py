@@ -6,43 +6,30 @@ import argparse
 import os
 import shlex
 from collections import Counter
-from typing import Iterator, List, Sequence
+from typing import Iterable, Iterator, List, Sequence
 
 from ..catalogue import shards
 from ..catalogue.nights import copy_over
-from ..catalogue.store import Catalogue, NoCatalogue
-from ..files import signals
+from ..catalogue.store import Catalogue
 from ..model.errors import WrongUse
 from ..model.problems import NOT_READABLE
-from ..model.texts import escaped, moved_line, shown_path
+from ..model.records import RACY
+from ..model.texts import escaped, moved_line, pictures_in_words, shown_path
 from ..scan.excluded import Excluded
-from ..scan.index import IndexOptions, index
+from ..scan.index import DAMAGED, OF_LAST_RUN, OF_XMP, REFUSED, IndexOptions, index, number_of
 from . import objects
-from .counted import counted
 from .exit_codes import SUCCESS, UNKNOWN
-from .looking import how_of
+from .looking import how_of, xmp_files_alone
 from .names import named
-from .output import kind_of_part, print_line, record_lines
+from .output import counted, kind_of_part, print_line, print_lines, record_lines, say_notes
 from .sources import settle_first
 
 
-class NoSidecars(WrongUse):
-    """A catalogue can't have XMP sidecars."""
-
-
 def go_on_with_sidecars(arguments: argparse.Namespace, catalogue: Catalogue) -> None:
-    """Goes on with XMP sidecars in a catalogue that has them. Raises `NoSidecars`."""
+    """Goes on with XMP sidecars in a catalogue that has them. Raises `WrongUse`."""
     if arguments.sidecars and not catalogue.has_sidecars() and not catalogue.is_empty():
-        raise NoSidecars(f"{catalogue.name} was made without --sidecars: make a new catalogue")
+        raise WrongUse(f"{catalogue.name} was made without --sidecars: make a new catalogue")
     arguments.sidecars = arguments.sidecars or catalogue.has_sidecars()
-
-
-class NoScheduler(WrongUse):
-    """An option is for the workers of a cluster, and no cluster was named."""
-
-
-class NothingThere(WrongUse):
-    """No name leads to a folder or a file, and no picture of the catalogue was found by one of them."""
 
 
 def run(arguments: argparse.Namespace) -> int:
@@ -53,50 +40,82 @@ def run(arguments: argparse.Namespace) -> int:
         from . import index_shards  # which few need
 
         return index_shards.run(arguments)
-    names = _names(arguments)
+    names, excluded = _names(arguments), Excluded(arguments.exclude)
+    has_words = not arguments.json and not arguments.quiet
     with Catalogue(arguments.catalogue, make=True) as catalogue:
-        if arguments.keep_old:
-            copy_over(catalogue, arguments.keep_old, arguments.session.room)
-        go_on_with_sidecars(arguments, catalogue)
-        if arguments.sidecars and arguments.scheduler:
-            raise NoSidecars("XMP sidecars are read here only, not on the workers of a cluster: leave out --scheduler")
-        arguments.pixels = arguments.pixels or catalogue.has_digests()  # of the pictures that changed, too
-        lines = objects.record_lines if arguments.json else None if arguments.quiet else record_lines
-        excluded = Excluded(arguments.exclude)
-        how = how_of(arguments, arguments.session.room, lines)
-        options = IndexOptions(names, arguments.again, arguments.quiet, how, print_line, excluded=excluded, lines=lines or record_lines)
-        options.moved_line = None if arguments.json or arguments.quiet else moved_line
-        if arguments.scheduler:
-            from ..scan import cluster  # only this needs Dask
-
-            options.look = cluster.looker(arguments.scheduler, arguments.elsewhere, names)
-        counts = index(options, catalogue)
-        parts = [] if arguments.quiet or arguments.json else _parts(catalogue)
-        damaged = _damaged(catalogue, " AND run = (SELECT max(id) FROM runs)")
-        steps = [] if arguments.quiet or arguments.json else list(_next_steps(catalogue, arguments.catalogue, excluded.known))
+        _prepare(arguments, catalogue)
+        counts = index(_options(arguments, names, excluded), catalogue)
+        parts = _parts(catalogue) if has_words else []
+        damaged = number_of(catalogue, f"{DAMAGED} AND {OF_LAST_RUN}")
+        steps = list(_next_steps(catalogue, arguments.catalogue, excluded.known)) if has_words else []
+        lacking = _without_reading(catalogue) if arguments.maker_notes else 0
     if excluded.count:
         counts["excluded"] = excluded.count
-    for pattern in excluded.unused():
-        signals.say(f"exifnorm-pictures: note: --exclude {pattern} fits no file and no folder")
+    say_unused(excluded.unused())
+    say_notes(*_not_read_again(arguments, 0 if arguments.again else counts["unchanged"], 0 if arguments.again else lacking))
     if arguments.json:
         objects.print_object("index", "summary", {"counts": dict(counts), "damaged": damaged})
     else:
-        for line in [*parts, counted(counts) + f"; {damaged:,} cut off or damaged" * bool(damaged), *steps]:
-            print_line(line)
-    if any(counts[it] for it in NOT_READABLE) or any(os.path.exists(it) and not _may_be_read(it) for it in names):
-        return UNKNOWN
-    return SUCCESS
+        print_lines([*parts, counted(counts, damaged), *steps])
+    are_special = any(os.path.exists(it) and not (os.path.isfile(it) or os.path.isdir(it)) for it in names)  # as pipes and devices
+    return UNKNOWN if are_special or any(counts[it] for it in NOT_READABLE) else SUCCESS
+
+
+def _not_read_again(arguments: argparse.Namespace, unchanged: int, lacking: int) -> Iterator[str]:
+    """What an option left as it was, because the files are unchanged: it would seem that it was done for them, too."""
+    if unchanged and arguments.whole and not arguments.quiet:
+        yield f"{pictures_in_words(unchanged)} unchanged, and not read again by --whole: --again --whole reads all"
+    if lacking:
+        yield f"{pictures_in_words(lacking)} with a MakerNote that was not read: --again --maker-notes reads all"
+
+
+def _without_reading(catalogue: Catalogue) -> int:
+    """How many pictures have a MakerNote of which the catalogue has no values, but for those of which the next run asks again."""
+    condition = f"maker_notes != '' AND changed != {RACY} AND id NOT IN (SELECT picture FROM maker_notes)"
+    return number_of(catalogue, condition)
+
+
+def _prepare(arguments: argparse.Namespace, catalogue: Catalogue) -> None:
+    """Goes on with what a catalogue has. Raises `WrongUse`."""
+    if arguments.keep_old:
+        copy_over(catalogue, arguments.keep_old, arguments.session.room)
+    go_on_with_sidecars(arguments, catalogue)
+    if arguments.sidecars and arguments.scheduler:
+        raise WrongUse("XMP sidecars are read here only, not on the workers of a cluster: leave out --scheduler")
+    arguments.pixels = arguments.pixels or catalogue.has_digests()  # of the pictures that changed, too
+
+
+def _options(arguments: argparse.Namespace, names: List[bytes], excluded: Excluded) -> IndexOptions:
+    """How the names are looked at, and what is printed of it."""
+    options = printing_options(arguments, names)
+    options.excluded = excluded
+    if arguments.scheduler:
+        from ..scan import cluster  # only this needs Dask
+
+        options.look = cluster.looker(arguments.scheduler, arguments.elsewhere, names)
+    return options
+
+
+def printing_options(arguments: argparse.Namespace, names: Sequence[bytes]) -> IndexOptions:
+    """The options of a run, with the lines that are printed about pictures."""
+    lines = objects.record_lines if arguments.json else None if arguments.quiet else record_lines
+    moved = None if arguments.json or arguments.quiet else moved_line
+    how = how_of(arguments, arguments.session.room, lines)
+    return IndexOptions(names, arguments.again, arguments.quiet, how, print_line, moved_line=moved, lines=lines or record_lines)
+
+
+def say_unused(patterns: Iterable[str]) -> None:
+    """Says which patterns of --exclude have fitted nothing."""
+    say_notes(*(f"--exclude {pattern} fits no file and no folder" for pattern in patterns))
 
 
 def _names(arguments: argparse.Namespace) -> List[bytes]:
-    """The names that are given. Raises `NoCatalogue`, `NoScheduler` and `NothingThere`."""
+    """The names that are given. Raises `WrongUse`."""
     names = named(arguments, arguments.folders)
-    if any(not name for name in names):
-        raise NoCatalogue("a name is empty")
     if arguments.elsewhere and not arguments.scheduler:
-        raise NoScheduler("--elsewhere is a path on the workers of --scheduler, which is missing")
+        raise WrongUse("--elsewhere is a path on the workers of --scheduler, which is missing")
     if not any(map(os.path.lexists, names)) and not _are_known(names, arguments.catalogue):
-        raise NothingThere(f"there is no folder or file {', '.join(map(shown_path, names))}")
+        raise WrongUse(f"there is no folder or file {', '.join(map(shown_path, names))}")
     return names
 
 
@@ -109,11 +128,6 @@ def _are_known(names: Sequence[bytes], catalogue: str) -> bool:
         return any(known.has(path) or any(True for _ in known.below(path)) for path in paths)
 
 
-def _may_be_read(name: bytes) -> bool:
-    """Whether a name leads to a file or a folder, and not to a pipe or a device."""
-    return os.path.isfile(name) or os.path.isdir(name)
-
-
 def _next_steps(catalogue: Catalogue, name: str, excluded: int) -> Iterator[str]:
     """What can be done with the catalogue, a line for each."""
     from ..comparison import groups  # which takes long to import, and --quiet needs none of it
@@ -121,26 +135,21 @@ def _next_steps(catalogue: Catalogue, name: str, excluded: int) -> Iterator[str]
     word = escaped(shlex.quote(name))
     count, _ = groups.totals(catalogue)
     if count:
-        yield f"{count:,} group{'s' * (count > 1)} of pictures that mean the same: exifnorm-pictures same {word}"
-    refused = next(catalogue.rows("SELECT count(*) FROM pictures WHERE problem IS NULL AND (exif IS NULL OR iptc IS NULL OR xmp IS NULL)"))[
-        0
-    ]
-    if damaged := _damaged(catalogue):
+        yield f"{count:,} group{'s' * (count > 1)} of pictures whose metadata mean the same: exifnorm-pictures same {word}"
+    refused = number_of(catalogue, REFUSED)
+    if damaged := number_of(catalogue, DAMAGED):
         yield f"{damaged:,} cut off or damaged: exifnorm-pictures report {word} --html report.html"
     if refused:
         yield f"{refused:,} refused or unreadable: exifnorm-pictures report {word} --html report.html"
+    if count := 0 if catalogue.has_sidecars() else number_of(catalogue, OF_XMP):
+        yield f"{xmp_files_alone(count)}: index --sidecars, with a new catalogue, takes those beside pictures as metadata of them"
     if excluded:
         yield f"{excluded:,} excluded, and in the catalogue from an earlier run: exifnorm-pictures forget {word} FOLDER"
 
 
-def _damaged(catalogue: Catalogue, which: str = "") -> int:
-    """How many files are cut off or damaged, as far as that was seen: of all, or of some."""
-    return int(next(catalogue.rows(f"SELECT count(*) FROM pictures WHERE damage != ''{which}"))[0])
-
-
 def _parts(catalogue: Catalogue) -> List[str]:
     """The parts that were not read of the pictures of this run, a line for each kind of part, the most frequent first."""
-    query = "SELECT picture, what FROM not_read JOIN pictures ON id = picture WHERE run = (SELECT max(id) FROM runs) ORDER BY picture"
+    query = f"SELECT picture, what FROM not_read JOIN pictures ON id = picture WHERE {OF_LAST_RUN} ORDER BY picture"
     kinds: "Counter[str]" = Counter()
     pictures = last = 0
     for number, what in catalogue.rows(query):
@@ -149,5 +158,5 @@ def _parts(catalogue: Catalogue) -> List[str]:
         last = number
     if not pictures:
         return []
-    head = f"{pictures:,} picture{'s' * (pictures > 1)} not wholly read; they are the same as others only where these parts have the same bytes:"
+    head = f"{pictures:,} picture{'s' * (pictures > 1)} not wholly read: they can only be the same as others if these parts have the same bytes:"
     return [head, *(f"  {count:>6,}  {what}" for what, count in kinds.most_common(12)), *["  .."] * (len(kinds) > 12)]

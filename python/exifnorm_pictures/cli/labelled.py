@@ -7,32 +7,34 @@ import os
 from typing import Dict, Iterator, List, Sequence
 
 from ..extract.named import blocks_of_named
-from ..fields.labels import LabelText
+from ..fields.labels import Caption
 from ..files import opening
-from ..judge.reading import Reading
 from ..model import steps
 from ..model.found import Blocks, NotRead, cut
 from ..model.problems import NOT_THERE, Problem
 from ..model.texts import Members
 from ..model.sides import REACHED
+from ..picture import Picture
 from ..scan.walk import Unlisted, below
-from .names import each_name
-from .not_read import damage_members
+from .names import each_name, is_catalogue
+from .not_read import damage_members, is_damaged
 from .objects import picture_object
 from .parser import refuse
 
 
-def pictures(arguments: argparse.Namespace) -> Iterator[Reading]:
+def pictures(arguments: argparse.Namespace) -> Iterator[Picture]:
     """The pictures that are named, and those of folders and catalogues that are named. Other files in these are passed over."""
     if arguments.catalogue is not None:
-        if arguments.pictures or arguments.files_from or arguments.null or arguments.block:
+        if arguments.pictures:
             refuse(arguments.command, "--catalogue is given alone")
         yield from _in_catalogue(arguments, os.fsencode(arguments.catalogue))
         return
+    if arguments.whole and not arguments.block and any(is_catalogue(it) and is_of_many(os.fsencode(it)) for it in arguments.pictures):
+        _refuse_whole(arguments)  # before anything is printed
     for name in each_name(arguments, arguments.pictures):
         if arguments.block or not is_of_many(name):
             yield _reading(arguments, name)
-        elif os.path.isdir(name) and not _is_of_catalogues(name):
+        elif os.path.isdir(name) and not is_catalogue(os.fsdecode(name)):
             yield from _in_folder(arguments, name)
         else:
             yield from _in_catalogue(arguments, name)
@@ -54,74 +56,73 @@ def is_of_many(name: bytes) -> bool:
     return head_is_ours(head)
 
 
-def _is_of_catalogues(folder: bytes) -> bool:
-    from ..catalogue import shards  # which takes long to import, and most names are those of pictures
+def _refuse_whole(arguments: argparse.Namespace) -> None:
+    if arguments.whole:
+        refuse(arguments.command, "--whole is for pictures and folders: a catalogue has what index --whole read")
 
-    return shards.is_folder(os.fsdecode(folder))
 
-
-def _in_catalogue(arguments: argparse.Namespace, name: bytes) -> Iterator[Reading]:
+def _in_catalogue(arguments: argparse.Namespace, name: bytes) -> Iterator[Picture]:
     """The pictures of a catalogue as they were when it looked at them. Their files aren't needed."""
     from ..catalogue.texts import texts_of
     from .looking import opened
 
+    _refuse_whole(arguments)
     with opened(os.fsdecode(name), arguments) as catalogue:
         for picture in catalogue.pictures():
             if picture.problem in (Problem.NO_PICTURE, *NOT_THERE):
                 continue
             blocks = catalogue.blocks_with_fields(picture)
             texts = texts_of(blocks)
-            parts = catalogue.not_read_of(picture) + [
-                NotRead(f"the {word}, which is too long for the catalogue", "") for word in sorted(texts.long)
-            ]
+            too_long = [NotRead(f"the {word}, which is too long for the catalogue", "") for word in sorted(texts.long)]
+            parts = catalogue.not_read_of(picture) + too_long
             fault = "" if cut(part.what for part in parts) else picture.damage
             read = Blocks(problem=picture.problem, detail=picture.detail, type=picture.type, not_read=parts, damage=fault)
-            yield Reading(picture.path, read, [block for block, _ in blocks], texts.texts, texts.rests)
+            yield Picture(picture.path, read, [block for block, _ in blocks], texts=texts)
 
 
-def _in_folder(arguments: argparse.Namespace, folder: bytes) -> Iterator[Reading]:
+def _in_folder(arguments: argparse.Namespace, folder: bytes) -> Iterator[Picture]:
     closed: List[Unlisted] = []
     top = os.path.abspath(folder)
     for file in below([folder], closed.append):
-        reading = _reading(arguments, os.path.join(folder, os.path.relpath(file.path, top)))
-        if reading.problem not in (Problem.NO_PICTURE, Problem.NOT_A_FILE):
-            yield reading
-    yield from (Reading(it.path, Blocks(problem=Problem.UNREADABLE, detail=it.reason), []) for it in closed)
+        picture = _reading(arguments, os.path.join(folder, os.path.relpath(file.path, top)))
+        if picture.problem not in (Problem.NO_PICTURE, Problem.NOT_A_FILE):
+            yield picture
+    yield from (Picture(it.path, Blocks(problem=Problem.UNREADABLE, detail=it.reason), []) for it in closed)
 
 
-def _reading(arguments: argparse.Namespace, name: bytes) -> Reading:
-    return Reading.of(name, blocks_of_named(name, arguments.session, arguments.whole, arguments.block))
+def _reading(arguments: argparse.Namespace, name: bytes) -> Picture:
+    return Picture.of(name, blocks_of_named(name, arguments.session, arguments.whole, arguments.block))
 
 
-def refused(reading: Reading) -> List[str]:
+def refused(picture: Picture) -> List[str]:
     """The blocks that aren't accepted, in a line each."""
     return [
-        f"{block.name}: {block.line}" + (f"; read after repair in memory: {steps.words(block.steps)}" if block.repair else "")
-        for block in reading.blocks
+        f"{block.name}: {block.record.line}" + (f"; read after repair in memory: {steps.words(block.record.steps)}" if block.repair else "")
+        for block in picture.blocks
         if not block.is_accepted
     ]
 
 
-def not_read(reading: Reading) -> List[str]:
+def not_read(picture: Picture) -> List[str]:
     """The parts and fields that were not read and can have texts: a MakerNote has none."""
-    return [*(what for what in reading.not_read if REACHED not in what), *reading.rests]
+    return [*(what for what in picture.not_read if REACHED not in what), *picture.too_many]
 
 
-def is_open(reading: Reading) -> bool:
+def is_open(picture: Picture) -> bool:
     """Whether there may be a text that isn't known, so that the status of a command says so."""
-    return reading.is_damaged or bool(reading.rests)
+    return is_damaged(picture) or bool(not_read(picture))
 
 
-def members(reading: Reading) -> Members:
+def members(picture: Picture) -> Members:
     """The beginning of a JSON object."""
-    known = {"refused": refused(reading), "not_read": [*reading.not_read, *reading.rests], **damage_members(reading)}
-    return {**picture_object(reading.name, reading.problem, reading.detail), **known}
+    known = {"refused": refused(picture), "not_read": picture.not_read, "too_many": picture.too_many, **damage_members(picture)}
+    return {**picture_object(picture.path, picture.problem, picture.detail), **known}
 
 
 # The fields of texts
 
 
-def origins(texts: Sequence[LabelText]) -> str:
+def origins(texts: Sequence[Caption]) -> str:
     """Where a text is: its fields, each with its block if that isn't the first one, and with a guess about its character set."""
     words = []
     for text in texts:
@@ -130,10 +131,13 @@ def origins(texts: Sequence[LabelText]) -> str:
     return ", ".join(words)
 
 
-def together(texts: Sequence[LabelText]) -> List[List[LabelText]]:
+def together(texts: Sequence[Caption]) -> List[List[Caption]]:
     """Fields with equal texts together, without those that are empty."""
-    by_text: Dict[str, List[LabelText]] = {}
+    by_text: Dict[str, List[Caption]] = {}
+    lines: Dict[int, str] = {}  # pages of a TIFF may share a long list
     for text in texts:
         if not text.is_empty:
-            by_text.setdefault(" ".join(text.line.split()), []).append(text)
+            if id(text.texts) not in lines:
+                lines[id(text.texts)] = " ".join(text.line.split())
+            by_text.setdefault(lines[id(text.texts)], []).append(text)
     return list(by_text.values())

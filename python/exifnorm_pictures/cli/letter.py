@@ -19,9 +19,9 @@ _WORDS = {
     Kind.DAMAGED: ("is damaged", "are damaged"),
     Kind.RULE: ("breaks {}", "break {}"),
     Kind.OTHER_PICTURE: ("has another picture", "have another picture"),
-    Kind.PROFILE: ("has another colour profile or comment, or lost its", "have another colour profile or comment, or lost theirs"),
+    Kind.PROFILE: ("has another colour profile or comment, or none", "have another colour profile or comment, or none"),
     Kind.UNREADABLE: ("can't be read", "can't be read"),
-    Kind.OPEN: ("can't be compared wholly", "can't be compared wholly"),
+    Kind.OPEN: ("can't be fully compared", "can't be fully compared"),
     Kind.UNREAD: ("was not wholly read, and may break a rule", "were not wholly read, and may break a rule"),
     Kind.CHANGED: ("has another {}", "have another {}"),
     Kind.ADDED: ("now has a {}", "now have a {}"),
@@ -130,7 +130,7 @@ def _from_behind(text: str, columns: int) -> str:
 def command(before: str, last: str) -> List[str]:
     """The command that shows all, in as few lines as have room for the names."""
     words = "exifnorm-pictures changed --each"
-    for lines in ([f"All of it: {words} {before} {last}"], ["All of it:", f"  {words} {before} {last}"]):
+    for lines in ([f"All changes: {words} {before} {last}"], ["All changes:", f"  {words} {before} {last}"]):
         if max(map(width, lines)) <= COLUMNS:
             return lines
-    return ["All of it:", f"  {words} \\", f"  {before} \\", f"  {last}"]
+    return ["All changes:", f"  {words} \\", f"  {before} \\", f"  {last}"]

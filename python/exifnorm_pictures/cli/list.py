@@ -8,59 +8,45 @@ import re
 import sys
 import time
 from datetime import datetime, timezone
-from typing import List, Optional, Sequence, Tuple
+from typing import List, Optional, Sequence
 
-from ..catalogue.asking import Answer, Fitting, Scope
-from ..fields.labels import DAMAGE, POSITION, is_in_maker_notes
+from ..catalogue.asking import Answer, Fitting, Texts, Unread
+from ..fields.labels import DAMAGE, POSITION
 from ..fields.places import place_of
 from ..fields.questions import Not, Question, With, WrongQuestion, all_of, given_label, labels_of, question_of
-from ..files import signals
 from ..model.texts import Members, escaped, path_members, pictures_in_words, shown_path
 from . import listed_texts
 from .exit_codes import SUCCESS, UNKNOWN
-from .looking import Preparing, catalogue_for_questions, refuse_for_catalogues
+from .looking import Preparing, catalogue_for_questions, note_sidecars, refuse_for_catalogues
 from .objects import print_object
-from .output import print_line, table_of
-from .parser import refuse
+from .output import print_line, print_lines, say_notes, table_of
 from .sources import settle
 
 _WHAT_CHANGED = (
-    "What changed in them isn't known from this catalogue: exifnorm-pictures changed OLD NEW says it,"
-    " with an older one, such as index --keep-old and nightly keep"
+    "This catalogue doesn't know what changed in them. Compare it with an older one, as index --keep-old and nightly keep it:"
+    " exifnorm-pictures changed OLD NEW"
 )
 
 
 def run(arguments: argparse.Namespace) -> int:
     """Lists pictures by their texts."""
-    _refuse_forms(arguments)
     question = _question(arguments)
     columns = _columns(arguments, question)
     counted = given_label(arguments.count) if arguments.count else None
-    scope = Scope(_since(arguments.since) if arguments.since else None)
+    since = _since(arguments.since) if arguments.since else None
     source = settle(arguments)
     refuse_for_catalogues(arguments, source)
     arguments.pixels = DAMAGE in (*(labels_of(question) if question else ()), *columns, counted)  # of a folder
     with catalogue_for_questions(source, arguments) as catalogue, catalogue.reading(is_answer=True):
+        note_sidecars(catalogue, source, arguments)
         shown = [*columns, *([] if counted is None else [counted])]
-        answer = Answer(catalogue, question, scope, Preparing(arguments).report, shown)
+        answer = Answer(catalogue, question, since, Preparing(arguments).report, shown)
         not_known = 0
         if counted is not None:
             not_known = _print_counts(arguments, answer, counted)
         else:
-            _print_pictures(arguments, answer, columns)
+            (_print_names if arguments.null else _print_pictures)(arguments, answer, columns)
         return UNKNOWN if not_known or answer.not_known() else SUCCESS
-
-
-def _refuse_forms(arguments: argparse.Namespace) -> None:
-    """Refuses two forms of output at once."""
-    forms = {"-0": arguments.null, "--geojson": arguments.geojson, "--csv": arguments.csv, "--json": arguments.json}
-    given = [form for form, is_given in forms.items() if is_given]
-    if arguments.count is not None:
-        given = [*[form for form in given if form in ("-0", "--geojson")], "--count"]
-    if arguments.null and arguments.columns is not None:
-        given.append("--columns")
-    if len(given) > 1:
-        refuse(arguments.command, f"{given[0]} can't be together with {given[1]}")
 
 
 def _question(arguments: argparse.Namespace) -> Optional[Question]:
@@ -94,36 +80,38 @@ def _since(text: str) -> str:
 # Pictures
 
 
+def _print_names(arguments: argparse.Namespace, answer: Answer, _: Sequence[str]) -> None:
+    for paths in answer.paths():
+        sys.stdout.buffer.write(b"".join(path + b"\0" for path in paths))
+    _print_end(arguments, answer, answer.fitting(), answer.damaged())
+
+
 def _print_pictures(arguments: argparse.Namespace, answer: Answer, columns: Sequence[str]) -> None:
     table = table_of(arguments, ["picture", *listed_texts.heads(columns)])
     listed, damaged = 0, 0
     if arguments.geojson:
         print('{"type": "FeatureCollection", "features": [')
-    for picture in answer.pictures():
+    for picture, texts in answer.pictures([*columns, *[POSITION] * arguments.geojson]):
         listed += 1
         damaged += bool(picture.damage)
-        texts = answer.texts_of(picture.id, columns) if columns else []
         if table:
             table.row(picture.path, *listed_texts.cells(columns, texts))
         elif arguments.json:
             captions = {label: list(of_label) for label, of_label in zip(columns, texts)}
             print_object("list", "picture", {**path_members(picture.path), "texts": captions, "damage": picture.damage or None})
         elif arguments.geojson:
-            print("," * (listed > 1) + json.dumps(_feature(picture, columns, texts, answer)))
-        elif arguments.null:
-            sys.stdout.buffer.write(picture.path + b"\0")
+            print("," * (listed > 1) + json.dumps(_feature(picture, columns, texts)))
         else:
             fault = f"   (damaged: {picture.damage})" if picture.damage and DAMAGE not in columns else ""
-            for line in [shown_path(picture.path) + fault, *listed_texts.lines(columns, texts, "  ")]:
-                print_line(line)
+            print_lines([shown_path(picture.path) + fault, *listed_texts.lines(columns, texts, "  ")])
     if arguments.geojson:
         print("]}")
     _print_end(arguments, answer, listed, damaged)
 
 
-def _feature(picture: Fitting, columns: Sequence[str], texts: Sequence[Tuple[str, ...]], answer: Answer) -> Members:
-    """A picture on a map (RFC 7946), whose positions have the longitude first."""
-    place = next((place_of(text) for text in answer.texts_of(picture.id, [POSITION])[0]), None)
+def _feature(picture: Fitting, columns: Sequence[str], texts: Texts) -> Members:
+    """A picture on a map (RFC 7946), whose positions have the longitude first. Its last texts are its positions."""
+    place = next(map(place_of, texts[-1]), None)
     geometry = None if place is None else {"type": "Point", "coordinates": [place.longitude, place.latitude]}
     properties = {**path_members(picture.path), **{label: "; ".join(of_label) for label, of_label in zip(columns, texts)}}
     return {"type": "Feature", "geometry": geometry, "properties": properties}
@@ -137,6 +125,7 @@ def _print_end(arguments: argparse.Namespace, answer: Answer, listed: int, damag
         return
     end = (
         f"{listed:,} of {pictures_in_words(answer.count())}"
+        + _since_then(arguments, answer.count())
         + f", {damaged:,} of them cut off or damaged" * bool(damaged)
         + _of_unknown(answer)
     )
@@ -145,23 +134,30 @@ def _print_end(arguments: argparse.Namespace, answer: Answer, listed: int, damag
         if arguments.since and listed:
             print_line(_WHAT_CHANGED)
     elif answer.not_known() or damaged:
-        signals.say(f"exifnorm-pictures: note: {end}")
+        say_notes(end)
+
+
+def _since_then(arguments: argparse.Namespace, pictures: int) -> str:
+    """To which pictures --since restricts the answer."""
+    return f" that {'was' if pictures == 1 else 'were'} new or changed since {escaped(arguments.since)}" if arguments.since else ""
 
 
 def _of_unknown(answer: Answer) -> str:
     count = answer.not_known()
-    return f"; {count:,} more may fit: {_unread(answer.labels)}" if count else ""
+    return f"; {count:,} more may fit: {_unread(answer.why_not_known())}" if count else ""
 
 
-def _unread(labels: Sequence[str]) -> str:
-    """What was not read of pictures, if these labels are asked for."""
-    if DAMAGE in labels:
-        return "their pictures were not read, as index --pixels reads those of JPEG, PNG, TIFF, WebP and raw files" + (
-            ", or they were not wholly read" if set(labels) != {DAMAGE} else ""
-        )
-    if any(map(is_in_maker_notes, labels)):
-        return "they were not wholly read, or have a MakerNote, which index --maker-notes --again reads"
-    return "they were not wholly read"
+def _unread(reasons: Sequence[Unread]) -> str:
+    """What was not read of pictures."""
+    return ", or ".join(_UNREAD[it] for it in reasons)
+
+
+_UNREAD = {
+    Unread.PICTURE: "their pictures were not read for damage; index --pixels reads those of JPEG, PNG, TIFF, WebP and raw files",
+    Unread.PARTS: "they were not wholly read",
+    Unread.POSITION: "their latitude and longitude make no position, as without a direction",
+    Unread.MAKER_NOTE: "they have a MakerNote, which index --maker-notes --again reads",
+}
 
 
 # Counts
@@ -187,13 +183,15 @@ def _print_counts(arguments: argparse.Namespace, answer: Answer, label: str) -> 
 
 def _print_end_of_counts(arguments: argparse.Namespace, answer: Answer, label: str) -> int:
     having, without, not_known = answer.having(label)
+    total = having + without + not_known
     if arguments.json:
-        print_object("list", "summary", {"pictures": having + without + not_known, "with": having, "not_known": not_known})
+        print_object("list", "summary", {"pictures": total, "with": having, "not_known": not_known})
         return not_known
-    more = f"; of {not_known:,} that isn't known: {_unread([label])}" if not_known else ""
-    end = f"{pictures_in_words(having)} with a text of {label}, {without:,} without{more}"
+    more = f"; {not_known:,} not known: {_unread(answer.why_not_known(label))}" if not_known else ""
+    of_new = f", of {pictures_in_words(total)}{_since_then(arguments, total)}" * bool(arguments.since)
+    end = f"{pictures_in_words(having)} with a text of {label}, {without:,} without{of_new}{more}"
     if not arguments.csv:
         print_line(end)
     elif not_known:
-        signals.say(f"exifnorm-pictures: note: {end}")
+        say_notes(end)
     return not_known

@@ -2,7 +2,7 @@
 
 from __future__ import annotations
 
-from typing import TYPE_CHECKING, Iterator, List, Sequence, Tuple
+from typing import TYPE_CHECKING, Iterator, List, Sequence
 
 from ..fields.labels import POSITION
 from ..fields.places import place_of
@@ -10,9 +10,8 @@ from ..fields.questions import given_label
 from ..model.texts import escaped
 
 if TYPE_CHECKING:
+    from ..catalogue.asking import Texts
     from .tables import Cell
-
-Texts = Sequence[Tuple[str, ...]]  # of a picture, for each of some labels
 
 
 def labels_in(words: str) -> List[str]:

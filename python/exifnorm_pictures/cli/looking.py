@@ -3,20 +3,20 @@
 from __future__ import annotations
 
 import argparse
+import contextlib
 import os
 import sys
 import tempfile
-from typing import List, Optional
+from typing import ContextManager, Iterator, List, Optional
 
 from ..catalogue import shards
 from ..catalogue.store import Catalogue, NoCatalogue
 from ..extract import programs
-from ..files import signals
 from ..scan.batches import How, Lines
-from ..scan.index import IndexOptions, index
+from ..scan.index import OF_XMP, IndexOptions, index, number_of
 from ..scan.progress import Progress
 from .exit_codes import UNKNOWN
-from .output import closed_folder
+from .output import closed_folder, say_notes
 from .parser import refuse
 
 
@@ -27,7 +27,7 @@ def how_of(arguments: argparse.Namespace, room: str, lines: Optional[Lines] = No
     """How a command looks at pictures."""
     notes, pixels, sidecars = (getattr(arguments, it, False) for it in ("maker_notes", "pixels", "sidecars"))
     if notes and not getattr(arguments, "scheduler", None) and not programs.is_there("exiftool"):
-        signals.say(f"exifnorm-pictures: note: no MakerNote is read, because ExifTool isn't installed ({_DEBIAN}); later runs ask again")
+        say_notes(f"no MakerNote is read, because ExifTool isn't installed ({_DEBIAN}); later runs ask again")
     return How(arguments.jobs, notes, arguments.whole, pixels, sidecars, arguments.limit, room, arguments.session.debug, lines)
 
 
@@ -43,7 +43,7 @@ def opened(name: str, arguments: argparse.Namespace, in_one_file: bool = False) 
 def say_missing(known: shards.Shards, arguments: argparse.Namespace) -> None:
     """Says which catalogues of a folder an answer is without; the status is 2 at least then."""
     for note in known.notes():
-        signals.say(f"exifnorm-pictures: note: {note}")
+        say_notes(note)
         arguments.least_status = UNKNOWN
 
 
@@ -57,22 +57,21 @@ def is_of_pictures(name: str) -> bool:
     return os.path.isdir(name) and not shards.is_folder(name)
 
 
-def catalogue_of(name: str, arguments: argparse.Namespace, in_one_file: bool = False) -> Catalogue:
+@contextlib.contextmanager
+def catalogue_of(name: str, arguments: argparse.Namespace, in_one_file: bool = False) -> Iterator[Catalogue]:
     """A catalogue, or a new one of a folder, which is removed with the session. Raises `NoCatalogue`, also if a folder below can't be read."""
     if not is_of_pictures(name):
-        return opened(name, arguments, in_one_file)
+        with opened(name, arguments, in_one_file) as catalogue:
+            yield catalogue
+        return
     room = tempfile.mkdtemp(dir=arguments.session.room)
-    catalogue = Catalogue(os.path.join(room, "catalogue"), make=True)
-    try:
+    with Catalogue(os.path.join(room, "catalogue"), make=True) as catalogue:
         closed: List[str] = []
         how = how_of(arguments, room, closed_folder)
         index(IndexOptions([os.fsencode(name)], quiet=_is_quiet(arguments), how=how, print_line=closed.append), catalogue)
         if closed:  # its pictures would seem to be missing
             raise NoCatalogue("; ".join(closed))
-    except BaseException:
-        catalogue.close()
-        raise
-    return catalogue
+        yield catalogue
 
 
 def _is_quiet(arguments: argparse.Namespace) -> bool:
@@ -95,7 +94,7 @@ class Preparing:
             self._progress.clear()
 
 
-def catalogue_for_questions(name: str, arguments: argparse.Namespace) -> Catalogue:
+def catalogue_for_questions(name: str, arguments: argparse.Namespace) -> ContextManager[Catalogue]:
     """The same catalogue as of `catalogue_of`; one that is a file keeps the texts of its pictures, if it can be written."""
     if not is_of_pictures(name):
         keep_texts(name, arguments)
@@ -108,6 +107,18 @@ def keep_texts(name: str, arguments: argparse.Namespace) -> None:
 
     for file in files_of(name):
         kept_texts.keep(file, Preparing(arguments).report)
+
+
+def xmp_files_alone(count: int) -> str:
+    """How many XMP files are none of a picture's metadata."""
+    return "1 XMP file counts as a file of its own" if count == 1 else f"{count:,} XMP files count as files of their own"
+
+
+def note_sidecars(catalogue: Catalogue, source: str, arguments: argparse.Namespace) -> None:
+    """Says that the XMP files of a folder are none of its pictures' metadata: a picture would seem to lack what the file beside it has."""
+    count = 0 if arguments.sidecars or not is_of_pictures(source) else number_of(catalogue, OF_XMP)
+    if count:
+        say_notes(f"{xmp_files_alone(count)}: --sidecars takes those beside pictures as metadata of them")
 
 
 def refuse_for_catalogues(arguments: argparse.Namespace, source: str) -> None:

@@ -14,14 +14,14 @@ from ..model import steps
 from ..model.budgets import TooMuch
 from ..model.errors import WrongUse
 from ..model.problems import Problem
-from ..model.texts import Members, escaped, shown_path
+from ..model.texts import Members, escaped, pictures_in_words, shown_path
 from ..refusals import mend
-from ..refusals.damage import REMEDY
 from .exit_codes import DIFFERENCE, FAILURE, SUCCESS, UNKNOWN
 from .looking import opened
 from .names import chosen_paths, each_of_list, is_catalogue
+from .not_read import REMEDY
 from .objects import picture_object, print_object
-from .output import print_line
+from .output import print_line, print_lines
 from .parser import refuse
 
 
@@ -52,9 +52,8 @@ def _counted(counts: "Counter[str]") -> str:
     >>> _counted(Counter(lossless=45, lossy=9)), _counted(Counter())
     ('54 pictures: 45 mended without loss, 9 with values lost or changed', '0 pictures')
     """
-    total = sum(counts.values())
     many = ", ".join(f"{counts[it]:,} {words}" for it, words in zip(COUNTED, _WORDS) if counts[it])
-    return f"{total:,} picture{'s' * (total != 1)}" + f": {many}" * bool(many)
+    return pictures_in_words(sum(counts.values())) + f": {many}" * bool(many)
 
 
 def _mend_one(arguments: argparse.Namespace, picture: bytes, out: bytes, folder: Optional[bytes] = None) -> Tuple[int, str, bool]:
@@ -87,20 +86,18 @@ def _folder(arguments: argparse.Namespace) -> Optional[bytes]:
             refuse("mend", "give PICTURE and OUT, or CATALOGUE and OUT")
         if os.path.isdir(names[0]):
             folder = escaped(shlex.quote(names[0]))
-            raise NoPicture(
+            raise WrongUse(
                 f"{escaped(names[0])} is a folder, and mend takes a picture or a catalogue. Write: exifnorm-pictures index {folder}"
                 " --catalogue NEW, and then: exifnorm-pictures mend NEW OUT"
             )
         return None
     if len(names) != 1:
         refuse("mend", "of a catalogue or a list of pictures give the folder for the copies alone: exifnorm-pictures mend CATALOGUE OUT")
-    if not os.path.isdir(names[0]):
-        refuse("mend", f"{names[0]} is no folder: the copies go below a folder that is there")
+    above = os.path.dirname(names[0].rstrip("/")) or "."
+    if not os.path.isdir(names[0]) and (os.path.lexists(names[0]) or not os.path.isdir(above)):
+        which = names[0] if os.path.lexists(names[0]) else above
+        refuse("mend", f"{which} is no folder: the copies go below a folder, which is made if the one above is there")
     return os.fsencode(names[0])
-
-
-class NoPicture(WrongUse):
-    """A folder, which `mend` doesn't take."""
 
 
 def _pairs(arguments: argparse.Namespace, folder: Optional[bytes]) -> Iterator[Tuple[bytes, bytes]]:
@@ -112,15 +109,16 @@ def _pairs(arguments: argparse.Namespace, folder: Optional[bytes]) -> Iterator[T
     yield from ((picture, os.path.join(folder, below)) for picture, below in listed)
 
 
-def _refused(arguments: argparse.Namespace) -> List[Tuple[bytes, bytes]]:
+def _refused(arguments: argparse.Namespace) -> Iterator[Tuple[bytes, bytes]]:
     """The pictures of a catalogue with a block that isn't accepted, and the names of their copies: below the folder that was indexed, if that
     is one alone. With --files-from only those of the list."""
     only = chosen_paths(arguments)
     with opened(arguments.catalogue, arguments) as catalogue:
         roots = catalogue.roots()
-        paths = [it.path for it in catalogue.pictures() if it.problem is None and None in it.meanings and (only is None or it.path in only)]
-    root = roots[0].rstrip(b"/") + b"/" if len(roots) == 1 else b"/"
-    return [(it, it[len(root) :] if it.startswith(root) else _below(it)) for it in paths]
+        root = roots[0].rstrip(b"/") + b"/" if len(roots) == 1 else b"/"
+        for path in catalogue.refused():
+            if only is None or path in only:
+                yield path, path[len(root) :] if path.startswith(root) else _below(path)
 
 
 def _below(name: bytes) -> bytes:
@@ -147,8 +145,8 @@ def _mended_lines(picture: bytes, mended: mend.Mended) -> List[str]:
         + (f": {steps.words(mended.repairs)}" if mended.repairs else "")
     )
     if mended.remedy not in (mend.Remedy.NONE, mend.Remedy.COPY):
-        lines += ["  not written, for --lossless"] * (not mended.is_written)
-        lines.append(f"  {len(mended.lost)} printed values lost or changed")
+        lines += ["  not written, because of --lossless"] * (not mended.is_written)
+        lines.append(f"  {len(mended.lost)} printed value{'s' * (len(mended.lost) != 1)} lost or changed")
         lines += [f"  - {it}" for it in mended.lost] + [f"  + {it}" for it in mended.gained]
     return lines
 
@@ -157,8 +155,7 @@ def _print(arguments: argparse.Namespace, lines: Sequence[str], members: Members
     if arguments.json:
         print_object("mend", "picture", members)
     else:
-        for line in lines:
-            print_line(line)
+        print_lines(lines)
 
 
 def _mended_members(picture: bytes, result: Optional[mend.Mended], problem: str = "", detail: str = "") -> Members:

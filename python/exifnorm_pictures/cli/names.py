@@ -8,18 +8,16 @@ import sys
 from itertools import chain
 from typing import Callable, Iterable, Iterator, List, Optional, Sequence, Set
 
-from ..files import signals
 from ..files.opening import reading
 from ..model.errors import WrongUse
 from ..model.texts import shown_path
 from ..scan.walk import BadList, names_in_list
+from .output import say_notes
 from .parser import refuse
 
 
 def each_of_list(arguments: argparse.Namespace) -> Iterator[bytes]:
     """The names of --files-from. Those of standard input come one by one, and what was printed is written before more are read."""
-    if arguments.null and not arguments.files_from:
-        refuse(arguments.command, "-0 is for the names of --files-from")
     if arguments.files_from:
         yield from names_in_list(arguments.files_from, arguments.null, sys.stdout.flush)
 
@@ -45,7 +43,7 @@ def say_unknown(names: Iterable[bytes], is_known: Callable[[bytes], bool]) -> No
     if unknown:
         have = "1 name of the list is no picture's" if len(unknown) == 1 else f"{len(unknown):,} names of the list are no picture's"
         shown = [*map(shown_path, unknown[:SHOWN]), *[".."] * (len(unknown) > SHOWN)]
-        signals.say(f"exifnorm-pictures: note: {have}: {', '.join(shown)}")
+        say_notes(f"{have}: {', '.join(shown)}")
 
 
 def named(arguments: argparse.Namespace, names: Sequence[str]) -> List[bytes]:
@@ -57,7 +55,7 @@ def each_name(arguments: argparse.Namespace, names: Sequence[str]) -> Iterator[b
     """The same, one by one: a name of standard input before the next one is read. One that the list repeats is repeated, because a program may
     ask again for a picture that it has changed."""
     if not names and not arguments.files_from:
-        refuse(arguments.command, "no name was given")
+        refuse(arguments.command, "give at least one name")
     for name in chain(map(os.fsencode, dict.fromkeys(names)), each_of_list(arguments)):
         if b"\0" in name:
             raise BadList("a name contains a NUL")
@@ -67,10 +65,6 @@ def each_name(arguments: argparse.Namespace, names: Sequence[str]) -> Iterator[b
 def is_list(arguments: argparse.Namespace, names: Sequence[str]) -> bool:
     """Whether each picture needs its name above what is printed of it: there may be several."""
     return bool(arguments.files_from) or len(set(names)) > 1
-
-
-class WrongCommand(WrongUse):
-    """Two names for which another command is meant."""
 
 
 def is_catalogue(name: str) -> bool:
@@ -87,14 +81,14 @@ def is_catalogue(name: str) -> bool:
 
 
 def refuse_folders(*names: str) -> None:
-    """Raises `WrongCommand` if one of the names that `compare` gets is a folder or a catalogue."""
+    """Raises `WrongUse` if one of the names that `compare` gets is a folder or a catalogue."""
     for name in names:
         if os.path.isdir(name) or is_catalogue(name):
             what = "a folder" if os.path.isdir(name) else "a catalogue"
-            raise WrongCommand(f"{shown_path(name)} is {what}: compare takes two pictures; changed compares folders and catalogues")
+            raise WrongUse(f"{shown_path(name)} is {what}: compare takes two pictures; changed compares folders and catalogues")
 
 
 def refuse_pictures(*names: str) -> None:
-    """Raises `WrongCommand` if the names that `changed` gets are files and no catalogues."""
+    """Raises `WrongUse` if the names that `changed` gets are files and no catalogues."""
     if all(os.path.isfile(it) and os.path.getsize(it) and not is_catalogue(it) for it in names):
-        raise WrongCommand("changed compares folders and catalogues; for two pictures use: exifnorm-pictures compare A B")
+        raise WrongUse("changed compares folders and catalogues; for two pictures use: exifnorm-pictures compare A B")

@@ -9,28 +9,28 @@ import shlex
 import sys
 from typing import List, Optional, Sequence, Tuple
 
-from ..catalogue import kept_texts
+from ..catalogue import kept_texts, shards
 from ..catalogue.checking import Checked
 from ..catalogue.nights import Nights
-from ..catalogue.store import Catalogue
+from ..catalogue.store import Catalogue, NoCatalogue, earlier_release
 from ..comparison.coded import sentence_of_coded
 from ..comparison.news import Between, Kind, News, Tally
 from ..comparison.newly_broken import newly_broken, newly_unread
 from ..comparison.pairs import heads_of
 from ..fields.rules import Rule
-from ..files import signals
+from ..model.errors import WrongUse
 from ..model.problems import NOT_READABLE
 from ..model.records import PictureRecord
-from ..model.texts import escaped, path_members, shown_path
+from ..model.texts import escaped, path_members, pictures_in_words, shown_path
 from ..scan.excluded import Excluded
-from ..scan.index import IndexOptions, index
+from ..scan.index import IndexOptions, index, number_of
 from .check import rules_of_file
 from .exit_codes import DIFFERENCE, SUCCESS, UNKNOWN
-from .index import NothingThere, go_on_with_sidecars
+from .index import go_on_with_sidecars, say_unused
 from .letter import command, letter
 from .looking import how_of
 from .objects import print_object
-from .output import local_time, print_line
+from .output import local_time, print_lines, say_notes
 from .page_file import write_report
 from .sources import settle_first
 
@@ -62,6 +62,9 @@ class Night:
         """Fills tonight's catalogue."""
         session = self.arguments.session
         with Catalogue(self.nights.tonight, make=True) as tonight:
+            if self.nights.earlier:  # which went on with both
+                self.arguments.sidecars = self.arguments.sidecars or self.nights.earlier.sidecars
+                self.arguments.pixels = self.arguments.pixels or self.nights.earlier.pixels
             go_on_with_sidecars(self.arguments, tonight)
             self.arguments.pixels = self.arguments.pixels or tonight.has_digests()
             quiet = not sys.stderr.isatty()
@@ -74,7 +77,7 @@ class Night:
         return []
 
     def first(self) -> None:
-        """Counts what a first night has found. Raises `NothingThere` if that is nothing."""
+        """Counts what a first night has found. Raises `WrongUse` if that is nothing."""
         if self.rules:
             kept_texts.keep(self.nights.tonight)
         with Catalogue(self.nights.tonight) as tonight:
@@ -83,12 +86,14 @@ class Night:
             head = heads_of([tonight])[0]
             for (path,) in tonight.rows(query, NOT_READABLE):
                 tally.add(Kind.UNREADABLE, path[len(head) :] if path.startswith(head) else path)
-            self.pictures = int(next(tonight.rows("SELECT count(*) FROM pictures WHERE problem IS NOT 'NoPicture'"))[0])
+            self.pictures = number_of(tonight, "problem IS NOT 'NoPicture'")
             if not self.pictures:
                 raise _no_picture(self.folders)
-            self.news = [it for it in tally.all()]
+            self.news = list(tally.all())
             if self.rules:
                 self.broken = (Checked(tonight, self.rules).pictures_broken(), 0)
+        if self.nights.earlier:
+            self.notes = _of_earlier(self.nights)
 
     def compare(self) -> None:
         """Finds the news since the last night."""
@@ -111,7 +116,7 @@ class Night:
             known = last.count_below(folder.path)
             if known:
                 kind = Kind.CLOSED if os.path.lexists(folder.path) else Kind.ABSENT
-                between.tally.add(kind, between.shown(folder.path), os.fsdecode(folder.path), count=known)
+                between.tally.add(kind, between.shown(folder.path), shown_path(folder.path), count=known)
 
     def _check(self, between: Between, last: Catalogue, tonight: Catalogue) -> None:
         """What breaks a rule that didn't, by the same rules."""
@@ -127,11 +132,17 @@ class Night:
 
 def run(arguments: argparse.Namespace) -> int:
     """Looks at the folders, tells what is new, and keeps tonight's catalogue as the last one."""
-    settle_first(arguments)
+    name = settle_first(arguments)
+    if shards.is_folder(name):
+        raise NoCatalogue(
+            f"{name} is a folder of catalogues, and nightly keeps one catalogue. What is new of a folder of them: cp -r {shlex.quote(name)}"
+            f" BEFORE, then exifnorm-pictures index FOLDER --shards {shlex.quote(name)}, then exifnorm-pictures changed BEFORE"
+            f" {shlex.quote(name)} --each"
+        )
     folders = list(dict.fromkeys(os.path.abspath(os.fsencode(it)) for it in arguments.folders))
     for folder in folders:
         if os.path.lexists(folder) and not os.path.isdir(folder):
-            raise NothingThere(f"{shown_path(folder)} is no folder")
+            raise WrongUse(f"{shown_path(folder)} is no folder")
     _refuse_unknown(folders, arguments.catalogue)
     if arguments.html:
         from ..report.templating import check  # which takes long to import
@@ -154,20 +165,29 @@ def run(arguments: argparse.Namespace) -> int:
 
 
 def _refuse_unknown(folders: Sequence[bytes], name: str) -> None:
-    """Raises `NothingThere` for a folder that isn't there and of which no night has seen a picture: it may be mistyped, and would never have
+    """Raises `WrongUse` for a folder that isn't there and of which no night has seen a picture: it may be mistyped, and would never have
     news."""
     absent = [folder for folder in folders if not os.path.lexists(folder)]
-    if absent and not os.path.lexists(name):
+    if absent and (not os.path.lexists(name) or earlier_release(name)):
         raise _no_picture(absent)
     if absent:
         with Catalogue(name) as last:
             for folder in absent:
                 if not last.count_below(folder):
-                    raise NothingThere(f"{shown_path(folder)} isn't there, and {name} has no picture below it: is its name right?")
+                    raise WrongUse(f"{shown_path(folder)} isn't there, and {name} has no picture below it: is its name right?")
 
 
-def _no_picture(folders: Sequence[bytes]) -> NothingThere:
-    return NothingThere(f"no picture is below {', '.join(map(shown_path, folders))}: is the disk mounted?")
+def _of_earlier(nights: Nights) -> List[str]:
+    """What is said once of a catalogue of an earlier release."""
+    assert nights.earlier
+    last, kept = (shown_path(os.path.basename(os.fsencode(name))) for name in (nights.last, nights.kept))
+    count = nights.earlier.pictures
+    had = "" if count is None else f" It had {pictures_in_words(count)}."
+    return [f"{last} was of an earlier release, and can't be compared with tonight.", f"It is kept as {kept}.{had}"]
+
+
+def _no_picture(folders: Sequence[bytes]) -> WrongUse:
+    return WrongUse(f"no picture is below {', '.join(map(shown_path, folders))}: is the disk mounted?")
 
 
 def _print_news(night: Night) -> None:
@@ -176,11 +196,9 @@ def _print_news(night: Night) -> None:
     if night.arguments.json:
         _print_objects(night)
     else:
-        for line in letter(_head(night), night.news, _end(night)):
-            print_line(line)
+        print_lines(letter(_head(night), night.news, _end(night)))
     sys.stdout.flush()
-    for pattern in night.excluded.unused():
-        signals.say(f"exifnorm-pictures: note: --exclude {pattern} fits no file and no folder")
+    say_unused(night.excluded.unused())
     if night.arguments.html:
         _write_page(night)
 
@@ -195,7 +213,7 @@ def _write_page(night: Night) -> None:
         try:
             write_report(about, night.arguments.html, night.nights.names)
         except book.TooLarge as error:  # the letter is printed all the same
-            signals.say(f"exifnorm-pictures: note: {night.arguments.html} isn't written: {error}")
+            say_notes(f"{night.arguments.html} isn't written: {error}")
 
 
 # The letter
@@ -203,7 +221,7 @@ def _write_page(night: Night) -> None:
 
 def _head(night: Night) -> str:
     where = ", ".join(map(shown_path, night.folders)) if len(night.folders) > 1 else shown_path(os.path.basename(night.folders[0]) or b"/")
-    many = f"{night.pictures:,} picture{'s' * (night.pictures != 1)}"
+    many = pictures_in_words(night.pictures)
     if night.is_first:
         return f"{where}, the first night: {many}"
     return f"{where} since {local_time(night.since)}: {many}, {night.with_news:,} with news"
@@ -229,8 +247,10 @@ def _end(night: Night) -> List[str]:
 def _print_objects(night: Night) -> None:
     for news in night.news:
         pictures = [{**path_members(it.path), "to": None if it.to is None else path_members(it.to)} for it in news.names]
-        members = {"news": news.kind, "about": news.about or None, "is_open": news.kind.is_open, "count": news.count, "pictures": pictures}
-        print_object("nightly", "news", members)
+        about = {"about": news.about or None, "to": news.to or None}
+        print_object(
+            "nightly", "news", {"news": news.kind, **about, "is_open": news.kind.is_open, "count": news.count, "pictures": pictures}
+        )
     now, before = night.broken or (None, None)
     summary = {
         "since": night.since or None,

@@ -2,33 +2,57 @@
 
 from __future__ import annotations
 
-from typing import List, Sequence
+from typing import List, Optional, Sequence
 
-from ..judge.reading import Reading
 from ..model.found import CUT, NAMES, damage, each_kind
 from ..model.texts import Members
 from ..model.verdicts import with_verb
+from ..picture import Picture
 
 OF_DAMAGED = " in what is left of the file"  # which is damaged
+REMEDY = "another copy of the file, as from a backup. The missing part can't be restored from this one."
 
 
-def unread(reading: Reading, parts: Sequence[str]) -> List[str]:
+def unread(picture: Picture, parts: Sequence[str]) -> List[str]:
     """Parts that were not read, and the kinds of blocks that may be missing of a damaged file."""
-    kinds = [NAMES[kind] for kind in reading.not_known]
+    kinds = [NAMES[kind] for kind in picture.not_known]
     return [*each_kind(parts), *([f"so {with_verb(kinds)} not known"] if kinds else [])]
 
 
-def picture_cut(reading: Reading) -> List[str]:
+def picture_cut(picture: Picture) -> List[str]:
     """Where a file is cut off or damaged whose metadata were read."""
-    fault = "" if reading.problem else reading.read.damage
+    fault = picture.damage_behind
     return [f"{'cut off' if fault.startswith(CUT) else 'damaged'} behind its metadata: {fault}"] if fault else []
 
 
-def no_block(reading: Reading) -> str:
+def no_block(picture: Picture) -> str:
     """What is said of a picture without a block."""
-    return "no Exif, IPTC or XMP block" + OF_DAMAGED * bool(damage(reading.not_read))
+    return "no Exif, IPTC or XMP block" + OF_DAMAGED * bool(damage(picture.not_read))
 
 
-def damage_members(reading: Reading) -> Members:
+def damage_members(picture: Picture) -> Members:
     """Where a file is cut off, and the kinds of blocks that may be missing of a damaged one, for a JSON object."""
-    return {"damage": reading.damage or None, "not_known": reading.not_known}
+    return {"damage": picture.damage or None, "not_known": picture.not_known}
+
+
+def is_damaged(picture: Picture) -> bool:
+    """Whether the status of a command says that not everything is known of the metadata."""
+    return bool(picture.problem or damage(picture.not_read)) or any(not it.is_accepted for it in picture.blocks)
+
+
+def damage_lines(picture: Picture) -> List[str]:
+    """What may be missing of a file that is cut off or damaged, and the remedy; nothing for a whole file."""
+    if picture.problem and picture.damage:
+        return [f"The file is cut off: {picture.damage}.", f"  Remedy: {REMEDY}"]
+    if picture.damage_behind:
+        return [f"The file is cut off behind its metadata: {picture.damage}.", f"  Remedy: {REMEDY}"]
+    if not damage(picture.not_read):
+        return []
+    kinds = " and ".join(NAMES[kind] for kind in picture.not_known) or "further blocks"
+    what = f"cut off: {picture.damage}" if picture.damage else "damaged"
+    return [f"The file is {what}. What is missing may have {kinds}.", f"  Remedy: {REMEDY}"]
+
+
+def damage_remedy(picture: Picture) -> Optional[str]:
+    """The remedy; none for a whole file."""
+    return REMEDY if picture.damage or damage(picture.not_read) else None

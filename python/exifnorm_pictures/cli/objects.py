@@ -3,38 +3,19 @@
 from __future__ import annotations
 
 import json
-from typing import List, Optional
+from typing import Dict, List, Optional
 
 from ..model.records import BlockRecord, PictureRecord
 from ..model.texts import Members, path_members
 
-# The version of a command's objects. It grows if a key is renamed or removed, or gets another meaning; a new key alone doesn't count.
-_VERSIONS = {
-    "captions": 1,
-    "changed": 1,
-    "check": 1,
-    "compare": 1,
-    "conflicts": 1,
-    "explain": 1,
-    "export": 1,
-    "forget": 1,
-    "history": 1,
-    "index": 1,
-    "list": 1,
-    "mend": 1,
-    "merge": 1,
-    "nightly": 1,
-    "relocate": 1,
-    "report": 1,
-    "same": 1,
-    "show": 1,
-    "verify": 1,
-}
+# The versions of commands whose objects have another one than 1. A version grows if a key is renamed or removed, or gets another meaning; a new
+# key alone doesn't count.
+_VERSIONS: Dict[str, int] = {}
 
 
 def line_of(command: str, record: str, members: Members) -> str:
     """An object as a line: `record` names what it is about, such as `picture` or `summary`."""
-    return json.dumps({"schema": f"exifnorm-pictures/{command}/{_VERSIONS[command]}", "record": record, **members}, allow_nan=False)
+    return json.dumps({"schema": f"exifnorm-pictures/{command}/{_VERSIONS.get(command, 1)}", "record": record, **members}, allow_nan=False)
 
 
 def print_object(command: str, record: str, members: Members) -> None:

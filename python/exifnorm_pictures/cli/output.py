@@ -5,12 +5,14 @@ from __future__ import annotations
 import re
 import shutil
 import sys
+from collections import Counter
 from datetime import datetime, timezone
-from typing import TYPE_CHECKING, List, Optional, Sequence
+from typing import TYPE_CHECKING, Iterable, List, Optional, Sequence
 
+from ..files import signals
 from ..model.found import cut, damage
-from ..model.problems import Problem
-from ..model.records import BlockRecord, PictureRecord
+from ..model.problems import COUNTED, Problem
+from ..model.records import AS_BEFORE, BlockRecord, PictureRecord
 from ..model.steps import loses, words
 from ..model.texts import safe, shown_path
 from .columns import NARROWEST, folded
@@ -28,6 +30,18 @@ def print_line(text: str) -> None:
         print(*folded(line, shutil.get_terminal_size().columns), sep="\n")
     else:
         print(line)
+
+
+def print_lines(lines: Iterable[str]) -> None:
+    """Prints lines one by one, as they are made."""
+    for line in lines:
+        print_line(line)
+
+
+def say_notes(*texts: str) -> None:
+    """Says on standard error what belongs to an answer, and would be in the way of a program that reads it."""
+    for text in texts:
+        signals.say(f"exifnorm-pictures: note: {text}")
 
 
 def table_of(arguments: argparse.Namespace, heads: Sequence[str]) -> Optional[Table]:
@@ -73,6 +87,18 @@ def refused_line(block: BlockRecord) -> str:
         lost = " and ".join(loses(block.steps))
         return f"refused: {block.refusal}; read after repair: {words(block.steps)}" + (f" (loses {lost})" if lost else "")
     return "failed: OutOfMemory" if block.cause == "OutOfMemory" else f"{block.status}: {block.refusal}"
+
+
+# "damaged" counts the files without a block. A number of all damaged files may be beside it
+_STATES = {**COUNTED, "damaged": "cut off without a block"}
+
+
+def counted(counts: "Counter[str]", damaged: int = 0) -> str:
+    """The states in words, those of the most pictures first, and the number of damaged files."""
+    words = {it: _STATES.get(it.removesuffix(AS_BEFORE), it.removesuffix(AS_BEFORE)) for it in counts}
+    ordered = sorted(counts, key=lambda it: (-counts[it], words[it], it))
+    states = ", ".join(f"{counts[it]:,} {words[it]}{AS_BEFORE * it.endswith(AS_BEFORE)}" for it in ordered) or "no file"
+    return states + f"; {damaged:,} cut off or damaged" * bool(damaged)
 
 
 def kind_of_part(what: str) -> str:

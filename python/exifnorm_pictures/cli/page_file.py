@@ -4,7 +4,7 @@ from __future__ import annotations
 
 import os
 import sys
-from typing import TYPE_CHECKING, BinaryIO, Optional, Sequence
+from typing import TYPE_CHECKING, Optional, Sequence
 
 from ..files import atomic, folders
 from ..scan.progress import Progress
@@ -25,7 +25,7 @@ def write_report(about: About, name: str, kept: Sequence[str]) -> None:
                 folder.write("index.html", _octets(_shown(about, folder)))
         else:
             octets = _octets(_shown(about, None))
-            atomic.replace(out, lambda file: _write(file, octets), _is_page, tuple(kept))
+            atomic.replace(out, lambda file: file.writelines([octets]), _is_page, tuple(kept))
     except atomic.NotReplaced as error:
         raise atomic.NotReplaced(atomic.not_written(name, error)) from None
 
@@ -50,10 +50,6 @@ def _shown(about: About, folder: Optional[folders.NewFolder]) -> str:
 
 def _octets(page: str) -> bytes:
     return page.encode("utf-8", "backslashreplace")
-
-
-def _write(file: BinaryIO, octets: bytes) -> None:
-    file.write(octets)
 
 
 def _is_page(head: bytes) -> bool:

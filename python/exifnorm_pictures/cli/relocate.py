@@ -6,7 +6,8 @@ import argparse
 import os
 from collections import Counter
 
-from ..catalogue.store import Catalogue
+from ..catalogue import shards
+from ..catalogue.store import Catalogue, NoCatalogue
 from ..model.errors import WrongUse
 from ..model.texts import path_members, shown_path
 from ..scan.relocating import ABSENT, AS_BEFORE, CHANGED, relocated
@@ -16,20 +17,21 @@ from .output import print_line
 from .sources import settle
 
 
-class NotThere(WrongUse):
-    """The new folder isn't there, or the catalogue has no picture below the old one."""
-
-
 def run(arguments: argparse.Namespace) -> int:
     """Gives pictures of a catalogue their names below another folder; the files stay."""
     name, old, new = settle(arguments), os.fsencode(arguments.old), os.fsencode(arguments.new)
     if not os.path.isdir(new):
-        raise NotThere(f"{shown_path(new)} is no folder: give the folder where the pictures of {shown_path(old)} are now")
+        raise WrongUse(f"{shown_path(new)} is no folder: give the folder where the pictures of {shown_path(old)} are now")
     if os.path.abspath(new).startswith(os.path.abspath(old).rstrip(b"/") + b"/"):
-        raise NotThere(f"{shown_path(new)} lies below {shown_path(old)}, where the catalogue may have other pictures")
+        raise WrongUse(f"{shown_path(new)} lies below {shown_path(old)}, where the catalogue may have other pictures")
+    if shards.is_of_folder(name):
+        raise NoCatalogue(
+            f"{shown_path(os.fsencode(name))}: each catalogue of a folder is named after its folder of pictures, by which index finds it, so none"
+            " is relocated. Merge them, and relocate the merged one: exifnorm-pictures merge FOLDER --catalogue NEW"
+        )
     with Catalogue(name) as catalogue:  # it is one; a missing one isn't made
         if next(catalogue.below(os.path.abspath(old)), None) is None:
-            raise NotThere(f"{name} has no picture below {shown_path(old)}")
+            raise WrongUse(f"{name} has no picture below {shown_path(old)}")
     with Catalogue(name, make=True) as catalogue:
         counts = relocated(catalogue, os.path.abspath(old), os.path.abspath(new))
     _print(arguments, old, new, counts)

@@ -8,7 +8,7 @@ import contextlib
 from ..report import contents, links
 from ..report.templating import check
 from .check import rules_of_file
-from .choice import choice_of, listings_of, note_absent, refuse_unknown
+from .choice import choice_for
 from .exit_codes import SUCCESS
 from .looking import files_of, opened
 from .names import chosen_paths, say_unknown
@@ -31,16 +31,13 @@ def run(arguments: argparse.Namespace) -> int:
     with contextlib.ExitStack() as open_:
         catalogue = open_.enter_context(opened(name, arguments, bool(arguments.since)))
         old = open_.enter_context(opened(arguments.since, arguments, True)) if arguments.since else None
-        choice = choice_of(arguments)
-        sides = [one for one in (catalogue, old) if one]
-        refuse_unknown(choice, (it for one in sides for it in listings_of(one)))
-        note_absent(choice, (it for one in sides for it in listings_of(one)), max(one.with_maker_note() for one in sides))
+        choice = choice_for(arguments, *filter(None, (catalogue, old)))
         about = contents.About(catalogue, old, chosen, not arguments.no_look, choice, arguments.session, arguments.title, address, rules)
         if arguments.html:
             names = [name, *[arguments.since] * bool(old)]
             write_report(about, arguments.html, [file for one in names for file in files_of(one)])
         if arguments.json:
-            for members in contents.members(about):
-                print_object("report", contents.record_of(members), members)
+            for record, members in contents.objects(about):
+                print_object("report", record, members)
         say_unknown(chosen or (), catalogue.has)
     return SUCCESS

@@ -6,36 +6,35 @@ import argparse
 import contextlib
 import json
 from collections import Counter
-from typing import TYPE_CHECKING, Dict, Iterator, List, Optional, Sequence, Tuple
+from typing import TYPE_CHECKING, Dict, Iterator, List, NamedTuple, Optional, Sequence, Tuple
 
 from ..catalogue.store import Catalogue
-from ..comparison.group import Group, Link
+from ..comparison.group import Basis, Group, Link
 from ..comparison.group_sentence import sentence_of
-from ..comparison.groups import CodedPictures, Groups, coded_pictures, left_out, whole_files
+from ..comparison.groups import Groups, after_repair, but_for_parts, coded_pictures, left_out, whole_files
 from ..comparison.keeping import KEEP_ALL, NOT_KNOWN, Keep, damaged, keeping
 from ..comparison.readings import of_unknown
 from ..fields.choosing import Choice
 from ..fields.folding import folded
 from ..fields.left_out import BY_LISTING, members_of, of_labels
 from ..fields.questions import given_label
-from ..files import signals
 from ..model.results import Result
 from ..model.errors import WrongUse
 from ..model.found import KINDS
 from ..model.records import PictureRecord
-from ..model.texts import Members, path_members, pictures_in_words, shown_path
+from ..model.texts import Members, in_words, path_members, pictures_in_words, shown_path
 from . import listed_texts
-from .choice import choice_of, listings_of, note_absent, refuse_unknown
+from .choice import choice_for
 from .exit_codes import UNKNOWN, status_of_results
 from .looking import Preparing, keep_texts, opened
 from .names import chosen_paths, say_unknown
 from .objects import line_of, print_object
-from .output import print_line, table_of
+from .output import print_line, print_lines, say_notes, table_of
 from .parser import FILE, PIXELS
 from .sources import settle
 
 if TYPE_CHECKING:
-    from ..catalogue.asking import Answer
+    from ..catalogue.asking import Answer, Texts
     from .tables import Table
 
 
@@ -47,6 +46,7 @@ class _Listed:
         self.table = table_of(arguments, (*_HEADS, *listed_texts.heads(texts.labels)))
         self.groups: "Counter[str]" = Counter()  # of pictures, and of other files
         self.pictures: "Counter[str]" = Counter()  # in them
+        self.bases: "Counter[Basis]" = Counter()  # of the groups of pictures
         self.results: "Counter[Result]" = Counter()
         self.partial = 0  # groups that are the same but for fields that are left out
         self.unknown_pictures = 0  # groups of which it isn't known whether their pictures are the same, too
@@ -58,6 +58,7 @@ class _Listed:
         what = "pictures" if group.are_pictures else "files"
         self.groups[what] += 1
         self.pictures[what] += group.count
+        self.bases[group.basis] += group.are_pictures
         self.partial += group.shared.is_partial
         self.results.update([group.result] if group.result else [])
         number = sum(self.groups.values())
@@ -87,7 +88,7 @@ class _Texts:
 
             self._answer = asking.Answer(catalogue, None, report=Preparing(arguments).report, shown=self.labels)
 
-    def of(self, picture: PictureRecord) -> listed_texts.Texts:
+    def of(self, picture: PictureRecord) -> Texts:
         """The texts of a picture, for each label."""
         return self._answer.texts_of(picture.id, self.labels) if self._answer else []
 
@@ -111,7 +112,7 @@ class _Texts:
 
 
 def run(arguments: argparse.Namespace) -> int:
-    """Lists the groups of pictures that mean the same."""
+    """Lists the groups of pictures with the same metadata."""
     settle(arguments)
     kinds = KINDS if arguments.kind in ("all", PIXELS, FILE) else (arguments.kind,)
     chosen = chosen_paths(arguments)
@@ -120,52 +121,61 @@ def run(arguments: argparse.Namespace) -> int:
     with contextlib.ExitStack() as open_:
         catalogue = open_.enter_context(opened(arguments.catalogue, arguments))
         only = None if chosen is None else catalogue.choose(chosen)
-        choice = choice_of(arguments)
-        refuse_unknown(choice, listings_of(catalogue))
-        note_absent(choice, listings_of(catalogue), catalogue.with_maker_note() if choice.asks_for_private else 0)
+        choice = choice_for(arguments, catalogue)
         groups = Groups(catalogue, only, not arguments.no_look, None if arguments.kind in (PIXELS, FILE) else arguments.session)
         listed = _Listed(arguments, choice, _Texts(catalogue, arguments))
         for group in _asked(groups, arguments, kinds, choice):
             listed.add(group)
-        left = 0 if listed.table else _left_out(catalogue, arguments.kind, kinds, only)
+        left = _left_out(catalogue, arguments.kind, kinds, only, choice)
         if arguments.json:
             print_object("same", "summary", _summary(listed, groups, left))
         elif listed.table:
-            _add_notes(listed.table, groups, choice)
+            _add_notes(listed.table, listed, groups, left)
             for text in _compared_files(arguments.kind, groups):
                 listed.table.row(*(None,) * 6, text)
-            for text in listed.texts.end():
-                signals.say(f"exifnorm-pictures: note: {text}")
+            say_notes(*listed.texts.end())
         else:
-            _print_totals(listed, groups, left)
+            print_lines(_totals(listed, groups, left))
         say_unknown(chosen or (), catalogue.has)
-    return UNKNOWN if groups.unknown or listed.texts.not_known else status_of_results(listed.results)
+    return UNKNOWN if left.is_open or groups.unknown or listed.texts.not_known else status_of_results(listed.results)
 
 
-def _left_out(catalogue: Catalogue, kind: str, kinds: Sequence[str], only: Optional[str]) -> int:
-    """How many pictures can't be in a group of this kind."""
+class _Left(NamedTuple):
+    """How many pictures can't be compared by what they are."""
+
+    undecided: int  # they can't be in a group of the kind that was asked for
+    but_for_parts: int = 0  # they mean the same as others but for parts that were not read
+    after_repair: int = 0  # they are compared after a repair, so this is known
+
+    @property
+    def is_open(self) -> bool:
+        """Whether others may be the same."""
+        return bool(self.undecided or self.but_for_parts)
+
+
+def _left_out(catalogue: Catalogue, kind: str, kinds: Sequence[str], only: Optional[str], choice: Choice) -> _Left:
+    """How many pictures may be the same as others, and aren't listed."""
     if kind == FILE:
-        return whole_files(catalogue, only).unreadable
-    return sum(coded_pictures(catalogue, only)[1:3]) if kind == PIXELS else left_out(catalogue, kinds, only)
-
-
-class NoDigests(WrongUse):
-    """No digests of coded pictures or files, or options that have nothing to do with them."""
+        return _Left(whole_files(catalogue, only).unreadable)
+    if kind == PIXELS:
+        return _Left(coded_pictures(catalogue, only).undecided)
+    parts = but_for_parts(catalogue, kinds, only, choice)
+    return _Left(left_out(catalogue, kinds, only), parts, after_repair(catalogue, kinds, only))
 
 
 def _asked(groups: Groups, arguments: argparse.Namespace, kinds: Sequence[str], choice: Choice) -> Iterator[Group]:
-    """The groups of the kind that is asked for. Raises `NoDigests`."""
+    """The groups of the kind that is asked for. Raises `WrongUse`."""
     if arguments.kind not in (PIXELS, FILE):
         return groups.by_meaning(kinds, choice, arguments.least_fields)
     is_of_files = arguments.kind == FILE
     if choice or arguments.least_fields:
         what = "all bytes of files" if is_of_files else "coded pictures and no fields"
-        raise NoDigests(f"--kind {arguments.kind} compares {what}: leave out the options for fields")
+        raise WrongUse(f"--kind {arguments.kind} compares {what}: leave out the options for fields")
     about = (groups.catalogue, groups.only)
     count = whole_files(*about).not_requested if is_of_files else coded_pictures(*about).not_requested
     if count:
         have = "1 picture has" if count == 1 else f"{count:,} pictures have"
-        raise NoDigests(f"{have} no digest of the {'file' if is_of_files else 'coded picture'} yet: `index --pixels` adds it")
+        raise WrongUse(f"{have} no digest of the {'file' if is_of_files else 'coded picture'} yet: `index --pixels` adds it")
     return groups.by_file() if is_of_files else groups.by_coded_picture()
 
 
@@ -174,26 +184,18 @@ def _asked(groups: Groups, arguments: argparse.Namespace, kinds: Sequence[str], 
 Keeps = Dict[int, Keep]  # by the number of a picture; empty if no file was looked at, or fields are left out
 
 
-def _print_totals(listed: _Listed, groups: Groups, left: int) -> None:
-    if sum(listed.groups.values()) > 1:
-        print_line("")
-    for text in _totals(listed, groups, left):
-        print_line(text)
-
-
-def _totals(listed: _Listed, groups: Groups, left: int) -> Iterator[str]:
+def _totals(listed: _Listed, groups: Groups, left: _Left) -> Iterator[str]:
     count, files = listed.groups["pictures"], listed.groups["files"]
+    yield from [""] * (count + files > 1)
     more = f", and {files} group{'s' * (files != 1)} of {listed.pictures['files']} files that are no pictures" if files else ""
-    yield f"{count} group{'s' * (count != 1)} of {listed.pictures['pictures']} pictures{more}"
+    yield f"{count} group{'s' * (count != 1)} of {listed.pictures['pictures']} pictures{_of_bases(listed)}{more}"
     if groups.small:
         are = "are" if groups.small > 1 else "is"
         yield f"{groups.small} more, of pictures with fewer than {listed.arguments.least_fields} fields, {are} not listed"
     if groups.absent:
         yield _of_absent(groups.absent)
     yield from listed.texts.end()
-    if left and listed.arguments.kind not in (PIXELS, FILE):
-        why = "can't be the same by meaning: a block is refused or unreadable, or a part was not read"
-        yield f"{left} picture{'s' * (left > 1)} {why}"
+    yield from _of_left(listed, left)
     yield from [of_unknown(groups.unknown)] * bool(groups.unknown)
     yield from of_labels(listed.choice)
     yield from [BY_LISTING] * bool(listed.partial)
@@ -202,15 +204,49 @@ def _totals(listed: _Listed, groups: Groups, left: int) -> Iterator[str]:
     yield from [_NOT_FOUND] * (listed.arguments.kind == PIXELS)
 
 
+def _of_bases(listed: _Listed) -> str:
+    """How many groups rest on what, unless all rest on what was asked for."""
+    counts = {basis: count for basis, count in listed.bases.items() if count}
+    return ": " + ", ".join(f"{count} {_BY[basis]}" for basis, count in counts.items()) if counts.keys() & _WEAKER.keys() else ""
+
+
+_WEAKER = {
+    Basis.BYTES: "by the same bytes",
+    Basis.MAKER_NOTE: "by MakerNotes that read the same",
+    Basis.REPAIR: "only after a repair",
+}
+_BY = {Basis.MEANING: "by meaning", Basis.FIELDS: "by the fields that count", **_WEAKER}
+
+
+def _of_left(listed: _Listed, left: _Left) -> Iterator[str]:
+    """How many pictures may be the same as others by their metadata, and how many are compared after a repair alone."""
+    if left.undecided and listed.arguments.kind not in (PIXELS, FILE):
+        why = "can't be compared by meaning: a block is refused or unreadable, or the file was not wholly read"
+        yield f"{pictures_in_words(left.undecided)} {why}"
+    if left.but_for_parts:
+        yield f"{pictures_in_words(left.but_for_parts)} may be the same as others but for parts that were not read"
+    if left.after_repair:
+        were = "was" if left.after_repair == 1 else "were"
+        yield f"{pictures_in_words(left.after_repair)} {were} compared only after a repair in memory: a block is refused"
+
+
 def _compared_files(kind: str, groups: Groups) -> Iterator[str]:
     """How many pictures or files were compared by digests, and how many weren't."""
     if kind == PIXELS:
-        yield from _of_coded_pictures(coded_pictures(groups.catalogue, groups.only))
+        counts = coded_pictures(groups.catalogue, groups.only)
+        their = "its" if counts.compared == 1 else "their"
+        yield f"{pictures_in_words(counts.compared)} compared by the data that {their} pixels are decoded from"
+        if counts.other:
+            yield f"{pictures_in_words(counts.other)} not compared: their format has no digest of the picture"
+        if counts.damaged:
+            yield f"{pictures_in_words(counts.damaged)} not compared: damaged"
+        if counts.unread:
+            yield f"{pictures_in_words(counts.unread)} not compared: not read"
     elif kind == FILE:
-        counts = whole_files(groups.catalogue, groups.only)
-        yield f"{counts.compared:,} file{'s' * (counts.compared != 1)} compared by all {'its' if counts.compared == 1 else 'their'} bytes"
-        if counts.unreadable:
-            yield f"{counts.unreadable:,} not compared: {'it was' if counts.unreadable == 1 else 'they were'} not read"
+        files = whole_files(groups.catalogue, groups.only)
+        yield f"{in_words(files.compared, 'file')} compared by all {'its' if files.compared == 1 else 'their'} bytes"
+        if files.unreadable:
+            yield f"{files.unreadable:,} not compared: {'it was' if files.unreadable == 1 else 'they were'} not read"
 
 
 def _of_absent(count: int) -> str:
@@ -218,17 +254,8 @@ def _of_absent(count: int) -> str:
     return f"{count:,} more {'is' if is_one else 'are'} not listed, because {'its' if is_one else 'their'} files are gone or have changed since they were indexed"
 
 
-def _of_coded_pictures(counts: CodedPictures) -> Iterator[str]:
-    """How many pictures were compared, and how many weren't."""
-    yield f"{pictures_in_words(counts.compared)} compared by the data that {'its' if counts.compared == 1 else 'their'} pixels are decoded from"
-    if counts.other:
-        yield f"{pictures_in_words(counts.other)} not compared: no digest is made of a picture in their format"
-    if counts.damaged:
-        yield f"{pictures_in_words(counts.damaged)} not compared: damaged"
-
-
-_NOT_FOUND = "A copy that was resized or saved again has other data, and isn't found by them"
-_ONLY_METADATA = "Only metadata was compared, and pictures with the same metadata may differ: index --pixels compares them too"
+_NOT_FOUND = "A copy that was resized or saved again has other data, and isn't found"
+_ONLY_METADATA = "Only metadata was compared, and the pictures may differ: index --pixels compares them, too"
 _ALL_THE_SAME = "the pictures are the same too: any one may stay"
 
 
@@ -247,10 +274,8 @@ def _print_lines(group: Group, number: int, keeps: Keeps, texts: _Texts) -> None
         more = f", and {others:,} that {'are' if others > 1 else 'is'} in a group with it above" if others else ""
         notes = [reason] * (len(reasons) > 1) + [about.get(picture.id, _without_advice(picture)).note]
         print_line(f"  {shown_path(picture.path)}" + (f"   ({text})" if (text := "; ".join(filter(None, notes))) else "") + more)
-        for line in listed_texts.lines(texts.labels, texts.of(picture), "      "):
-            print_line(line)
-        for link in links.get(picture.path, ()):
-            print_line(f"      not counted, {link.how}: {shown_path(link.path)}")
+        print_lines(listed_texts.lines(texts.labels, texts.of(picture), "      "))
+        print_lines(f"      not counted, {link.how}: {shown_path(link.path)}" for link in links.get(picture.path, ()))
     if len(reasons) == 1 and reasons != {""}:
         print_line(f"    all: {reasons.pop()}")
     if has_same_pictures:
@@ -258,8 +283,7 @@ def _print_lines(group: Group, number: int, keeps: Keeps, texts: _Texts) -> None
     if group.rests_on_readings:
         print_line(f"    {KEEP_ALL}")
     for what, paths in (("gone", group.files.gone), ("changed since it was indexed", group.files.changed)):
-        for path in paths:
-            print_line(f"    not counted, {what}: {shown_path(path)}")
+        print_lines(f"    not counted, {what}: {shown_path(path)}" for path in paths)
 
 
 # --csv
@@ -278,12 +302,12 @@ def _print_rows(table: Table, number: int, group: Group, keeps: Keeps, texts: _T
         table.row(*about, path, None, note)
 
 
-def _add_notes(table: Table, groups: Groups, choice: Choice) -> None:
+def _add_notes(table: Table, listed: _Listed, groups: Groups, left: _Left) -> None:
     """The labels in the table, and on standard error what isn't known or listed."""
-    for note in of_labels(choice):
+    for note in of_labels(listed.choice):
         table.row(*(None,) * 6, note)
-    for note in [of_unknown(groups.unknown)] * bool(groups.unknown) + [_of_absent(groups.absent)] * bool(groups.absent):
-        signals.say(f"exifnorm-pictures: note: {note}")
+    unknown = [of_unknown(groups.unknown)] * bool(groups.unknown)
+    say_notes(*unknown, *_of_left(listed, left), *[_of_absent(groups.absent)] * bool(groups.absent))
 
 
 def _without_advice(picture: PictureRecord) -> Keep:
@@ -308,8 +332,9 @@ def _not_counted(group: Group) -> Iterator[Tuple[bytes, str]]:
 # --json
 
 
-def _summary(listed: _Listed, groups: Groups, left: int) -> Members:
-    totals = {"groups": sum(listed.groups.values()), "pictures": sum(listed.pictures.values()), "undecided": left}
+def _summary(listed: _Listed, groups: Groups, left: _Left) -> Members:
+    totals = {"groups": sum(listed.groups.values()), "pictures": sum(listed.pictures.values()), "undecided": left.undecided}
+    totals.update(undecided_parts=left.but_for_parts, after_repair=left.after_repair)
     missing = {"small_groups": groups.small, "absent_groups": groups.absent, "maker_notes_unknown": dict(groups.unknown)}
     texts = listed.texts
     alike = {"alike": texts.alike, "alike_not_known": texts.not_known} if listed.arguments.differ else {}
@@ -333,10 +358,8 @@ def _print_group(number: int, group: Group, keeps: Keeps, texts: _Texts) -> None
     print(line_of("same", "group", known)[:-1], end=', "pictures": [')
     for at, picture in enumerate(group.members):
         more: Members = {"texts": {label: list(one) for label, one in zip(texts.labels, texts.of(picture))}} if texts.labels else {}
-        print(
-            ", " * (at > 0) + json.dumps({**_picture_members(group, picture, keeps.get(picture.id, _without_advice(picture))), **more}),
-            end="",
-        )
+        about = _picture_members(group, picture, keeps.get(picture.id, _without_advice(picture)))
+        print(", " * (at > 0) + json.dumps({**about, **more}), end="")
     print("]}")
 
 

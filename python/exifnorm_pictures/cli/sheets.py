@@ -6,7 +6,7 @@ from __future__ import annotations
 import contextlib
 import os
 import shutil
-from typing import Iterator, Sequence, Union
+from typing import Iterator, Sequence
 
 from ..files import atomic
 from ..files.session import Session
@@ -54,7 +54,9 @@ class Sheet:
             if isinstance(cell, (int, float)):
                 self._sheet.write_number(self.rows, at, cell)
             elif cell:
-                self._sheet.write_string(self.rows, at, _fitting(_shown(cell)), self._text)
+                self._sheet.write_string(
+                    self.rows, at, _fitting(safe_lines(shown_path(cell) if isinstance(cell, bytes) else cell)), self._text
+                )
         self.rows += 1
 
     def close(self) -> None:
@@ -66,11 +68,6 @@ class Sheet:
         except XlsxWriterException as error:
             cause = error.args[0] if error.args and isinstance(error.args[0], OSError) else None
             raise NoSpreadsheet(f"the spreadsheet can't be written: {reason(cause) if cause else error}") from None
-
-
-def _shown(cell: Union[str, bytes]) -> str:
-    text = shown_path(cell) if isinstance(cell, bytes) else cell
-    return safe_lines(text)
 
 
 def _fitting(text: str) -> str:

@@ -24,10 +24,6 @@ _LINES = {
 _MAKERS = ("index", "nightly")  # which make the catalogue of --catalogue, if it is missing
 
 
-class NotFirst(WrongUse):
-    """The first name is no catalogue."""
-
-
 def settle(arguments: argparse.Namespace) -> str:
     """The catalogue, which is given once; it is `catalogue` from then on."""
     given = [name for name in (arguments.source, arguments.catalogue) if name is not None]
@@ -38,22 +34,22 @@ def settle(arguments: argparse.Namespace) -> str:
 
 
 def settle_first(arguments: argparse.Namespace) -> str:
-    """The catalogue of --catalogue, or the first name; `folders` are the other names from then on. Raises `NotFirst`: a name alone is never
+    """The catalogue of --catalogue, or the first name; `folders` are the other names from then on. Raises `WrongUse`: a name alone is never
     taken for a new catalogue, because it may be that of a folder which isn't mounted."""
     names: List[str] = [*([] if arguments.source is None else [arguments.source]), *arguments.folders]
     if arguments.catalogue is None:
         if not names:
             refuse(arguments.command, f"give a catalogue: exifnorm-pictures {_line(arguments.command, names)}")
         if not is_catalogue(names[0]):
-            raise NotFirst(_why(names[0]) + f". Write: exifnorm-pictures {_line(arguments.command, names)}")
+            raise WrongUse(_why(names[0]) + f". Write: exifnorm-pictures {_line(arguments.command, names)}")
         arguments.catalogue, *names = names
     arguments.source, arguments.folders = None, names
     return str(arguments.catalogue)
 
 
 def _why(name: str) -> str:
-    what = "a folder, and" if os.path.isdir(name) else "a file, and" if os.path.lexists(name) else "not there, and"
-    return f"{escaped(name)} is {what} no catalogue, which is given by --catalogue or as the first name"
+    what = "is a folder and" if os.path.isdir(name) else "is a file and" if os.path.lexists(name) else "isn't there, so it is"
+    return f"{escaped(name)} {what} not a catalogue: give a catalogue as the first name, or by --catalogue"
 
 
 def _line(command: str, names: Sequence[str]) -> str:

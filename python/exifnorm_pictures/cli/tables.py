@@ -9,6 +9,7 @@ from __future__ import annotations
 
 import re
 import sys
+from decimal import Decimal
 from typing import TYPE_CHECKING, Optional, Sequence, Union
 
 from ..model.texts import safe_lines, shown_path
@@ -20,6 +21,7 @@ Cell = Union[str, bytes, int, float, None]
 
 # Excel and LibreOffice take these as the beginning of a formula, the wide ones in East Asian settings
 _FORMULA = re.compile(r"\A(?=[=+\-@\t\n＝＋－＠])|(?<=[;\t\n])(?=[=+\-@＝＋－＠])")
+_PLAIN = re.compile(r"(?![+\-])[\w .+\-]*", re.ASCII)  # most texts, which stay as they are
 _SPECIAL = re.compile(r'[,;\t\n"]')  # what separates cells or rows somewhere
 
 
@@ -55,7 +57,9 @@ class Table:
 
 def _quoted(value: Cell) -> str:
     """A cell as a line of a table has it: in quotes if it has what separates cells, be it commas, semicolons or tabs."""
+    if isinstance(value, str) and _PLAIN.fullmatch(value):
+        return value
     if value is None or isinstance(value, (int, float)):
-        return "" if value is None else str(value)
+        return "" if value is None else format(Decimal(str(value)), "f")  # without an exponent
     text = cell(shown_path(value) if isinstance(value, bytes) else value)
     return '"' + text.replace('"', '""') + '"' if _SPECIAL.search(text) else text

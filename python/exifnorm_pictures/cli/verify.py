@@ -8,7 +8,7 @@ import os
 import sys
 from collections import Counter
 from datetime import datetime, timezone
-from typing import BinaryIO, Callable, Dict, Iterable, Iterator, List, Optional, Sequence, Tuple, Type
+from typing import BinaryIO, Callable, Dict, Iterable, Iterator, List, Sequence, Tuple
 
 from ..catalogue import bags
 from ..catalogue.store import Catalogue, NoCatalogue
@@ -16,7 +16,7 @@ from ..comparison import verified
 from ..comparison.verified import State
 from ..files import atomic
 from ..model.errors import WrongUse
-from ..model.texts import escaped, path_members, shown_path
+from ..model.texts import escaped, in_words, path_members, shown_path
 from ..scan.batches import How
 from ..scan.hashing import looker
 from ..scan.index import IndexOptions, index
@@ -24,8 +24,7 @@ from .exit_codes import DIFFERENCE, SUCCESS, UNKNOWN
 from .looking import opened
 from .names import named
 from .objects import print_object
-from .output import closed_folder, print_line
-from .parser import refuse
+from .output import closed_folder, print_line, print_lines
 from .sources import settle_first
 
 SHOWN = 10  # files that are named of each state
@@ -40,42 +39,39 @@ LISTS = {
 }
 
 
-class NotThere(WrongUse):
-    """A folder that isn't there, as of a disk that isn't mounted: each of its files would seem to be missing."""
-
-
 def run(arguments: argparse.Namespace) -> int:
     """Compares the files that are there with a catalogue."""
     _settle(arguments)
-    if arguments.form and not arguments.evidence:
-        refuse("verify", "--form is how --evidence FILE is written, which isn't given")
     if arguments.evidence and os.path.lexists(arguments.evidence):
         raise atomic.NotReplaced(atomic.not_written(escaped(arguments.evidence), "it is there already"))
     told = Told(arguments)
     with contextlib.ExitStack() as open_:
-        before = open_.enter_context(_of_bag(arguments) if arguments.bag else opened(arguments.catalogue, arguments))
+        before = open_.enter_context(_of_bag(arguments)) if arguments.bag else open_.enter_context(opened(arguments.catalogue, arguments))
         given = bool(arguments.folders or arguments.files_from)
         folders = _folders(named(arguments, arguments.folders) if given else [], before)
-        reading = Reading(folders, arguments, before)
-        now = open_.enter_context(reading)
+        now, earlier = open_.enter_context(_read_again(folders, arguments, before))
         for file in verified.verified(before, now, folders):
             told.add(file)
         counts = told.counts
         new = verified.new_files(before, now) - counts[State.MOVED]
         size, files = next(now.rows("SELECT ifnull(sum(size), 0), count(*) FROM pictures WHERE sha256 != ''"))
-        if arguments.evidence:
+        is_nothing = not (files or told.counts or arguments.bag)
+        if arguments.evidence and not is_nothing:
             _write_evidence(arguments, now)
+    if is_nothing:
+        below = f" below {', '.join(map(shown_path, folders))}" if folders else ""
+        raise WrongUse(f"{arguments.catalogue} has no file{below}, and none is there, so nothing is verified")
     if arguments.json:
         about = {"counts": dict(counts), "damaged_before": told.old, "new": new}
-        print_object("verify", "summary", {**about, "files": files, "bytes": size, "earlier": reading.earlier})
+        print_object("verify", "summary", {**about, "files": files, "bytes": size, "earlier": earlier})
     else:
-        print_line(f"{files:,} file{'s' * (files != 1)} read again, {_size(size)}{_by_earlier(reading.earlier)}.")
-        for line in told.lines():
-            print_line(line)
+        of_earlier = f"; {earlier:,} of them by a run that was stopped" * bool(earlier)
+        print_line(f"{in_words(files, 'file')} read again, {_size(size)}{of_earlier}.")
+        print_lines(told.lines())
         if new:
             print_line(f"{new:>11,} that the {'manifest' if arguments.bag else 'catalogue'} doesn't know")
         if arguments.evidence:
-            print_line(f"{escaped(arguments.evidence)}: SHA-256 of {files:,} files, {_READERS[_form(arguments)]}")
+            print_line(f"{escaped(arguments.evidence)}: SHA-256 of {in_words(files, 'file')}, {_READERS[_form(arguments)]}")
     if any(it.is_good is None for it in counts):
         return UNKNOWN
     is_more = bool(arguments.bag and new)  # a bag has no other files than its manifest
@@ -86,71 +82,51 @@ def _settle(arguments: argparse.Namespace) -> None:
     """Makes `catalogue` the one that is given, unless a bag is."""
     if arguments.bag is None:
         settle_first(arguments)
-    elif arguments.catalogue is not None:
-        refuse("verify", "--bag is in place of a catalogue: leave one out")
     else:
         arguments.folders = [*([] if arguments.source is None else [arguments.source]), *arguments.folders]
 
 
 def _folders(names: Sequence[bytes], catalogue: Catalogue) -> List[bytes]:
-    """The folders to read. Raises `NotThere`."""
+    """The folders to read. Raises `WrongUse`."""
     folders = [os.path.abspath(it) for it in names] or catalogue.roots()
     for folder in folders:
-        if not os.path.lexists(folder):
-            raise NotThere(f"{shown_path(folder)} isn't there, so nothing is verified: is its file system mounted?")
+        if not os.path.lexists(folder):  # as of a disk that isn't mounted: each of its files would seem to be missing
+            raise WrongUse(f"{shown_path(folder)} isn't there, so nothing is verified: is its file system mounted?")
     return folders
 
 
-def _of_bag(arguments: argparse.Namespace) -> Catalogue:
+@contextlib.contextmanager
+def _of_bag(arguments: argparse.Namespace) -> Iterator[Catalogue]:
     """A catalogue of the manifest of a bag."""
-    catalogue = Catalogue(os.path.join(arguments.session.room, "manifest"), make=True)
-    try:
+    with Catalogue(os.path.join(arguments.session.room, "manifest"), make=True) as catalogue:
         bags.fill(catalogue, arguments.bag)
-    except BaseException:
-        catalogue.close()
-        raise
-    return catalogue
+        yield catalogue
 
 
-class Reading:
-    """A new catalogue of the files that are there now. With --state it is kept where a run that is stopped leaves it for the next one."""
-
-    def __init__(self, folders: Sequence[bytes], arguments: argparse.Namespace, before: Catalogue) -> None:
-        self._folders, self._arguments, self._before = folders, arguments, before
-        self._state = arguments.state
-        self.earlier = 0  # files that a run which was stopped has read
-
-    def __enter__(self) -> Catalogue:
-        """Reads the files again, each once if it is as the catalogue has it."""
-        arguments, room = self._arguments, self._arguments.session.room
-        name = os.path.join(room, "catalogue")
-        if self._state:
-            _check_state(self._state)
-            with contextlib.suppress(FileExistsError):
-                os.mkdir(self._state)
-            name = os.path.join(self._state, _KEPT)
-        catalogue = Catalogue(name, make=True)
-        try:
-            closed: List[str] = []
-            debug = arguments.session.debug
-            # sidecars are files like all others here, each with its own digest
-            how = How(arguments.jobs, False, False, True, False, arguments.limit, room, debug, closed_folder)
-            options = IndexOptions(self._folders, quiet=arguments.quiet or not sys.stderr.isatty(), how=how, print_line=closed.append)
-            options.look = looker(self._before)
-            self.earlier = index(options, catalogue)["unchanged"]
-            if closed:
-                raise NoCatalogue("; ".join(closed))
-        except BaseException:
-            catalogue.close()
-            raise
-        self.catalogue = catalogue
-        return catalogue
-
-    def __exit__(self, kind: Optional[Type[BaseException]], *_: object) -> None:
-        self.catalogue.close()
-        if self._state and kind is None:
-            os.unlink(os.path.join(self._state, _KEPT))
-            os.rmdir(self._state)
+@contextlib.contextmanager
+def _read_again(folders: Sequence[bytes], arguments: argparse.Namespace, before: Catalogue) -> Iterator[Tuple[Catalogue, int]]:
+    """A new catalogue of the files that are there now, each read once if it is as the catalogue has it; and how many a run has read which was
+    stopped. With --state that run has left its catalogue for this one."""
+    room, state = arguments.session.room, arguments.state
+    name = os.path.join(room, "catalogue")
+    if state:
+        _check_state(state)
+        with contextlib.suppress(FileExistsError):
+            os.mkdir(state)
+        name = os.path.join(state, _KEPT)
+    with Catalogue(name, make=True) as catalogue:
+        closed: List[str] = []
+        # sidecars are files like all others here, each with its own digest
+        how = How(arguments.jobs, False, False, True, False, arguments.limit, room, arguments.session.debug, closed_folder)
+        options = IndexOptions(folders, quiet=arguments.quiet or not sys.stderr.isatty(), how=how, print_line=closed.append)
+        options.look = looker(before)
+        earlier = index(options, catalogue)["unchanged"]
+        if closed:
+            raise NoCatalogue("; ".join(closed))
+        yield catalogue, earlier
+    if state:
+        os.unlink(name)
+        os.rmdir(state)
 
 
 _KEPT = "verified.catalogue"
@@ -205,7 +181,7 @@ class Told:
                 yield f"{self.counts[state]:>11,} {state.text}"
                 yield from _first(self._names.get(state, []))
         if self.old:
-            yield f"{self.old:>11,} of these {'was' if self.old == 1 else 'were'} damaged before, and not since then"
+            yield f"{self.old:>11,} of these {'was' if self.old == 1 else 'were'} already damaged before"
             yield from _first(self._old_names)
 
 
@@ -230,10 +206,6 @@ def _words(result: verified.Verified) -> List[str]:
         return [result.note] * bool(result.note)
     place = shown_path(result.place)
     return [f"to {place}", *[result.note] * bool(result.note)] if result.state == State.MOVED else [f"{result.note} {place}"]
-
-
-def _by_earlier(count: int) -> str:
-    return f"; {count:,} of them by a run that was stopped" if count else ""
 
 
 def _size(octets: int) -> str:

@@ -18,7 +18,7 @@ from ..fields.plain_names import group_name, group_of
 from ..files.session import Session
 from ..judge.sides import Sides
 from ..model import steps
-from ..model.budgets import WAITING_BYTES
+from ..model.budgets import COMPARED_FIELDS, WAITING_BYTES
 from ..model.found import EXIF, NAMES, OWN, PROGRAMS, cut
 from ..model.problems import Problem
 from ..model.records import BlockRecord, PictureRecord, is_same_file
@@ -50,6 +50,11 @@ class Compared:
     left_out: List[str] = field(default_factory=list)  # fields and kinds that differ and don't count
     picture: Coded = Coded.UNKNOWN  # what is known of the coded picture
     damage: Tuple[str, str] = ("", "")  # of the file before and after
+    has_more: bool = False  # whether further fields weren't compared, of pages that share blocks of many fields
+
+    def judge_exif(self, result: Result, in_place_of: Sequence[Result]) -> None:
+        """Sets the result of Exif, if it is one of some others."""
+        self.verdicts = [Verdict(EXIF, result) if it.kind == EXIF and it.result in in_place_of else it for it in self.verdicts]
 
 
 def changed(
@@ -69,10 +74,9 @@ def changed(
     """
     with contextlib.closing(Pairs(before, after, only)) as pairs:
         there = 0
+        differing = (compared(pair, pairs, session, choice) for pair in pairs.differing(every))
         came = (Compared(name, Result.MISSING_BEFORE) for name in pairs.came())
-        for comparison in heapq.merge(
-            (compared(pair, pairs, session, choice) for pair in pairs.differing(every)), came, key=lambda one: one.name
-        ):
+        for comparison in heapq.merge(differing, came, key=lambda one: one.name):
             there += comparison.result != Result.MISSING_BEFORE
             counts[comparison.result] += 1
             choice.add_left_out(comparison.left_out)
@@ -86,20 +90,20 @@ def changed(
 def compared(pair: Pair, pairs: Sides, session: Optional[Session], choice: Choice = EVERYTHING) -> Compared:
     """Compares one picture before and after. Its coded picture counts, unless only some fields do; that a file is damaged is always said."""
     comparison = _compared(pair, pairs, session, choice)
-    coded_picture = result_of_coded(pair.old, pair.new)
-    comparison.picture = coded_picture.result
+    coded, note = result_of_coded(pair.old, pair.new)
+    comparison.picture = coded
     comparison.damage = (pair.old.damage if pair.old else "", pair.new.damage if pair.new else "")
-    if pair.place is not None or (choice.only and not coded_picture.result.is_damaged):
+    if pair.place is not None or (choice.only and not coded.is_damaged):
         return comparison
-    if coded_picture.result in _DAMAGED and not choice.only:
-        comparison.result = Result.DAMAGED_DIFFERENT if comparison.result.has_changed else _DAMAGED[coded_picture.result]
-    elif coded_picture.result == Coded.OTHER and not comparison.result.has_changed:
+    if coded in _DAMAGED and not choice.only:
+        comparison.result = Result.DAMAGED_DIFFERENT if comparison.result.has_changed else _DAMAGED[coded]
+    elif coded == Coded.OTHER and not comparison.result.has_changed:
         comparison.result = Result.OTHER_PICTURE_ALONE if comparison.result.is_equal else Result.OTHER_PICTURE
-    elif coded_picture.result == Coded.OTHER:
-        comparison.note += "; the picture is another one, too"
-    elif coded_picture.result == Coded.BESIDE:
-        comparison.note += "; another colour profile or comment, or it is gone"
-    comparison.note = "; ".join(filter(None, [coded_picture.note, comparison.note]))
+    elif coded == Coded.OTHER:
+        comparison.note += "; the picture differs, too"
+    elif coded == Coded.BESIDE:
+        comparison.note += "; a colour profile or a comment differs or is missing"
+    comparison.note = "; ".join(filter(None, [note, comparison.note]))
     return comparison
 
 
@@ -114,11 +118,8 @@ def _compared(pair: Pair, pairs: Sides, session: Optional[Session], choice: Choi
         return Compared(name, Result.MISSING_AFTER) if place is None else Compared(name, Result.MOVED, moved_to=place)
     if old.problem or new.problem:
         comparison = _unread(name, old, new)
-        return (
-            Compared(name, Result.SAME_FILE, comparison.note)
-            if comparison.result.is_open and place is None and is_same_file(old, new)
-            else comparison
-        )
+        is_as_before = comparison.result.is_open and place is None and is_same_file(old, new)
+        return Compared(name, Result.SAME_FILE, comparison.note) if is_as_before else comparison
     sides = old.sides(), new.sides()
     by_kind, parts, missing = verdicts(*sides), [], Missing()  # type: List[Verdict], List[str], Missing
     is_alike = old.not_read is not None and old.not_read == new.not_read
@@ -215,11 +216,8 @@ def _moved_note(comparison: Compared, lines: List[FieldDifference], parts: List[
     """A MakerNote that has moved, and of which all values are as before. Returns the parts that stay open."""
     comparison.note += "; MakerNote moved, reads the same (ExifTool)"
     comparison.changes = [change for change in comparison.changes if change not in lines]
-    if not any(change.directory in _OF_EXIF for change in comparison.changes):
-        comparison.verdicts = [
-            Verdict(EXIF, Result.MOVED_NOTE) if verdict.kind == EXIF and verdict.result in _MAY_HAVE_MOVED else verdict
-            for verdict in comparison.verdicts
-        ]
+    if not comparison.has_more and not any(change.directory in _OF_EXIF for change in comparison.changes):
+        comparison.judge_exif(Result.MOVED_NOTE, _MAY_HAVE_MOVED)
     comparison.result = result_of(comparison.verdicts, parts)
     return parts
 
@@ -241,16 +239,13 @@ def _in_doubt(
 def _read_otherwise(comparison: Compared, lines: List[FieldDifference], moved: bool) -> None:
     """One change for all values of MakerNotes that ExifTool reads otherwise."""
     count = len(comparison.maker_note or [])
-    note = f"{'has moved, and ' if moved else ''}now reads otherwise: {count} value{'s' * (count > 1)}"
+    note = f"{'has moved, and ' if moved else ''}now reads differently: {count} value{'s' * (count > 1)}"
     change = lines[0] if lines else FieldDifference(*MAKER_NOTE, (), ())
     at = comparison.changes.index(change) if lines else len(comparison.changes)
     comparison.changes[at : at + bool(lines)] = [change._replace(note=note)]
     if not any(verdict.result in (Result.DIFFERENT, Result.DIFFERENT_REPAIRED) for verdict in comparison.verdicts):
         comparison.result = Result.DIFFERENT
-    comparison.verdicts = [
-        Verdict(EXIF, Result.DIFFERENT) if verdict.kind == EXIF and verdict.result in _WITHOUT_DIFFERENCE else verdict
-        for verdict in comparison.verdicts
-    ]
+    comparison.judge_exif(Result.DIFFERENT, _WITHOUT_DIFFERENCE)
     comparison.note += f"; MakerNote {note} (ExifTool)"
 
 
@@ -276,8 +271,7 @@ def _add_details(
     comparison: Compared, blocks: List[Sequence[BlockRecord]], pairs: Sides, parts: List[str], choice: Choice, missing: Missing
 ) -> None:
     """Adds the fields that differ, and the causes of refusals."""
-    left = _Left(choice)
-    only_notes = True
+    left, every_pair, only_notes = _Left(choice), _EveryPair(pairs), True
     out = [one.kind for one in comparison.verdicts if one.result in (Result.LEFT_OUT, Result.NOT_KNOWN)]
     first, second = ({(block.kind, block.name): block for block in side if block.kind not in out} for side in blocks)
     for key in dict.fromkeys([*first, *second]):
@@ -288,10 +282,9 @@ def _add_details(
             comparison.note += _repairs_of(comparison, key[1], old, new)
             if old and new and old.digest == new.digest and (old.digest or old.octets == new.octets):
                 continue
-            fields = pairs.fields(BEFORE, old), pairs.fields(AFTER, new)
             block = "" if key[1] == NAMES[key[0]] else key[1]
             is_equal = bool(old and new and old.meaning and old.meaning == new.meaning)
-            every, lost = _known(differences(*fields, block), old, new)
+            every, lost = _known(every_pair.differences(block, old, new), old, new)
             comparison.note += lost
             kept = missing.without(key[0], every, is_equal, old, new)
             changes = left.without(key[0], kept, is_equal or len(kept) < len(every))
@@ -300,18 +293,46 @@ def _add_details(
             comparison.changes += changes if old and new else [change._replace(part=key[1]) for change in changes]
         if not any(block and block.repair for block in (old, new)):
             comparison.note += _report_of(key[1], old, new)
+    if every_pair.is_full:
+        comparison.has_more = True
+        comparison.note += f"; after {COMPARED_FIELDS:,} fields no further ones were compared"
     left.settle(comparison, parts)
     settled = missing.settled(comparison.verdicts)
     if settled != comparison.verdicts:
         comparison.verdicts, comparison.result = settled, result_of(settled, parts)
-    if (
-        comparison.result == Result.DIFFERENT
-        and only_notes
-        and [one.kind for one in comparison.verdicts if one.result == Result.DIFFERENT] == [EXIF]
-    ):
+    if comparison.has_more or comparison.result != Result.DIFFERENT:
+        return
+    if only_notes and [one.kind for one in comparison.verdicts if one.result == Result.DIFFERENT] == [EXIF]:
         comparison.result = Result.ONLY_MAKER_NOTE
-    elif comparison.result == Result.DIFFERENT and comparison.changes and all(change.is_equal_number for change in comparison.changes):
+    elif comparison.changes and all(change.is_equal_number for change in comparison.changes):
         comparison.result = Result.ONLY_NUMBERS
+
+
+class _EveryPair:
+    """The fields that differ in each pair of blocks, compared once of pairs that are equal: pages of a TIFF can share a block of many fields."""
+
+    def __init__(self, pairs: Sides) -> None:
+        self._pairs, self._left = pairs, COMPARED_FIELDS
+        self._known: Dict[Tuple[object, ...], List[FieldDifference]] = {}
+
+    @property
+    def is_full(self) -> bool:
+        """Whether so many fields were compared that no further ones are."""
+        return self._left < 0
+
+    def differences(self, name: str, old: Optional[BlockRecord], new: Optional[BlockRecord]) -> List[FieldDifference]:
+        """The fields that differ, with the name of a block that isn't the first one of its kind; none if too many were compared."""
+        key = tuple(block and (block.kind, block.octets, id(block.fresh)) for block in (old, new))  # a catalogue may not have all fields
+        known = self._known.get(key)
+        if known is None and not self.is_full:
+            fields = self._pairs.fields(BEFORE, old), self._pairs.fields(AFTER, new)
+            self._left -= sum(map(len, fields))
+            known = self._known[key] = differences(*fields) if not self.is_full else []
+        elif known:
+            self._left -= 2 * len(known)
+        if self.is_full or not known:
+            return []
+        return [difference._replace(block=name) for difference in known] if name else known
 
 
 def _known(differences: List[FieldDifference], old: Optional[BlockRecord], new: Optional[BlockRecord]) -> Tuple[List[FieldDifference], str]:
@@ -341,10 +362,13 @@ class _Left:
 
     def without(self, kind: str, differences: List[FieldDifference], is_equal: bool) -> List[FieldDifference]:
         """The differences of a block that count. If there is none at all, and the blocks aren't equal, something else differs."""
-        kept = [it for it in differences if self.choice.counts(it.directory, it.tag, it.block)]
-        if len(kept) < len(differences):
-            self.by_fields.add(kind)
-            self.names.update({it.name: None for it in differences if not self.choice.counts(it.directory, it.tag, it.block)})
+        kept = []
+        for difference in differences:
+            if self.choice.counts(difference.directory, difference.tag, difference.block):
+                kept.append(difference)
+            else:
+                self.by_fields.add(kind)
+                self.names[difference.name] = None
         counted = [it for it in kept if not (self.choice.equal_numbers and it.is_equal_number)]
         if len(counted) < len(kept):
             self.by_numbers.add(kind)
@@ -358,9 +382,8 @@ class _Left:
         words = {**dict.fromkeys(self.by_numbers, Result.SAME_NUMBERS), **dict.fromkeys(self.by_fields, Result.SAME_BUT)}
         for at, verdict in enumerate(comparison.verdicts):
             if verdict.kind in words and verdict.kind not in self.rest and verdict.result in (Result.DIFFERENT, Result.DIFFERENT_REPAIRED):
-                comparison.verdicts[at] = Verdict(
-                    verdict.kind, words[verdict.kind] if verdict.result == Result.DIFFERENT else Result.SAME_REPAIRED
-                )
+                result = words[verdict.kind] if verdict.result == Result.DIFFERENT else Result.SAME_REPAIRED
+                comparison.verdicts[at] = Verdict(verdict.kind, result)
         if words:
             comparison.result = result_of(comparison.verdicts, parts)
 
@@ -380,10 +403,7 @@ def _leave_out_kinds(comparison: Compared, picture: PictureRecord, other: Pictur
         has_moved = bool(picture.maker_notes and other.maker_notes) and picture.maker_notes != other.maker_notes
         if has_moved or len(left) < len(parts):
             comparison.left_out.append(group_name(*MAKER_NOTE))
-            comparison.verdicts = [
-                Verdict(EXIF, Result.SAME_BUT) if (verdict.kind, verdict.result) == (EXIF, Result.SAME) else verdict
-                for verdict in comparison.verdicts
-            ]
+            comparison.judge_exif(Result.SAME_BUT, (Result.SAME,))
         parts = left
     comparison.result = result_of(comparison.verdicts, parts)
     return parts
@@ -403,7 +423,7 @@ def _repairs_of(comparison: Compared, name: str, old: Optional[BlockRecord], new
     else:
         text = "; " + "; ".join(f"{name} {word}: {text}" for word, text in zip(("before", "after"), texts))
     lost = list(dict.fromkeys(steps.loses(first) + steps.loses(second)))
-    return text + (f" (the repair loses {' and '.join(lost)}, so nothing is called the same by it)" if lost else "")
+    return text + (f" (the repair loses {' and '.join(lost)}, so it can't show that they are the same)" if lost else "")
 
 
 def _repair_of(block: Optional[BlockRecord]) -> str:

@@ -3,7 +3,7 @@
 from __future__ import annotations
 
 from collections import Counter
-from typing import NamedTuple, Optional
+from typing import Optional, Tuple
 
 from ..model.found import CUT
 from ..model.records import PictureRecord
@@ -39,40 +39,38 @@ SQL = f"""CASE WHEN new.damage != '' AND old.damage = '' THEN '{Coded.DAMAGED}' 
     WHEN old.sha256 != '' AND old.sha256 = new.sha256 THEN '{Coded.SAME}' ELSE '{Coded.UNKNOWN}' END"""
 
 
-class CodedResult(NamedTuple):
-    """What is known of the coded pictures."""
-
-    result: Coded = Coded.UNKNOWN
-    note: str = ""
-
-
-def coded_result(picture: Optional[PictureRecord], other: Optional[PictureRecord]) -> CodedResult:
-    """Whether two files have the same coded picture. One that is damaged is no other picture than a whole one, and isn't the same either."""
+def coded_result(picture: Optional[PictureRecord], other: Optional[PictureRecord]) -> Tuple[Coded, str]:
+    """Whether two files have the same coded picture, and a note. One that is damaged is no other picture than a whole one, and isn't the same either."""
     if picture is None or other is None:
-        return CodedResult()
+        return Coded.UNKNOWN, ""
     if other.damage and picture.damage:
         both = dict.fromkeys([picture.damage, other.damage])
-        return CodedResult(Coded.DAMAGED_BOTH, f"{Coded.DAMAGED_BOTH}: {', and then '.join(both)}")
+        return Coded.DAMAGED_BOTH, f"{Coded.DAMAGED_BOTH}: {', and then '.join(both)}"
     if other.damage:
         # the end of a file is looked for at each look, and other damage only by --pixels
         is_known = bool(picture.coded_picture) or other.coded_picture is None or other.damage.startswith(CUT)
-        return CodedResult(Coded.DAMAGED, other.damage + ("" if is_known else ", and whether it was so before isn't known"))
+        return Coded.DAMAGED, other.damage + ("" if is_known else ", and whether it was so before isn't known")
     if picture.damage:
-        return CodedResult(Coded.DAMAGED_BEFORE, f"{Coded.DAMAGED_BEFORE}: {picture.damage}")
+        return Coded.DAMAGED_BEFORE, f"{Coded.DAMAGED_BEFORE}: {picture.damage}"
     if picture.type != other.type:  # the data of two formats can't be equal, even if the pictures are
-        return CodedResult()
+        return Coded.UNKNOWN, ""
     if picture.coded_picture and other.coded_picture:
         same = Coded.SAME if picture.beside == other.beside else Coded.BESIDE
-        return CodedResult(same if picture.coded_picture == other.coded_picture else Coded.OTHER)
-    return CodedResult(Coded.SAME if picture.sha256 and picture.sha256 == other.sha256 else Coded.UNKNOWN)
+        return (same if picture.coded_picture == other.coded_picture else Coded.OTHER), ""
+    return (Coded.SAME if picture.sha256 and picture.sha256 == other.sha256 else Coded.UNKNOWN), ""
 
 
 def sentence_of_coded(counts: "Counter[Coded]", pixels: str = "index --pixels") -> str:
-    """What was compared of some pictures, in a sentence; nothing without any."""
+    """What was compared of some pictures, in a sentence; nothing without any. `pixels` compares the pictures; empty if that was asked already.
+
+    >>> sentence_of_coded(Counter({Coded.UNKNOWN: 1}))
+    'Only metadata was compared: index --pixels compares the pictures, too.'
+    """
     if not sum(counts.values()):
         return ""
     if not counts[Coded.SAME] + counts[Coded.BESIDE] + counts[Coded.OTHER]:
         damaged = ", ".join(f"{count:,} {it}" for it, count in counts.items() if it != Coded.UNKNOWN and count)
-        only = f"Only metadata was compared: {pixels} compares the pictures, too." if counts[Coded.UNKNOWN] else ""
+        more = f"{pixels} compares the pictures, too" if pixels else "pictures of two formats, or without a reader here, aren't compared"
+        only = f"Only metadata was compared: {more}." if counts[Coded.UNKNOWN] else ""
         return " ".join(filter(None, [f"The files: {damaged}." if damaged else "", only]))
     return f"The coded pictures: {', '.join(f'{counts[it]:,} {it}' for it in Coded if counts[it])}."

@@ -8,7 +8,8 @@ from collections import Counter
 from datetime import datetime
 from typing import Dict, Iterator, List, NamedTuple, Optional, Sequence, Tuple
 
-from ..fields.labels import DATE, LABELS, Label, LabelText
+from ..fields.labels import DATE, LABELS, POSITION, Caption, Label
+from ..fields.places import Located, is_same_place, metres_apart
 from ..model.found import EXIF, IPTC, NAMES, STANDARDS, XMP
 from ..model.words import Word
 
@@ -30,27 +31,14 @@ class ConflictKind(Word):
 
 _ORDER = tuple(ConflictKind)
 # Character sets that are tried on bytes outside ASCII. One is taken only if it gives exactly the text of another standard.
-_CHARACTER_SETS = {
-    "utf-8": "UTF-8",
-    "cp1252": "Windows-1252",
-    "mac_roman": "Mac Roman",
-    "cp437": "DOS 437",
-    "cp850": "DOS 850",
-    "cp1250": "Windows-1250",
-    "iso8859_2": "Latin-2",
-    "mac_latin2": "Mac Central European",
-    "cp1251": "Windows-1251",
-    "koi8_r": "KOI8-R",
-    "cp1253": "Windows-1253",
-    "cp1254": "Windows-1254",
-    "cp1257": "Windows-1257",
-    "iso8859_15": "Latin-9",
-    "shift_jis": "Shift JIS",
-    "euc_jp": "EUC-JP",
-    "gb18030": "GB 18030",
-    "big5": "Big5",
-    "euc_kr": "EUC-KR",
-}
+_CHARACTER_SETS = dict(
+    row.split(" ", 1)
+    for row in (
+        "utf-8 UTF-8; cp1252 Windows-1252; mac_roman Mac Roman; cp437 DOS 437; cp850 DOS 850; cp1250 Windows-1250; iso8859_2 Latin-2;"
+        " mac_latin2 Mac Central European; cp1251 Windows-1251; koi8_r KOI8-R; cp1253 Windows-1253; cp1254 Windows-1254; cp1257 Windows-1257;"
+        " iso8859_15 Latin-9; shift_jis Shift JIS; euc_jp EUC-JP; gb18030 GB 18030; big5 Big5; euc_kr EUC-KR"
+    ).split("; ")
+)
 _CLEAREST = (NAMES[XMP], NAMES[IPTC], NAMES[EXIF])  # the order in which two texts are compared: that which is least often cut first
 
 
@@ -60,7 +48,7 @@ class Conflict(NamedTuple):
     label: str
     kind: ConflictKind
     detail: str
-    texts: Tuple[LabelText, ...]
+    texts: Tuple[Caption, ...]
     worse: Tuple[str, ...] = ()  # the fields whose text is cut or in a wrong character set
 
     @property
@@ -74,27 +62,44 @@ class Conflict(NamedTuple):
         return self.kind == ConflictKind.DIFFERENT
 
 
+Positions = Tuple[Optional[Located], Optional[Located]]  # of Exif and of XMP
+
+
 class _How(NamedTuple):
     kind: ConflictKind
     detail: str = ""
     worse: str = ""  # a field
 
 
-def conflicts(texts: Sequence[LabelText]) -> List[Conflict]:
-    """The labels with texts in two standards at least."""
-    by_label: Dict[str, List[LabelText]] = {}
+def conflicts(texts: Sequence[Caption], positions: Positions = (None, None)) -> List[Conflict]:
+    """The labels with texts in two standards at least, and the position if Exif and XMP have one."""
+    by_label: Dict[str, List[Caption]] = {}
     for text in texts:
         if not text.block and not text.is_extra:
             by_label.setdefault(text.label, []).append(text)
-    result = []
-    for label in LABELS:
-        ours = by_label.get(label.word, [])
-        if len({it.standard for it in ours}) > 1 and any(not it.is_empty for it in ours):
-            result.append(_conflict(label, ours))
-    return result
+    several = {word: ours for word, ours in by_label.items() if len(ours) > 1 and len({it.standard for it in ours}) > 1}
+    of_position = list(_of_positions(*positions))
+    if not several:
+        return of_position
+    due = [(label, several[label.word]) for label in LABELS if label.word in several]
+    return [*(_conflict(label, ours) for label, ours in due if not all(it.is_empty for it in ours)), *of_position]
 
 
-def _conflict(label: Label, ours: Sequence[LabelText]) -> Conflict:
+def _of_positions(exif: Optional[Located], xmp: Optional[Located]) -> Iterator[Conflict]:
+    """The positions of Exif and XMP: they differ if they are further apart than the last place in which the less exact one is written."""
+    if exif is None or xmp is None:
+        return
+    both = ((NAMES[EXIF], "GPS", exif.place.text), (NAMES[XMP], "XMP-exif", xmp.place.text))
+    texts = tuple(Caption(POSITION, standard, f"{group}:GPSLatitude and GPSLongitude", (text,)) for standard, group, text in both)
+    if is_same_place(exif, xmp):
+        yield Conflict(POSITION, ConflictKind.ALIKE, "", texts)
+        return
+    metres = metres_apart(exif.place, xmp.place)
+    way = f"{metres / 1000:,.0f} km" if metres >= 10_000 else f"{metres:,.0f} m" if metres >= 10 else f"{metres:.1f} m"
+    yield Conflict(POSITION, ConflictKind.DIFFERENT, f"{way} apart", texts)
+
+
+def _conflict(label: Label, ours: Sequence[Caption]) -> Conflict:
     hows = [_How(ConflictKind.EMPTY, f"{it.field} is empty") for it in ours if it.is_empty]
     hows += [_How(ConflictKind.CAMERA, f"{it.field} has a camera's own text") for it in ours if it.is_own]
     texts = [it for it in ours if not it.is_empty and not it.is_own]
@@ -107,25 +112,26 @@ def _conflict(label: Label, ours: Sequence[LabelText]) -> Conflict:
     return Conflict(label.word, kind, "; ".join(details), tuple(shown), worse)
 
 
-def chosen(texts: Sequence[LabelText], known: Sequence[Conflict]) -> Optional[LabelText]:
+def chosen(texts: Sequence[Caption], known: Sequence[Conflict]) -> Optional[Caption]:
     """The texts of a label where there is space for one field, which aren't a camera's: those that are whole, on which two standards agree, and
     the first in their order. Those of further blocks, such as of a second page, are taken where the first ones have none."""
     worse = {field for it in known for field in it.worse}
     candidates = [it for it in texts if not it.is_empty and not it.is_own]
     agreeing = Counter(text for text, _ in {(_plain(it.line), it.standard) for it in candidates if not it.is_extra and not it.block})
+    candidates = [it for it in candidates if not it.block] or candidates
     candidates.sort(
-        key=lambda it: (bool(it.block), it.is_extra, it.field in worse, agreeing[_plain(it.line)] < 2, STANDARDS.index(it.standard))
+        key=lambda it: (it.is_extra, it.field in worse, bool(agreeing) and agreeing[_plain(it.line)] < 2, STANDARDS.index(it.standard))
     )
     return candidates[0] if candidates else None
 
 
-def best(texts: Sequence[LabelText], known: Sequence[Conflict]) -> str:
+def best(texts: Sequence[Caption], known: Sequence[Conflict]) -> str:
     """These texts in a line."""
     text = chosen(texts, known)
     return text.line if text else ""
 
 
-def own_texts(texts: Sequence[LabelText]) -> List[str]:
+def own_texts(texts: Sequence[Caption]) -> List[str]:
     """The texts that a camera or a program writes by itself, each once."""
     return list(dict.fromkeys(it.line for it in texts if it.is_own))
 
@@ -135,8 +141,8 @@ def _plain(text: str) -> str:
     return " ".join(unicodedata.normalize("NFC", text).split())
 
 
-def _pair(label: Label, text: LabelText, other: LabelText) -> _How:
-    first, second = ([_plain(it) for it in texts.texts if _plain(it)] for texts in (text, other))
+def _pair(label: Label, text: Caption, other: Caption) -> _How:
+    first, second = (list(filter(None, map(_plain, texts.texts))) for texts in (text, other))
     if first == second:
         return _How(ConflictKind.ALIKE)
     if label.word == DATE:
@@ -149,7 +155,7 @@ def _pair(label: Label, text: LabelText, other: LabelText) -> _How:
     return max(each, key=lambda it: _ORDER.index(it.kind))
 
 
-def _lists(first: List[str], second: List[str], text: LabelText, other: LabelText) -> Optional[_How]:
+def _lists(first: List[str], second: List[str], text: Caption, other: Caption) -> Optional[_How]:
     """How two lists differ as wholes; None if only their texts can tell."""
     if sorted(first) == sorted(second):
         return _How(ConflictKind.ORDER, "another order")
@@ -168,7 +174,7 @@ def _parts(texts: Sequence[str]) -> List[str]:
     return [part.strip() for text in texts for part in text.replace(",", ";").split(";") if part.strip()]
 
 
-def _texts_differ(label: Label, pair: Tuple[str, str], whose: Tuple[LabelText, LabelText], at: int) -> _How:
+def _texts_differ(label: Label, pair: Tuple[str, str], whose: Tuple[Caption, Caption], at: int) -> _How:
     if pair[0] == pair[1]:
         return _How(ConflictKind.ALIKE)
     for side in (0, 1):
@@ -177,7 +183,7 @@ def _texts_differ(label: Label, pair: Tuple[str, str], whose: Tuple[LabelText, L
     return _How(ConflictKind.DIFFERENT)
 
 
-def _explained(label: Label, text: str, against: str, label_text: LabelText, at: int) -> Iterator[_How]:
+def _explained(label: Label, text: str, against: str, label_text: Caption, at: int) -> Iterator[_How]:
     """Why a text isn't the other one, although that was meant."""
     octets = label_text.octets[at] if len(label_text.octets) > at else b""
     for name, word in _CHARACTER_SETS.items() if not octets.isascii() else ():

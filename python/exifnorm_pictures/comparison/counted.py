@@ -3,7 +3,8 @@
 from __future__ import annotations
 
 import hashlib
-from typing import Any, Iterator, List, NamedTuple, Optional, Sequence, Tuple
+from itertools import islice
+from typing import Any, Iterator, NamedTuple, Optional, Sequence, Tuple
 
 from ..catalogue.store import Catalogue
 from ..fields.choosing import Choice
@@ -41,12 +42,10 @@ def make_table(catalogue: Catalogue, choice: Choice, table: str) -> None:
         return
     with catalogue.guarded():
         catalogue.base.execute(f"CREATE TEMP TABLE remaining (id INTEGER PRIMARY KEY, exif, iptc, xmp, repaired, other, {_SUMS})")
-    waiting: List[Tuple[object, ...]] = []
-    for row in _rows(catalogue, choice):
-        waiting.append(row)
-        if len(waiting) == _BATCH:
-            _write(catalogue, waiting)
-    _write(catalogue, waiting)
+    rows = _rows(catalogue, choice)
+    while batch := list(islice(rows, _BATCH)):
+        with catalogue.guarded():
+            catalogue.base.executemany(f"INSERT INTO temp.remaining VALUES (?{', ?' * 9})", batch)
     with catalogue.guarded():
         catalogue.base.execute(f"CREATE TABLE {table} AS SELECT {_columns(choice)}, {_MORE} FROM {_JOINED}")
         catalogue.base.execute("CREATE UNIQUE INDEX temp.counted_by_id ON counted (id)")
@@ -70,12 +69,6 @@ def _columns(choice: Choice) -> str:
     if choice.leaves_out_maker_notes:
         columns.update(maker_notes="''", not_read="other_not_read")
     return ", ".join(f"{columns.get(it, f'pictures.{it}')} AS {it}" for it in PICTURES.names)
-
-
-def _write(catalogue: Catalogue, rows: List[Tuple[object, ...]]) -> None:
-    with catalogue.guarded():
-        catalogue.base.executemany(f"INSERT INTO temp.remaining VALUES (?{', ?' * 9})", rows)
-    rows.clear()
 
 
 def _rows(catalogue: Catalogue, choice: Choice) -> Iterator[Tuple[object, ...]]:
@@ -126,24 +119,21 @@ def _sum(rows: Sequence[Tuple[object, ...]]) -> str:
     return hashlib.sha256(repr(rows).encode("utf-8", "surrogatepass")).hexdigest()
 
 
+def _together(named: Sequence[Tuple[str, Optional[str]]]) -> Optional[str]:
+    """The digest of some blocks; empty if none has fields that count, and None if one isn't accepted."""
+    if any(digest is None for _, digest in named):
+        return None
+    there = [(name, digest) for name, digest in named if digest]
+    return joined(there) if there else ""
+
+
 def _row(blocks: Sequence[_Counted], choice: Choice) -> Tuple[object, ...]:
     """The digest of each kind, of Exif after repairs, of all that the picture means, and of all its fields."""
-    digests: List[Optional[str]] = []
-    for kind in KINDS:
-        ours = [it for it in blocks if it.kind == kind and kind in choice.kinds and it.digest != ""]
-        digests.append(
-            None if any(it.digest is None for it in ours) else joined([(it.name, it.digest or "") for it in ours]) if ours else ""
-        )
+    counting = [it for it in blocks if it.kind in choice.kinds]
+    digests = [_together([(it.name, it.digest) for it in counting if it.kind == kind]) for kind in KINDS]
     exif = [(it.name, it.repaired if it.digest is None else it.digest) for it in blocks if it.kind == EXIF]
-    is_repaired = digests[0] is None and all(digest is not None for _, digest in exif)
-    repaired = (
-        joined([(name, digest or "") for name, digest in exif if digest != ""]) if is_repaired and any(it for _, it in exif) else None
-    )
+    repaired = _together(exif) or None if digests[0] is None else None
     others = [(it.name, it.other) for it in blocks if it.kind == EXIF and it.other != ""]
-    sums = (joined([(f"{it.kind} {it.name}", text) for it, text in zip(blocks, some)]) for some in _whole(blocks))
+    wholes = zip(*((it.meaning, it.listing, it.other_meaning, it.other_listing) for it in blocks))
+    sums = (joined([(f"{it.kind} {it.name}", text) for it, text in zip(blocks, some)]) for some in wholes)
     return (*digests, repaired, joined(others) if others else "", *sums)
-
-
-def _whole(blocks: Sequence[_Counted]) -> Tuple[List[str], ...]:
-    wholes = [it.meaning for it in blocks], [it.listing for it in blocks]
-    return (*wholes, [it.other_meaning for it in blocks], [it.other_listing for it in blocks])

@@ -7,7 +7,6 @@ from typing import Any, Dict, List, NamedTuple, Optional, Sequence, Tuple
 
 from ..fields.field import Field
 from ..fields.listing import LONGEST_BYTES, OCTETS, counted_type, digest_of, order_of, shortened
-from ..fields.names import full_name
 from ..fields.plain_names import group_name, group_of
 from ..model.xmp_values import Long
 
@@ -26,13 +25,8 @@ class FieldDifference(NamedTuple):
     note: str = ""  # what is printed in place of the values
 
     @property
-    def change_name(self) -> str:
-        """The name in JSON."""
-        return (f"{self.block}: " if self.block else "") + full_name(self.directory, self.tag)
-
-    @property
     def name(self) -> str:
-        """The name for people: `IFD0:Artist`."""
+        """The name that is printed: `IFD0:Artist`."""
         return group_name(self.directory, self.tag) + (f" ({self.block})" if self.block else "")
 
     @property
@@ -43,9 +37,8 @@ class FieldDifference(NamedTuple):
     @property
     def is_equal_number(self) -> bool:
         """Whether both have equal numbers, or the same bytes with another type."""
-        return bool(self.before and self.after and not self.note) and [equal_form(it) for it in self.before] == [
-            equal_form(field) for field in self.after
-        ]
+        has_both = bool(self.before and self.after and not self.note)
+        return has_both and list(map(equal_form, self.before)) == list(map(equal_form, self.after))
 
 
 def exact_side(fields: Sequence[Field]) -> Optional[str]:

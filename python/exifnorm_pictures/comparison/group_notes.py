@@ -54,7 +54,8 @@ def by_maker_notes(group: Group, readings: Readings) -> Iterator[Group]:
     for pictures in parts.values():
         part = _part_of(group, pictures)
         if not part.has_other_notes and len({it.not_read for it in pictures}) == 1:
-            part.files.pictures = [it for it in pictures if not _is_repaired(it)]  # they are in a group that rests on their repair
+            # those whose meaning is known after a repair are in a group that rests on it
+            part.files.pictures = [it for it in pictures if it.exif is not None or None in (it.iptc, it.xmp)]
         yield part
 
 
@@ -74,8 +75,3 @@ def _written(pictures: Iterable[PictureRecord]) -> Dict[_Note, PictureRecord]:
 def _note_of(picture: PictureRecord) -> _Note:
     """What can make a MakerNote read differently: where it is, and the bytes of the blocks."""
     return (picture.maker_notes, picture.exif_octets) if picture.maker_notes else ("", "")
-
-
-def _is_repaired(picture: PictureRecord) -> bool:
-    """Whether the meaning of a picture is known after a repair."""
-    return picture.exif is None and None not in (picture.iptc, picture.xmp)

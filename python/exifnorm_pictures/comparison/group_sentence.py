@@ -12,7 +12,7 @@ from .group import Basis, Group
 
 
 def sentence_of(group: Group) -> str:
-    """What is the same, such as `Exif and IPTC are the same in the same bytes, no XMP`."""
+    """What is the same, such as `Exif and IPTC are the same byte for byte, no XMP`."""
     if group.basis == Basis.CODED_PICTURE:
         return f"the coded picture is the same; {_of_metadata(group.members)}"
     if group.basis == Basis.FILE:
@@ -38,7 +38,7 @@ def _of_kinds(group: Group) -> str:
     refused = [it for it in shared.kinds if any(picture.meanings[KINDS.index(it)] is None for picture in group.members)]
     there = [it for it in shared.kinds if by_kind[it] != "" and it not in refused]
     names = {it: NAMES[it] + " but for the MakerNote" * (it == EXIF and group.has_other_notes) for it in shared.kinds}
-    parts = [f"{with_verb([names[it] for it in there])} the same" + " in the same bytes" * group.same_bytes] if there else []
+    parts = [f"{with_verb([names[it] for it in there])} the same" + " byte for byte" * group.same_bytes] if there else []
     for kind in refused:
         word = Result.UNREADABLE if kind == XMP else Result.REFUSED
         is_by_bytes = group.basis == Basis.BYTES or kind != EXIF

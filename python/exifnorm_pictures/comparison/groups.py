@@ -15,7 +15,7 @@ from ..fields.choosing import EVERYTHING, Choice, UnknownField
 from ..fields.block_fields import known_fields
 from ..files.session import Session
 from ..model import steps
-from ..model.found import EXIF, KINDS, NAMES, each_kind
+from ..model.found import BROKEN, EXIF, IPTC, KINDS, NAMES, REST, WITHOUT_IPTC, each_kind
 from ..model.problems import NOT_THERE
 from ..model.records import PictureRecord, picture_of_row
 from ..model.results import Result
@@ -25,6 +25,7 @@ from .group_notes import by_maker_notes, by_reading
 from .readings import Readings, Unknown
 
 COUNTED = "temp.counted"  # the pictures without the fields that don't count
+_UNREAD = f"problem NOT IN {(*NOT_THERE, 'NoPicture')}"  # a file that may be a picture, and of which nothing was read
 
 
 class _Query(NamedTuple):
@@ -47,7 +48,7 @@ def _queries(kinds: Sequence[str], only: Optional[str]) -> Iterator[_Query]:
     octets = tuple(f"ifnull({it}, 'bytes ' || {it}_octets)" for it in columns)
     yield _Query(Basis.BYTES, (*octets, "not_read", *place), f"{base} AND NOT ({known}){chosen}")
     if len(kinds) == len(KINDS):
-        unread = f"((problem IS NULL AND not_read IS NULL) OR problem NOT IN {(*NOT_THERE, 'NoPicture')})"
+        unread = f"((problem IS NULL AND not_read IS NULL) OR {_UNREAD})"
         yield _Query(Basis.BYTES, ("file",), f"file != '' AND {unread}{chosen}")
     if EXIF in kinds:
         several = "count(*) > 1 AND count(DISTINCT ifnull(exif, exif_repaired) || ' ' || maker_notes || ' ' || not_read) > 1"
@@ -101,7 +102,7 @@ class Groups:
 
     def by_file(self) -> Iterator[Group]:
         """The groups of files with the same bytes, the largest first."""
-        return self._groups(_Query(Basis.FILE, ("sha256",), _whole("!= ''", self.only)), KINDS, "pictures")
+        return self._groups(_Query(Basis.FILE, ("sha256",), _whole("!= ''") + _among(self.only)), KINDS, "pictures")
 
     def _groups(self, query: _Query, kinds: Tuple[str, ...], table: str) -> Iterator[Group]:
         """The groups that SQLite finds in a table, by the files that are there."""
@@ -149,11 +150,8 @@ def _table(catalogue: Catalogue, choice: Choice) -> str:
     return COUNTED
 
 
-_INDEXED = (
-    (Basis.MEANING, "exif"),
-    (Basis.MAKER_NOTE, "other_exif"),
-    (Basis.CODED_PICTURE, "coded_picture"),
-)  # bases, and the first column of their index
+# Bases, and the first column of their index
+_INDEXED = ((Basis.MEANING, "exif"), (Basis.MAKER_NOTE, "other_exif"), (Basis.CODED_PICTURE, "coded_picture"))
 
 
 def _numbers_of_a_group(catalogue: Catalogue, query: _Query, table: str) -> str:
@@ -165,7 +163,7 @@ def _numbers_of_a_group(catalogue: Catalogue, query: _Query, table: str) -> str:
     columns = [f"key{number}" for number in range(len(query.key))]
     definitions = ", ".join(f"{expression} AS {column}" for expression, column in zip(query.key, columns))
     with catalogue.guarded():
-        number = next(catalogue.rows("SELECT count(*) FROM sqlite_temp_master"))[0]
+        number = catalogue.number_of("SELECT count(*) FROM sqlite_temp_master")
         catalogue.base.execute(f"CREATE TEMP TABLE keys{number} AS SELECT id, {definitions} FROM {table} WHERE {query.where}")
         catalogue.base.execute(f"CREATE INDEX temp.by_key{number} ON keys{number} ({', '.join(columns)})")
     return f"SELECT id FROM temp.keys{number} WHERE {' AND '.join(f'{column} = ?' for column in columns)}"
@@ -245,16 +243,31 @@ class CodedPictures(NamedTuple):
     other: int
     damaged: int
     not_requested: int
+    unread: int
+
+    @property
+    def undecided(self) -> int:
+        """How many may show what another one shows."""
+        return self.other + self.damaged + self.unread
 
 
 def coded_pictures(catalogue: Catalogue, only: Optional[str] = None) -> CodedPictures:
-    """The pictures of a catalogue by what is known of their coded pictures."""
-    conditions = ("!= ''", "= '' AND damage = ''", "= '' AND damage != ''", "IS NULL")
-    return CodedPictures(*(int(next(catalogue.rows(f"SELECT count(*) FROM pictures WHERE {_coded(it, only)}"))[0]) for it in conditions))
+    """The pictures of a catalogue by what is known of their coded pictures. A file of XMP shows nothing."""
+    conditions = ("!= ''", "= '' AND damage = '' AND type IS NOT 'XMP'", "= '' AND damage != ''", "IS NULL")
+    compared, other, damaged, not_requested = (_number_of(catalogue, f"problem IS NULL AND coded_picture {it}", only) for it in conditions)
+    return CodedPictures(compared, other, damaged, not_requested, _number_of(catalogue, _UNREAD, only))
 
 
 def _coded(words: str, only: Optional[str]) -> str:
-    return f"problem IS NULL AND coded_picture {words}" + (f" AND path IN {only}" if only else "")
+    return f"problem IS NULL AND coded_picture {words}" + _among(only)
+
+
+def _among(only: Optional[str]) -> str:
+    return f" AND path IN {only}" if only else ""
+
+
+def _number_of(catalogue: Catalogue, where: str, only: Optional[str]) -> int:
+    return catalogue.number_of(f"SELECT count(*) FROM pictures WHERE {where}{_among(only)}")
 
 
 class WholeFiles(NamedTuple):
@@ -268,25 +281,55 @@ class WholeFiles(NamedTuple):
 def whole_files(catalogue: Catalogue, only: Optional[str] = None) -> WholeFiles:
     """The files of a catalogue by what is known of their bytes."""
     words = ("!= ''", "IS NOT NULL AND sha256 = '' OR (sha256 IS NULL AND problem IS NOT NULL)", "IS NULL AND problem IS NULL")
-    return WholeFiles(*(int(next(catalogue.rows(f"SELECT count(*) FROM pictures WHERE {_whole(it, only)}"))[0]) for it in words))
+    return WholeFiles(*(_number_of(catalogue, _whole(it), only) for it in words))
 
 
-def _whole(words: str, only: Optional[str]) -> str:
-    return f"ifnull(problem, '') NOT IN {NOT_THERE} AND (sha256 {words})" + (f" AND path IN {only}" if only else "")
+def _whole(words: str) -> str:
+    return f"ifnull(problem, '') NOT IN {NOT_THERE} AND (sha256 {words})"
 
 
 def totals(catalogue: Catalogue, kinds: Sequence[str] = KINDS, only: Optional[str] = None, choice: Choice = EVERYTHING) -> Tuple[int, int]:
-    """The number of groups, and of pictures in them, by the catalogue alone: no file is looked at, and a link counts as a picture."""
+    """The number of groups by meaning, and of files in them, by the catalogue alone: no file is looked at."""
     query = next(_queries([it for it in kinds if it in choice.kinds], only))
-    inner = f"SELECT count(*) AS n FROM {_table(catalogue, choice)} WHERE {query.where} GROUP BY {', '.join(query.key)} HAVING n > 1"
+    file = "CASE WHEN inode > 0 THEN inode || ' ' || device || ' ' || size || ' ' || modified ELSE id END"  # which further names have, too
+    of_files = f"SELECT count(DISTINCT {file}) AS n FROM {_table(catalogue, choice)} WHERE {query.where}"
+    inner = f"{of_files} GROUP BY {', '.join(query.key)} HAVING n > 1"
     counts = next(catalogue.rows(f"SELECT count(*), ifnull(sum(n), 0) FROM ({inner})"))
     return int(counts[0]), int(counts[1])
 
 
 def left_out(catalogue: Catalogue, kinds: Sequence[str] = KINDS, only: Optional[str] = None) -> int:
-    """How many pictures with a block can't be in a group by their meaning, because a block is refused or a part was neither read nor compared."""
-    columns = list(kinds)
-    where = f"problem IS NULL AND (not_read IS NULL OR {' OR '.join(f'{it} IS NULL' for it in columns)})"
-    where += f" AND path IN {only}" if only else ""
-    rows: List[Tuple[int, ...]] = list(catalogue.rows(f"SELECT count(*) FROM pictures WHERE {where}"))
-    return rows[0][0]
+    """How many pictures may mean the same as others, and nobody knows, because a block is refused, and not read after a repair without loss, a
+    block may be lost in a damaged file, a part was neither read nor compared, or nothing of the file was read."""
+    return _number_of(catalogue, f"((problem IS NULL AND {_is_open(kinds)}) OR {_UNREAD})", only)
+
+
+def after_repair(catalogue: Catalogue, kinds: Sequence[str] = KINDS, only: Optional[str] = None) -> int:
+    """How many pictures with a refused block are compared by what it means after a repair without loss."""
+    return _number_of(catalogue, f"problem IS NULL AND exif IS NULL AND NOT {_is_open(kinds)}", only) if EXIF in kinds else 0
+
+
+def _is_open(kinds: Sequence[str]) -> str:
+    """What makes it unknown what a picture means."""
+    unknown = (f"({it} IS NULL AND exif_repaired IS NULL)" if it == EXIF else f"{it} IS NULL" for it in kinds)
+    return f"(not_read IS NULL OR {' OR '.join(unknown)} OR ({_may_be_lost(kinds)}))"
+
+
+def _may_be_lost(kinds: Sequence[str]) -> str:
+    """Whether a file is damaged, and what is left of it has no block of a kind that it can have had."""
+    lost = " OR ".join(f"{it}_octets = ''" + f" AND type NOT IN {WITHOUT_IPTC}" * (it == IPTC) for it in kinds)
+    damaged = f"SELECT picture FROM not_read WHERE instr(what, '{REST}') = 1 OR instr(what, '({BROKEN}')"  # as `damage` has it
+    return f"not_read != '' AND ({lost}) AND id IN ({damaged})"
+
+
+def but_for_parts(catalogue: Catalogue, kinds: Sequence[str] = KINDS, only: Optional[str] = None, choice: Choice = EVERYTHING) -> int:
+    """How many pictures have a part that was not read, and blocks that mean the same as those of another one, which has no such part or one
+    with other bytes: nobody knows whether they are the same. MakerNotes, and what only they can reach, are compared elsewhere."""
+    counted = [it for it in kinds if it in choice.kinds]
+    queries = {query.basis: query for query in _queries(counted, only)}
+    where = queries.get(Basis.REPAIR, queries[Basis.MEANING]).where
+    exif = "CASE WHEN maker_notes != '' AND exif IS NOT NULL THEN other_exif ELSE ifnull(exif, exif_repaired) END"
+    key = ", ".join(exif if it == EXIF else it for it in counted)
+    several = "HAVING count(DISTINCT other_not_read) > 1"
+    inner = f"SELECT sum(other_not_read != '') AS n FROM {_table(catalogue, choice)} WHERE {where} GROUP BY {key} {several}"
+    return catalogue.number_of(f"SELECT ifnull(sum(n), 0) FROM ({inner})")

@@ -8,12 +8,13 @@ from dataclasses import dataclass, field
 from typing import Dict, Iterator, List, NamedTuple, Optional, Set, Tuple
 
 from ..catalogue.label_texts import rows_of
-from ..catalogue.store import PICTURE_COLUMNS, Catalogue
+from ..catalogue.store import Catalogue
 from ..fields.labels import POSITION, fields_by_label
 from ..files.session import Session
 from ..model.problems import NOT_READABLE, Problem
-from ..model.records import PictureRecord, picture_of_row
+from ..model.records import PictureRecord
 from ..model.results import Result
+from ..model.texts import shown_path
 from ..model.words import Word
 from ..scan.moved import moved_together
 from .absent import Absent
@@ -65,17 +66,18 @@ class News:
     about: str = ""
     count: int = 0
     names: List[Named] = field(default_factory=list)  # the first ones
+    to: str = ""  # the new place of a folder
 
 
 class Tally:
     """All news."""
 
     def __init__(self) -> None:
-        self._news: Dict[Tuple[Kind, str], News] = {}
+        self._news: Dict[Tuple[Kind, str, str], News] = {}
 
-    def add(self, kind: Kind, name: bytes, about: str = "", to: Optional[bytes] = None, count: int = 1) -> None:
+    def add(self, kind: Kind, name: bytes, about: str = "", to: Optional[bytes] = None, count: int = 1, folder_to: str = "") -> None:
         """Counts a picture, or some of a folder."""
-        news = self._news.setdefault((kind, about), News(kind, about))
+        news = self._news.setdefault((kind, about, folder_to), News(kind, about, to=folder_to))
         news.count += count
         if len(news.names) < SHOWN:
             news.names.append(Named(name, to))
@@ -83,7 +85,7 @@ class Tally:
     def all(self) -> List[News]:
         """The news, the first kind first, and of each kind what is about the most pictures."""
         order = {kind: number for number, kind in enumerate(Kind)}
-        return sorted(self._news.values(), key=lambda it: (order[it.kind], -it.count, it.about))
+        return sorted(self._news.values(), key=lambda it: (order[it.kind], -it.count, it.about, it.to))
 
 
 class Between:
@@ -118,8 +120,7 @@ class Between:
         return os.path.join(self._roots[side], name)
 
     def _picture(self, side: int, name: bytes) -> PictureRecord:
-        query = f"SELECT {PICTURE_COLUMNS} FROM pictures WHERE path = ?"
-        return next(self._sides[side].rows(query, (self._full(side, name),), picture_of_row), PictureRecord())
+        return self._sides[side].picture(self._full(side, name)) or PictureRecord()
 
     def _texts(self, side: int, name: bytes) -> Dict[str, Set[str]]:
         """The texts of a picture by label, also its position, serial numbers and owner."""
@@ -215,15 +216,14 @@ class Between:
     def _settle(self) -> None:
         together = moved_together(self.moves)
         for (old, new), paths in together.items():
-            about = f"{os.fsdecode(old)} {os.fsdecode(new)}"
-            self.tally.add(Kind.MOVED_FOLDER, self.shown(old, 0), about, self.shown(new), len(paths))
+            self.tally.add(Kind.MOVED_FOLDER, self.shown(old, 0), shown_path(old), self.shown(new), len(paths), shown_path(new))
         in_folders = {path for paths in together.values() for path in paths}
         for old, new in self.moves.items():
             if old not in in_folders:
                 self.tally.add(Kind.MOVED, self.shown(old, 0), "", self.shown(new))
         for folder in self.absent.settled():
             if folder.is_held:
-                self.tally.add(Kind.ABSENT, self.shown(folder.path, 0), os.fsdecode(folder.path), count=folder.count)
+                self.tally.add(Kind.ABSENT, self.shown(folder.path, 0), shown_path(folder.path), count=folder.count)
                 self.with_news -= folder.count
             else:
                 for name in folder.names:

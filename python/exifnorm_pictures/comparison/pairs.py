@@ -9,16 +9,7 @@ import sqlite3
 from collections import Counter
 from typing import Any, Callable, Iterator, List, NamedTuple, Optional, Sequence, Set, Tuple, TypeVar
 
-from ..catalogue.store import (
-    BLOCK_COLUMNS,
-    PICTURE_COLUMNS,
-    Catalogue,
-    NoCatalogue,
-    address,
-    check_schema,
-    connect,
-    unlike,
-)
+from ..catalogue.store import BLOCK_COLUMNS, PICTURE_COLUMNS, Catalogue, NoCatalogue, address, check_schema, connect, unlike
 from ..fields.field import Field
 from ..fields.block_fields import fields_of, with_kept_fields
 from ..files import signals
@@ -37,7 +28,8 @@ _TABLES = """
 CREATE TABLE alone_before (id INTEGER PRIMARY KEY);
 CREATE TABLE alone_after (id INTEGER PRIMARY KEY);
 CREATE TABLE moved (old INTEGER PRIMARY KEY, new INTEGER UNIQUE, is_edited INTEGER NOT NULL);
-CREATE TABLE chosen (name BLOB PRIMARY KEY) WITHOUT ROWID;
+CREATE TABLE chosen_before (path BLOB PRIMARY KEY) WITHOUT ROWID;
+CREATE TABLE chosen_after (path BLOB PRIMARY KEY) WITHOUT ROWID;
 PRAGMA main.journal_mode = OFF;
 PRAGMA main.synchronous = OFF;
 """
@@ -60,7 +52,11 @@ _LIKELY = (f"{_CONTENT}, last(path)", _CONTENT)
 _ROUNDS = (*(it for key in _KEYS for it in (f"{key}, last(path)", key)), *_LIKELY)
 _IS_ALONE = """NOT EXISTS (SELECT 1 FROM {base}.pictures AS other WHERE other.exif IS pictures.exif AND other.iptc IS pictures.iptc
     AND other.xmp IS pictures.xmp AND other.not_read IS pictures.not_read AND other.problem IS NULL AND other.id != pictures.id)"""
-_CODED = ("coded_picture, last(path)", "coded_picture")  # then of pictures that were edited too, if they have only one new name
+# Then of pictures that were edited, too: the only one with its name, or one whose coded picture no other picture of its catalogue has. So what
+# is new isn't taken for a picture that is gone if it may be a copy of one that stays.
+_CODED = ("coded_picture, last(path)", "coded_picture")
+_HAS_NO_COPY = """NOT EXISTS (SELECT 1 FROM {base}.pictures AS other WHERE other.coded_picture = pictures.coded_picture
+    AND other.coded_picture != '' AND other.problem IS NULL AND other.id != pictures.id)"""
 _HAS_KEY = " AND ".join([*(f"typeof({it}) = 'integer'" for it in ("size", "modified", "inode")), "typeof(path) = 'blob'"])
 
 Made = TypeVar("Made")
@@ -116,7 +112,9 @@ class Pairs:
         self.base.create_function("content", 5, _content, deterministic=True)
         self.base.execute("BEGIN")
         self.has_chosen = only is not None
-        self.base.executemany("INSERT INTO chosen VALUES (?)", ((it,) for it in only or ()))
+        for side in (BEFORE, AFTER):
+            paths = {path for name in only or () for path in self._paths_of(side, name)}
+            self.base.executemany(f"INSERT INTO chosen_{_BASES[side]} VALUES (?)", ((path,) for path in paths))
 
     @contextlib.contextmanager
     def _guarded(self) -> Iterator[None]:
@@ -142,9 +140,12 @@ class Pairs:
     def _is_chosen(self, side: int) -> str:
         if not self.has_chosen:
             return "TRUE"
-        path = f"{_ALIASES[side]}.path"
-        names = (path, f"substr({path}, {len(self.heads[side]) + 1})", self._other_path(side))
-        return "(" + " OR ".join(f"{it} IN main.chosen" for it in names) + ")"
+        return f"{_ALIASES[side]}.path IN main.chosen_{_BASES[side]}"
+
+    def _paths_of(self, side: int, name: bytes) -> Set[bytes]:
+        """The paths that a chosen name may stand for on a side: itself, the one below the folder, and that of a path of the other side."""
+        mine, other = self.heads[side], self.heads[1 - side]
+        return {name, mine + name, *[mine + name[len(other) :]] * name.startswith(other)}
 
     def _named(self, side: int, path: object) -> bytes:
         """The name by which a picture is paired."""
@@ -154,18 +155,24 @@ class Pairs:
         return path[len(head) :] if path.startswith(head) else path
 
     def _pair(self) -> None:
-        """Finds the pictures that only one side has, and which of them are one that moved."""
-        for side in (BEFORE, AFTER):
-            mine, other = _ALIASES[side], _ALIASES[1 - side]
-            on = f"{other}.path = {self._other_path(side)} AND {_is_there(other)}"
-            paired = f"SELECT 1 FROM {_BASES[1 - side]}.pictures AS {other} WHERE {on}"
-            self.base.execute(
-                f"INSERT INTO alone_{_BASES[side]} SELECT {mine}.id FROM {_BASES[side]}.pictures AS {mine}"
-                f" WHERE {_is_there(mine)} AND NOT EXISTS ({paired})"
-            )
+        """Finds the pictures that only one side has, and which of them are one that moved. If all that are chosen are on both sides, nobody asks
+        for others."""
+        alone = [self._query_alone(side) for side in (BEFORE, AFTER)]
+        chosen = [f"{query} AND {self._is_chosen(side)} LIMIT 1" for side, query in enumerate(alone)]
+        if self.has_chosen and not any(self.base.execute(query).fetchone() for query in chosen):
+            return
+        for base, query in zip(_BASES, alone):
+            self.base.execute(f"INSERT INTO alone_{base} {query}")
         for key in (*_ROUNDS, *_CODED):
             left = self._alone(BEFORE, key), self._alone(AFTER, key)
             self.base.executemany(f"INSERT INTO moved VALUES (?, ?, {int(key in _CODED)})", _equal(*left, key not in _CODED))
+
+    def _query_alone(self, side: int) -> str:
+        """A query for the numbers of the pictures that only this side has."""
+        mine, other = _ALIASES[side], _ALIASES[1 - side]
+        on = f"{other}.path = {self._other_path(side)} AND {_is_there(other)}"
+        paired = f"SELECT 1 FROM {_BASES[1 - side]}.pictures AS {other} WHERE {on}"
+        return f"SELECT {mine}.id FROM {_BASES[side]}.pictures AS {mine} WHERE {_is_there(mine)} AND NOT EXISTS ({paired})"
 
     def _alone(self, side: int, key: str) -> Iterator[Tuple[object, ...]]:
         """The number, the digests and the key of each picture that isn't paired yet, by key and path. SQLite has sorted them before the first
@@ -185,6 +192,8 @@ class Pairs:
             query += " AND sha256 != ''"
         if key in _LIKELY:
             query += f" AND {_IS_ALONE.format(base=_BASES[side])}"
+        if key == _CODED[-1]:
+            query += f" AND {_HAS_NO_COPY.format(base=_BASES[side])}"
         return self.base.execute(f"{query} ORDER BY {key}, path")
 
     # The results
@@ -217,6 +226,13 @@ class Pairs:
             " AND id NOT IN (SELECT new FROM moved) ORDER BY path"
         )
         yield from self._rows(query, lambda row: self._named(AFTER, row[0]))
+
+    def has_others(self) -> bool:
+        """Whether pictures are only there afterwards, chosen or not, and aren't known to be moved ones."""
+        query = (
+            "SELECT 1 FROM alone_after JOIN after.pictures USING (id) WHERE problem IS NULL AND id NOT IN (SELECT new FROM moved) LIMIT 1"
+        )
+        return next(self._rows(query, bool), False)
 
     def count(self) -> int:
         """How many pictures were there before."""

@@ -10,8 +10,10 @@ from typing import Dict, FrozenSet, List, Sequence, Set, Tuple
 from ..fields.choosing import EVERYTHING, Choice
 from ..fields.field import Field
 from ..fields.listing import exact
+from ..model.results import Result
 from .changed import Compared
 from .differing import NUMBERS, FieldDifference
+from .moved_folders import MovedFolders
 from .wording import What, cut, what
 
 VALUES = 50  # values of a field that are counted one by one
@@ -53,7 +55,7 @@ class FieldCount:
     @property
     def is_labelled(self) -> bool:
         """Whether it has a label of `captions`."""
-        return _is_labelled(self.name)
+        return self.name in _labelled()
 
     @property
     def most(self) -> int:
@@ -112,6 +114,7 @@ class Summary:
         self._has_parts = not choice.only
         self.parts: Dict[Tuple[str, str], PartCount] = {}
         self.pictures: Dict[str, List[Tuple[bytes, bytes]]] = {}  # the first ones of each result, and where they are now
+        self.moved = MovedFolders()  # of pictures in which nothing else is other
         self.equal_numbers: Set[str] = set()  # fields with equal numbers that are written otherwise
         self.equal_example = ""
         self.equal_pictures = 0
@@ -121,9 +124,7 @@ class Summary:
 
     def add(self, comparison: Compared) -> None:
         """Counts a picture that was compared."""
-        names = self.pictures.setdefault(comparison.result, [])
-        if len(names) < MOST_NAMES:
-            names.append((comparison.name, comparison.moved_to or b""))
+        self._add_name(comparison)
         equal = [one for one in comparison.changes if one.is_equal_number]
         self.equal_pictures += bool(equal)
         for change in equal:
@@ -131,8 +132,19 @@ class Summary:
         for part in {(one.sign, one.part) for one in comparison.changes if one.part and self._has_parts}:
             self._add_part(*part, [one for one in comparison.changes if (one.sign, one.part) == part])
         for change in comparison.changes:
-            if not change.is_equal_number and not (change.part and self._has_parts and not _is_labelled(change.name)):
+            if not change.is_equal_number and not (change.part and self._has_parts and change.name not in _labelled()):
                 self._add_field(self._fields, change)
+
+    def _add_name(self, comparison: Compared) -> None:
+        """Keeps the name of a picture, if it is one of the first; of those that moved with their folder that of the first one."""
+        name, place = comparison.name, comparison.moved_to or b""
+        names = self.pictures.setdefault(comparison.result, [])
+        is_further = False
+        if comparison.result == Result.MOVED:
+            is_further = self.moved.count(name, place) > 0
+            self.moved.add(name, place)
+        if len(names) < MOST_NAMES and not is_further:
+            names.append((name, place))
 
     def _add_equal(self, difference: FieldDifference) -> None:
         self.equal_example = self.equal_example or " -> ".join(map(_number, (difference.before[0], difference.after[0])))
@@ -148,12 +160,12 @@ class Summary:
         for change in changes:
             if len(part.names) < FIELDS:
                 part.names.add(cut(change.name, LONGEST_NAME))
-            if sign == "+" and not _is_labelled(change.name):
+            if sign == "+" and change.name not in _labelled():
                 self._add_field(part.fields, change)
 
     def _add_field(self, counted: Dict[str, FieldCount], difference: FieldDifference) -> None:
         name = cut(difference.name, LONGEST_NAME)
-        if name not in counted and self._count >= FIELDS and not _is_labelled(name):
+        if name not in counted and self._count >= FIELDS and name not in _labelled():
             self.has_more = True
             return
         self._count += name not in counted
@@ -178,10 +190,6 @@ def _labelled() -> FrozenSet[str]:
     from ..fields.labels import fields_by_label  # which loads the library
 
     return frozenset(name for fields in fields_by_label().values() for name in fields)
-
-
-def _is_labelled(name: str) -> bool:
-    return name in _labelled()
 
 
 def _number(field: Field) -> str:

@@ -3,6 +3,7 @@
 from __future__ import annotations
 
 from collections import Counter
+from itertools import chain
 from typing import Callable, Iterator, List, NamedTuple, Optional, Sequence
 
 from ..model.results import Result
@@ -74,12 +75,13 @@ def parts_of(summary: Summary, most: int) -> List[Line]:
 
 def _part(part: PartCount) -> str:
     count = len(part.names)
-    many = f"{count:,}{' or more' * (count == FIELDS)} different field{'s' * (count != 1)}"
+    each = " different" * (part.pictures > 1 and count > 1)  # of which a picture may have fewer
+    many = f"{count:,}{' or more' * (count == FIELDS)}{each} field{'s' * (count != 1)}"
     return f"{part.name} {'removed' if part.sign == '-' else 'added'} ({many})"
 
 
 def _at_most(count: int) -> str:
-    return " at most each" if count > 1 else " each"
+    return " each at most" if count > 1 else " each"
 
 
 def fields_of(summary: Summary, fits: Optional[Fits]) -> List[Line]:
@@ -139,10 +141,8 @@ def _further(left: Sequence[FieldCount]) -> List[Line]:
 
 def _group_line(group: str, fields: Sequence[FieldCount]) -> Line:
     words = []
-    for word, of_kind in (
-        ("changed or added", [it for it in fields if it.has_value]),
-        ("removed", [it for it in fields if not it.has_value]),
-    ):
+    for word, has_value in (("changed or added", True), ("removed", False)):
+        of_kind = [it for it in fields if bool(it.has_value) == has_value]
         if of_kind:
             names = ", ".join(it.name.partition(":")[2] or it.name for it in of_kind[:2])
             words.append(f"{len(of_kind):,} {word} ({cut(names)}{' ..' if len(of_kind) > 2 else ''})")
@@ -161,20 +161,37 @@ def equal_numbers(summary: Summary) -> List[Line]:
 
 
 def results_of(summary: Summary, counts: "Counter[Result]") -> Iterator[str]:
-    """How many pictures have each result, and the first of them."""
+    """How many pictures have each result, and the first of them; of folders that moved one name for all pictures in it."""
     for result in Result:
         if counts[result]:
             names = [] if result in (Result.SAME, Result.SAME_FILE, Result.NO_PICTURE_SAME) else _names(summary, result)
-            more = " .." if names and counts[result] > len(names) else ""
-            yield f"{counts[result]:,} {result}{': ' * bool(names)}{', '.join(names)}{more}"
+            more = " .." if names and counts[result] > sum(name.pictures for name in names) else ""
+            yield f"{counts[result]:,} {result}{': ' * bool(names)}{', '.join(name.text for name in names)}{more}"
 
 
-def _names(summary: Summary, result: str) -> List[str]:
+class _Name(NamedTuple):
+    text: str
+    pictures: int = 1
+
+
+def _names(summary: Summary, result: str) -> List[_Name]:
     """The first pictures with a result, as many as a line has room for."""
-    names: List[str] = []
-    for path, place in summary.pictures.get(result, ()):
-        name = shown_path(path) + (f" to {shown_path(place)}" if place else "")
-        if names and sum(map(len, names)) + len(name) > LONGEST_NAMES:
+    names: List[_Name] = []
+    for name in chain(_folders(summary) if result == Result.MOVED else (), _pictures(summary, result)):
+        if names and sum(len(it.text) for it in names) + len(name.text) > LONGEST_NAMES:
             break
         names.append(name)
     return names
+
+
+def _folders(summary: Summary) -> Iterator[_Name]:
+    for folder in summary.moved.lines():
+        old, new = (shown_path(it) or "." for it in (folder.old, folder.new))
+        yield _Name(f"{old} to {new} ({pictures_in_words(folder.pictures)})", folder.pictures)
+
+
+def _pictures(summary: Summary, result: str) -> Iterator[_Name]:
+    """The first pictures, without those that moved with their folder."""
+    for path, place in summary.pictures.get(result, ()):
+        if not (result == Result.MOVED and summary.moved.count(path, place) > 1):
+            yield _Name(shown_path(path) + (f" to {shown_path(place)}" if place else ""))

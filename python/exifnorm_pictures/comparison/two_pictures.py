@@ -14,9 +14,9 @@ from ..fields.field import Field
 from ..fields.listing import MAKER_NOTE
 from ..fields.plain_names import group_name
 from ..fields.plain_values import POSITION_TAGS, position
+from ..fields.shown import LIMITS, Shown
 from ..files.session import Session
 from ..judge.sides import Fresh
-from ..model.budgets import SHOWN_FIELDS
 from ..model.found import EXIF, IPTC, KINDS, NAMES
 from ..model.problems import Problem
 from ..model.records import PictureRecord, Stamp
@@ -28,7 +28,7 @@ from . import proved
 from .changed import Compared, compared
 from .differing import FieldDifference, exact_side
 from .pairs import Pair
-from .wording import told_apart
+from .wording import plain_sides
 
 
 Heads = Tuple[Optional[bytes], Optional[bytes]]
@@ -42,11 +42,7 @@ class FieldRow(NamedTuple):
     exact: Tuple[Optional[str], Optional[str]]
     differences: Tuple[FieldDifference, ...] = ()
     note: str = ""  # in place of the values
-
-    @property
-    def is_equal_number(self) -> bool:
-        """Whether the field differs only in the form of its number."""
-        return len(self.differences) == 1 and self.differences[0].is_equal_number and not self.note
+    is_equal_number: bool = False  # whether the field differs only in the form of its number
 
 
 @dataclass
@@ -118,16 +114,23 @@ def _proved(comparison: Compared, heads: Heads) -> Optional[Result]:
 
 def rows_of(comparison: ComparedPair, each: bool) -> List[FieldRow]:
     """A row for each change; those of equal numbers at the end, and then, with `each`, one for each value of a MakerNote that ExifTool reads
-    otherwise. After as many as `show` shows there is `MORE`."""
+    otherwise. After as much as `show` shows there is `MORE`."""
     if comparison.is_identical:
         return []
-    rows = list(map(_row, comparison.compared.changes[:SHOWN_FIELDS]))
+    changes, shown = comparison.compared.changes, Shown()
+    rows: List[FieldRow] = []
+    for change in changes:
+        if shown.is_full:
+            break
+        rows.append(_row(change))
+        shown.add_fields((*change.before, *change.after), sum(len(text or "") for text in (*rows[-1].plain, *rows[-1].exact)))
+    more = [MORE] * (len(rows) < len(changes) or comparison.compared.has_more)
     rows.sort(key=lambda row: (row.is_equal_number, _place(row)))
     rows += _note_rows(comparison.compared) if each else []
-    return rows + [MORE] * (len(comparison.compared.changes) > SHOWN_FIELDS)
+    return rows + more
 
 
-MORE = FieldRow("further fields", (None, None), (None, None), note=f"more than {SHOWN_FIELDS:,} fields differ, and these are not shown")
+MORE = FieldRow("further fields", (None, None), (None, None), note=f"not shown, after {LIMITS}")
 
 
 def _note_rows(comparison: Compared) -> List[FieldRow]:
@@ -143,29 +146,21 @@ def _place(row: FieldRow) -> int:
 
 
 def _row(difference: FieldDifference) -> FieldRow:
-    both = [exact_side(side) for side in (difference.before, difference.after)]
-    values = (
-        both if difference.note else ["; ".join(it.text for it in side) if side else None for side in (difference.before, difference.after)]
-    )
-    if values[0] == values[1]:  # what people see is equal, and what is there isn't
-        values = both
-    elif not difference.note:
-        values = list(told_apart(values[0], values[1]))
-    return FieldRow(difference.name, (values[0], values[1]), (both[0], both[1]), (difference,), difference.note)
+    exact = exact_side(difference.before), exact_side(difference.after)
+    plain = exact if difference.note else plain_sides(difference)
+    return FieldRow(difference.name, plain, exact, (difference,), difference.note, difference.is_equal_number)
 
 
 def with_position(rows: List[FieldRow], picture: PictureRecord, other: PictureRecord) -> List[FieldRow]:
     """The rows with the four fields of a position as one, in degrees, if both positions are known."""
-    ours = [
-        row
-        for row in rows
-        if row.differences
-        and row.differences[0].directory == "gps"
-        and row.differences[0].tag in POSITION_TAGS
-        and not row.differences[0].block
-    ]
-    places = [_position(it) for it in (picture, other)]
-    if not ours or places[0] == places[1] or any(place is None and has for place, has in zip(places, map(_has_position, (picture, other)))):
+    ours = [row for row in rows if any(it.directory == "gps" and it.tag in POSITION_TAGS and not it.block for it in row.differences[:1])]
+    fields = [_gps(it) for it in (picture, other)]
+    places = [position(it) for it in fields]
+    if (
+        not ours
+        or places[0] == places[1]
+        or any(not place and any(tag in it for tag in POSITION_TAGS) for place, it in zip(places, fields))
+    ):
         return rows
     exact = [None if place is None else "; ".join(f"{it.name} {it.exact[side]}" for it in ours) for side, place in enumerate(places)]
     every = tuple(one for it in ours for one in it.differences)
@@ -176,11 +171,3 @@ def with_position(rows: List[FieldRow], picture: PictureRecord, other: PictureRe
 
 def _gps(picture: PictureRecord) -> Dict[str, Field]:
     return {one.tag: one for block in picture.blocks if block.name == NAMES[KINDS[0]] for one in fields_of(block) if one.directory == "gps"}
-
-
-def _has_position(picture: PictureRecord) -> bool:
-    return any(key in POSITION_TAGS for key in _gps(picture))
-
-
-def _position(picture: PictureRecord) -> Optional[str]:
-    return position(_gps(picture))

@@ -8,10 +8,10 @@ from __future__ import annotations
 import os
 from typing import Iterator, List, NamedTuple, Optional, Sequence, Tuple
 
-from ..catalogue.store import PICTURE_COLUMNS, Catalogue
+from ..catalogue.store import Catalogue
 from ..model.columns import Damaged
 from ..model.problems import NOT_THERE, TEXTS
-from ..model.records import BlockRecord, PictureRecord, Stamp, has, picture_of_row
+from ..model.records import BlockRecord, PictureRecord, Stamp, has
 from ..model.results import Result
 from ..model.verdicts import result_of, verdicts
 from ..model.words import Word
@@ -78,7 +78,9 @@ def _before(now: PictureRecord) -> str:
 def verified(before: Catalogue, now: Catalogue, folders: Sequence[bytes]) -> Iterator[Verified]:
     """Each file of a catalogue below some folders, in the order of their names, with its state in a catalogue that was made just now."""
     with now.guarded():
-        now.base.execute("CREATE INDEX pictures_by_sha256 ON pictures (sha256)")
+        # no index of the catalogue itself, which the run that goes on from a stopped one would refuse
+        now.base.execute(f"CREATE TABLE {_DIGESTS} (sha256, picture, PRIMARY KEY (sha256, picture)) WITHOUT ROWID")
+        now.base.execute(f"INSERT INTO {_DIGESTS} SELECT sha256, id FROM pictures WHERE sha256 != '' ORDER BY sha256, id")
         now.base.execute(f"CREATE TABLE {_SIDECARS} (path BLOB PRIMARY KEY, is_done INTEGER NOT NULL) WITHOUT ROWID")
     for of_picture in before.rows("SELECT path, sidecars FROM pictures WHERE sidecars != ''", (), _sidecars_of_row):
         with now.guarded():
@@ -94,7 +96,7 @@ def verified(before: Catalogue, now: Catalogue, folders: Sequence[bytes]) -> Ite
             for sidecar in sidecars:
                 yield from _of_sidecar(before, now, sidecar)
             picture = _without_sidecars(picture, blocks)
-        there = _at(now, picture.path)
+        there = now.picture(picture.path)
         if there is None or there.problem in NOT_THERE:
             yield _gone(before, now, picture)
         else:
@@ -102,6 +104,7 @@ def verified(before: Catalogue, now: Catalogue, folders: Sequence[bytes]) -> Ite
 
 
 _SIDECARS = "temp.sidecars"  # those that belong to pictures of the catalogue
+_DIGESTS = "temp.digests"  # of the files that are there
 _FILE = "file "  # before the name of a sidecar, as the position of its block
 
 
@@ -142,7 +145,7 @@ def _of_sidecar(before: Catalogue, now: Catalogue, sidecar: PictureRecord) -> It
         first = now.base.execute(f"UPDATE {_SIDECARS} SET is_done = 1 WHERE path = ? AND is_done = 0", (sidecar.path,)).rowcount
     if not first:
         return
-    there = _at(now, sidecar.path)
+    there = now.picture(sidecar.path)
     if there is None or there.problem in NOT_THERE:
         yield _gone(before, now, sidecar)
         return
@@ -152,21 +155,18 @@ def _of_sidecar(before: Catalogue, now: Catalogue, sidecar: PictureRecord) -> It
     yield Verified(sidecar.path, state, note, damage=there.damage)
 
 
-def _at(catalogue: Catalogue, path: bytes) -> Optional[PictureRecord]:
-    return next(catalogue.rows(f"SELECT {PICTURE_COLUMNS} FROM pictures WHERE path = ?", (path,), picture_of_row), None)
-
-
 def _gone(before: Catalogue, now: Catalogue, picture: PictureRecord) -> Verified:
     """A file that isn't there: one that the catalogue doesn't know may be this one, and another may have the same picture."""
-    for column, digest, words in (
-        ("sha256", picture.sha256, "the same file is"),
-        ("coded_picture", picture.coded_picture, "the same picture is"),
+    of_file = f"id IN (SELECT picture FROM {_DIGESTS} WHERE sha256 = ?)"
+    for condition, digest, words in (
+        (of_file, picture.sha256, "the same file is"),
+        ("coded_picture = ?", picture.coded_picture, "the same picture is"),
     ):
-        places = now.rows(f"SELECT path, damage FROM pictures WHERE {column} = ? ORDER BY path", (digest,)) if digest else iter(())
+        places = now.rows(f"SELECT path, damage FROM pictures WHERE {condition} ORDER BY path", (digest,)) if digest else iter(())
         known = None
         for path, damage in places:
             if not _is_known(before, now, path):
-                is_captioned = column == "coded_picture"
+                is_captioned = condition != of_file
                 note = "captioned, too" if is_captioned else f"damaged before, too: {damage}" if damage else ""
                 return Verified(picture.path, State.MOVED, note, path, "" if is_captioned else damage)
             known = known or path

@@ -12,8 +12,9 @@ from typing import List, NamedTuple, Optional, Sequence, Tuple
 
 from ..fields.field import Field
 from ..fields.listing import MAKER_NOTE
-from ..fields.plain_texts import quoted, text_of, xmp_texts
+from ..fields.plain_texts import text_of, xmp_texts
 from ..fields.plain_values import in_line
+from ..model.texts import quoted
 from .differing import FieldDifference, exact_side
 
 NONE = "(none)"  # in place of a value that isn't there

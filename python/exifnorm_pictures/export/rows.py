@@ -14,13 +14,13 @@ from ..comparison.groups import Groups
 from ..comparison.keeping import Keep, keeping
 from ..fields.block_fields import packed_fields
 from ..fields.field import Field
-from ..fields.labels import LabelText, names_camera, word_of
-from ..fields.listing import exact, is_rest
+from ..fields.labels import Caption, names_camera, word_of
+from ..fields.listing import is_rest
 from ..fields.packing import divided, field_of, unpacked
 from ..fields.places import is_of_position, position_of
 from ..fields.plain_names import exact_key, group_name
-from ..fields.plain_values import plain
-from ..fields.typed import typed
+from ..fields.plain_values import plain_and_exact
+from ..fields.typed import number_of
 from ..files.session import Session
 from ..model import steps
 from ..model.budgets import CACHED
@@ -28,7 +28,7 @@ from ..model.columns import Damaged
 from ..model.records import BlockRecord, PictureRecord
 from ..model.texts import shown_path
 from ..scan.progress import Progress
-from .tables import Row, Tables, storable
+from .tables import Row, Tables, without_nul
 
 KEPT_ROWS, SHORT = 2048, 300  # rows of fields that are kept, of each kind, and the most characters of such a field as JSON
 
@@ -39,21 +39,21 @@ class Export:
     def __init__(self, catalogue: Catalogue, tables: Tables, only: Optional[str], session: Optional[Session]) -> None:
         self.catalogue, self.tables, self.only, self.session = catalogue, tables, only, session
         self.missing = 0  # pictures with a text that is too long to be kept
-        self.maker_notes = 0  # pictures with a MakerNote
+        self.maker_notes = 0  # pictures with a MakerNote that ExifTool wasn't asked about
         self.groups = Groups(catalogue, only, bool(session), session)
         self._fields = FieldRows()
 
     def all(self, quiet: bool) -> None:
         """Adds each picture, and then the groups. Prints its progress, unless it is quiet."""
         where = f" WHERE path IN {self.only}" if self.only else ""
-        progress = Progress(next(self.catalogue.rows(f"SELECT count(*) FROM pictures{where}"))[0], quiet=quiet)
+        progress = Progress(self.catalogue.number_of(f"SELECT count(*) FROM pictures{where}"), quiet=quiet)
         for count, picture in enumerate(self.catalogue.pictures(self.only), 1):
             self._picture(picture)
             progress.done(count)
         for number, group in enumerate(self.groups.by_meaning(), 1):
             keeps = keeping(group) if self.session else {}
             about = (number, group.basis, sentence_of(group))
-            self.tables.add("groups", ((*about, it.id, *_keep_row(keeps.get(it.id, Keep()))) for it in group.members))
+            self.tables.add_all("groups", ((*about, it.id, *_keep_row(keeps.get(it.id, Keep()))) for it in group.members))
 
     def _picture(self, picture: PictureRecord) -> None:
         with self.catalogue.guarded():
@@ -61,22 +61,33 @@ class Export:
         angles = [row.angle for _, rows in blocks for row in rows if row.angle]
         place = position_of(angles) if angles else None
         self.tables.add("pictures", [(*_picture_row(picture), *(place or (None, None)))])
-        self.maker_notes += any(block.note is not None for block, _ in blocks)
+        if any([block.note is not None for block, _ in blocks]):
+            self._maker_notes(picture)
         self.tables.add("blocks", [_block_row(picture, number, block) for number, (block, _) in enumerate(blocks)])
         for number, (_, rows) in enumerate(blocks):
             cells = [(picture.id, number, at, *row.cells) for at, row in enumerate(rows)]
             self.tables.add_storable("fields", cells, sum([row.size for row in rows]))
-        self._texts(picture, [(block, [row.text for row in rows if row.text]) for block, rows in blocks])
+        self._texts(picture, [(block, [it for row in rows for it in (row.text, row.angle) if it]) for block, rows in blocks])
         if picture.not_read != "":
             parts = self.catalogue.not_read_of(picture)
-            self.tables.add("not_read", ((picture.id, at, part.what) for at, part in enumerate(parts)))
+            self.tables.add("not_read", [(picture.id, at, part.what) for at, part in enumerate(parts)])
+
+    def _maker_notes(self, picture: PictureRecord) -> None:
+        """What ExifTool reads of the MakerNotes of a picture, if it was asked."""
+        from ..judge.maker_notes import unpacked_reading  # which takes long to import
+
+        reading = self.catalogue.maker_notes(picture, unpacked_reading)
+        self.maker_notes += reading is None
+        values = reading.values.items() if reading else ()
+        self.tables.add("maker_notes", [(picture.id, at, *value) for at, value in enumerate(values)])
 
     def _texts(self, picture: PictureRecord, blocks: Sequence[Tuple[BlockRecord, List[Field]]]) -> None:
         texts = texts_of(blocks)
-        self.missing += bool(texts.missing)
-        rows = [*_text_rows(texts.texts), *((word, *(None,) * 6) for word in sorted(texts.missing))]
+        missing = texts.missing
+        self.missing += bool(missing)
+        rows = [*_text_rows(texts.texts), *((word, *(None,) * 6) for word in sorted(missing))]
         self.tables.add("captions", [(picture.id, at, *row) for at, row in enumerate(rows)])
-        known = [one for one in conflicts(texts.texts) if not one.is_alike and one.label not in texts.missing]
+        known = [one for one in conflicts(texts.texts, texts.located) if not one.is_alike and one.label not in missing]
         self.tables.add("conflicts", [(picture.id, one.label, one.kind, one.detail or None) for one in known])
 
 
@@ -84,12 +95,8 @@ def _picture_row(picture: PictureRecord) -> Row:
     path, is_escaped = _path(picture.path)
     names = (path, int(is_escaped), picture.path if is_escaped else None, _path(picture.root)[0])
     about = (picture.type or None, _state(picture), picture.problem, picture.detail or None, picture.size, _time(picture.modified))
-    return (
-        picture.id,
-        *names,
-        *about,
-        *(one or None for one in (*picture.meanings, picture.coded_picture, picture.sha256, picture.damage)),
-    )
+    rest = [one or None for one in (*picture.meanings, picture.coded_picture, picture.sha256, picture.damage)]
+    return (picture.id, *names, *about, *rest)
 
 
 def _keep_row(keep: Keep) -> Row:
@@ -134,12 +141,22 @@ class FieldRow(NamedTuple):
     angle: Optional[Field]  # the same of its position
 
 
+class _About(NamedTuple):
+    """What the row of a field has by its directory and its tag."""
+
+    name: str
+    key: str
+    is_text: bool  # whether the texts of a picture are made of such fields
+    is_angle: bool  # the same of its position
+
+
 class FieldRows:
     """Makes rows of packed fields. Short ones are kept for the next picture: pictures have many fields in common, which then aren't even
     unpacked."""
 
     def __init__(self) -> None:
         self._kept: Dict[str, Dict[str, FieldRow]] = {}  # by how a field begins, and its rest
+        self._about: Dict[Tuple[str, str], _About] = {}  # by directory and tag
 
     def of_block(self, octets: Optional[bytes]) -> List[FieldRow]:
         """The row of each field of a block. Raises `Damaged`."""
@@ -150,35 +167,38 @@ class FieldRows:
         try:
             return [kept.get(rest) or self._new(begin, rest) for rest in rests]
         except Damaged:  # or a value that has what is between two fields
-            return list(map(_row_of, unpacked(octets)))
+            return list(map(self._row_of, unpacked(octets)))
 
     def _new(self, begin: str, rest: str) -> FieldRow:
-        row, kept = _row_of(field_of(begin, rest)), self._kept[begin]
+        row, kept = self._row_of(field_of(begin, rest)), self._kept[begin]
         if row.size <= CACHED and len(rest) <= SHORT:
             if len(kept) >= KEPT_ROWS:
                 kept.clear()
             kept[rest] = row
         return row
 
+    def _row_of(self, field: Field) -> FieldRow:
+        about = self._about.get((field.directory, field.tag)) or self._about_of(field)
+        texts = [about.name, field.directory, about.key, field.type, *plain_and_exact(field)]
+        all_of_them = "".join(texts)
+        if "\0" in all_of_them:
+            texts = list(map(without_nul, texts))
+        cells = (*texts[:4], field.count, *texts[4:], number_of(field))
+        return FieldRow(cells, len(all_of_them), field if about.is_text else None, field if about.is_angle else None)
 
-def _row_of(field: Field) -> FieldRow:
-    (row,), size = storable([_field_row(field)])
-    is_text = word_of(field) is not None or names_camera(field) or is_rest(field.directory, field.tag)
-    return FieldRow(row, size, field if is_text else None, field if is_of_position(field) else None)
+    def _about_of(self, field: Field) -> _About:
+        directory, tag = field.directory, field.tag
+        is_text = word_of(field) is not None or names_camera(field) or is_rest(directory, tag)
+        about = _About(group_name(directory, tag), exact_key(directory, tag), is_text, is_of_position(field))
+        if len(directory) + len(tag) <= SHORT:
+            if len(self._about) >= KEPT_ROWS:
+                self._about.clear()
+            self._about[directory, tag] = about
+        return about
 
 
-def _field_row(field: Field) -> Row:
-    value = typed(field) if field.directory != "xmp" and field.type not in ("ASCII", "UTF8") else None
-    number = float(value) if isinstance(value, (int, float)) else None
-    directory, tag, kind, count, _ = field.identity
-    return group_name(directory, tag), directory, exact_key(directory, tag), kind, count, plain(field), exact(field), number
-
-
-def _text_rows(texts: Sequence[LabelText]) -> Iterator[Row]:
+def _text_rows(texts: Sequence[Caption]) -> Iterator[Row]:
     """A row for each text, several of a list."""
-    for label_text in texts:
-        for text in label_text.texts:
-            if text:
-                yield label_text.label, label_text.standard, label_text.field, label_text.block or None, text, label_text.guess or None, int(
-                    label_text.is_own
-                )
+    for caption in texts:
+        about = (caption.label, caption.standard, caption.field, caption.block or None)
+        yield from ((*about, text, caption.guess or None, int(caption.is_own)) for text in caption.texts if text)

@@ -84,6 +84,13 @@ CREATE TABLE captions (
     own INTEGER,
     PRIMARY KEY (picture, position)
 ) WITHOUT ROWID;
+CREATE TABLE maker_notes (
+    picture INTEGER NOT NULL REFERENCES pictures(id),
+    position INTEGER NOT NULL,
+    name TEXT NOT NULL,
+    value TEXT NOT NULL,
+    PRIMARY KEY (picture, position)
+) WITHOUT ROWID;
 CREATE TABLE conflicts (
     picture INTEGER NOT NULL REFERENCES pictures(id),
     label TEXT NOT NULL,
@@ -112,6 +119,7 @@ CREATE INDEX pictures_by_path ON pictures (path);
 CREATE INDEX pictures_by_state ON pictures (state);
 CREATE INDEX fields_by_name ON fields (name, value);
 CREATE INDEX captions_by_label ON captions (label, text);
+CREATE INDEX maker_notes_by_name ON maker_notes (name, value);
 CREATE INDEX groups_by_picture ON groups (picture);
 """
 
@@ -127,13 +135,16 @@ class Tables:
         self._size = 0  # of the rows that wait
         self.counts: Dict[str, int] = {}
 
-    def add(self, table: str, rows: Iterable[Row]) -> None:
+    def add_all(self, table: str, rows: Iterable[Row]) -> None:
         """Adds rows to a table, of which a thousand at a time are in memory."""
         left = iter(rows)
-        several = list(islice(left, _ROWS))
-        while several:
-            self.add_storable(table, *storable(several))
-            several = list(islice(left, _ROWS)) if len(several) == _ROWS else []
+        while several := list(islice(left, _ROWS)):
+            self.add(table, several)
+
+    def add(self, table: str, rows: List[Row]) -> None:
+        """Adds a few rows to a table."""
+        if rows:
+            self.add_storable(table, *storable(rows))
 
     def add_storable(self, table: str, rows: Sequence[Row], size: int) -> None:
         """Adds rows without NUL, whose texts have so many characters, to a table."""
@@ -203,16 +214,18 @@ def storable(rows: List[Row]) -> Tuple[List[Row], int]:
     ([(1, 'a\\x00b', None, 'c'), (2, '', None, 'd')], 5)
     """
     text = "".join([cell for row in rows for cell in row if isinstance(cell, str)])
-    return [tuple(map(_without_nul, row)) for row in rows] if "\0" in text else rows, len(text)
+    if "\0" in text:
+        rows = [tuple([without_nul(cell) if isinstance(cell, str) else cell for cell in row]) for row in rows]
+    return rows, len(text)
 
 
-def _without_nul(cell: object) -> object:
-    r"""A value without NUL, at which many functions of SQLite and its shell end a text.
+def without_nul(text: str) -> str:
+    r"""A text without NUL, at which many functions of SQLite and its shell end a text.
 
-    >>> _without_nul("a\0b"), _without_nul(b"\0")
-    ('a\\x00b', b'\x00')
+    >>> without_nul("a\0b")
+    'a\\x00b'
     """
-    return cell.replace("\0", "\\x00") if isinstance(cell, str) else cell
+    return text.replace("\0", "\\x00")
 
 
 def _stored(value: object) -> object:

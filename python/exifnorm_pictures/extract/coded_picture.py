@@ -15,11 +15,11 @@ import hashlib
 from typing import NamedTuple, Optional
 
 from ..files import opening
-from ..model.budgets import CHUNKS, Budget, TooMuch
+from ..model.budgets import Budget, TooMuch
 from ..model.found import Broken
 from . import coded_tiff, raw_files
 from .coded_tiff import NotFollowed
-from .formats import bigtiff, jpeg, png, tiff, webp
+from .formats import jpeg, png, tiff, webp
 from .formats.jpeg_segments import EOI, SOI, SOS, Head, read_head
 from .formats.jpeg_tail import Markers
 from .formats.streams import File, Stream, pieces, read_at, size_of
@@ -74,7 +74,7 @@ def digest(stream: Stream, budget: Budget, beside: "Optional[hashlib.blake2b]" =
         _webp(stream, coded, budget, beside)
     elif head[:4] in tiff.HEADS:
         coded_tiff.add(Directories(stream), coded, budget, beside)
-    elif head[:4] in bigtiff.HEADS:
+    elif head[:4] in tiff.BIG_HEADS:
         coded_tiff.add(Directories(stream, BIG), coded, budget, beside)
     else:
         return ""
@@ -154,7 +154,6 @@ def _scans(stream: Stream, coded: "hashlib.blake2b", at: int, budget: Budget) ->
 
 _PNG = frozenset((b"IHDR", b"PLTE", b"tRNS", b"IDAT", b"acTL", b"fcTL", b"fdAT"))
 _PNG_COLOURS = frozenset((b"iCCP", b"gAMA", b"cHRM", b"sRGB", b"cICP"))
-_PNG_TEXTS = frozenset((b"tEXt", b"zTXt", b"iTXt"))
 _PNG_METADATA = (b"XML:com.adobe.xmp", b"Raw profile type ")  # the beginnings of texts that are blocks
 _WEBP = frozenset((b"VP8 ", b"VP8L", b"ALPH", b"ANIM", b"ANMF"))
 _ALPHA = 0x10  # the bit of VP8X that says that a picture is transparent somewhere
@@ -162,52 +161,36 @@ _MOVES = 0x02  # the bit of VP8X that says so; a picture that doesn't move has V
 
 
 def _png(stream: Stream, coded: "hashlib.blake2b", budget: Budget, beside: "hashlib.blake2b") -> None:
-    at, size, last, data = len(png.START), size_of(stream), b"", 0
-    while True:
-        budget.spend(CHUNKS)
-        head = read_at(stream, at, 8)
-        length, kind = int.from_bytes(head[:4], "big"), head[4:]
-        if at + 12 + length > size:
-            raise Broken(f"the file ends inside the chunk at {at}")
-        if kind == b"IEND":
-            return
+    last, data = b"", 0
+    for at, kind, length in png.chunks(stream, budget):
+        four = length.to_bytes(4, "big")
         if kind in _PNG:
             if kind != b"IDAT" and last == b"IDAT":
                 coded.update(b"%d" % data)  # so that a chunk is none of the data
             if kind != b"IDAT" or last != b"IDAT":  # the data of these chunks are one stream
-                coded.update(kind if kind == b"IDAT" else kind + head[:4])
+                coded.update(kind if kind == b"IDAT" else kind + four)
             data += length if kind == b"IDAT" else 0
             _add(stream, coded, at + 8, at + 8 + length)
             last = kind
-        elif kind in _PNG_COLOURS or (kind in _PNG_TEXTS and not read_at(stream, at + 8, min(length, 17)).startswith(_PNG_METADATA)):
-            beside.update(kind + head[:4])
+        elif kind in _PNG_COLOURS or (kind in png.TEXTS and not read_at(stream, at + 8, min(length, 17)).startswith(_PNG_METADATA)):
+            beside.update(kind + four)
             _add(stream, beside, at + 8, at + 8 + length)
-        at += 12 + length
 
 
 def _webp(stream: Stream, coded: "hashlib.blake2b", budget: Budget, beside: "hashlib.blake2b") -> None:
-    end = 8 + int.from_bytes(read_at(stream, 4, 4), "little")
-    at, flags = 12, _ALPHA
-    if end > size_of(stream):
-        raise Broken("the file ends before its header says")
-    while at + 8 <= end:
-        budget.spend(CHUNKS)
-        head = read_at(stream, at, 8)
-        length = int.from_bytes(head[4:], "little")
-        if at + 8 + length > end:
-            raise Broken(f"the chunk at {at} is longer than the file")
-        if head[:4] == b"VP8X":
+    flags = _ALPHA
+    for at, kind, length in webp.chunks(stream, webp.end_of(stream), budget):
+        if kind == b"VP8X":
             flags, *size = read_at(stream, at + 8, min(length, 10)) or b"\0"
             if flags & _MOVES:
-                coded.update(head[:4] + bytes([flags & _ALPHA, *size]))
-        elif head[:4] in _WEBP:
-            if not flags & _ALPHA and _has_alpha(head[:4], read_at(stream, at + 8, min(length, 5))):
+                coded.update(kind + bytes([flags & _ALPHA, *size]))
+        elif kind in _WEBP:
+            if not flags & _ALPHA and _has_alpha(kind, read_at(stream, at + 8, min(length, 5))):
                 coded.update(b"opaque")  # readers leave out what VP8X doesn't name
-            coded.update(head)
+            coded.update(kind + length.to_bytes(4, "little"))
             _add(stream, coded, at + 8, at + 8 + length)
-        elif head[:4] == b"ICCP":
+        elif kind == b"ICCP":
             _add(stream, beside, at + 8, at + 8 + length)
-        at += 8 + length + length % 2
 
 
 def _has_alpha(kind: bytes, data: bytes) -> bool:

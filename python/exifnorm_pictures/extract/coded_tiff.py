@@ -7,6 +7,7 @@ too short for pixels that aren't compressed; and of two entries of one tag some 
 
 from __future__ import annotations
 
+import functools
 import hashlib
 from typing import Dict, Iterator, List, Optional, Sequence, Tuple
 
@@ -30,7 +31,6 @@ _STRIPS, _TILES = 0x0111, 0x0144
 _OFFSETS = {_STRIPS: 0x0117, _TILES: 0x0145, 0x0201: 0x0202, 0xA010: 0xA011}  # each with the tag of the lengths; Samsung's table of rows
 _PROFILE = 0x8773
 _OLD_TABLES = frozenset((0x0207, 0x0208, 0x0209))  # of JPEG in TIFF 6.0, whose lengths aren't in the file's directories
-_PRIVATE = frozenset((0x0190, 0x8290, 0x8606, 0x888A, 0xFE00))  # pointers to directories that may lead to pixels
 _COUNTED = frozenset((*_CODING, *_OFFSETS, *_OFFSETS.values(), _PROFILE))
 _NUMBERS = frozenset((_WIDTH, _HEIGHT, _BITS, _COMPRESSION, _PHOTOMETRIC, _SAMPLES, _ROWS, _PLANES, _TILE_WIDTH, _TILE_HEIGHT))
 _JPEG, _UNCOMPRESSED, _YCBCR = (6, 7), 1, 6
@@ -70,7 +70,7 @@ def _counted(directory: Directory) -> Entries:
     for entry in directory.entries:
         if entry.tag in _OLD_TABLES:
             raise NotFollowed("old tables of JPEG")
-        if entry.tag in _PRIVATE and entry.type in (LONG, IFD):
+        if entry.tag in tiff.OTHER_POINTERS and entry.type in (LONG, IFD):
             raise NotFollowed("a private directory, which may lead to pixels")
         if entry.tag in _COUNTED and entries.setdefault(entry.tag, entry) is not entry:
             raise NotFollowed(f"two entries of tag {entry.tag:04x}")
@@ -88,14 +88,14 @@ def _value(directories: Directories, entry: Entry) -> bytes:
     return b"%d:%d:%d:" % (entry.tag, entry.type, entry.size) + directories.value(entry)
 
 
-def _numbers(directories: Directories, entries: Entries, tag: int, default: int) -> List[int]:
+def _numbers(directories: Directories, entries: Entries, tag: int, default: int = 1) -> List[int]:
     """The numbers of an entry, or the default of its tag."""
     return (directories.numbers(entries[tag]) if tag in entries else []) or [default]
 
 
 def _order(directories: Directories, entries: Entries) -> bytes:
     """The byte order of a file, if its samples have it too."""
-    (compression, *_), bits = (_numbers(directories, entries, tag, 1) for tag in (_COMPRESSION, _BITS))
+    (compression, *_), bits = (_numbers(directories, entries, tag) for tag in (_COMPRESSION, _BITS))
     has_order = compression not in _JPEG and any(it > 8 and it % 8 == 0 for it in bits)
     return directories.order.encode("ascii") if has_order else b""
 
@@ -132,10 +132,7 @@ def _check_lengths(directories: Directories, entries: Entries, lengths: Sequence
 
 def _uncompressed(directories: Directories, entries: Entries) -> Tuple[int, int, int]:
     """How many strips or tiles a plane has, the bytes of each but the last one, and those of the last one: of compressed ones 0."""
-
-    def numbers(tag: int, default: int = 1) -> List[int]:
-        return _numbers(directories, entries, tag, default)
-
+    numbers = functools.partial(_numbers, directories, entries)
     if numbers(_COMPRESSION)[0] != _UNCOMPRESSED or numbers(_PHOTOMETRIC)[0] == _YCBCR:
         return 1, 0, 0
     bits, samples = numbers(_BITS), numbers(_SAMPLES)[0]

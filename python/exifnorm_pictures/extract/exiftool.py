@@ -157,10 +157,8 @@ def values(answer: Dict[str, str], tag: str) -> List[str]:
 
 
 def by_others(session: Session, path: bytes, stream: Stream, whole: bool, why: str) -> Blocks:
-    """The blocks that ExifTool and exiv2 extract; `why` is the reason why the file was not read here, for a known format.
-
-    Raises `programs.Missing` and `programs.Failed`.
-    """
+    """The blocks that ExifTool and exiv2 extract; `why` is the reason why the file was not read here, for a known format. Raises
+    `programs.Missing` and `programs.Failed`."""
     answer = ask(session, path, _WORDS)
     blocks = _blocks(answer)
     blocks.budget = budget_of(stream)
@@ -170,7 +168,7 @@ def by_others(session: Session, path: bytes, stream: Stream, whole: bool, why: s
         _add_by_exiv2(session, blocks, path)
     size = size_of(stream)
     digest = digest_of(stream, 0, size) if whole or size <= WHOLE_FILE else ""
-    what = " ".join(f"what ExifTool does not extract from a {blocks.type} file".split()) + (f" ({why})" if why else "")
+    what = " ".join(f"what ExifTool does not extract from this {blocks.type} file".split()) + (f" ({why})" if why else "")
     blocks.not_read.append(NotRead(what, digest))
     return blocks
 

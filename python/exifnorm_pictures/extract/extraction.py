@@ -34,20 +34,17 @@ def blocks_of_file(path: bytes, whole: bool = False, session: Optional[Session] 
         raise
     except FileNotFoundError:
         problem = Problem.LINK_TO_NOTHING if os.path.islink(path) else Problem.NO_FILE
-        return Blocks(problem=problem, detail=problem.text)
     except OSError as error:
         known = {opening.IRREGULAR: Problem.NOT_A_FILE, os.strerror(errno.ELOOP): Problem.LINK_TO_NOTHING}
-        if error.strerror in known:
-            problem = known[error.strerror]
-            return Blocks(problem=problem, detail=problem.text)
-        return Blocks(problem=Problem.UNREADABLE, detail=(error.strerror or str(error)).lower())
+        if error.strerror not in known:
+            return Blocks(problem=Problem.UNREADABLE, detail=(error.strerror or str(error)).lower())
+        problem = known[error.strerror]
+    return Blocks(problem=problem, detail=problem.text)
 
 
 def blocks_in(file: Parts, path: bytes, whole: bool = False, session: Optional[Session] = None) -> Blocks:
-    """The blocks of a file that is open, which is closed then. The ending of its name shows what a sidecar or a raw picture is.
-
-    Raises what `blocks_of_file` raises, `OSError` and `TooMuch`.
-    """
+    """The blocks of a file that is open, which is closed then. The ending of its name shows what a sidecar or a raw picture is. Raises what
+    `blocks_of_file` raises, `OSError` and `TooMuch`."""
     if session is None:
         with Session() as own:
             return blocks_in(file, path, whole, own)

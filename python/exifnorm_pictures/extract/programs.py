@@ -5,6 +5,7 @@ ExifTool runs with `-config ""`, so that no configuration file changes its outpu
 
 from __future__ import annotations
 
+import contextlib
 import ctypes
 import functools
 import os
@@ -154,17 +155,13 @@ def _started(words: List[str], folder: Optional[str], stdin: int, mask: Set[int]
 
 def end(started: "subprocess.Popen[bytes]") -> None:
     """Ends a program with all the processes that it started. Returns after they have ended."""
-    try:
+    with contextlib.suppress(ProcessLookupError, PermissionError):
         os.killpg(started.pid, signal.SIGKILL)
-    except (ProcessLookupError, PermissionError):
-        pass
     started.wait()
     for stream in (started.stdin, started.stdout, started.stderr):
         if stream is not None:
-            try:
+            with contextlib.suppress(OSError):
                 stream.close()
-            except OSError:
-                pass
 
 
 def write(started: "subprocess.Popen[bytes]", octets: bytes, seconds: float) -> None:

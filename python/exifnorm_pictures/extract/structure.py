@@ -10,9 +10,9 @@ from itertools import count
 from typing import Dict, Iterator, List, NamedTuple, Optional, Set, Tuple
 
 from ..model.budgets import BLOCK_ENTRIES
+from ..model.texts import in_words
 from ..model.tiff_types import IFD, LONG, SHORT, SLONG, SSHORT, TIFF
 
-LINKS = {("main", 0x8769): "exif", ("main", 0x8825): "gps", ("exif", 0xA005): "interop"}
 MAKER_NOTE = 0x927C
 PRIVATE = {
     MAKER_NOTE: "the MakerNote",
@@ -24,6 +24,7 @@ PRIVATE = {
 }
 HEADER = 8  # bytes of the header
 _LINKS = {"main": {0x8769: "exif", 0x8825: "gps"}, "exif": {0xA005: "interop"}}
+LINKS = {(where, tag): to for where, links in _LINKS.items() for tag, to in links.items()}
 _OFFSETS = frozenset((LONG, SHORT, SSHORT, SLONG, IFD))  # the type of a pointer, and types that are written in its place
 _UNKNOWN = max(TIFF) + 1  # no type from here on is known
 _SIZES = tuple(TIFF[number].size if number in TIFF else 0 for number in range(_UNKNOWN))
@@ -130,8 +131,8 @@ class Walk:
     def __init__(self, block: bytes) -> None:
         self.block = bytes(block)
         self.order = order_of(block)
-        found = (directory for directory in directories(self.block) if directory.at >= HEADER)
-        self.directories = sorted(found, key=lambda directory: directory.name == "interop")
+        own = (directory for directory in directories(self.block) if directory.at >= HEADER)
+        self.directories = sorted(own, key=lambda directory: directory.name == "interop")
 
     @property
     def is_whole(self) -> bool:
@@ -203,7 +204,7 @@ def counted(number: int, by: str) -> str:
     >>> counted(1, "the MakerNote"), counted(2, "the MakerNote")
     ('1 byte that only the MakerNote can reach', '2 bytes that only the MakerNote can reach')
     """
-    return f"{number:,} byte{'s' * (number != 1)} that only {by} can reach"
+    return f"{in_words(number, 'byte')} that only {by} can reach"
 
 
 def notes(block: bytes) -> Notes:

@@ -61,10 +61,15 @@ def _unpacked(source: Tuple[_KeptTexts, int]) -> Optional[List[Field]]:
     return unpacked(text) if text else None
 
 
+_FIELDS = BlockRecord._fields.index("fields")  # after which only what a catalogue doesn't have follows
+
+
 def with_kept_fields(blocks: Sequence[BlockRecord]) -> List[BlockRecord]:
     """The blocks of a picture of a catalogue, of all its rows in their order, each with its own fields."""
     texts = _KeptTexts([block.fields for block in blocks])
-    return [block._replace(fields=None, fresh=_KeptFields(_unpacked, (texts, number))) for number, block in enumerate(blocks)]
+    return [
+        BlockRecord._make((*block[:_FIELDS], None, block.but_note, _KeptFields(_unpacked, (texts, at)))) for at, block in enumerate(blocks)
+    ]
 
 
 def packed_fields(block: BlockRecord) -> Optional[bytes]:

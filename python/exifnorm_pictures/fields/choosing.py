@@ -15,16 +15,9 @@ from .field import Field
 from .listing import MAKER_NOTE, is_rest
 
 # What programs change whenever they save a picture, whatever was edited: the dates of the last change, and the identifiers of that state
-SAVES = (
-    "IFD0:ModifyDate",
-    "IFD1:ModifyDate",
-    "ExifIFD:SubSecTime",
-    "ExifIFD:OffsetTime",
-    "XMP-xmp:ModifyDate",
-    "XMP-xmp:MetadataDate",
-    "XMP-tiff:DateTime",
-    "XMP-xmpMM:InstanceID",
-    "XMP-xmpMM:History",
+SAVES = tuple(
+    "IFD0:ModifyDate IFD1:ModifyDate ExifIFD:SubSecTime ExifIFD:OffsetTime XMP-xmp:ModifyDate XMP-xmp:MetadataDate XMP-tiff:DateTime"
+    " XMP-xmpMM:InstanceID XMP-xmpMM:History".split()
 )
 SETS = {"saves": SAVES}
 CACHED, LONGEST_CACHED = 5000, 200  # fields whose decision is kept, and characters of such a field's key
@@ -104,6 +97,25 @@ def hint(pattern: str) -> str:
     return f" (perhaps {known[near[0]]} is meant)" if near and near[0] != pattern.casefold() else ""
 
 
+def meant(name: str, names: Sequence[str]) -> str:
+    """What a program may mean by a name that none of a picture's fields has, in parentheses: the text of a label, one of the picture's own names,
+    or one of the standards.
+
+    >>> meant("title", []), meant("IPTC:Keyword", ["IFD0:Model", "IPTC:Keywords"]), meant("Artst", []), meant("Artist", ["IFD0:Artisan"])
+    (" (texts('title') has the texts of this label)", ' (perhaps IPTC:Keywords is meant)', ' (perhaps Artist is meant)', '')
+    """
+    from .labels import LABEL_WORDS, label_of
+
+    label = label_of(name)
+    if label in LABEL_WORDS:
+        return f" (texts({label!r}) has the texts of this label)"
+    if is_known(name):
+        return ""
+    own = {text.casefold(): text for whole in names[:MOST_LISTED] for text in (whole, whole.partition(":")[2])}
+    near = difflib.get_close_matches(name.casefold(), own, 1, 0.75)
+    return f" (perhaps {own[near[0]]} is meant)" if near else hint(name)
+
+
 @dataclass
 class Pattern:
     """A pattern, and whether a field fits it."""
@@ -138,6 +150,7 @@ class Choice:
 
     def __init__(self, ignore: Sequence[str] = (), only: Sequence[str] = (), equal_numbers: bool = False) -> None:
         self.ignore, self.only = _patterns(ignore), _patterns(only)
+        self._patterns = (*self.ignore, *self.only)
         self.equal_numbers = equal_numbers  # count as equal
         self.left_out: Dict[str, int] = {}  # fields that differ and were left out, and in how many pictures
         self.absent: List[str] = []  # words that fit no field of the pictures
@@ -186,7 +199,7 @@ class Choice:
 
     def see_kind(self, kind: str) -> None:
         """Notes that blocks of a kind are left out as wholes."""
-        for pattern in (*self.ignore, *self.only):
+        for pattern in self._patterns:
             pattern.is_seen = pattern.is_seen or kinds_of(pattern.text) == {kind}
 
     def add_left_out(self, names: Iterable[str]) -> None:
@@ -197,17 +210,17 @@ class Choice:
 
     def labels(self) -> Dict[str, Tuple[str, ...]]:
         """The labels that were given, each with its fields."""
-        given = dict.fromkeys(it.of_set for it in (*self.ignore, *self.only) if it.of_set and it.of_set not in SETS)
-        return {it: tuple(dict.fromkeys(one.text for one in (*self.ignore, *self.only) if one.of_set == it)) for it in given}
+        given = dict.fromkeys(it.of_set for it in self._patterns if it.of_set and it.of_set not in SETS)
+        return {it: tuple(dict.fromkeys(one.text for one in self._patterns if one.of_set == it)) for it in given}
 
     def unseen(self) -> List[str]:
         """The patterns that fit no field, but for those of sets."""
-        return [it.text for it in (*self.ignore, *self.only) if not it.is_seen and not it.of_set]
+        return [it.text for it in self._patterns if not it.is_seen and not it.of_set]
 
     def unseen_words(self) -> List[str]:
         """The words that fit no field: patterns, and labels of which no field was there."""
-        unseen = dict.fromkeys(it.of_set for it in (*self.ignore, *self.only) if it.of_set and it.of_set not in SETS)
-        seen = {it.of_set for it in (*self.ignore, *self.only) if it.is_seen}
+        unseen = dict.fromkeys(it.of_set for it in self._patterns if it.of_set and it.of_set not in SETS)
+        seen = {it.of_set for it in self._patterns if it.is_seen}
         return [*self.unseen(), *(it for it in unseen if it not in seen)]
 
     @property

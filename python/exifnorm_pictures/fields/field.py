@@ -6,7 +6,6 @@ from typing import TYPE_CHECKING, Any, Dict, NoReturn, Tuple, Union
 
 from ..model.found import EXIF, NAMES
 from ..model.xmp_values import Long, XmpValue
-from .names import full_name
 from .plain_names import exact_key, group_name
 
 if TYPE_CHECKING:
@@ -97,18 +96,13 @@ class Field:
 
     @property
     def block(self) -> str:
-        """The block: "Exif", "IPTC", "XMP", "second Exif", "page 2"."""
+        """The block: "Exif", "IPTC", "XMP", "second Exif", "Exif of page 2"."""
         return self._block or NAMES.get(self.directory, NAMES[EXIF])
 
     @property
     def name(self) -> str:
         """The name with its group, as ExifTool has it: "IFD0:Artist", "IPTC:Keywords", "XMP-dc:title"."""
         return group_name(self.directory, self.tag)
-
-    @property
-    def full_name(self) -> str:
-        """The name with its directory, as lists of changes have it: "main:Artist"."""
-        return full_name(self.directory, self.tag)
 
     @property
     def key(self) -> str:

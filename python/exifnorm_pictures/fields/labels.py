@@ -14,7 +14,7 @@ from ..model.xmp_values import Long, texts_in
 from .field import Field
 from .own_texts import is_own
 from .plain_names import group_name, plain_name
-from .plain_texts import comment
+from .plain_texts import text_of_comment
 
 
 class Label(NamedTuple):
@@ -54,6 +54,7 @@ WINDOWS = {"9c9b": "title", "9c9c": COMMENT, "9c9d": "creator", "9c9e": "keyword
 
 
 POSITION = "position"  # no label of a text: where the picture was taken, by GPS
+UNCLEAR_POSITION = "position?"  # a latitude and a longitude that make no position; no question has this word
 DAMAGE = "damage"  # no label either: where a file is cut off, or its coded picture is damaged. No field has it
 # No labels of texts either: what tells which camera, lens and owner a picture is of. A MakerNote may have it, too, which only ExifTool reads
 PRIVATE = {
@@ -125,18 +126,24 @@ def _typed(word: str) -> str:
     return re.sub(r"[-_ ]+", " ", word.casefold().replace("'", ""))
 
 
-class LabelText(NamedTuple):
-    """The texts of one field for a label."""
+class Caption(NamedTuple):
+    """The texts of one field for a label, such as "title" or "keywords".
+
+    `standard` is "Exif", "IPTC" or "XMP", `field` the field's name, such as "IFD0:Artist", and `texts` are several of a list. `octets` are those
+    of Exif and IPTC as they are in the file, and `guess` is how the character set was found if it isn't declared. `block` is empty for the first
+    block of a kind. `is_extra` is whether nothing is compared with it, as with what Windows writes, and `is_own` whether a camera or a program
+    writes it by itself. `str` joins the texts.
+    """
 
     label: str
-    standard: str  # one of STANDARDS
-    field: str  # `IFD0:Artist`
-    texts: Tuple[str, ...]  # several of a list
-    octets: Tuple[bytes, ...] = ()  # of Exif and IPTC, as they are in the file
-    guess: str = ""  # about the character set
-    block: str = ""  # of which block; empty for the first one of its kind
-    is_extra: bool = False  # nothing is compared with it
-    is_own: bool = False  # a camera or a program writes it by itself
+    standard: str
+    field: str
+    texts: Tuple[str, ...]
+    octets: Tuple[bytes, ...] = ()
+    guess: str = ""
+    block: str = ""
+    is_extra: bool = False
+    is_own: bool = False
 
     @property
     def is_empty(self) -> bool:
@@ -147,6 +154,9 @@ class LabelText(NamedTuple):
     def line(self) -> str:
         """The texts in a line."""
         return "; ".join(self.texts)
+
+    def __str__(self) -> str:
+        return self.line
 
 
 def decoded(octets: bytes, declares_utf8: bool = False) -> Tuple[str, str]:
@@ -176,14 +186,18 @@ LABELLED = {
 }
 
 
-def of_block(fields: Iterable[Field]) -> Iterator[LabelText]:
+def of_block(fields: Iterable[Field]) -> Iterator[Caption]:
     """The texts of a block, by its fields.
 
     >>> [it[:4] for it in of_block([Field("main", "013b", "ASCII", 5, b"Anna\\0")])]
     [('creator', 'Exif', 'IFD0:Artist', ('Anna',))]
     """
-    labelled = [it for it in fields if word_of(it) is not None]
-    return _of_properties(labelled) if labelled and labelled[0].directory == "xmp" else _of_octets_fields(labelled)
+    return of_labelled([it for it in fields if word_of(it) is not None])
+
+
+def of_labelled(fields: Sequence[Field]) -> Iterator[Caption]:
+    """The same by those of its fields that have a part in a label."""
+    return _of_properties(fields) if fields and fields[0].directory == "xmp" else _of_octets_fields(fields)
 
 
 def word_of(field: Field) -> Optional[str]:
@@ -193,45 +207,60 @@ def word_of(field: Field) -> Optional[str]:
 
 def not_kept(fields: Iterable[Field]) -> Set[str]:
     """The labels of which a text is too long to be kept."""
-    return {word for it in fields for word in [word_of(it)] if word and (isinstance(it.content, Long) or _has_long(it))}
+    return {word for it in fields if not isinstance(it.content, bytes) and _has_long(it) for word in [word_of(it)] if word}
 
 
 def _has_long(field: Field) -> bool:
-    return field.directory == "xmp" and any(isinstance(one, Long) for one in field.content)
+    if isinstance(field.content, Long):
+        return True
+    return field.directory == "xmp" and any([isinstance(one, Long) for one in field.content])
 
 
 # Exif and IPTC
 
 
-_Values = Dict[str, List[bytes]]
+_NAMES = {place: group_name(*place) for place in LABELLED}  # of fields
+_IN_EXIF = ("9003", "9011", "9286", "9291")  # the tags whose directory is that of Exif; of the others it is the main directory
+# By the tag or DataSet: the number of its label
+_NUMBERS = {tag: number for number, label in enumerate(LABELS) for tag in (label.exif, label.iptc) if tag}
 
 
-def _of_octets_fields(fields: Sequence[Field]) -> Iterator[LabelText]:
+def _of_octets_fields(fields: Sequence[Field]) -> Iterator[Caption]:
     """The texts of a block of Exif or IPTC, by its fields."""
-    exif: _Values = {}
-    record: _Values = {}
-    utf8: Set[str] = set()
+    exif: Dict[str, Field] = {}
+    record: Dict[str, List[bytes]] = {}
     for field in fields:
         if isinstance(field.content, bytes) and field.directory == "iptc":
             record.setdefault(field.tag, []).append(field.content)
-        elif isinstance(field.content, bytes):
-            exif[field.tag] = [field.content]
-            utf8.update({field.tag} if field.type == "UTF8" else ())
-    for label in LABELS:
+        elif isinstance(field.content, bytes) and (field.tag not in exif or _is_at_home(field)):
+            exif[field.tag] = field
+    for number in sorted({_NUMBERS[tag] for tag in (*exif, *record) if tag in _NUMBERS}):
+        label = LABELS[number]
         if label.word == DATE:
             yield from _dates(exif, record)
-        elif label.exif in exif:
-            yield _of_octets(label, NAMES[EXIF], group_name("main", label.exif), exif[label.exif], label.exif in utf8)
-        if label.word != DATE and label.iptc in record:
+            continue
+        if label.exif in exif:
+            field = exif[label.exif]
+            yield _of_octets(label.word, NAMES[EXIF], _NAMES[field.directory, field.tag], [_octets(field)], field.type == "UTF8")
+        if label.iptc in record:
             is_utf8 = record.get("1:90") == [b"\x1b%G"]
-            yield _of_octets(label, NAMES[IPTC], group_name("iptc", label.iptc), record[label.iptc], is_utf8)
+            yield _of_octets(label.word, NAMES[IPTC], _NAMES["iptc", label.iptc], record[label.iptc], is_utf8)
     yield from _extra(exif)
 
 
-def with_own(texts: Sequence[LabelText], make: str = "", model: str = "") -> List[LabelText]:
+def _is_at_home(field: Field) -> bool:
+    """Whether a field is in the directory of its tag. Some programs write it into another one."""
+    return (field.directory == "exif") == (field.tag in _IN_EXIF)
+
+
+def with_own(texts: Sequence[Caption], make: str = "", model: str = "") -> List[Caption]:
     """The texts of a picture, of which captions and comments are marked that a camera with this make and model, or a program, writes by
     itself; also where another program has copied them to IPTC or XMP."""
-    return [it._replace(is_own=True) if it.label in _CAN_BE_OWN and is_own(it.line, make, model) else it for it in texts]
+    known: Dict[int, bool] = {}  # pages of a TIFF may share a long text
+    for text in texts:
+        if text.label in _CAN_BE_OWN and id(text.texts) not in known:
+            known[id(text.texts)] = is_own(text.line, make, model)
+    return [text._replace(is_own=True) if text.label in _CAN_BE_OWN and known[id(text.texts)] else text for text in texts]
 
 
 def names_camera(field: Field) -> bool:
@@ -242,6 +271,8 @@ def names_camera(field: Field) -> bool:
 def camera_of(fields: Iterable[Field]) -> Tuple[str, str]:
     """The make and the model in a block of Exif."""
     values = {it.tag: it.content for it in fields if names_camera(it) and isinstance(it.content, bytes)}
+    if not values:
+        return "", ""
     make, model = (decoded(values.get(key, b""))[0] for key in _CAMERA)
     return make, model
 
@@ -250,63 +281,63 @@ _CAN_BE_OWN = ("caption", COMMENT)
 _CAMERA = ("010f", "0110")  # make and model
 
 
-def _of_octets(label: Label, standard: str, field: str, values: Sequence[bytes], is_utf8: bool) -> LabelText:
-    both = [decoded(it, is_utf8) for it in values]
-    guess = next((it for _, it in both if it), "")
-    return LabelText(label.word, standard, field, tuple(text.strip(" \0") for text, _ in both), tuple(values), guess)
+def _octets(field: Optional[Field]) -> bytes:
+    return field.content if field and isinstance(field.content, bytes) else b""
 
 
-def _extra(exif: _Values) -> Iterator[LabelText]:
+def _of_octets(word: str, standard: str, field: str, values: Sequence[bytes], is_utf8: bool) -> Caption:
+    texts, guesses = zip(*[decoded(it, is_utf8) for it in values])
+    guess = next(filter(None, guesses), "")
+    return Caption(word, standard, field, tuple([text.strip(" \0") for text in texts]), tuple(values), guess)
+
+
+def _extra(exif: Dict[str, Field]) -> Iterator[Caption]:
     """The comment, and what Windows writes."""
-    for octets in exif.get("9286", []):
-        text = comment(octets)
-        if text:
-            yield LabelText(COMMENT, NAMES[EXIF], group_name("exif", "9286"), (text,), is_extra=True)
-    for tag, word in WINDOWS.items():
-        for octets in exif.get(tag, []):
-            text = octets[: len(octets) & ~1].decode("utf-16-le", "replace").rstrip("\0 ")
+    for tag in ("9286", *WINDOWS):
+        if tag in exif:
+            text = text_of_comment(exif[tag]) if tag == "9286" else _wide_text(_octets(exif[tag]))
             if text:
-                yield LabelText(word, NAMES[EXIF], group_name("main", tag), (text,), is_extra=True)
+                yield Caption(_EXIF[tag], NAMES[EXIF], _NAMES[exif[tag].directory, tag], (text,), is_extra=True)
+
+
+def _wide_text(octets: bytes) -> str:
+    return octets[: len(octets) & ~1].decode("utf-16-le", "replace").rstrip("\0 ")
 
 
 # Dates
 
 
-def _dates(exif: _Values, record: _Values) -> Iterator[LabelText]:
+def _dates(exif: Dict[str, Field], record: Dict[str, List[bytes]]) -> Iterator[Caption]:
     """The date of the picture, with its time and its parts of a second, if they are there."""
+    taken, part, zone = (_ascii(_octets(exif.get(tag))) for tag in ("9003", "9291", "9011"))
     if "9003" in exif:
-        text = _text(exif["9003"]).replace(":", "-", 2)
-        text += f".{_text(exif['9291'])}" if _text(exif.get("9291")).isdigit() else ""
-        zone = _text(exif.get("9011"))
+        text = taken.replace(":", "-", 2) + f".{part}" * part.isdigit()
         text += zone if re.fullmatch(r"Z|[+-]\d\d:\d\d", zone) else ""
-        yield LabelText(DATE, NAMES[EXIF], group_name("exif", "9003"), (text if text.strip(" -:0.") else "",))
+        yield Caption(DATE, NAMES[EXIF], _NAMES[exif["9003"].directory, "9003"], (text if text.strip(" -:0.") else "",))
     if "2:55" in record:
-        day, time = _text(record["2:55"]), _text(record.get("2:60"))
+        day, time = _ascii(record["2:55"][0]), _ascii(record.get("2:60", [b""])[0])
         text = re.sub(r"^(\d{4})(\d\d)(\d\d)$", r"\1-\2-\3", day)
-        text += re.sub(r"^(\d\d)(\d\d)(\d\d)(?:([+-]\d\d)(\d\d))?$", _time, time) if re.match(r"\d{6}", time) else ""
-        yield LabelText(DATE, NAMES[IPTC], group_name("iptc", "2:55"), (text if text.strip(" -:0+") else "",))
+        clock = re.sub(r"^(\d\d)(\d\d)(\d\d(?:\.\d+)?)(?:([+-]\d\d)(\d\d))?$", _time, time)
+        text += f" {clock}" if re.match(r"\d{6}", time) else ""
+        yield Caption(DATE, NAMES[IPTC], _NAMES["iptc", "2:55"], (text if text.strip(" -:0+") else "",))
 
 
 def _time(match: "re.Match[str]") -> str:
-    return f" {match[1]}:{match[2]}:{match[3]}" + (f"{match[4]}:{match[5]}" if match[4] else "")
+    return f"{match[1]}:{match[2]}:{match[3]}" + (f"{match[4]}:{match[5]}" if match[4] else "")
 
 
-def _text(values: Optional[Sequence[bytes]]) -> str:
-    return values[0].decode("ascii", "replace").strip(" \0") if values else ""
+def _ascii(octets: bytes) -> str:
+    return octets.decode("ascii", "replace").strip(" \0")
 
 
 # XMP
 
 
-def _of_properties(fields: Sequence[Field]) -> Iterator[LabelText]:
+def _of_properties(fields: Sequence[Field]) -> Iterator[Caption]:
     """The texts of a packet, by its properties."""
-    by_key = {it.tag: tuple(text.strip() for value in it.content for text in texts_in(value)) for it in fields}  # type: ignore[arg-type]
+    by_key = {it.tag: tuple([text.strip() for value in it.content for text in texts_in(value)]) for it in fields}  # type: ignore[arg-type]
     for label in LABELS:
-        if label.xmp in by_key:
-            values = by_key[label.xmp]
-            yield LabelText(
-                label.word,
-                NAMES[XMP],
-                group_name("xmp", label.xmp),
-                tuple(it.replace("T", " ") for it in values) if label.word == DATE else values,
-            )
+        values = by_key.get(label.xmp)
+        if values is not None:
+            texts = tuple([it.replace("T", " ") for it in values]) if label.word == DATE else values
+            yield Caption(label.word, NAMES[XMP], _NAMES["xmp", label.xmp], texts)

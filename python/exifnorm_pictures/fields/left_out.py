@@ -8,7 +8,7 @@ from ..model.texts import Members, escaped
 from .choosing import Choice, hint
 
 
-BY_LISTING = "Fields are left out by their listing, which is tested, and not proved."
+BY_LISTING = "A result with fields left out is tested, and not proved."
 
 
 SHOWN = 6  # fields that are named in a line

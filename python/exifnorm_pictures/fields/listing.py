@@ -6,7 +6,7 @@ import hashlib
 import re
 from typing import Iterable, Iterator, Optional, Sequence, Tuple
 
-from ..model.texts import escaped
+from ..model.texts import quoted
 from ..model import xmp_values
 from ..model.xmp_values import Long, XmpValue
 from .field import Content, Field, Ratio
@@ -21,6 +21,11 @@ DIGITS = 32  # hexadecimal digits of SHA-256 that identify a value that isn't ke
 OCTETS = {"BYTE", "ASCII", "SBYTE", "UNDEFINED", "UTF8", "octets"}
 WIDE_TEXTS = {"9c9b", "9c9c", "9c9d", "9c9e", "9c9f"}  # of Windows: UTF-16, least significant byte first
 _OTHER_DATASETS = {"2:125", "2:202"}  # pictures
+DATASET_DATES = ("1:70", "2:30", "2:37", "2:47", "2:55", "2:62")
+DATASET_TIMES = ("1:80", "2:35", "2:38", "2:60", "2:63")
+DATASET_NUMBERS = ("1:0", "1:20", "1:22", "2:0")
+_GPS_COMMENTS = {"001b", "001c"}
+_MARKED = {"9286"} | _GPS_COMMENTS | WIDE_TEXTS  # tags of texts that aren't bare ones
 
 MAKER_NOTE = ("exif", "927c")
 
@@ -39,7 +44,7 @@ def rest_of(fields: Sequence[Field]) -> str:
 
 def is_comment(field: Field) -> bool:
     """Whether a field has eight bytes for a character set, and then its text (CIPA DC-008 4.6.6)."""
-    return field.tag == "9286" or (field.directory == "gps" and field.tag in ("001b", "001c"))
+    return field.tag == "9286" or (field.directory == "gps" and field.tag in _GPS_COMMENTS)
 
 
 def is_wide_text(field: Field) -> bool:
@@ -72,7 +77,7 @@ def kept_value(field: Field) -> Content:
     if isinstance(value, bytes):
         if field.directory == "thumb" and field.type == "octets":
             return Long(digest_of(value), b"")
-        return Long(digest_of(value), value[:8]) if len(value) > LONGEST_BYTES and _is_long(field, value) else value
+        return value if len(value) <= LONGEST_BYTES or not _is_long(field, value) else Long(digest_of(value), value[:8])
     if isinstance(value, Long):
         return value
     if field.directory == "xmp":
@@ -94,11 +99,9 @@ def _kept_property(value: XmpValue) -> XmpValue:
         return value
     text = xmp_values.exact(value)
     octets = text.encode("utf-8", "surrogatepass")
-    return (
-        value
-        if len(octets) <= LONGEST_TEXT or isinstance(value, Long)
-        else Long(digest_of(xmp_values.identity(value).encode("utf-8", "surrogatepass")), text[:60])
-    )
+    if len(octets) <= LONGEST_TEXT or isinstance(value, Long):
+        return value
+    return Long(digest_of(xmp_values.identity(value).encode("utf-8", "surrogatepass")), text[:60])
 
 
 # Exact values
@@ -130,8 +133,7 @@ def _exact_long(field: Field, value: Long) -> str:
 def _exact_octets(field: Field, octets: bytes) -> str:
     marked = marked_text(field, octets)
     if marked is not None:
-        mark, text = marked
-        return mark + '"' + escaped(text).replace('"', '\\"') + '"'
+        return marked[0] + quoted(marked[1])
     return f"0x{octets.hex()}" if len(octets) <= LONGEST_BYTES else f"0x{octets[:8].hex()}.. sha256:{digest_of(octets)}"
 
 
@@ -146,10 +148,11 @@ def numbers_text(kind: str, values: "Tuple[int, ...] | Tuple[Ratio, ...]") -> st
 
 def marked_text(field: Field, octets: bytes) -> Optional[Tuple[str, str]]:
     """Bytes as a text that can be printed, without the NUL at its end, and a mark for its form; None if they are none."""
-    if is_wide_text(field) and (text := _wide_text(octets)) is not None:
-        return "utf-16 ", text
-    if is_comment(field) and octets[:8] == b"ASCII\0\0\0" and (text := _printable(octets[8:])) is not None:
-        return "ascii ", text
+    if field.tag in _MARKED:
+        if is_wide_text(field) and (text := _wide_text(octets)) is not None:
+            return "utf-16 ", text
+        if is_comment(field) and octets[:8] == b"ASCII\0\0\0" and (text := _printable(octets[8:])) is not None:
+            return "ascii ", text
     plain = plain_text(octets)
     return None if plain is None else ("", plain)
 
@@ -161,9 +164,13 @@ def plain_text(octets: bytes) -> Optional[str]:
 
 def _printable(octets: bytes) -> Optional[str]:
     try:
-        text = octets.decode("utf-8")
+        return printable(octets.decode("utf-8"))
     except UnicodeDecodeError:
         return None
+
+
+def printable(text: str) -> Optional[str]:
+    """A text of which each character can be printed, or is the end of a line or a tab; None of another one."""
     return text if text.isprintable() or text.translate(_LINES).isprintable() else None
 
 

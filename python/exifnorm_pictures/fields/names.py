@@ -124,8 +124,3 @@ def name_of(where: str, key: str) -> str:
         if key in table:
             return table[key]
     return {"jpeg": "JPEG thumbnail", "strip": "Strip"}.get(key, f"{'DataSet' if ':' in key else 'Tag'} {key}")
-
-
-def full_name(where: str, key: str) -> str:
-    """The name with its directory, as in lists of changes: `exif:MakerNote`."""
-    return f"{where}:{name_of(where, key)}"

@@ -2,14 +2,14 @@
 
 from __future__ import annotations
 
+import math
 import re
 from fractions import Fraction
-from typing import Dict, Iterable, NamedTuple, Optional
+from typing import Dict, Iterable, List, NamedTuple, Optional, Sequence, Tuple
 
 from ..model.xmp_values import texts_in
 from .field import Field
-from .plain_numbers import degrees
-from .plain_texts import text_of
+from .plain_numbers import degrees, denominators
 
 
 class Place(NamedTuple):
@@ -39,6 +39,92 @@ def is_of_position(field: Field) -> bool:
     return field.directory == "gps" or (field.directory == "xmp" and field.tag in ("exif:GPSLatitude", "exif:GPSLongitude"))
 
 
+def of_position(fields: Sequence[Field]) -> List[Field]:
+    """Those of some fields of which a position is made."""
+    return [it for it in fields if it.directory in ("gps", "xmp") and is_of_position(it)]
+
+
+_LETTERS = {"0002": "0001", "0004": "0003", "0014": "0013", "0016": "0015"}  # by the tag of an angle of GPS: that of its direction
+
+
+def is_angle(field: Field) -> bool:
+    """Whether a field is a latitude or a longitude of GPS in Exif, which has degrees, minutes and seconds."""
+    return field.directory == "gps" and field.tag in _LETTERS
+
+
+def signed_degrees(angle: Field, fields: Iterable[Field]) -> Optional[Fraction]:
+    """An angle by the fields of its block, south and west of which are negative; without a letter it has no sign. None if it is no angle.
+
+    >>> west = Field("gps", "0003", "ASCII", 2, b"W\\0")
+    >>> signed_degrees(Field("gps", "0004", "RATIONAL", 3, ((7, 1), (30, 1), (0, 1))), [west])
+    Fraction(-15, 2)
+    """
+    value = degrees(angle)
+    letters = [it for it in fields if (it.directory, it.tag) == ("gps", _LETTERS[angle.tag])]
+    is_negative = bool(letters) and direction(letters[0]) in ("S", "W")
+    return -value if value is not None and is_negative else value
+
+
+def direction(letter: Field) -> str:
+    """The direction of a latitude or of a longitude, N, S, E or W: its first letter, also if it is small or begins a word, as ExifTool has it.
+    Empty if the letter is another one.
+
+    >>> direction(Field("gps", "0003", "ASCII", 5, b"West\\0")), direction(Field("gps", "0003", "ASCII", 2, b"S\\0"))
+    ('W', '')
+    """
+    first = letter.content[:1].decode("latin-1").upper() if isinstance(letter.content, bytes) else ""
+    return first if first in tuple("NS" if letter.tag in ("0001", "0013") else "EW") else ""
+
+
+class Angle(NamedTuple):
+    """A latitude or a longitude as it is written."""
+
+    degrees: Fraction
+    last: Fraction  # the last place of its form, in degrees
+
+
+class Located(NamedTuple):
+    """Where a picture was taken, as one standard has it."""
+
+    latitude: Angle
+    longitude: Angle
+
+    @property
+    def place(self) -> Place:
+        """The same as numbers."""
+        return Place(float(self.latitude.degrees), float(self.longitude.degrees))
+
+
+def located(fields: Iterable[Field]) -> Tuple[Optional[Located], Optional[Located]]:
+    """The position that Exif has, and that of XMP; None if a part is missing or is no angle of the earth."""
+    gps, properties = _by_tag(fields)
+    exif = _located(_of_exif(gps.get("0002"), gps.get("0001")), _of_exif(gps.get("0004"), gps.get("0003")))
+    return exif, _located(_of_xmp(properties.get("exif:GPSLatitude"), "NS"), _of_xmp(properties.get("exif:GPSLongitude"), "EW"))
+
+
+def _by_tag(fields: Iterable[Field]) -> Tuple[Dict[str, Field], Dict[str, Field]]:
+    """The fields of GPS in Exif, and those in XMP."""
+    gps: Dict[str, Field] = {}
+    properties: Dict[str, Field] = {}
+    for field in fields:
+        if field.directory == "gps":
+            gps.setdefault(field.tag, field)
+        elif is_of_position(field):
+            properties.setdefault(field.tag, field)
+    return gps, properties
+
+
+def has_angles(fields: Iterable[Field]) -> bool:
+    """Whether there are a latitude and a longitude, also such that make no position because a direction is missing or is another letter, or
+    because they are none of the earth: other programs may show a place.
+
+    >>> has_angles([Field("gps", key, "RATIONAL", 3, ((7, 1), (30, 1), (0, 1))) for key in ("0002", "0004")])
+    True
+    """
+    gps, properties = _by_tag(fields)
+    return all(key in gps and degrees(gps[key]) is not None for key in ("0002", "0004")) or len(properties) == 2
+
+
 def position_of(fields: Iterable[Field]) -> Optional[Place]:
     """The position that Exif has, otherwise that of XMP; None if a part is missing or is no angle of the earth.
 
@@ -48,32 +134,75 @@ def position_of(fields: Iterable[Field]) -> Optional[Place]:
     ... ])
     Place(latitude=-33.5, longitude=7.202166666666667)
     """
-    gps: Dict[str, Field] = {}
-    properties: Dict[str, Field] = {}
+    exif, xmp = located(fields)
+    either = exif or xmp
+    return either.place if either else None
+
+
+def is_same_place(position: Located, other: Located) -> bool:
+    """Whether two positions are the same as far as both are written: the one that is written less exactly may be rounded or cut off, so that it
+    is up to its last place beside the other."""
+    pairs = ((position.latitude, other.latitude, 0), (position.longitude, other.longitude, 360))
+    return all(_apart(mine, its, turn) <= max(mine.last, its.last) for mine, its, turn in pairs)
+
+
+def _apart(angle: Angle, other: Angle, turn: int) -> Fraction:
+    """The angle between two, of which one of longitude may be the other way round the earth."""
+    apart = abs(angle.degrees - other.degrees)
+    return min(apart, turn - apart) if turn else apart
+
+
+def metres_apart(place: Place, other: Place) -> float:
+    """The way on the surface of a round earth.
+
+    >>> round(metres_apart(Place(0.0, 0.0), Place(1.0, 0.0)) / 1852)  # a sea mile is a minute
+    60
+    """
+    first, second = math.radians(place.latitude), math.radians(other.latitude)
+    turned = math.radians(other.longitude - place.longitude)
+    half = math.sin((second - first) / 2) ** 2 + math.cos(first) * math.cos(second) * math.sin(turned / 2) ** 2
+    return 2 * 6_371_000 * math.asin(min(1.0, math.sqrt(half)))
+
+
+def altitude_of(fields: Iterable[Field]) -> Optional[float]:
+    """The height that Exif has, otherwise that of XMP, in metres above the sea or above the ellipsoid; None without one.
+
+    >>> altitude_of([Field("gps", "0005", "BYTE", 1, b"\\1"), Field("gps", "0006", "RATIONAL", 1, ((25, 2),))])
+    -12.5
+    """
+    values: Dict[Tuple[str, str], object] = {}
     for field in fields:
-        if field.directory == "gps":
-            gps.setdefault(field.tag, field)
-        elif is_of_position(field):
-            properties.setdefault(field.tag, field)
-    exif = _place(_of_exif(gps.get("0002"), gps.get("0001"), "NS"), _of_exif(gps.get("0004"), gps.get("0003"), "EW"))
-    return exif or _place(_of_xmp(properties.get("exif:GPSLatitude"), "NS"), _of_xmp(properties.get("exif:GPSLongitude"), "EW"))
+        if (field.directory, field.tag) in _ALTITUDE:
+            values.setdefault((field.directory, field.tag), field.value)
+    for reference, height in (_ALTITUDE[:2], _ALTITUDE[2:]):
+        number = values.get(height)
+        if isinstance(number, Fraction):
+            return float(number) * (-1 if values.get(reference) in (1, 3) else 1)  # below the ellipsoid, or below the sea (Exif 3.0)
+    return None
 
 
-def _place(latitude: Optional[Fraction], longitude: Optional[Fraction]) -> Optional[Place]:
-    if latitude is None or longitude is None or abs(latitude) > 90 or abs(longitude) > 180:
+_ALTITUDE = (("gps", "0005"), ("gps", "0006"), ("xmp", "exif:GPSAltitudeRef"), ("xmp", "exif:GPSAltitude"))
+
+
+def _located(latitude: Optional[Angle], longitude: Optional[Angle]) -> Optional[Located]:
+    if latitude is None or longitude is None or abs(latitude.degrees) > 90 or abs(longitude.degrees) > 180:
         return None
-    return Place(float(latitude), float(longitude))
+    return Located(latitude, longitude)
 
 
-def _of_exif(angle: Optional[Field], letter: Optional[Field], signs: str) -> Optional[Fraction]:
-    """An angle of GPS: degrees, minutes and seconds, and the letter of its direction (CIPA DC-008, 4.6.6)."""
+def _of_exif(angle: Optional[Field], letter: Optional[Field]) -> Optional[Angle]:
+    """An angle of GPS: degrees, minutes and seconds, and the letter of its direction (CIPA DC-008, 4.6.6). Each of the three numbers is a
+    fraction, and the one with the smallest part is the last that is known."""
     if angle is None or letter is None:
         return None
-    value, sign = degrees(angle), text_of(letter)
-    return None if value is None or sign not in tuple(signs) else value * (1 if sign == signs[0] else -1)
+    value, sign = degrees(angle), direction(letter)
+    if value is None or not sign:
+        return None
+    last = min(Fraction(1, abs(part)) / 60**at for at, part in enumerate(denominators(angle)))
+    return Angle(value * (-1 if sign in ("S", "W") else 1), last)
 
 
-def _of_xmp(field: Optional[Field], signs: str) -> Optional[Fraction]:
+def _of_xmp(field: Optional[Field], signs: str) -> Optional[Angle]:
     """An angle of XMP: `54,59,22.8N` or `54,59.38N` (XMP part 2, 8.7.5)."""
     if field is None or not isinstance(field.content, tuple):
         return None
@@ -82,4 +211,5 @@ def _of_xmp(field: Optional[Field], signs: str) -> Optional[Fraction]:
     if match is None or match[4] not in signs:
         return None
     angle = Fraction(match[1]) + Fraction(match[2]) / 60 + Fraction(match[3] or 0) / 3600
-    return angle * (1 if match[4] == signs[0] else -1)
+    last = min(Fraction(1, 10 ** len(part.partition(".")[2])) / 60**at for at, part in ((1, match[2]), (2, match[3])) if part)
+    return Angle(angle * (1 if match[4] == signs[0] else -1), last)

@@ -58,9 +58,14 @@ def number(field: Field, words: Callable[[Fraction], Optional[str]]) -> Optional
     return UNKNOWN if ratios[0] is None else words(ratios[0])
 
 
+def of_number(words: Callable[[Fraction], Optional[str]]) -> Rule:
+    """A rule for a single number."""
+    return lambda it: number(it, words)
+
+
 def with_unit(unit: str, places: int = 4) -> Rule:
     """A rule for a number with a unit."""
-    return lambda it: number(it, lambda one: f"{decimal(one, places)}{unit}")
+    return of_number(lambda one: f"{decimal(one, places)}{unit}")
 
 
 def seconds(time: Fraction) -> str:
@@ -72,37 +77,34 @@ def seconds(time: Fraction) -> str:
     return f"1/{round(1 / time)} s" if 0 < time < Fraction(1, 4) else f"{decimal(time, 2)} s"
 
 
-def exposure_time(field: Field) -> Optional[str]:
-    """ExposureTime."""
-    return number(field, seconds)
+exposure_time = of_number(seconds)
+aperture_number = of_number(lambda one: f"f/{decimal(one, 1)}")
+# In the units of APEX (CIPA DC-008, annex C): the f-number is the root of two to this power, and the seconds are two to the power of minus it
+aperture_value = of_number(lambda one: f"f/{2 ** (float(one) / 2):.1f}" if -20 < one < 40 else None)
+shutter_speed = of_number(lambda one: seconds(Fraction(2.0 ** -float(one)).limit_denominator(1000000)) if -20 < one < 30 else None)
+exposure_value = of_number(lambda one: f"{'+' if one > 0 else ''}{decimal(one, 2)} EV")  # a correction of the exposure
 
 
-def aperture_number(field: Field) -> Optional[str]:
-    """FNumber."""
-    return number(field, lambda one: f"f/{decimal(one, 1)}")
+def denominators(field: Field) -> List[int]:
+    """Into how many parts each number of a field is divided, as it is written: those of 30/10 are tenths.
 
-
-def aperture_value(field: Field) -> Optional[str]:
-    """An aperture in the units of APEX: the f-number is the root of two to its power (CIPA DC-008, annex C)."""
-    return number(field, lambda one: f"f/{2 ** (float(one) / 2):.1f}" if -20 < one < 40 else None)
-
-
-def shutter_speed(field: Field) -> Optional[str]:
-    """An exposure time in the units of APEX: two to the power of minus this number is the time in seconds."""
-    return number(field, lambda one: seconds(Fraction(2.0 ** -float(one)).limit_denominator(1000000)) if -20 < one < 30 else None)
-
-
-def exposure_value(field: Field) -> Optional[str]:
-    """A correction of the exposure, with its sign."""
-    return number(field, lambda one: f"{'+' if one > 0 else ''}{decimal(one, 2)} EV")
+    >>> denominators(Field("gps", "0002", "RATIONAL", 3, ((46, 1), (1213, 100), (0, 1))))
+    [1, 100, 1]
+    """
+    values: Any = kept_value(field)
+    return [one[1] if isinstance(one, tuple) else 1 for one in values]
 
 
 def degrees(field: Field) -> Optional[Fraction]:
     """An angle of degrees, minutes and seconds as degrees."""
-    parts = fractions(field)
-    if parts is None or len(parts) != 3 or None in parts:
-        return None
-    return sum(((one or Fraction(0)) / Fraction(60) ** place for place, one in enumerate(parts)), Fraction(0))
+    parts = _three(field)
+    return sum((one / Fraction(60) ** place for place, one in enumerate(parts)), Fraction(0)) if parts else None
+
+
+def _three(field: Field) -> Optional[List[Fraction]]:
+    """The numbers of a field that has three."""
+    parts = fractions(field) or []
+    return [one for one in parts if one is not None] if len(parts) == 3 and None not in parts else None
 
 
 def angle(field: Field) -> Optional[str]:
@@ -120,10 +122,10 @@ def angle(field: Field) -> Optional[str]:
 
 def clock(field: Field) -> Optional[str]:
     """GPSTimeStamp."""
-    parts = fractions(field)
-    if parts is None or len(parts) != 3 or None in parts:
+    parts = _three(field)
+    if parts is None:
         return None
-    hours, minutes, rest = (one or Fraction(0) for one in parts)
+    hours, minutes, rest = parts
     whole, part = divmod(rest, 1)
     return f"{int(hours):02}:{int(minutes):02}:{int(whole):02}{decimal(part, 3)[1:] if part else ''} UTC"
 
@@ -175,20 +177,19 @@ def iptc_time(field: Field) -> Optional[str]:
 
 def iptc_number(field: Field) -> Optional[str]:
     """A binary number of IIM in two bytes."""
-    return (
-        str(int.from_bytes(field.content, "big"))
-        if isinstance(field.content, bytes) and len(field.content) == 2 and text_of(field) is None
-        else None
-    )
+    octets = _octets(field, 2)
+    return str(int.from_bytes(octets, "big")) if octets else None
 
 
 def dotted(field: Field) -> Optional[str]:
     """A version of four bytes, as GPSVersionID."""
-    return (
-        ".".join(map(str, field.content))
-        if isinstance(field.content, bytes) and len(field.content) == 4 and text_of(field) is None
-        else None
-    )
+    octets = _octets(field, 4)
+    return ".".join(map(str, octets)) if octets else None
+
+
+def _octets(field: Field, length: int) -> Optional[bytes]:
+    """The bytes of a field with so many, unless they are a text."""
+    return field.content if isinstance(field.content, bytes) and len(field.content) == length and text_of(field) is None else None
 
 
 def version(field: Field) -> Optional[str]:

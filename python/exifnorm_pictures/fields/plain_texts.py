@@ -2,12 +2,12 @@
 
 from __future__ import annotations
 
-from typing import List, Optional, Tuple
+from typing import Callable, List, Optional, Tuple
 
-from ..model.texts import escaped
+from ..model.texts import quoted
 from ..model.xmp_values import Long, simple_texts
 from .field import Field
-from .listing import exact, kept_value, marked_text, shortened
+from .listing import exact, kept_value, marked_text, printable, shortened
 
 EMPTY = "(empty)"
 
@@ -23,15 +23,6 @@ def text_of(field: Field) -> Optional[str]:
     return None if marked is None else marked[1]
 
 
-def quoted(text: str) -> str:
-    r"""A text in quotes in one line.
-
-    >>> print(quoted('a "b"\n'))
-    "a \"b\"\n"
-    """
-    return '"' + escaped(text).replace('"', '\\"') + '"'
-
-
 def is_utf8(octets: bytes) -> bool:
     """Whether the bytes are UTF-8."""
     try:
@@ -41,47 +32,80 @@ def is_utf8(octets: bytes) -> bool:
     return True
 
 
-def guessed(octets: bytes) -> str:
-    """A text whose character set isn't declared: UTF-8 if it can be, otherwise Windows-1252.
+def guessed(octets: bytes, filling: bytes = b"\0 ") -> str:
+    """A text whose character set isn't declared, without the filling at its end: UTF-8 if it can be, otherwise Windows-1252.
 
     >>> guessed(b"Z\\xfcrich\\0"), guessed(b"Z\\xc3\\xbcrich")
     ('Zürich', 'Zürich')
     """
-    bare = octets.rstrip(b"\0 ")
+    bare = octets.rstrip(filling)
     return bare.decode("utf-8" if is_utf8(bare) else "cp1252", "backslashreplace")
 
 
-# CIPA DC-008 (Exif 2.32), 4.6.6: eight bytes in front of a comment name its character set
-_CHARACTER_SETS = {b"ASCII\0\0\0": "ascii", b"JIS\0\0\0\0\0": "iso2022_jp", b"\0" * 8: ""}
+# CIPA DC-008 (Exif 2.32), 4.6.6: eight bytes in front of a comment name its character set. Some programs fill them with blanks.
+_CHARACTER_SETS = ("ASCII", "UNICODE", "JIS", "")
+_HEAD = 8
 
 
 def comment(octets: bytes) -> Optional[str]:
     """The text of a UserComment, up to its end; empty if there is none, None if it is in no known character set.
 
-    The byte order of a Unicode text isn't declared: the one that gives fewer characters beyond Latin is taken.
+    The byte order of a Unicode text isn't declared: the one that gives fewer characters beyond Latin is taken. Text that isn't ASCII after
+    `ASCII` is that of a program that wrote its own character set, as it is where none is declared.
 
     >>> comment(b"ASCII\\0\\0\\0Vase  "), comment(b"UNICODE\\0" + "Zürich".encode("utf-16-be")), comment(b"\\0" * 20)
     ('Vase', 'Zürich', '')
+    >>> comment(b"ASCII   Z\\xfcrich"), comment(b"Z\\xfcrich"), comment(b"\\xff\\xfe\\xfd")
+    ('Zürich', 'Zürich', None)
     """
-    head, rest = octets[:8], octets[8:]
-    if not octets.strip(b"\0 ") or not rest.strip(b"\0 "):
+    name, rest = _character_set(octets), octets[_HEAD:]
+    if not octets.strip(b"\0 ") or (name is not None and not rest.strip(b"\0 ")):
         return ""
+    if name is None:
+        return _bare_comment(octets)
+    if name == "UNICODE":
+        both = [rest[: len(rest) & ~1].decode(it, "replace") for it in ("utf-16-be", "utf-16-le")]
+        return min(both, key=lambda it: sum(ord(one) > 0x2FF for one in it)).partition("\0")[0].rstrip()
+    text = rest.partition(b"\0")[0]
     try:
-        if head == b"UNICODE\0":
-            both = [rest[: len(rest) & ~1].decode(it, "replace") for it in ("utf-16-be", "utf-16-le")]
-            return min(both, key=lambda it: sum(ord(one) > 0x2FF for one in it)).partition("\0")[0].rstrip()
-        encoding = _CHARACTER_SETS[head] or ("utf-8" if is_utf8(rest) else "cp1252")
-        return rest.decode(encoding).partition("\0")[0].rstrip()
-    except (KeyError, UnicodeDecodeError):
+        return text.decode("iso2022_jp" if name == "JIS" else "utf-8" if is_utf8(text) else "cp1252").rstrip()
+    except UnicodeDecodeError:
         return None
+
+
+def _character_set(octets: bytes) -> Optional[str]:
+    """The character set that is named in front of a comment, empty for an unknown one; None if nothing like that is there."""
+    name = octets[:_HEAD].rstrip(b"\0 ").decode("latin-1")
+    return name if len(octets) >= _HEAD and name in _CHARACTER_SETS else None
+
+
+def _bare_comment(octets: bytes) -> Optional[str]:
+    """The text of a comment without a character set in front: UTF-8, or Windows-1252 if most of its bytes are ASCII. Bytes that aren't text may
+    begin like a short one."""
+    bare, _, rest = octets.partition(b"\0")
+    is_known = is_utf8(bare) or 2 * sum(octet < 0x80 for octet in bare) > len(bare)
+    if not is_known or (len(bare) < _HEAD and rest.strip(b"\0 ")):
+        return None
+    try:
+        text = printable(bare.decode("utf-8" if is_utf8(bare) else "cp1252"))
+    except UnicodeDecodeError:
+        return None
+    return None if text is None else text.rstrip()
+
+
+def text_of_comment(field: Field) -> Optional[str]:
+    """The text of a UserComment; of one that is a text by its type all that is in front of a NUL, unless a character set is there."""
+    octets = field.content
+    if not isinstance(octets, bytes):
+        return None
+    if field.type in ("ASCII", "UTF8") and _character_set(octets) is None:
+        return guessed(octets.partition(b"\0")[0])
+    return comment(octets)
 
 
 def plain_comment(field: Field) -> Optional[str]:
     """The text of a comment for people; None if it is in no known character set."""
-    text = text_of(field)
-    if text is not None:
-        return text.partition("\0")[0].rstrip() or EMPTY
-    text = comment(field.content) if isinstance(field.content, bytes) else None
+    text = text_of_comment(field)
     return None if text is None else text or EMPTY
 
 
@@ -98,31 +122,16 @@ def xmp_texts(field: Field) -> Optional[List[Tuple[str, str]]]:
         return None
 
 
-def plain_xmp(field: Field) -> str:
-    """The texts of a property, separated by semicolons, each with its language unless x-default is the only one.
+def plain_xmp(field: Field, between: str = "; ", shown: Callable[[str], str] = str) -> str:
+    """The texts of a property, each with its language unless x-default is the only one.
 
     >>> from ..model.xmp_values import Array, Literal
-    >>> plain_xmp(Field("xmp", "dc:title", "Alt", 2, (Array("Alt", (Literal("Vase", "x-default"), Literal("Krug", "de"))),)))
-    'Vase (x-default); Krug (de)'
-    """
-    texts = xmp_texts(field)
-    if texts is None:
-        return shortened(exact(field))
-    languages = {language for _, language in texts if language}
-    if languages <= {"x-default"}:
-        return "; ".join(text for text, _ in texts)
-    return "; ".join(f"{text} ({language})" if language else text for text, language in texts)
-
-
-def quoted_xmp(field: Field) -> str:
-    """The texts of a property in one line, each in quotes and with its language unless x-default is the only one.
-
-    >>> from ..model.xmp_values import Array, Literal
-    >>> quoted_xmp(Field("xmp", "dc:title", "Alt", 2, (Array("Alt", (Literal("Vase", "x-default"), Literal("Krug", "de"))),)))
-    '"Vase" (x-default), "Krug" (de)'
+    >>> title = Field("xmp", "dc:title", "Alt", 2, (Array("Alt", (Literal("Vase", "x-default"), Literal("Krug", "de"))),))
+    >>> plain_xmp(title), plain_xmp(title, ", ", quoted)
+    ('Vase (x-default); Krug (de)', '"Vase" (x-default), "Krug" (de)')
     """
     texts = xmp_texts(field)
     if texts is None:
         return shortened(exact(field))
     shows_language = not {language for _, language in texts if language} <= {"x-default"}
-    return ", ".join(quoted(text) + (f" ({language})" if shows_language and language else "") for text, language in texts) or EMPTY
+    return between.join(shown(text) + (f" ({language})" if shows_language and language else "") for text, language in texts) or EMPTY

@@ -5,15 +5,16 @@ A value without plain words stays as it is printed exactly.
 
 from __future__ import annotations
 
-from typing import Dict, Optional
+from typing import Dict, Optional, Tuple
 
-from ..model.texts import escaped
+from ..model.texts import escaped, quoted
 from ..model.xmp_values import Literal
 from . import plain_numbers as numbers
 from .field import Field
-from .listing import OCTETS, exact, is_comment, kept_value, shortened
+from .listing import DATASET_DATES, DATASET_NUMBERS, DATASET_TIMES, OCTETS, exact, is_comment, kept_value, marked_text, shortened
 from .plain_numbers import Rule, decimal, degrees, fractions, with_unit
-from .plain_texts import EMPTY, guessed, plain_comment, plain_xmp, quoted, quoted_xmp, text_of
+from .places import direction
+from .plain_texts import EMPTY, guessed, plain_comment, plain_xmp, text_of
 
 # Words for numbers: TIFF 6.0 and CIPA DC-008 (Exif 2.32), 4.6
 _WORDS: Dict[str, Dict[str, str]] = {}
@@ -78,13 +79,12 @@ def _letter(words: Dict[str, str]) -> Rule:
     return lambda it: words.get(text_of(it) or "")
 
 
+_DIRECTIONS = {"N": "north", "S": "south", "E": "east", "W": "west"}
+
+
 def _byte(*words: str) -> Rule:
     known = {bytes([number]): word for number, word in enumerate(words)}
     return lambda it: known.get(it.content) if isinstance(it.content, bytes) else None
-
-
-def _character_set(field: Field) -> Optional[str]:
-    return "UTF-8" if field.content == b"\x1b%G" else None
 
 
 _EXIF: Dict[str, Rule] = {
@@ -109,8 +109,7 @@ _GPS: Dict[str, Rule] = {
     **dict.fromkeys(("0002", "0004", "0014", "0016"), numbers.angle),
     **dict.fromkeys(("000f", "0011", "0018"), with_unit("°", 2)),
     **dict.fromkeys(("001b", "001c"), plain_comment),
-    **dict.fromkeys(("0001", "0013"), _letter({"N": "north", "S": "south"})),
-    **dict.fromkeys(("0003", "0015"), _letter({"E": "east", "W": "west"})),
+    **dict.fromkeys(("0001", "0013", "0003", "0015"), lambda it: _DIRECTIONS.get(direction(it))),
     **dict.fromkeys(("000c", "0019"), _letter({"K": "kilometres", "M": "miles", "N": "nautical miles"})),
     "0000": numbers.dotted,
     "0005": _byte("above sea level", "below sea level"),
@@ -121,10 +120,10 @@ _GPS: Dict[str, Rule] = {
     "001f": with_unit(" m", 1),
 }
 _IIM: Dict[str, Rule] = {
-    **dict.fromkeys(("1:70", "2:30", "2:37", "2:47", "2:55", "2:62"), numbers.iptc_date),
-    **dict.fromkeys(("1:80", "2:35", "2:38", "2:60", "2:63"), numbers.iptc_time),
-    **dict.fromkeys(("1:0", "1:20", "1:22", "2:0"), numbers.iptc_number),
-    "1:90": _character_set,
+    **dict.fromkeys(DATASET_DATES, numbers.iptc_date),
+    **dict.fromkeys(DATASET_TIMES, numbers.iptc_time),
+    **dict.fromkeys(DATASET_NUMBERS, numbers.iptc_number),
+    "1:90": lambda it: "UTF-8" if it.content == b"\x1b%G" else None,
 }
 _RULES = {"main": _EXIF, "exif": _EXIF, "thumb": _EXIF, "gps": _GPS, "iptc": _IIM}
 
@@ -136,8 +135,23 @@ def plain(field: Field) -> str:
     ('1/125 s', 'turn 90° clockwise to view')
     """
     if field.directory == "xmp":
-        return plain_xmp(field) or EMPTY
+        return plain_xmp(field)
     return _in_words(field) or _text(field) or _without_words(field)
+
+
+def plain_and_exact(field: Field) -> Tuple[str, str]:
+    """The results of `plain` and of `exact`, for which a text is looked at once.
+
+    >>> plain_and_exact(Field("main", "013b", "ASCII", 5, b"Otto\\0"))
+    ('Otto', '"Otto"')
+    """
+    rules = _RULES.get(field.directory)
+    if rules is not None and field.tag not in rules and isinstance(field.content, bytes):
+        value = kept_value(field)
+        marked = marked_text(field, value) if isinstance(value, bytes) else None
+        if marked is not None:
+            return marked[1].rstrip("\0 ") or EMPTY, marked[0] + quoted(marked[1])
+    return plain(field), exact(field)
 
 
 def in_line(field: Field) -> str:
@@ -147,7 +161,7 @@ def in_line(field: Field) -> str:
     ('"Otto"', '"Vase"')
     """
     if field.directory == "xmp":
-        return quoted_xmp(field)
+        return plain_xmp(field, ", ", quoted)
     words = _in_words(field)
     text = words if is_comment(field) else None if words else _text(field)
     if text is None or text == EMPTY:
@@ -199,8 +213,8 @@ def position(fields: Dict[str, Field]) -> Optional[str]:
     for letter, angle in _HALVES:
         if letter not in fields or angle not in fields:
             return None
-        value, name = degrees(fields[angle]), text_of(fields[letter])
-        if value is None or name not in ("N", "S", "E", "W"):
+        value, name = degrees(fields[angle]), direction(fields[letter])
+        if value is None or not name:
             return None
         words.append(f"{float(value):.6f}° {name}")
     return ", ".join(words)

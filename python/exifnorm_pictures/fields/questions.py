@@ -13,7 +13,7 @@ from __future__ import annotations
 import difflib
 import re
 from dataclasses import dataclass
-from typing import Iterable, List, NamedTuple, NoReturn, Optional, Sequence, Tuple, Union
+from typing import Callable, Iterable, Iterator, List, NamedTuple, NoReturn, Optional, Sequence, Tuple, Union
 
 from ..model.errors import WrongUse
 from ..model.texts import safe
@@ -79,23 +79,23 @@ def labels_of(question: Question) -> List[str]:
     >>> labels_of(question_of("without credit and creator = Anna or credit = x"))
     ['credit', 'creator']
     """
+    return list(dict.fromkeys(leaf.label for leaf in _leaves(question)))
+
+
+def _leaves(question: Question) -> Iterator[Union[With, Condition]]:
+    """What a question asks of single labels."""
     if isinstance(question, (With, Condition)):
-        return [question.label]
-    parts = (question.question,) if isinstance(question, Not) else question.questions
-    return list(dict.fromkeys(label for part in parts for label in labels_of(part)))
+        yield question
+    else:
+        for part in (question.question,) if isinstance(question, Not) else question.questions:
+            yield from _leaves(part)
 
 
 def all_of(questions: Sequence[Question]) -> Question:
     """The question whether each of some holds. Raises `WrongQuestion` if they have too many conditions together."""
-    if sum(map(_conditions, questions)) > MOST:
+    if sum(1 for question in questions for _ in _leaves(question)) > MOST:
         raise WrongQuestion(f"a question has at most {MOST} conditions, all options together")
     return questions[0] if len(questions) == 1 else All(tuple(questions))
-
-
-def _conditions(question: Question) -> int:
-    if isinstance(question, (With, Condition)):
-        return 1
-    return sum(map(_conditions, (question.question,) if isinstance(question, Not) else question.questions))
 
 
 def question_of(text: str) -> Question:
@@ -152,7 +152,9 @@ def _nearest(text: str) -> str:
     return f" (perhaps {near[0]} is meant)" if near else hint(text) or f". The labels are {', '.join(labels)}"
 
 
-class _Token(NamedTuple):
+class Token(NamedTuple):
+    """A part of a question or a rule: a word, a sign, or a text that was in quotes."""
+
     text: str
     start: int
     end: int
@@ -160,7 +162,7 @@ class _Token(NamedTuple):
 
     @property
     def word(self) -> str:
-        """The word in lower case; empty of a text in quotes, which is never a word of a question."""
+        """The word in lower case; empty of a text in quotes, which is never a word of the language."""
         return "" if self.is_quoted else self.text.lower()
 
 
@@ -180,26 +182,29 @@ class _Reader:
         self._at = 0
         self._depth = 0
 
-    def _split(self) -> List[_Token]:
-        tokens: List[_Token] = []
+    def _split(self) -> List[Token]:
+        tokens: List[Token] = []
         at = 0
         while True:
             at = re.compile(r"\s*").match(self._text, at).end()  # type: ignore[union-attr]
             if at == len(self._text):
-                return [*tokens, _Token("", at, at)]
+                return [*tokens, Token("", at, at)]
             match = _TOKEN.match(self._text, at)
             if match is None:
-                self._fail(_Token("", at, at + 1), "the quotes have no end" if self._text[at] == '"' else "this can't be understood")
+                self._fail(Token("", at, at + 1), "the quotes have no end" if self._text[at] == '"' else "this can't be understood")
             quoted = match[1] if match[1] is not None else match[2]
-            tokens.append(_Token(match[0] if quoted is None else quoted, match.start(), match.end(), quoted is not None))
+            if quoted is None and match[0].startswith("'"):  # it would be taken for a part of the text, which no picture has
+                token = Token(match[0], match.start(), match.end())
+                self._fail(token, "the quotes have no end; put a text that begins with an apostrophe, or has one, in double quotes")
+            tokens.append(Token(match[0] if quoted is None else quoted, match.start(), match.end(), quoted is not None))
             at = match.end()
 
-    def _fail(self, token: _Token, why: str) -> NoReturn:
+    def _fail(self, token: Token, why: str) -> NoReturn:
         mark = " " * token.start + "^" * max(1, token.end - token.start)
         raise WrongQuestion(why, f"  {' '.join(self._text.splitlines())}", f"  {mark}")
 
     @property
-    def _next(self) -> _Token:
+    def _next(self) -> Token:
         return self._tokens[self._at]
 
     def _takes(self, word: str) -> bool:
@@ -218,16 +223,18 @@ class _Reader:
         return question
 
     def _read_any(self) -> Question:
-        questions = [self._read_all()]
-        while self._takes("or"):
-            questions.append(self._read_all())
-        return questions[0] if len(questions) == 1 else Any(tuple(questions))
+        questions = self._read_joined("or", self._read_all)
+        return questions[0] if len(questions) == 1 else Any(questions)
 
     def _read_all(self) -> Question:
-        questions = [self._read_factor()]
-        while self._takes("and"):
-            questions.append(self._read_factor())
-        return questions[0] if len(questions) == 1 else All(tuple(questions))
+        questions = self._read_joined("and", self._read_factor)
+        return questions[0] if len(questions) == 1 else All(questions)
+
+    def _read_joined(self, word: str, read: Callable[[], Question]) -> Tuple[Question, ...]:
+        questions = [read()]
+        while self._takes(word):
+            questions.append(read())
+        return tuple(questions)
 
     def _read_factor(self) -> Question:
         token = self._next
@@ -257,7 +264,7 @@ class _Reader:
         tokens = self._tokens[first : self._at]
         if not tokens:
             self._fail(self._next, "expected: a label, such as keywords")
-        whole = _Token(self._text[tokens[0].start : tokens[-1].end], tokens[0].start, tokens[-1].end)
+        whole = Token(self._text[tokens[0].start : tokens[-1].end], tokens[0].start, tokens[-1].end)
         name = tokens[0].text if len(tokens) == 1 else whole.text
         label = _label_or_field(name)
         if label is None:
@@ -265,7 +272,7 @@ class _Reader:
             self._fail(whole, f"{name!r} is no label and no field{_nearest(name)}")
         return label
 
-    def _refuse_after_label(self, tokens: List[_Token]) -> None:
+    def _refuse_after_label(self, tokens: List[Token]) -> None:
         """Fails if some words begin with a label: what follows it is no comparison then."""
         for number in range(len(tokens) - 1, 0, -1):
             label = _label_or_field(self._text[tokens[0].start : tokens[number - 1].end])
@@ -280,36 +287,33 @@ class _Reader:
         self._at += 1
         value = self._read_value()
         if label == DATE and token.word in ("=", "!=", *ORDERED):
-            self._check_date(value)
+            self._check(value, r"\d{4}(-\d\d(-\d\d( \d\d(:\d\d(:\d\d(\.\d+)?)?)?)?)?)?", "a date, such as 1950, 1950-03 or 1950-03-21")
         elif token.word in ORDERED:
-            self._check_number(value)
+            self._check(value, r"[+-]?\d+(\.\d+)?", "a number")
         elif token.word == "like" and len(value.text) > LONGEST_PATTERN:
             self._fail(value._replace(end=value.start + 1), f"a pattern has at most {LONGEST_PATTERN:,} characters")
+        elif token.word in ("=", "!=", "has") and "*" in value.text and not value.is_quoted:
+            self._fail(value, "* is a wildcard only after like; put a text that has this character in quotes")
         if token.word == "!=":
             return Not(Condition(label, "=", value.text))
         return Condition(label, token.word, value.text)
 
-    def _read_value(self) -> _Token:
+    def _read_value(self) -> Token:
         """A text in quotes, or all up to a word that joins."""
         first = self._at
         if self._next.is_quoted:
             self._at += 1
             return self._tokens[first]
         if self._next.word in _SIGNS:  # as in == and <>, which other programs have
-            self._fail(
-                self._next, f"expected: a value. The comparisons are {' '.join(COMPARISONS)}; put a value that begins like that in quotes"
-            )
+            signs = " ".join(COMPARISONS)
+            self._fail(self._next, f"expected: a value. The comparisons are {signs}; put a value that begins like that in quotes")
         while self._next.word not in (*_JOINING, "(") and not self._next.is_quoted:
             self._at += 1
         tokens = self._tokens[first : self._at]
         if not tokens:
             self._fail(self._next, "expected: a value; in quotes if it has brackets, and, or")
-        return _Token(self._text[tokens[0].start : tokens[-1].end], tokens[0].start, tokens[-1].end)
+        return Token(self._text[tokens[0].start : tokens[-1].end], tokens[0].start, tokens[-1].end)
 
-    def _check_date(self, value: _Token) -> None:
-        if not re.fullmatch(r"\d{4}(-\d\d(-\d\d( \d\d(:\d\d(:\d\d(\.\d+)?)?)?)?)?)?", value.text):
-            self._fail(value, "expected: a date, such as 1950, 1950-03 or 1950-03-21")
-
-    def _check_number(self, value: _Token) -> None:
-        if not re.fullmatch(r"[+-]?\d+(\.\d+)?", value.text):
-            self._fail(value, "expected: a number")
+    def _check(self, value: Token, pattern: str, expected: str) -> None:
+        if not re.fullmatch(pattern, value.text):
+            self._fail(value, f"expected: {expected}")

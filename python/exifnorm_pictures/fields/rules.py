@@ -21,10 +21,11 @@ import os
 import re
 import time
 from dataclasses import dataclass
-from typing import Callable, Dict, Iterable, Iterator, List, NamedTuple, NoReturn, Optional, Sequence, Tuple
+from typing import Callable, Dict, Iterable, Iterator, List, NoReturn, Optional, Sequence, Tuple
 
 from ..model.errors import WrongUse
 from .labels import DATE, fields_by_label, label_of
+from .questions import LONGEST_PATTERN, Token
 
 NEEDS, VALUES, LIKE, NEVER, LENGTH, AFTER, BEFORE = "needs", "values", "like", "never", "length", "after", "before"
 _EVERY = ("every", "picture")
@@ -53,7 +54,6 @@ _MEANT = {  # words in place of a predicate, and what may be meant
 MOST_RULES = 1000
 MOST_WORDS = 1_000_000  # of the texts that all rules together allow
 LONGEST_LINE = 100_000  # characters
-LONGEST_PATTERN = 1000  # characters of `like`, with which SQLite may compare at each place of a text
 _MOST_MISTAKES = 20  # that are listed
 _SHOWN = 100  # characters of a line that are listed before and after the start of a mistake
 
@@ -154,22 +154,10 @@ class _Mistake(Exception):
         return [f"line {number}: {self.why}", f"  {shown}", f"  {mark}"]
 
 
-class _Token(NamedTuple):
-    text: str
-    start: int
-    end: int
-    is_quoted: bool
-
-    @property
-    def word(self) -> str:
-        """The word in lower case; empty of a text in quotes."""
-        return "" if self.is_quoted else self.text.lower()
-
-
 _TOKEN = re.compile(r"""\s*(?:"([^"]*)"|'([^']*)'(?=[\s,]|$)|(,)|(\#.*)|([^\s,"]+)|(\S))""")
 
 
-def _tokens(line: str) -> Iterator[_Token]:
+def _tokens(line: str) -> Iterator[Token]:
     at = 0
     while True:
         match = _TOKEN.match(line, at)
@@ -177,29 +165,32 @@ def _tokens(line: str) -> Iterator[_Token]:
             return
         if match[6]:
             raise _Mistake("the quotes have no end", match.start(6), len(line))
+        if match[5] and match[5].startswith("'"):  # it would be taken for a part of the text
+            why = "the quotes have no end; put a text that begins with an apostrophe, or has one, in double quotes"
+            raise _Mistake(why, match.start(5), match.end())
         quoted = match[1] if match[1] is not None else match[2]
         start = match.end() - len(match[0].lstrip())
-        yield _Token(match[3] or match[5] or quoted, start, match.end(), quoted is not None)
+        yield Token(match[3] or match[5] or quoted, start, match.end(), quoted is not None)
         at = match.end()
 
 
 class _Reader:
     """Reads the rule of a line."""
 
-    def __init__(self, number: int, line: str, tokens: Sequence[_Token], words_of: Callable[[str], List[str]]) -> None:
+    def __init__(self, number: int, line: str, tokens: Sequence[Token], words_of: Callable[[str], List[str]]) -> None:
         self._number, self._line, self._words_of = number, line, words_of
-        self._tokens = [*tokens, _Token("", tokens[-1].end, tokens[-1].end, False)]
+        self._tokens = [*tokens, Token("", tokens[-1].end, tokens[-1].end)]
         self._at = 0
 
     @property
-    def _next(self) -> _Token:
+    def _next(self) -> Token:
         return self._tokens[self._at]
 
     @property
     def _is_at_end(self) -> bool:
         return self._at == len(self._tokens) - 1
 
-    def _fail(self, why: str, *tokens: _Token) -> NoReturn:
+    def _fail(self, why: str, *tokens: Token) -> NoReturn:
         first, last = (tokens[0], tokens[-1]) if tokens else (self._next, self._next)
         raise _Mistake(why, first.start, last.end)
 
@@ -220,9 +211,6 @@ class _Reader:
         inside, outside = self._places()
         return Rule(self._number, self._line[self._tokens[0].start : self._tokens[-1].end], kind, labels, values, inside, outside)
 
-    def _is_predicate(self) -> bool:
-        return any(map(self._follows, _PREDICATES))
-
     def _labels(self) -> Tuple[str, ...]:
         """Labels up to a predicate, a place or the end."""
         labels = [self._label()]
@@ -233,7 +221,7 @@ class _Reader:
 
     def _label(self) -> str:
         first = self._at
-        while not (self._is_at_end or self._is_predicate() or self._next.word in (",", *_PLACES)):
+        while not (self._is_at_end or any(map(self._follows, _PREDICATES)) or self._next.word in (",", *_PLACES)):
             self._at += 1
         tokens = self._tokens[first : self._at]
         if not tokens:
@@ -244,7 +232,7 @@ class _Reader:
             self._fail_at_label(name[:_SHOWN], tokens)
         return label
 
-    def _fail_at_label(self, name: str, tokens: Sequence[_Token]) -> NoReturn:
+    def _fail_at_label(self, name: str, tokens: Sequence[Token]) -> NoReturn:
         """Says what is wrong with words that are no label, and what may be meant."""
         if tokens[0].word in ("every", "each", "all", "any") and len(tokens) > 1 and tokens[1].word in ("picture", "pictures"):
             self._fail("expected: every picture needs, as in `every picture needs credit`", *tokens[:3])

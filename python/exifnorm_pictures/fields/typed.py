@@ -10,17 +10,14 @@ from typing import Any, Dict, List, Optional, Sequence, Tuple, Union
 
 from ..model.xmp_values import Array, Literal, Long, LongStructure, Structure, Uri, XmpValue, exact
 from .field import Field
-from .listing import LONGEST_TEXT, is_comment, is_wide_text, kept_value, marked_text
-from .plain_texts import comment, is_utf8
+from .listing import DATASET_DATES, DATASET_NUMBERS, DATASET_TIMES, LONGEST_TEXT, is_comment, is_wide_text, kept_value
+from .plain_texts import comment, guessed
 from .xmp_types import object_of
 
 Value = Union[str, int, float, bool, Fraction, datetime, date, time, bytes, None, Tuple[Any, ...], Dict[str, Any]]
 
 _DATES = {("main", "0132"), ("exif", "9003"), ("exif", "9004")}
 _VERSIONS = {("exif", "9000"), ("exif", "a000"), ("interop", "0002")}  # UNDEFINED, and digits by the standard
-_DATASET_DATES = {"1:70", "2:30", "2:37", "2:47", "2:55", "2:62"}
-_DATASET_TIMES = {"1:80", "2:35", "2:38", "2:60", "2:63"}
-_DATASET_NUMBERS = {"1:0", "1:20", "1:22", "2:0"}
 _DATASET_OCTETS = {"1:90", "2:125", "2:202"}
 
 
@@ -42,10 +39,10 @@ def value_of(field: Field) -> Value:
     text = value.strip("\0 ") if isinstance(value, str) else ""
     if (field.directory, field.tag) in _DATES:
         return _moment(text, "%Y:%m:%d %H:%M:%S") or value
-    if field.directory == "iptc" and field.tag in _DATASET_DATES:
+    if field.directory == "iptc" and field.tag in DATASET_DATES:
         day = _moment(text, "%Y%m%d")
         return day.date() if day else value
-    if field.directory == "iptc" and field.tag in _DATASET_TIMES:
+    if field.directory == "iptc" and field.tag in DATASET_TIMES:
         moment = _moment(text, "%H%M%S%z") or _moment(text, "%H%M%S")
         return moment.timetz() if moment else value
     return value
@@ -68,6 +65,21 @@ def typed(field: Field) -> Any:
     if isinstance(result, bytes):
         return {"hex": result.hex()}
     return [_json_number(one) for one in result] if isinstance(result, tuple) else _json_number(result)
+
+
+def number_of(field: Field) -> Optional[float]:
+    """The value of Exif or IPTC that is one number; None of any other.
+
+    >>> number_of(Field("exif", "829a", "RATIONAL", 1, ((10, 1250),))), number_of(Field("iptc", "2:5", "octets", 1, b"7"))
+    (0.008, None)
+    """
+    is_dataset = field.directory == "iptc"
+    if field.directory == "xmp" or field.type in ("ASCII", "UTF8") or (is_dataset and field.tag not in DATASET_NUMBERS):
+        return None
+    if field.type == "UNDEFINED" and not is_dataset:
+        return None
+    value = typed(field)
+    return float(value) if isinstance(value, (int, float)) else None
 
 
 def together(fields: Sequence[Field]) -> Any:
@@ -101,11 +113,10 @@ def _of_octets(field: Field, octets: bytes) -> Value:
     if field.directory == "iptc":
         return _of_dataset(field.tag, octets)
     if field.type in ("ASCII", "UTF8") or (field.type == "UNDEFINED" and (field.directory, field.tag) in _VERSIONS):
-        return _text(octets)
+        return guessed(octets, b"\0")
     if is_comment(field):
-        marked = marked_text(field, octets)
-        text = marked[1] if marked else comment(octets)
-        return _text(octets) if text is None else text
+        text = comment(octets)
+        return guessed(octets, b"\0") if text is None else text
     if is_wide_text(field):
         return octets[: len(octets) & ~1].decode("utf-16-le", "replace").rstrip("\0")
     if field.type in ("BYTE", "SBYTE"):
@@ -114,14 +125,9 @@ def _of_octets(field: Field, octets: bytes) -> Value:
 
 
 def _of_dataset(key: str, octets: bytes) -> Value:
-    if key in _DATASET_NUMBERS:
-        return int.from_bytes(octets, "big")
-    return _text(octets) if key[:2] in ("1:", "2:") and key not in _DATASET_OCTETS else octets
-
-
-def _text(octets: bytes) -> str:
-    bare = octets.rstrip(b"\0")
-    return bare.decode("utf-8" if is_utf8(bare) else "cp1252", "backslashreplace")
+    if key in DATASET_NUMBERS:
+        return int.from_bytes(octets, "big") if len(octets) == 2 else octets
+    return guessed(octets, b"\0") if key[:2] in ("1:", "2:") and key not in _DATASET_OCTETS else octets
 
 
 def _moment(text: str, form: str) -> Optional[datetime]:
@@ -143,15 +149,11 @@ def raw(field: Field) -> Optional[bytes]:
     return struct.pack(f">{len(values)}{_LETTERS[field.type]}", *values)
 
 
-_LETTERS = {
+_LETTERS = {  # of `struct`
     "SHORT": "H",
-    "LONG": "L",
-    "WHOLE": "L",
-    "RATIONAL": "L",
+    **dict.fromkeys(("LONG", "WHOLE", "RATIONAL", "FLOAT"), "L"),
     "SSHORT": "h",
-    "SLONG": "l",
-    "SRATIONAL": "l",
-    "FLOAT": "L",
+    **dict.fromkeys(("SLONG", "SRATIONAL"), "l"),
     "DOUBLE": "Q",
 }
 
@@ -227,10 +229,9 @@ def _json_of_values(name: str, values: Sequence[XmpValue]) -> Any:
 
 def _json_of_value(name: str, value: XmpValue, has_language: bool) -> Any:
     """A text by its type, but dates are texts, and as an object if its list has a language; a list; or a structure's fields by their names."""
-    if isinstance(value, Literal):
-        return {"text": value.text, "language": value.language or None} if has_language else _json_of_text(name, value.text)
-    if isinstance(value, Uri):
-        return {"text": value.uri, "language": None} if has_language else _json_of_text(name, value.uri)
+    if isinstance(value, (Literal, Uri)):
+        text, language = (value.text, value.language) if isinstance(value, Literal) else (value.uri, "")
+        return {"text": text, "language": language or None} if has_language else _json_of_text(name, text)
     if isinstance(value, Array):
         with_language = any(isinstance(it, Literal) and it.language for it in value.members)
         return [_json_of_value(name, it, with_language) for it in value.ordered()]

@@ -28,8 +28,10 @@ def fields_of_statements(statements: Statements) -> List[Field]:
 
 
 def _field(name: str, values: List[Value]) -> Field:
-    word, number = _form(values[0])
-    return Field(WHERE, name, word, number if len(values) == 1 else len(values), tuple([_kept(it) for it in values]))
+    kept = tuple([_kept(value) for value in values])
+    first = kept[0]
+    word, number = (first.kind, len(first.members)) if isinstance(first, Array) else _form(values[0])
+    return Field(WHERE, name, word, number if len(values) == 1 else len(values), kept)
 
 
 def _form(value: Value) -> Tuple[str, int]:

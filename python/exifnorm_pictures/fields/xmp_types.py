@@ -80,10 +80,6 @@ def _integer(text: str) -> XmpObject:
     return int(text) if _INTEGER.fullmatch(text) else text
 
 
-def _real(text: str) -> XmpObject:
-    return float(text) if _REAL.fullmatch(text) else text
-
-
 def _rational(text: str) -> XmpObject:
     match = _RATIONAL.fullmatch(text)
     if match is None:
@@ -105,11 +101,6 @@ def _coordinate(text: str) -> XmpObject:
     return float(-degrees if match[4] in "SW" else degrees)
 
 
-def _boolean(text: str) -> XmpObject:
-    """Writers also have other letters than the standard, and the text "false" would be true in a program."""
-    return {"true": True, "false": False}.get(text.casefold(), text)
-
-
 def _date(text: str) -> XmpObject:
     match = _DATE.fullmatch(text)
     if match is None:
@@ -128,10 +119,11 @@ def _date(text: str) -> XmpObject:
 
 _MADE: Dict[str, Callable[[str], XmpObject]] = {
     "Integer": _integer,
-    "Real": _real,
+    "Real": lambda text: float(text) if _REAL.fullmatch(text) else text,
     "Rational": _rational,
     "Number": _number,
     "Coordinate": _coordinate,
-    "Boolean": _boolean,
+    # writers also have other letters than the standard, and the text "false" would be true in a program
+    "Boolean": lambda text: {"true": True, "false": False}.get(text.casefold(), text),
     "Date": _date,
 }

@@ -11,7 +11,7 @@ import fcntl
 import os
 import re
 import stat
-from typing import BinaryIO, Callable, Iterator, Optional, Tuple
+from typing import AnyStr, BinaryIO, Callable, Iterator, Optional, Pattern, Tuple
 
 from ..model.errors import Failure
 from ..model.texts import reason
@@ -56,7 +56,7 @@ def replace(out: bytes, write: Write, allowed: Callable[[bytes], bool], kept: Tu
     there = os.path.realpath(out)
     try:
         _check(there, allowed, kept)
-        _sweep(os.path.dirname(there), allowed)
+        sweep(os.path.dirname(there), _LEFT, lambda entry: _remove_dead(entry.path, allowed))
         _replace(there, write, kept)
     except OSError as error:  # the file that it names may be the one that gets its name in the end
         raise NotReplaced(reason(error)) from None
@@ -101,16 +101,17 @@ def _check(out: bytes, allowed: Callable[[bytes], bool], kept: Tuple[str, ...]) 
         raise NotReplaced("it is there, and is a file of another kind")
 
 
-def _sweep(beside: bytes, allowed: Callable[[bytes], bool]) -> None:
-    """Removes the files that killed runs of this user have left: which nobody has locked, and which are of an allowed kind."""
-    with contextlib.suppress(OSError), os.scandir(beside) as entries:
+def sweep(folder: AnyStr, names: "Pattern[AnyStr]", remove: "Callable[[os.DirEntry[AnyStr]], None]") -> None:
+    """Removes what killed runs have left in a folder under such names; `remove` leaves what it may not remove, or raises `OSError`."""
+    with contextlib.suppress(OSError), os.scandir(folder) as entries:
         for entry in entries:
-            if _LEFT.fullmatch(entry.name):
+            if names.fullmatch(entry.name):
                 with contextlib.suppress(OSError):
-                    _remove_dead(entry.path, allowed)
+                    remove(entry)
 
 
 def _remove_dead(path: bytes, allowed: Callable[[bytes], bool]) -> None:
+    """Removes a file that a killed run of this user has left, which nobody has locked, if it is of an allowed kind."""
     with open(os.open(path, os.O_RDONLY | os.O_NOFOLLOW | os.O_NONBLOCK | os.O_CLOEXEC), "rb") as file:
         now = os.fstat(file.fileno())
         if not stat.S_ISREG(now.st_mode) or now.st_uid != os.geteuid():

@@ -19,7 +19,7 @@ from typing import Any, Iterator, List, Optional, Sequence, Tuple
 
 from ..model.texts import reason, shown_path
 from . import opening, rights, signals
-from .atomic import NotReplaced
+from .atomic import NotReplaced, sweep
 
 _LONGEST = 64 << 20  # bytes of a list of names
 _AT_ONCE = 1000  # files that are removed
@@ -86,7 +86,7 @@ def replaced(out: bytes, mark: str, sources: Sequence[str]) -> Iterator[NewFolde
     there = os.path.realpath(out)
     try:
         before = _rights_of_earlier(there, mark)
-        _sweep(os.path.dirname(there), mark)
+        sweep(os.path.dirname(there), _NAME, lambda entry: _remove_dead(entry.path, mark))
         room, lock = _locked(os.path.dirname(there))
     except OSError as error:
         raise NotReplaced(reason(error)) from None
@@ -118,16 +118,8 @@ def _locked(beside: bytes) -> Tuple[bytes, int]:
         os.close(lock)  # another run took it for one of a killed run, before it was locked
 
 
-def _sweep(beside: bytes, mark: str) -> None:
-    """Removes the folders that killed runs of this user have left: which nobody has locked, and which have files of a report alone."""
-    with contextlib.suppress(OSError), os.scandir(beside) as entries:
-        for entry in entries:
-            if _NAME.fullmatch(entry.name) and entry.is_dir(follow_symlinks=False):
-                with contextlib.suppress(OSError):
-                    _remove_dead(entry.path, mark)
-
-
 def _remove_dead(folder: bytes, mark: str) -> None:
+    """Removes a folder that a killed run of this user has left, which nobody has locked, if it has files of a report alone."""
     lock = os.open(folder, os.O_RDONLY | os.O_DIRECTORY | os.O_NOFOLLOW | os.O_CLOEXEC)
     try:
         if os.fstat(lock).st_uid != os.geteuid():

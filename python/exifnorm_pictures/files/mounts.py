@@ -6,23 +6,7 @@ import os
 
 MOUNTS = "/proc/self/mountinfo"
 # By the kernel's names: file systems of other machines, and folders of the machine that a virtual one runs on
-_SHARED = {
-    "9p",
-    "afs",
-    "ceph",
-    "cifs",
-    "coda",
-    "glusterfs",
-    "lustre",
-    "ncpfs",
-    "nfs",
-    "nfs4",
-    "prl_fs",
-    "smb3",
-    "smbfs",
-    "vboxsf",
-    "virtiofs",
-}
+_SHARED = frozenset("9p afs ceph cifs coda glusterfs lustre ncpfs nfs nfs4 prl_fs smb3 smbfs vboxsf virtiofs".split())
 
 
 def is_on_network(path: str) -> bool:

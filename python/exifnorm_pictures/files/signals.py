@@ -102,12 +102,10 @@ def ready_streams() -> None:
 
 def drop(stream: Optional[IO[str]]) -> None:
     """Abandons a stream that can't be written to: its buffered bytes go to /dev/null, also when Python ends."""
-    try:
+    with contextlib.suppress(OSError, ValueError):
         if stream is not None:
             os.dup2(os.open(os.devnull, os.O_WRONLY), stream.fileno())
             stream.flush()
-    except (OSError, ValueError):
-        pass
 
 
 def end_children() -> None:

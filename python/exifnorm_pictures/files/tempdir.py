@@ -12,6 +12,7 @@ import tempfile
 from typing import Iterator
 
 from . import signals
+from .atomic import sweep
 
 PREFIX = "exifnorm-"
 _LOCK = "lock"
@@ -24,7 +25,7 @@ def room() -> Iterator[str]:
     """A folder in TMPDIR that is removed at the end. As long as its run lives, a file in it is locked."""
     with signals.signals_held():  # to find a place for temporary files Python makes one there
         base = tempfile.gettempdir()
-    _sweep(base)
+    sweep(base, _NAME, _remove_dead)
     name = tempfile.mkdtemp(prefix=PREFIX)
     lock = -1
     try:
@@ -41,19 +42,12 @@ def room() -> Iterator[str]:
             os.close(lock)
 
 
-def _sweep(base: str) -> None:
-    """Removes the folders of runs that were killed: those that `room` has made for this user, with a lock that no process has."""
-    with contextlib.suppress(OSError), os.scandir(base) as entries:
-        for entry in entries:
-            if _NAME.fullmatch(entry.name):
-                with contextlib.suppress(OSError):
-                    if _is_own(entry.stat(follow_symlinks=False)) and _is_dead(entry.path):
-                        shutil.rmtree(entry.path, ignore_errors=True)
-
-
-def _is_own(status: os.stat_result) -> bool:
-    """Whether something is a folder of this user with the rights that mkdtemp gives."""
-    return stat.S_ISDIR(status.st_mode) and stat.S_IMODE(status.st_mode) == 0o700 and status.st_uid == os.geteuid()
+def _remove_dead(entry: "os.DirEntry[str]") -> None:
+    """Removes the folder of a run that was killed: one of this user with the rights that mkdtemp gives, and with a lock that no process has."""
+    status = entry.stat(follow_symlinks=False)
+    is_own = stat.S_ISDIR(status.st_mode) and stat.S_IMODE(status.st_mode) == 0o700 and status.st_uid == os.geteuid()
+    if is_own and _is_dead(entry.path):
+        shutil.rmtree(entry.path, ignore_errors=True)
 
 
 def _is_dead(folder: str) -> bool:

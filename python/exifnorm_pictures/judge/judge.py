@@ -174,11 +174,11 @@ def _part(block: FoundBlock) -> str:
     return part
 
 
-def judge_packet(packet: bytes, packs: bool = False) -> BlockRecord:
+def judge_packet(packet: bytes) -> BlockRecord:
     """Judges an XMP packet by itself."""
     if packet.startswith(COMPRESSED):
         return judge(XMP, packet)
-    return _judge_xmp(_BY_ITSELF._replace(data=packet), xmp.Extensions({}), {}, packs)
+    return _judge_xmp(_BY_ITSELF._replace(data=packet), xmp.Extensions({}), {}, False)
 
 
 def _judge_xmp(at: FoundBlock, extensions: xmp.Extensions, left: Dict[str, bytes], packs: bool) -> BlockRecord:

@@ -108,11 +108,9 @@ def _by_itself(session: Session, path: bytes) -> Optional[NotesReading]:
 
 
 def _short(value: str) -> str:
-    return (
-        value
-        if len(value) <= LONGEST
-        else f"{value[:40]}.. sha256:{hashlib.sha256(value.encode('utf-8', 'surrogatepass')).hexdigest()[:32]}"
-    )
+    if len(value) <= LONGEST:
+        return value
+    return f"{value[:40]}.. sha256:{hashlib.sha256(value.encode('utf-8', 'surrogatepass')).hexdigest()[:32]}"
 
 
 def note_differences(before: Values, after: Values) -> List[NoteDifference]:

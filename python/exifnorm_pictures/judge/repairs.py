@@ -8,7 +8,8 @@ out. That a repaired block says what was meant is tested against ExifTool, and n
 from __future__ import annotations
 
 import struct
-from typing import Callable, Dict, List, NamedTuple, Optional, Tuple, Union
+from collections import Counter
+from typing import Callable, Dict, Iterator, List, NamedTuple, Optional, Tuple, Union
 
 import exifnorm
 
@@ -83,9 +84,8 @@ def _changed_value(original: bytes, now: bytes, walk: Walk, budget: Budget) -> _
     """Leaves out a value that the block didn't have: it shares bytes with a table, which other steps have changed."""
     old = Walk(original)
     known: Dict[Tuple[str, int, int], List[Entry]] = {}
-    for directory in old.directories:
-        for entry in directory.entries:
-            known.setdefault((directory.name, entry.tag, entry.elements), []).append(entry)
+    for directory, entry in _entries(old):
+        known.setdefault((directory.name, entry.tag, entry.elements), []).append(entry)
 
     def had(name: str, entry: Entry) -> bool:
         value = walk.value(entry)
@@ -95,21 +95,20 @@ def _changed_value(original: bytes, now: bytes, walk: Walk, budget: Budget) -> _
                 return True
         return False
 
-    for directory in walk.directories:
-        for entry in directory.entries:
-            if entry.tag not in _POINTERS and not had(directory.name, entry):
-                what = f"tag {entry.tag:04x}, whose value other steps would change, left out"
-                return _without(now, walk, directory, entry.place), what, *_value(directory, entry)
+    for directory, entry in _entries(walk):
+        if entry.tag not in _POINTERS and not had(directory.name, entry):
+            what = f"tag {entry.tag:04x}, whose value other steps would change, left out"
+            return _without(now, walk, directory, entry), what, *_value(directory, entry)
     pictures = old.pictures()
     if all(any(one.startswith(it) for one in pictures) for it in walk.pictures()):
         return None
-    pointers = [(it, one) for it in walk.directories for one in it.entries if it.name == "thumb" and one.tag in (0x0111, 0x0201)]
-    return (
-        _without(now, walk, pointers[0][0], pointers[0][1].place),
-        "a thumbnail that other steps would change left out",
-        "the thumbnail",
-        "thumb",
-    )
+    directory, entry = [(it, one) for it, one in _entries(walk) if it.name == "thumb" and one.tag in (0x0111, 0x0201)][0]
+    return _without(now, walk, directory, entry), "a thumbnail that other steps would change left out", "the thumbnail", "thumb"
+
+
+def _entries(walk: Walk) -> Iterator[Tuple[Directory, Entry]]:
+    """Each entry, with its directory."""
+    return ((directory, entry) for directory in walk.directories for entry in directory.entries)
 
 
 # The steps, by the engine's causes
@@ -120,10 +119,10 @@ def _value(directory: Directory, entry: Entry) -> Tuple[str, str]:
     return "a value", f"{directory.name} {entry.tag:04x}"
 
 
-def _without(block: bytes, walk: Walk, directory: Directory, place: int) -> bytearray:
-    """The block without the entry at a place; the room is filled behind the directory."""
+def _without(block: bytes, walk: Walk, directory: Directory, entry: Entry) -> bytearray:
+    """The block without an entry; the room is filled behind the directory."""
     out = bytearray(block)
-    out[place : directory.next + 4] = out[place + 12 : directory.next + 4] + bytes(12)
+    out[entry.place : directory.next + 4] = out[entry.place + 12 : directory.next + 4] + bytes(12)
     struct.pack_into(walk.order + "H", out, directory.at, directory.size - 1)
     return out
 
@@ -138,9 +137,8 @@ def _unsorted(block: bytes, walk: Walk) -> _Done:
     out = bytearray(block)
     for directory in walk.directories:
         if directory.is_whole:
-            rows = sorted(
-                (block[one.place : one.place + 12] for one in directory.entries), key=lambda row: struct.unpack(walk.order + "H", row[:2])
-            )
+            rows = [block[one.place : one.place + 12] for one in directory.entries]
+            rows.sort(key=lambda row: struct.unpack(walk.order + "H", row[:2]))
             out[directory.at + 2 : directory.next] = b"".join(rows)
     return out, "entries sorted", ""
 
@@ -156,7 +154,7 @@ def _overlap(block: bytes, walk: Walk) -> _Done:
     )
 
 
-def _values(walk: Walk, directory: Directory) -> List[Tuple[bool, int, int, int]]:
+def _values(directory: Directory) -> List[Tuple[bool, int, int, int]]:
     """The values of a directory: whether it may be moved, where it begins, its length, and the place of its offset."""
     values = [
         (entry.tag != MAKER_NOTE, entry.last, entry.size, entry.place + 8)
@@ -172,7 +170,7 @@ def _values(walk: Walk, directory: Directory) -> List[Tuple[bool, int, int, int]
 def _end_of_directory(block: bytes, walk: Walk) -> _Done:
     """A directory without the four bytes behind its entries, as piexif writes it: a copy of it gets them."""
     ranges = [(it.at, it.next, it.at) for it in walk.directories]
-    ranges += [(start, start + size, -1) for it in walk.directories for _, start, size, _ in _values(walk, it)]
+    ranges += [(start, start + size, -1) for it in walk.directories for _, start, size, _ in _values(it)]
     for directory in walk.directories:
         taken = (start < directory.next + 4 and directory.next < end and own != directory.at for start, end, own in ranges)
         if directory.name != "main" and directory.is_whole and any(taken):
@@ -195,9 +193,8 @@ def _shared_values(block: bytes, walk: Walk) -> _Done:
         if any(one.at < directory.next + 4 and directory.at < one.next + 4 for one in walk.directories[:number]):
             return None  # directories that share bytes
     out, moved = bytearray(block), 0
-    for _, start, size, field in sorted(
-        (one for it in walk.directories for one in _values(walk, it)), key=lambda one: (one[0], one[3])
-    ):  # MakerNotes stay where they are
+    values = [one for it in walk.directories for one in _values(it)]
+    for _, start, size, field in sorted(values, key=lambda one: (one[0], one[3])):  # MakerNotes stay where they are
         if start + size > len(block):
             continue
         if claimed.find(1, start, start + max(size, 1)) < 0:
@@ -234,19 +231,11 @@ def _cut_directory(block: bytes, walk: Walk) -> _Done:
         for entry in directory.entries:
             if (directory.name, entry.tag) in LINKS and walk.number(entry) not in starts:
                 to = LINKS[directory.name, entry.tag]
-                return (
-                    _without(block, walk, directory, entry.place),
-                    f"the pointer to the {_NAMES[to]}, which isn't there, dropped",
-                    "a directory",
-                    to,
-                )
+                what = f"the pointer to the {_NAMES[to]}, which isn't there, dropped"
+                return _without(block, walk, directory, entry), what, "a directory", to
         if directory.name == "main" and directory.next + 4 <= len(block) and walk.four(directory.next) not in starts | {0}:
-            return (
-                _put(block, walk, directory.next, 0),
-                "the pointer to a thumbnail directory that isn't there dropped",
-                "the thumbnail",
-                "thumb",
-            )
+            what = "the pointer to a thumbnail directory that isn't there dropped"
+            return _put(block, walk, directory.next, 0), what, "the thumbnail", "thumb"
     return None
 
 
@@ -261,17 +250,13 @@ def _without_directory(block: bytes, walk: Walk, directory: Directory) -> Option
     """The block without the pointer to a directory; None for the main directory."""
     if directory.name == "thumb":
         return _put(block, walk, directory.named_at, 0)
-    pointers = ((outer, one) for outer in walk.directories for one in outer.entries if one.place + 8 == directory.named_at)
-    return next((_without(block, walk, outer, one.place) for outer, one in pointers), None)
+    return next((_without(block, walk, outer, one) for outer, one in _entries(walk) if one.place + 8 == directory.named_at), None)
 
 
 def _doubled(block: bytes, walk: Walk) -> _Done:
     def value(entry: Entry) -> Tuple[bytes, bytes]:
-        head = block[entry.place : entry.place + 8]
-        return (
-            head,
-            block[entry.last : entry.last + entry.size] if entry.size > 4 else block[entry.place + 8 : entry.place + 8 + entry.size],
-        )
+        at = entry.last if entry.size > 4 else entry.place + 8
+        return block[entry.place : entry.place + 8], block[at : at + entry.size]
 
     for directory in walk.directories:
         by: Dict[int, Entry] = {}
@@ -279,35 +264,26 @@ def _doubled(block: bytes, walk: Walk) -> _Done:
             other = by.setdefault(entry.tag, entry)
             if other is not entry:
                 equal = value(entry) == value(other)
-                what = (
-                    "the second of two equal entries left out"
-                    if equal
-                    else f"the second of two different entries of tag {entry.tag:04x} left out"
-                )
-                return _without(block, walk, directory, entry.place), what, "" if equal else "a value"
+                entries = "equal entries" if equal else f"different entries of tag {entry.tag:04x}"
+                return _without(block, walk, directory, entry), f"the second of two {entries} left out", "" if equal else "a value"
     return None
 
 
 def _unknown_type(block: bytes, walk: Walk) -> _Done:
-    wrong = [(it, one) for it in walk.directories for one in it.entries if one.type not in EXIF]
+    wrong = [(it, one) for it, one in _entries(walk) if one.type not in EXIF]
     if not wrong:
         return None
     if len(wrong) > MOST:  # one is left out in a step; a directory of such entries can't be one
-        directory = max(walk.directories, key=lambda one: sum(of is one for of, _ in wrong))
+        counts = Counter(id(of) for of, _ in wrong)
+        directory = max(walk.directories, key=lambda one: counts[id(one)])
         left = _without_directory(block, walk, directory)
-        return (
-            (left, f"the {_NAMES[directory.name]}, whose entries have unknown types, left out", "a directory", directory.name)
-            if left
-            else None
-        )
+        what = f"the {_NAMES[directory.name]}, whose entries have unknown types, left out"
+        return (left, what, "a directory", directory.name) if left else None
     directory, entry = wrong[0]
     if entry.type == IFD:
         return _with_type(block, walk, entry), "type 13 (IFD) read as LONG", ""
-    return (
-        _without(block, walk, directory, entry.place),
-        f"tag {entry.tag:04x} of unknown type {entry.type} left out",
-        *_value(directory, entry),
-    )
+    what = f"tag {entry.tag:04x} of unknown type {entry.type} left out"
+    return _without(block, walk, directory, entry), what, *_value(directory, entry)
 
 
 def _with_type(block: bytes, walk: Walk, entry: Entry, number: Optional[int] = None) -> bytearray:
@@ -317,45 +293,32 @@ def _with_type(block: bytes, walk: Walk, entry: Entry, number: Optional[int] = N
 
 
 def _pointer_form(block: bytes, walk: Walk) -> _Done:
-    for directory in walk.directories:
-        for entry in directory.entries:
-            if entry.tag in _POINTERS and (directory.name, entry.tag) in _ALLOWED and (entry.type, entry.elements) != (4, 1):
-                if entry.type in (9, 13) and entry.elements == 1:
-                    return _with_type(block, walk, entry), f"a pointer of type {entry.type} read as LONG", ""
-                if entry.type in (3, 8) and entry.elements == 1:
-                    return _with_type(block, walk, entry, walk.two(entry.place + 8)), f"a pointer of type {entry.type} read as LONG", ""
-                return (
-                    _without(block, walk, directory, entry.place),
-                    "a pointer of another form left out",
-                    "a directory",
-                    LINKS.get((directory.name, entry.tag), ""),
-                )
+    for directory, entry in _entries(walk):
+        role = (directory.name, entry.tag)
+        if role not in _ALLOWED or (entry.type, entry.elements) == (4, 1):
+            continue
+        if entry.type in (3, 8, 9, 13) and entry.elements == 1:
+            number = walk.two(entry.place + 8) if entry.type in (3, 8) else None
+            return _with_type(block, walk, entry, number), f"a pointer of type {entry.type} read as LONG", ""
+        return _without(block, walk, directory, entry), "a pointer of another form left out", "a directory", LINKS.get(role, "")
     return None
 
 
 def _misplaced(block: bytes, walk: Walk) -> _Done:
-    for directory in walk.directories:
-        for entry in directory.entries:
-            if entry.tag in _ROLES and (directory.name, entry.tag) not in _ALLOWED:
-                return (
-                    _without(block, walk, directory, entry.place),
-                    f"the offset of tag {entry.tag:04x} in the {_NAMES[directory.name]} left out",
-                    "an offset",
-                    f"{directory.name} {entry.tag:04x}",
-                )
+    for directory, entry in _entries(walk):
+        if entry.tag in _ROLES and (directory.name, entry.tag) not in _ALLOWED:
+            what = f"the offset of tag {entry.tag:04x} in the {_NAMES[directory.name]} left out"
+            return _without(block, walk, directory, entry), what, "an offset", f"{directory.name} {entry.tag:04x}"
     return None
 
 
 def _value_outside(block: bytes, walk: Walk) -> _Done:
-    outside = [(it, one) for it in walk.directories for one in it.entries if walk.is_outside(one)]
+    outside = [(it, one) for it, one in _entries(walk) if walk.is_outside(one)]
     if not outside or len(outside) > MOST:  # one is left out in a step
         return None
     directory, entry = outside[0]
-    return (
-        _without(block, walk, directory, entry.place),
-        f"tag {entry.tag:04x}, whose value isn't in the block, left out",
-        *_value(directory, entry),
-    )
+    what = f"tag {entry.tag:04x}, whose value isn't in the block, left out"
+    return _without(block, walk, directory, entry), what, *_value(directory, entry)
 
 
 def _thumbnail_outside(block: bytes, walk: Walk) -> _Done:
@@ -365,37 +328,23 @@ def _thumbnail_outside(block: bytes, walk: Walk) -> _Done:
             continue
         start, size = by[0x0201].last, by[0x0202].last
         if start < len(block) < start + size:
-            return (
-                _put(block, walk, by[0x0202].place + 8, len(block) - start),
-                "the thumbnail cut to what is there",
-                "the end of the thumbnail",
-                "thumb",
-            )
+            out = _put(block, walk, by[0x0202].place + 8, len(block) - start)
+            return out, "the thumbnail cut to what is there", "the end of the thumbnail", "thumb"
         if start >= len(block):
-            first = bytes(_without(block, walk, directory, by[0x0201].place))
+            first = bytes(_without(block, walk, directory, by[0x0201]))
             inner = Walk(first)
-            for other in inner.directories:
-                for entry in other.entries:
-                    if other.name == "thumb" and entry.tag == 0x0202:
-                        return (
-                            _without(first, inner, other, entry.place),
-                            "a thumbnail that isn't there left out",
-                            "the thumbnail's length",
-                            "thumb",
-                        )
+            for other, entry in _entries(inner):
+                if other.name == "thumb" and entry.tag == 0x0202:
+                    out = _without(first, inner, other, entry)
+                    return out, "a thumbnail that isn't there left out", "the thumbnail's length", "thumb"
     return None
 
 
 def _thumbnail_pair(block: bytes, walk: Walk) -> _Done:
-    for directory in walk.directories:
-        for entry in directory.entries:
-            if directory.name == "thumb" and entry.tag in (0x0111, 0x0117, 0x0201, 0x0202):
-                return (
-                    _without(block, walk, directory, entry.place),
-                    "half of a thumbnail's pair left out",
-                    "a thumbnail's place or length",
-                    "thumb",
-                )
+    for directory, entry in _entries(walk):
+        if directory.name == "thumb" and entry.tag in (0x0111, 0x0117, 0x0201, 0x0202):
+            out = _without(block, walk, directory, entry)
+            return out, "half of a thumbnail's pair left out", "a thumbnail's place or length", "thumb"
     return None
 
 
@@ -415,7 +364,7 @@ def _loop(block: bytes, walk: Walk) -> _Done:
         for entry in directory.entries:
             if (directory.name, entry.tag) in LINKS and entry.last in starts:
                 if next(other for other in walk.directories if other.at == entry.last).named_at != entry.place + 8:
-                    return _without(block, walk, directory, entry.place), "a pointer back left out", ""
+                    return _without(block, walk, directory, entry), "a pointer back left out", ""
     return None
 
 

@@ -18,36 +18,28 @@ class Sides(Protocol):
 
     def blocks(self, side: int, picture: PictureRecord) -> Sequence[BlockRecord]:
         """A picture's blocks."""
-        ...
 
     def fields(self, side: int, block: Optional[BlockRecord]) -> List[Field]:
         """The fields of a block; none if they aren't kept, or if there is no block."""
-        ...
 
     def not_read(self, side: int, picture: PictureRecord) -> Sequence[NotRead]:
         """The parts of a picture that were not read."""
-        ...
 
     def maker_notes(self, side: int, picture: PictureRecord, unpack: Callable[[bytes], Made]) -> Optional[Made]:
         """The result of `unpack` for ExifTool's readings of its MakerNotes; None if they aren't kept."""
-        ...
 
 
 class Fresh:
     """Pictures that were looked at just now, and so have all that there is of them."""
 
     def blocks(self, _: int, picture: PictureRecord) -> Sequence[BlockRecord]:
-        """A picture's blocks."""
         return picture.blocks
 
     def fields(self, _: int, block: Optional[BlockRecord]) -> List[Field]:
-        """The fields of a block; none if there is no block."""
         return fields_of(block) if block else []
 
     def not_read(self, _: int, picture: PictureRecord) -> Sequence[NotRead]:
-        """The parts of a picture that were not read."""
         return picture.unread
 
     def maker_notes(self, _: int, picture: PictureRecord, unpack: Callable[[bytes], Made]) -> Optional[Made]:
-        """The result of `unpack` for its readings, if ExifTool was asked."""
         return unpack(picture.notes) if picture.notes else None

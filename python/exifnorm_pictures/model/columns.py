@@ -4,7 +4,7 @@ A field that is a column is declared as `Annotated[type, "what it is"]`, or with
 """
 
 from operator import itemgetter
-from typing import Any, Callable, Dict, Generic, Iterable, List, NamedTuple, Tuple, Type, TypeVar, Union, get_args
+from typing import Any, Callable, Dict, Generic, Iterable, List, NamedTuple, Tuple, Type, TypeVar, get_args
 
 
 class Damaged(Exception):
@@ -35,7 +35,8 @@ class Columns(Generic[Record]):
     def __init__(self, record: Type[Record], first: Iterable[str] = (), last: Iterable[str] = ()) -> None:
         """`first` and `last` are further definitions in SQL, each with what it is after `--`."""
         declared: Dict[str, Any] = {name: kind for name, kind in record.__annotations__.items() if hasattr(kind, "__metadata__")}
-        columns = [(name, kind.__origin__, _more(*kind.__metadata__)) for name, kind in declared.items()]
+        about = [(name, kind, more) for name, kind in declared.items() for more in kind.__metadata__]  # of which each has one
+        columns = [(name, kind.__origin__, more if isinstance(more, Is) else Is(more)) for name, kind, more in about]
         self.names: Tuple[str, ...] = tuple(name for name, _, _ in columns)
         self.types: List[Any] = [get_args(kind) or kind for _, kind, _ in columns]  # those of a row's values
         self.longest: List[int] = [more.longest for _, _, more in columns]
@@ -80,10 +81,6 @@ class Columns(Generic[Record]):
 
 
 _KINDS = 100  # of rows, which differ in what is missing
-
-
-def _more(about: Union[str, Is]) -> Is:
-    return about if isinstance(about, Is) else Is(about)
 
 
 def _defined(name: str, kind: Any, more: Is) -> str:

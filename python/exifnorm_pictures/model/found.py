@@ -9,6 +9,7 @@ from typing import Dict, Iterable, List, NamedTuple, Optional, Tuple
 
 from .budgets import BLOCKS, NOT_READ, Budget
 
+SIX = b"Exif\0\0"  # the bytes that many formats and programs put in front of a block of Exif
 COMPRESSED = b"brob"  # how a block begins that is compressed by Brotli, as a box of JPEG XL: no block of a kind begins like this
 FEW = 8  # blocks or parts of a usual picture at most; more are counted, which takes time
 EXIF, IPTC, XMP = KINDS = ("exif", "iptc", "xmp")  # the kinds of blocks, as catalogues and JSON call them; the engine says iim
@@ -21,7 +22,7 @@ REST = "the rest of a damaged file"  # how a part begins that has such a file fr
 BROKEN = "broken: "  # how the reason begins for which a damaged file was left to ExifTool
 CUT = "the file ends "  # how a fault begins that is the end of a file, after which bytes are missing
 IN_PICTURE = f"{CUT}inside its picture"  # the same of one behind all metadata
-_WITHOUT_IPTC = frozenset(("WEBP", "Extended WEBP", "HEIC", "HEIF", "AVIF", "CR3", "JXL"))  # formats, by the words of readers and ExifTool
+WITHOUT_IPTC = ("WEBP", "Extended WEBP", "HEIC", "HEIF", "AVIF", "CR3", "JXL")  # formats, by the words of readers and ExifTool
 UNREAD_NOTES = "what ExifTool reads of the MakerNote, at which it failed"  # a part that the next run asks for again
 UNREAD_TRAILER = "blocks of the trailer, for which ExifTool is needed"  # a part that is read once ExifTool is there
 
@@ -37,15 +38,6 @@ def ordinal(number: int) -> str:
     return _ORDINALS[number - 1] if number <= len(_ORDINALS) else f"{number}th"
 
 
-def length_of(count: int) -> str:
-    """A number of bytes in words.
-
-    >>> length_of(1), length_of(1234)
-    ('1 byte', '1,234 bytes')
-    """
-    return f"{count:,} byte{'s' * (count != 1)}"
-
-
 class Broken(Exception):
     """The file does not follow its format at a position that may have a block. Its text describes the fault and its position."""
 
@@ -57,7 +49,7 @@ class LeftToOthers(Exception):
 class FoundBlock(NamedTuple):
     """A block, without the bytes that its format puts before it, such as the six bytes `Exif\\0\\0`.
 
-    The first block of a kind has the name of its kind, and each further block a name of its own, such as `second Exif` or `page 2`.
+    The first block of a kind has the name of its kind, and each further block a name of its own, such as `second Exif` or `Exif of page 2`.
     """
 
     kind: str  # EXIF, IPTC or XMP
@@ -74,15 +66,6 @@ class NotRead(NamedTuple):
 
     what: str
     digest: str  # SHA-256 of its bytes in hexadecimal digits; empty if they were not compared either
-
-    @classmethod
-    def of(cls, what: str, data: bytes) -> "NotRead":
-        """A part whose bytes are in memory.
-
-        >>> NotRead.of("trailer of 3 bytes", b"abc").digest[:8]
-        'ba7816bf'
-        """
-        return cls(what, hashlib.sha256(data).hexdigest())
 
 
 def damage(parts: Iterable[str]) -> List[str]:
@@ -115,7 +98,7 @@ def lost_kinds(type: str, parts: Iterable[str]) -> Tuple[str, ...]:
     """
     if not damage(parts):
         return ()
-    return (EXIF, XMP) if type in _WITHOUT_IPTC else KINDS
+    return (EXIF, XMP) if type in WITHOUT_IPTC else KINDS
 
 
 def not_known(type: str, parts: Iterable[str], kinds: Iterable[str]) -> List[str]:
@@ -176,7 +159,7 @@ class Blocks:
 
     def leave(self, what: str, data: bytes) -> None:
         """Adds a part that is not read, whose bytes are in memory. Raises `TooMuch`."""
-        self.name(NotRead.of(what, data))
+        self.name(NotRead(what, hashlib.sha256(data).hexdigest()))
 
     def name(self, part: NotRead) -> None:
         """Adds a part that is not read. Raises `TooMuch`."""

@@ -58,13 +58,13 @@ class Problem(Word):
     )
     BIG_TIFF = (
         "BigTIFF",
-        "a BigTIFF, of which no other program extracts an Exif block, can't be read",
+        "this BigTIFF can't be read, and no other program extracts its Exif block",
         "BigTIFF that can't be read",
         Follows.NOTHING,
     )
     NEEDS_EXIV2 = (
         "NeedsExiv2",
-        "ExifTool gives no Exif block of raw files; exiv2 does, and it isn't installed (package exiv2)",
+        "exiv2, which extracts the Exif block of raw files, isn't installed (package exiv2)",
         "raw, and exiv2 is not installed",
         Follows.FAILED,
         "exiv2",
@@ -76,7 +76,7 @@ class Problem(Word):
         Follows.FAILED,
         "exiftool",
     )
-    TOO_MUCH = ("TooMuch", "reading the file goes over a limit that no real picture reaches", "over a limit", Follows.FAILED)
+    TOO_MUCH = ("TooMuch", "reading the file exceeds a limit that no real picture reaches", "over a limit", Follows.FAILED)
     TOO_SLOW = (
         "TooSlow",
         "the program that extracts blocks took longer than its limit; the next run tries again",

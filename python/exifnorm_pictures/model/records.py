@@ -6,7 +6,7 @@ Each definition is also that of its table: what a field says of its column is wr
 import hashlib
 import itertools
 import os
-from typing import Annotated, Any, Dict, Iterable, List, NamedTuple, Optional, Sequence, Set, Tuple
+from typing import Annotated, Any, Dict, List, NamedTuple, Optional, Sequence, Set, Tuple
 
 from .budgets import ROW_BYTES
 from .columns import LONGEST, Columns, Damaged, Is, check
@@ -23,7 +23,7 @@ class BlockRecord(NamedTuple):
     """A block: its name, its position in the file, its reader, and the result of judging it. `fields.block_fields` has its fields."""
 
     kind: Annotated[str, "exif, iptc, xmp"]
-    name: Annotated[str, "Exif, IPTC, XMP; of further blocks a name of their own"]  # `second Exif`, `page 2`
+    name: Annotated[str, "Exif, IPTC, XMP; of further blocks a name of their own"]  # `second Exif`, `Exif of page 2`
     source: Annotated[str, "its position in the file"]
     extractor: Annotated[str, "own, exiftool, exiv2"]
     status: Annotated[str, ", ".join(it for it in Status if it != Status.ABSENT)]
@@ -31,9 +31,7 @@ class BlockRecord(NamedTuple):
     cause: Annotated[Optional[str], "of a block that isn't accepted: docs/FORMAT.md, section 5, or a cause of XMP"]
     place: Annotated[Optional[int], ""]
     length: Annotated[int, "bytes of the block"]
-    octets: Annotated[
-        str, "SHA-256 of the block as it is in the file"
-    ]  # which distinguishes a copied block from one that was written again
+    octets: Annotated[str, "SHA-256 of the block as it is in the file"]  # by which a copy is known from a block that was written again
     repair: Annotated[
         Optional[str],
         Is("of a refused block: the steps after which it is accepted, JSON: cause, what was done, what is lost", longest=_STEPS),
@@ -215,7 +213,8 @@ class PictureRecord(NamedTuple):
 
     def stamped(self, stamp: Optional[Stamp]) -> "PictureRecord":
         """The same picture with other marks."""
-        return self._replace(**_marks(stamp))
+        marks: Dict[str, Any] = dict(zip(Stamp._fields, stamp or _NO_STAMP))
+        return self._replace(**marks)
 
     @property
     def programs(self) -> Set[str]:
@@ -286,10 +285,6 @@ _PLACES = {name: number for number, name in enumerate(PictureRecord._fields)}
 _NO_STAMP = (None,) * len(Stamp._fields)
 
 
-def _marks(stamp: Optional[Stamp]) -> Dict[str, Any]:
-    return dict(zip(Stamp._fields, stamp or _NO_STAMP))
-
-
 _OCTETS = {kind: f"{kind}_octets" for kind in KINDS}
 
 
@@ -325,11 +320,8 @@ def _parts_digest(parts: Sequence[NotRead]) -> Optional[str]:
     """SHA-256 of some parts that were not read: empty without any, None if the bytes of one aren't known."""
     if not parts:
         return ""
-    return _together(f"{it.what} {it.digest}" for it in parts) if all(it.digest for it in parts) else None
-
-
-def _together(texts: Iterable[str]) -> str:
-    return hashlib.sha256("\n".join(texts).encode("utf-8", "surrogatepass")).hexdigest()
+    lines = "\n".join(f"{it.what} {it.digest}" for it in parts)
+    return hashlib.sha256(lines.encode("utf-8", "surrogatepass")).hexdigest() if all(it.digest for it in parts) else None
 
 
 def not_read_of_row(row: Tuple[Any, ...]) -> NotRead:

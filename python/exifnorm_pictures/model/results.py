@@ -25,13 +25,9 @@ class Result(Word):
         return result
 
     SAME = ("same", False, "The same metadata.", True, True)
-    SAME_FILE = ("the same file", False, "The same file, which isn't wholly read.")  # nothing was written to it
+    SAME_FILE = ("the same file", False, "The same file as before, but it isn't wholly read.")  # nothing was written to it
     SAME_BUT = ("the same but for the fields left out", False, "The same metadata but for the fields left out.")  # by the listing of fields
-    SAME_NUMBERS = (
-        "the same but for how equal numbers are written",
-        False,
-        "The same metadata but for how equal numbers are written.",
-    )
+    SAME_NUMBERS = ("the same but for how equal numbers are written", False, "The same metadata but for how equal numbers are written.")
     MOVED_NOTE = (
         "the same but for a MakerNote that moved",  # and that ExifTool reads as before
         None,
@@ -43,11 +39,11 @@ class Result(Word):
     ONLY_MAKER_NOTE = ("only MakerNote differs", True, "Only the MakerNote differs.")
     ONLY_NUMBERS = ("only equal numbers are written otherwise", True)
     FILE_DIFFERENT = ("not read, different bytes", True, "Different bytes, in a format that isn't read.")
-    NO_PICTURE_DIFFERENT = ("no picture, different bytes", True, "Different bytes, and no pictures.", False)
+    NO_PICTURE_DIFFERENT = ("no picture, different bytes", True, "Different bytes, and the files are no pictures.", False)
     MOVED = ("moved", True)
     MOVED_EDITED = ("moved and edited", True)  # which the digest of its coded picture shows
     OTHER_PICTURE_ALONE = ("other picture, the same metadata", True, "The same metadata, and another picture.")
-    OTHER_PICTURE = ("other picture", True, "Another picture, and no difference of the metadata is known.")
+    OTHER_PICTURE = ("other picture", True, "Another picture; no difference in the metadata is known.")
     DAMAGED = ("damaged", None, "The second picture is damaged.")  # and no difference of the metadata is known
     DAMAGED_BEFORE = ("damaged before", None, "The first picture is damaged.")
     DAMAGED_DIFFERENT = ("damaged and different", True)
@@ -56,13 +52,9 @@ class Result(Word):
     ONLY_REACHED = (
         "only bytes that a MakerNote can reach differ",
         None,
-        "No field differs. Bytes differ that no field has, and that a MakerNote can lead to.",
+        "No field differs, but bytes outside the fields do, and a MakerNote may use them.",
     )
-    REFUSED = (
-        "refused",
-        None,
-        "The metadata can't be compared wholly: a block breaks the rules of its format, or is compressed.",
-    )
+    REFUSED = ("refused", None, "The metadata can't be fully compared: a block breaks the rules of its format, or is compressed.")
     REFUSED_SAME = (
         "refused, the same bytes",
         False,
@@ -70,19 +62,13 @@ class Result(Word):
         True,
         True,
     )
-    UNREADABLE = ("unreadable", None, "The metadata can't be compared wholly: XMP is unreadable.")
-    UNREADABLE_SAME = (
-        "unreadable, the same bytes",
-        False,
-        "No difference: XMP is unreadable, and has the same bytes in both.",
-        True,
-        True,
-    )
-    NOT_KNOWN = ("not known", None, "The metadata can't be compared wholly: a file is damaged, and what is missing may have some.")
+    UNREADABLE = ("unreadable", None, "The metadata can't be fully compared: XMP is unreadable.")
+    UNREADABLE_SAME = ("unreadable, the same bytes", False, "No difference: XMP is unreadable, and has the same bytes in both.", True, True)
+    NOT_KNOWN = ("not known", None, "The metadata can't be fully compared: a file is damaged, and the missing part may have metadata.")
     NOT_WHOLLY_READ = ("not wholly read", None, "No field differs, but not everything was read.")
     FILE_SAME = ("not read, the same bytes", False, "The same bytes, in a format that isn't read.")
-    NO_PICTURE_SAME = ("no picture, the same bytes", False, "The same bytes, and no pictures.", False)
-    NOT_READ = ("not read", None, "The metadata can't be compared: a file isn't read.")
+    NO_PICTURE_SAME = ("no picture, the same bytes", False, "The same bytes, but the files are no pictures.", False)
+    NOT_READ = ("not read", None, "The metadata can't be compared: a file was not read.")
     # Of a kind only
     ABSENT = ("absent", False)
     LEFT_OUT = ("left out", False)  # no field of the kind counts

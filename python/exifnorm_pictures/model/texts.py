@@ -24,6 +24,15 @@ def escaped(text: str) -> str:
     return text if text.isprintable() and "\\" not in text else _escaped_but(text, "")
 
 
+def quoted(text: str) -> str:
+    r"""A text in quotes in one line.
+
+    >>> print(quoted('a "b"\n'))
+    "a \"b\"\n"
+    """
+    return '"' + escaped(text).replace('"', '\\"') + '"'
+
+
 def safe(text: str) -> str:
     r"""The text without control characters and others that aren't printable; a text that was escaped before stays as it is.
 
@@ -97,15 +106,20 @@ def path_members(path: bytes) -> Members:
         return {"path": shown_path(path), "path_hex": path.hex()}
 
 
-def pictures_in_words(count: int) -> str:
-    """A number of pictures.
+def in_words(count: int, noun: str) -> str:
+    """A number of things.
 
-    >>> pictures_in_words(1), pictures_in_words(2000)
-    ('1 picture', '2,000 pictures')
+    >>> in_words(1, "row"), in_words(2000, "row")
+    ('1 row', '2,000 rows')
     """
-    return f"{count:,} picture{'s' * (count != 1)}"
+    return f"{count:,} {noun}{'s' * (count != 1)}"
+
+
+def pictures_in_words(count: int) -> str:
+    """A number of pictures."""
+    return in_words(count, "picture")
 
 
 def moved_line(old: bytes, new: bytes, count: int) -> str:
     """A line for the pictures of a folder that moved together."""
-    return f"{shown_path(old)}: Moved: {count:,} pictures to {shown_path(new)}"
+    return f"{shown_path(old)}: Moved: {pictures_in_words(count)} to {shown_path(new)}"

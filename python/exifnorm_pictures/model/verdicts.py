@@ -108,9 +108,9 @@ def sentence_of_verdicts(verdicts: Sequence[Verdict], open_parts: Sequence[str] 
 
 
 def clause(kinds: Sequence[str], result: str, same_bytes: bool) -> str:
-    """The result of some kinds, as `Exif and IPTC are the same in the same bytes`."""
-    words = f"{with_verb([NAMES[it] for it in kinds])} {'the same' if result == Result.SAME else result}"
-    return words + (" in the same bytes" if same_bytes else "")
+    """The result of some kinds, as `Exif and IPTC are the same byte for byte`."""
+    end = "the same byte for byte" if result == Result.SAME and same_bytes else "the same" if result == Result.SAME else str(result)
+    return f"{with_verb([NAMES[it] for it in kinds])} {end}" + ", the same bytes" * (same_bytes and result != Result.SAME)
 
 
 def with_verb(names: Sequence[str]) -> str:

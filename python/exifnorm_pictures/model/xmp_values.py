@@ -3,9 +3,10 @@
 from __future__ import annotations
 
 import re
+from operator import itemgetter
 from typing import Any, Iterator, List, NamedTuple, Tuple, Union
 
-from .texts import escaped
+from .texts import escaped, quoted
 
 VALUE = "rdf:value"  # the text itself, in a structure with what qualifies it
 _MEMBER = re.compile(r"rdf:_([0-9]+)\Z")
@@ -98,8 +99,11 @@ def exact(value: XmpValue) -> str:
     'Alt["Vase"@x-default, "Krug"@de]'
     """
     if isinstance(value, Literal):
-        text = '"' + escaped(value.text).replace('"', '\\"') + '"'
-        return text + (f"@{escaped(value.language)}" if value.language else "") + (f"^^{escaped(value.datatype)}" if value.datatype else "")
+        return (
+            quoted(value.text)
+            + (f"@{escaped(value.language)}" if value.language else "")
+            + (f"^^{escaped(value.datatype)}" if value.datatype else "")
+        )
     if isinstance(value, Uri):
         return f"<{escaped(value.uri)}>"
     if isinstance(value, Array):
@@ -128,13 +132,9 @@ def texts_in(value: XmpValue) -> Tuple[str, ...]:
         return ()
     numbered = [(int(match[1]), it) for name, it in value.members for match in [_MEMBER.match(name)] if match]
     if numbered:  # a list with qualifiers
-        numbered.sort(key=_number)
+        numbered.sort(key=itemgetter(0))
         return tuple(text for _, it in numbered for text in texts_in(it))
     return tuple(it.text for name, it in value.members if name == VALUE and isinstance(it, Literal))
-
-
-def _number(member: Tuple[int, XmpValue]) -> int:
-    return member[0]
 
 
 def _chosen(members: Tuple[XmpValue, ...]) -> Tuple[str, ...]:

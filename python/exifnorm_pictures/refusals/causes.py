@@ -2,7 +2,6 @@
 
 from __future__ import annotations
 
-import enum
 from dataclasses import dataclass
 from typing import Dict, Optional, Tuple
 
@@ -16,18 +15,6 @@ MEASURED = "measured on 419 JPEG files of Debian source packages, 2026"
 READERS = "ExifTool 12.57, exiv2 0.27.6, exif 0.6.22 (libexif), Pillow 9.4 and piexif 1.1.3 of Debian 12"
 
 
-class Facts(enum.Enum):
-    """What `explain` shows of a refused block, beside the bytes at the offset."""
-
-    LENGTH = enum.auto()
-    BEGINNING = enum.auto()  # or what else the file is
-    DIRECTORY = enum.auto()  # where it begins and ends
-    NEXT = enum.auto()  # the offset of a further directory
-    ENTRY = enum.auto()
-    RANGES = enum.auto()  # the two that share bytes
-    DATA_SET = enum.auto()
-
-
 @dataclass(frozen=True)
 class Cause:
     """One cause: its meaning, programs that write it, results of other readers, and remedies."""
@@ -38,7 +25,6 @@ class Cause:
     writers: Tuple[Tuple[str, str], ...]  # who wrote such blocks, and how many were met
     readers: str
     cost: str
-    facts: Facts = Facts.ENTRY
 
     @property
     def sentence(self) -> str:
@@ -60,7 +46,6 @@ _CAUSES = (
         (),
         "Not tried: no JPEG can contain such a block.",
         "None.",
-        Facts.LENGTH,
     ),
     Cause(
         "UnknownKind",
@@ -72,7 +57,6 @@ _CAUSES = (
         "ExifTool: `Malformed APP1 EXIF segment`. exiv2: `This does not look like a TIFF image`. exif: `Corrupt data`. Pillow:"
         " no field. piexif: an exception.",
         "None.",
-        Facts.BEGINNING,
     ),
     Cause(
         "HeaderCut",
@@ -83,7 +67,6 @@ _CAUSES = (
         " can't open the whole picture. piexif: an exception. ExifTool extracts no block from such a picture, so `index` counts it"
         " among those without one.",
         "The content of the segment is lost in any case.",
-        Facts.LENGTH,
     ),
     Cause(
         "Loop",
@@ -94,7 +77,6 @@ _CAUSES = (
         "ExifTool: `IFD1 pointer references previous IFD0 directory`, and all other fields. exiv2 ignores the pointer with a"
         " message. exif and Pillow read the rest silently. piexif takes the fields a second time as those of the thumbnail.",
         "None that was seen: the pointer had no meaning.",
-        Facts.DIRECTORY,
     ),
     Cause(
         "DirectoryOutside",
@@ -106,7 +88,6 @@ _CAUSES = (
         "ExifTool and exif read the fields silently, exiv2 with `IFD exceeds data buffer, cannot read next pointer`, Pillow with a"
         " warning. piexif: an exception, also for blocks that piexif wrote.",
         "No printed value was lost.",
-        Facts.DIRECTORY,
     ),
     Cause(
         "EmptyDirectory",
@@ -116,7 +97,6 @@ _CAUSES = (
         (("Xiaomi phones (an empty GPS directory), Apple iPhone 7, Nikon E995, digiKam", "6 in all"),),
         "ExifTool, exiv2, exif, Pillow and piexif report nothing; exiv2, Pillow and piexif show the pointer as a number.",
         "None by the touch (4 of 4); a rebuild changed printed values.",
-        Facts.DIRECTORY,
     ),
     Cause(
         "Overlap",
@@ -134,7 +114,6 @@ _CAUSES = (
         ),
         "ExifTool, exiv2, exif, Pillow and piexif read both values and report nothing.",
         "No printed value was lost. Both values are kept, each with its copy of the shared bytes.",
-        Facts.RANGES,
     ),
     Cause(
         "Unsorted",
@@ -206,7 +185,6 @@ _CAUSES = (
         (),
         "exiv2 shows the third directory's fields. ExifTool, exif, Pillow and piexif read two and report nothing.",
         "The fields of the third directory, if a tool leaves it out.",
-        Facts.NEXT,
     ),
     Cause(
         "ThumbnailOutside",
@@ -226,7 +204,6 @@ _CAUSES = (
         "ExifTool reads up to there and prints `Bad IPTC data tag`; exiv2 continues at the next 1C and reports nothing. exif,"
         " Pillow and piexif don't read IPTC records of JPEG pictures.",
         "With ExifTool, what follows the offset.",
-        Facts.DATA_SET,
     ),
     Cause(
         "LengthForm",
@@ -235,7 +212,6 @@ _CAUSES = (
         (("none of 91 IPTC records from cameras or editors; those found were made to break readers", "0"),),
         "ExifTool reads the DataSet. exiv2: `Failed to decode IPTC metadata`, no DataSet at all.",
         "None, if ExifTool reads the DataSet.",
-        Facts.DATA_SET,
     ),
     Cause(
         "DataSetCut",
@@ -244,7 +220,6 @@ _CAUSES = (
         (("none of 91 IPTC records from cameras or editors; those found were made to break readers", "0"),),
         "ExifTool leaves the DataSet out and reports nothing; exiv2 leaves it out with `has invalid size`.",
         "The DataSet; a part of it is lost in any case.",
-        Facts.DATA_SET,
     ),
 )
 
@@ -390,12 +365,8 @@ def section(cause: Cause) -> str:
     else:
         lines += ["No camera or program was found that writes it.", ""]
     for label, text in (("Other readers", cause.readers), ("Remedy", cause.remedy), ("Cost", cause.cost)):
-        lines += [_filled(f"*{label}.* {_ended(text)}"), ""]
+        lines += [_filled(f"*{label}.* {text.rstrip('.')}."), ""]
     return "\n".join(lines)
-
-
-def _ended(text: str) -> str:
-    return text if text.endswith(".") else text + "."
 
 
 def page() -> str:

@@ -8,10 +8,10 @@ from typing import Callable, Dict, List, Optional
 from ..judge.judge import judge, judge_packet
 from ..model.found import XMP
 from ..model.records import BlockRecord
-from ..model.texts import Members
+from ..model.texts import Members, in_words
 from ..model.sides import Status
-from .causes import CAUSES, Cause, Facts, words_of
-from .layout import EntryAt, Layout, Part, hexadecimal
+from .causes import CAUSES, Cause, words_of
+from .layout import Layout, Part, hexadecimal
 
 _OTHER_FILES = (
     (b"\xff\xd8\xff", "This is a whole JPEG; give it without --block."),
@@ -84,7 +84,7 @@ def explain(kind: str, block: bytes) -> Explanation:
         words = words_of(judgement.cause or "") if cause is None else None
         return Explanation(kind, judgement, cause, [words[0], f"Remedy: {words[1]}"] if words else [])
     layout = Layout(block)
-    here = _FACTS[cause.facts](layout, cause.name, judgement.place)
+    here = _FACTS.get(cause.name, _entry)(layout, cause.name, judgement.place)
     return Explanation(kind, judgement, cause, here, hexadecimal(layout.block, judgement.place))
 
 
@@ -95,7 +95,7 @@ def explain_packet(judgement: BlockRecord) -> Explanation:
 
 
 def _length(layout: Layout, cause: str, place: int) -> List[str]:
-    return [f"The block has {len(layout.block):,} bytes."]
+    return [f"The block has {in_words(len(layout.block), 'byte')}."]
 
 
 def _beginning(layout: Layout, cause: str, place: int) -> List[str]:
@@ -111,7 +111,7 @@ def _beginning(layout: Layout, cause: str, place: int) -> List[str]:
 def _data_set(layout: Layout, cause: str, place: int) -> List[str]:
     block = layout.block
     before = block.rfind(b"\x1c", 0, place)
-    lines = [f"The record has {len(block):,} bytes; at {place} is {block[place : place + 8].hex(' ') or 'nothing'}."]
+    lines = [f"The record has {in_words(len(block), 'byte')}; at {place} is {block[place : place + 8].hex(' ') or 'nothing'}."]
     if block[place : place + 1] == b"\x1c" and place + 3 <= len(block):
         lines.append(f"The DataSet is {block[place + 1]}:{block[place + 2]}.")
     elif before >= 0 and before + 3 <= len(block):
@@ -142,7 +142,7 @@ def _directory(layout: Layout, cause: str, place: int) -> List[str]:
     if count is None:
         return lines + [f"The directory would begin at {at}; the block has {len(layout.block)} bytes."]
     end = at + 2 + 12 * count + 4
-    words = f"The directory at {at} has {count} entries and would end at {end}; the block has {len(layout.block)} bytes."
+    words = f"The directory at {at} has {count} entr{'y' if count == 1 else 'ies'} and would end at {end}; the block has {len(layout.block)} bytes."
     if cause == "DirectoryOutside" and 0 < end - len(layout.block) <= 4:
         words += f" Only the offset after the last entry is missing ({end - len(layout.block)} bytes of 4)."
     return lines + [words]
@@ -182,23 +182,20 @@ def _entry(layout: Layout, cause: str, place: int) -> List[str]:
     if cause == "ValueOutside":
         lines.append(f"Its value would end at {entry.last + entry.size}; the block has {len(layout.block)} bytes.")
     if cause == "ThumbnailOutside":
-        lines += _thumbnail(layout, entry)
+        ends = [part.end for part in layout.parts if part.named_at == entry.place and part.what == "the thumbnail JPEG"]
+        lines += [f"The thumbnail would end at {end}; the block has {len(layout.block)} bytes." for end in ends[:1]]
     return lines
 
 
-def _thumbnail(layout: Layout, entry: EntryAt) -> List[str]:
-    for part in layout.parts:
-        if part.named_at == entry.place and part.what == "the thumbnail JPEG":
-            return [f"The thumbnail would end at {part.end}; the block has {len(layout.block)} bytes."]
-    return []
-
-
-_FACTS: Dict[Facts, Callable[[Layout, str, int], List[str]]] = {
-    Facts.LENGTH: _length,
-    Facts.BEGINNING: _beginning,
-    Facts.DIRECTORY: _directory,
-    Facts.NEXT: _next,
-    Facts.ENTRY: _entry,
-    Facts.RANGES: _ranges,
-    Facts.DATA_SET: _data_set,
+# What is shown of a refused block beside the bytes at the offset, by the cause; of all other causes the entry there
+_FACTS: Dict[str, Callable[[Layout, str, int], List[str]]] = {
+    "TooLong": _length,
+    "UnknownKind": _beginning,
+    "HeaderCut": _length,
+    "Loop": _directory,
+    "DirectoryOutside": _directory,
+    "EmptyDirectory": _directory,
+    "Overlap": _ranges,
+    "ExtraDirectory": _next,
+    **dict.fromkeys(("NoMarker", "LengthForm", "DataSetCut"), _data_set),
 }

@@ -28,7 +28,7 @@ class Remedy(Word):
 
     text: str  # for people
 
-    COPY = ("copy", "no block is to be mended: a plain copy")
+    COPY = ("copy", "nothing to mend: a plain copy")
     REPAIR = ("repair", "the block was repaired, and the rest of the file kept")
     TOUCH = ("touch", "ExifTool added a field and removed it")
     EXIV2 = ("exiv2", "exiv2 added a field and removed it")
@@ -217,9 +217,13 @@ def _best(session: Session, picture: bytes, repair: Optional[_Repair], room: str
 _FREE = ("PageName", "DocumentName", "HostComputer")
 
 
+def _exiftool(session: Session, *words: str) -> programs.Done:
+    return programs.run(programs.exiftool("-q", "-q", "-m", *words), session.left())
+
+
 def _free_field(session: Session, name: str) -> Optional[str]:
     """A field of the main directory that the picture doesn't have, so that adding and taking it away changes none."""
-    output = programs.run(programs.exiftool("-q", "-q", "-m", "-s", *(f"-IFD0:{it}" for it in _FREE), name), session.left()).stdout
+    output = _exiftool(session, "-s", *(f"-IFD0:{it}" for it in _FREE), name).stdout
     there = {line.split(b":")[0].strip().decode("ascii", "replace") for line in output.split(b"\n")}
     return next((it for it in _FREE if it not in there), None)
 
@@ -230,14 +234,10 @@ def _touch(session: Session, name: str) -> bool:
     if free is None:
         return False
     adding, taking = [f"-IFD0:{free}=zz"], [f"-IFD0:{free}="]
-    if programs.run(programs.exiftool("-q", "-q", "-m", "-b", "-IPTC", name), session.left()).stdout:
+    if _exiftool(session, "-b", "-IPTC", name).stdout:
         adding.append("-IPTC:SubjectReference+=exifnorm:01000000:mend")
         taking.append("-IPTC:SubjectReference-=exifnorm:01000000:mend")
-    call = programs.exiftool("-q", "-q", "-m", "-overwrite_original")
-    return (
-        programs.run([*call, *adding, name], session.left()).returncode == 0
-        and programs.run([*call, *taking, name], session.left()).returncode == 0
-    )
+    return all(_exiftool(session, "-overwrite_original", *words, name).returncode == 0 for words in (adding, taking))
 
 
 def _by_exiv2(session: Session, name: str) -> bool:
@@ -250,24 +250,18 @@ def _by_exiv2(session: Session, name: str) -> bool:
 
 
 def _rebuild(session: Session, name: str) -> bool:
-    words = ["-q", "-q", "-m", "-overwrite_original", "-all=", "-tagsfromfile", "@", "-all:all", "-unsafe", name]
-    return programs.run(programs.exiftool(*words), session.left()).returncode == 0
+    words = ["-overwrite_original", "-all=", "-tagsfromfile", "@", "-all:all", "-unsafe", name]
+    return _exiftool(session, *words).returncode == 0
 
 
-_REMEDIES: Dict[Remedy, Callable[[Session, str], bool]] = {
-    Remedy.TOUCH: _touch,
-    Remedy.EXIV2: _by_exiv2,
-    Remedy.REBUILD: _rebuild,
-}
-
-
+_REMEDIES: Dict[Remedy, Callable[[Session, str], bool]] = {Remedy.TOUCH: _touch, Remedy.EXIV2: _by_exiv2, Remedy.REBUILD: _rebuild}
 _OFFSETS = re.compile(rb"Offset|Start |Padding|IPTCDigest")
 
 
 def _printed(session: Session, name: str) -> "Counter[str]":
     """All values that ExifTool prints, except offsets: as it prints them, and behind that exactly, since it rounds numbers for people."""
-    words = ["-q", "-q", "-m", "-a", "-u", "-s", "-G1", "-x", "System:all", "-x", "File:all", "-x", "Composite:all"]
-    output = programs.run(programs.exiftool(*words, "-x", "ExifTool:all", "-x", "JFIF:all", "-all", "-all#", name), session.left()).stdout
+    left_out = [word for group in ("System", "File", "Composite", "ExifTool", "JFIF") for word in ("-x", f"{group}:all")]
+    output = _exiftool(session, "-a", "-u", "-s", "-G1", *left_out, "-all", "-all#", name).stdout
     lines = [re.sub(rb"\s+", b" ", it) for it in output.split(b"\n") if it]
     both = (re.sub(rb", use -b.*?(?=\)|$)", b"", it) for it in _with_numbers(lines) if not _OFFSETS.search(it))
     return Counter(it.decode("utf-8", "backslashreplace") for it in both)

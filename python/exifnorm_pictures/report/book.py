@@ -17,7 +17,6 @@ from .rendering import WITH_PICTURES, Renderer
 from .searching import SearchIndex
 from .small_pictures import InPage, Kept
 
-INDEX = "index.html"
 MOST_OF_A_PAGE = 2_000  # files of a report that is one page
 MOST_BYTES = 64 << 20  # of such a page
 SHORT = 20  # pictures of a list that is on the first page of a folder

@@ -4,11 +4,12 @@ from __future__ import annotations
 
 import json
 from collections import Counter
-from typing import Iterator, List, NamedTuple, Optional, Tuple
+from typing import Iterator, List, NamedTuple, Optional
 
 from ..catalogue.store import Known
 from ..comparison import changed
 from ..comparison.coded import Coded, sentence_of_coded
+from ..comparison.moved_folders import MovedFolder, MovedFolders
 from ..comparison.pairs import AFTER, BEFORE, heads_of
 from ..comparison.summary import Summary
 from ..comparison.summary_lines import Line, results_of, rows_of, sentence
@@ -19,7 +20,6 @@ from ..model.results import Result
 from .contents import About
 from .entries import Entry, chunks
 from .marking import Marker, Pieces
-from .moved_folders import MovedFolder, MovedFolders
 
 _RESULTS = sorted(Result, key=lambda result: result not in (Result.DAMAGED, Result.DAMAGED_DIFFERENT))  # which somebody has to look after
 _NUL = b"\0"  # which no name has
@@ -138,8 +138,8 @@ class Changes:
             marker = Marker()
             rows = [Row(name, *marker.marked(before, after), what) for name, before, after, what in all_rows]
             is_first = True
-            for some in chunks(names, lambda name: name):
-                pictures = [self._picture(result, name, is_other) for name in some]
+            for chunk in chunks(names, lambda name: name):
+                pictures = [self._picture(result, name, is_other) for name in chunk]
                 paths = tuple(it.after or it.before or b"" for it in pictures)
                 yield Entry(Difference(result, note, rows, is_other, count, pictures, is_first), paths, 1 + len(rows), is_first, len(text))
                 is_first = False
@@ -164,8 +164,3 @@ def _is_as_it_was(path: Optional[bytes], known: Known) -> bool:
 
 def _path(head: bytes, name: bytes) -> bytes:
     return name if name.startswith(b"/") else head + name
-
-
-def numbers(changes: Optional[Changes]) -> Tuple[int, int]:
-    """How many pictures changed, and of how many that isn't known."""
-    return (changes.number_changed, changes.number_undecided) if changes else (0, 0)

@@ -102,42 +102,22 @@ def _count_fields(counts: "Counter[str]", names: Iterable[str]) -> int:
     return left
 
 
-# What an object is about, by a key that no other one has
-_RECORDS = {
-    "states": "summary",
-    "same": "group",
-    "maker_notes_unknown": "unknown",
-    "changed": "change",
-    "results": "changes",
-    "contradicts_itself": "contradiction",
-    "refused": "refusal",
-    "damaged": "damage",
-    "problem": "problem",
-    "not_read": "unread",
-}
+Objects = Iterator[Tuple[str, Members]]  # each with what it is about
 
 
-def record_of(members: Members) -> str:
-    """What an object is about.
-
-    >>> record_of({"refused": {"path": "a.jpg"}})
-    'refusal'
-    """
-    return next(record for key, record in _RECORDS.items() if key in members)
-
-
-def members(about: About) -> Iterator[Members]:
+def objects(about: About) -> Objects:
     """All that is known, as JSON objects."""
-    yield _summary_members(about)
+    yield "summary", _summary_members(about)
     yield from _group_members(about)
     if about.old is not None:
         yield from _changed_members(about)
     for picture in checked(about.catalogue, about.catalogue.pictures(about.table())):
         if picture.real:
-            yield {"contradicts_itself": path_members(picture.path), "conflicts": [_conflict_members(label) for label in picture.real]}
+            conflicts = [_conflict_members(label) for label in picture.real]
+            yield "contradiction", {"contradicts_itself": path_members(picture.path), "conflicts": conflicts}
     for block in refused(about):
         of_block = {"kind": block.kind, "name": block.name, "cause": block.cause, "refusal": block.refusal}
-        yield {"refused": path_members(block.path), **of_block}
+        yield "refusal", {"refused": path_members(block.path), **of_block}
     yield from _unread_members(about)
 
 
@@ -149,30 +129,30 @@ def _summary_members(about: About) -> Members:
     return {**counts, **({"unproved": without_proof} if without_proof else {})}
 
 
-def _group_members(about: About) -> Iterator[Members]:
+def _group_members(about: About) -> Objects:
     by_files = groups.Groups(about.catalogue, about.table(), about.look, about.session)
     for group in by_files.by_meaning(choice=about.choice):
         of_group = {"basis": group.basis, "same_bytes": group.same_bytes, "wholly_read": group.is_wholly_read}
-        yield {"same": [path_members(path) for path in group.pictures()], "description": sentence_of(group), **of_group}
+        yield "group", {"same": [path_members(path) for path in group.pictures()], "description": sentence_of(group), **of_group}
     if by_files.unknown:
-        yield {"maker_notes_unknown": dict(by_files.unknown)}
+        yield "unknown", {"maker_notes_unknown": dict(by_files.unknown)}
 
 
-def _unread_members(about: About) -> Iterator[Members]:
+def _unread_members(about: About) -> Objects:
     for picture in about.catalogue.pictures(about.table()):
         if picture.damage:
-            yield {"damaged": picture.damage, **path_members(picture.path)}
+            yield "damage", {"damaged": picture.damage, **path_members(picture.path)}
         if picture.problem:
-            yield {"problem": picture.problem, **path_members(picture.path), "detail": picture.detail}
+            yield "problem", {"problem": picture.problem, **path_members(picture.path), "detail": picture.detail}
         elif picture.not_read != "":
-            yield {"not_read": [part.what for part in about.catalogue.not_read_of(picture)], **path_members(picture.path)}
+            yield "unread", {"not_read": [part.what for part in about.catalogue.not_read_of(picture)], **path_members(picture.path)}
 
 
 def _conflict_members(conflict: Conflict) -> Members:
     return {"label": conflict.label, "detail": conflict.detail or None, "texts": texts_by_standard(conflict)}
 
 
-def _changed_members(about: About) -> Iterator[Members]:
+def _changed_members(about: About) -> Objects:
     assert about.old is not None
     results: "Counter[Result]" = Counter()
     fields: "Counter[str]" = Counter()
@@ -181,9 +161,10 @@ def _changed_members(about: About) -> Iterator[Members]:
     for comparison in changed.changed(about.old, about.catalogue, results, about.only, session=about.session, choice=about.choice):
         if comparison.result.has_changed is False:
             continue
-        not_counted += _count_fields(fields, (change.change_name for change in comparison.changes))
-        changes = [{"name": one.change_name, "before": bare(one.before), "after": bare(one.after)} for one in comparison.changes]
+        not_counted += _count_fields(fields, (change.name for change in comparison.changes))
+        changes = [{"name": one.name, "before": bare(one.before), "after": bare(one.after)} for one in comparison.changes]
         moved = {} if comparison.moved_to is None else {"moved_to": path_members(comparison.moved_to)}
-        yield {"changed": path_members(comparison.name), "result": comparison.result, "note": comparison.note, **moved, "fields": changes}
+        known = {"changed": path_members(comparison.name), "result": comparison.result, "note": comparison.note}
+        yield "change", {**known, **moved, "fields": changes}
     left_out = {"left_out": about.choice.left_out} if about.choice.left_out else {}
-    yield {"results": dict(results), "fields": dict(fields), "fields_not_counted": not_counted, **left_out}
+    yield "changes", {"results": dict(results), "fields": dict(fields), "fields_not_counted": not_counted, **left_out}

@@ -66,7 +66,7 @@ def checked(catalogue: Catalogue, pictures: Iterator[PictureRecord]) -> Iterator
 
 
 def _checked(picture: PictureRecord, blocks: List[BlockRecord], texts: PictureTexts) -> Checked:
-    known = [one for one in conflicts(texts.texts) if not one.is_alike and one.label not in texts.missing]
+    known = [one for one in conflicts(texts.texts, texts.located) if not one.is_alike and one.label not in texts.missing]
     is_whole = not (texts.missing or _is_cut(picture)) and all(one.is_accepted or one.repair for one in blocks)
     return Checked(picture.path, known, is_whole)
 

@@ -22,8 +22,8 @@ def as_jpeg(path: bytes, session: Session) -> bytes:
         if not programs.is_there(CONVERTER) or not _is_heif(path):
             return b""
         folder = Path(session.folder())
-        made = folder / "converted.jpg"
-        words = [programs.needed(CONVERTER), "-q", "85", "--", os.path.abspath(os.fsdecode(path)), str(made)]
+        target = folder / "converted.jpg"
+        words = [programs.needed(CONVERTER), "-q", "85", "--", os.path.abspath(os.fsdecode(path)), str(target)]
         try:
             programs.run(words, shrinking.SECONDS, str(folder))
             return _first(folder)
@@ -42,7 +42,7 @@ def _is_heif(path: bytes) -> bool:
 
 def _first(folder: Path) -> bytes:
     """What was made: one file, or of a file with several pictures one for each, the main one first."""
-    made = sorted(folder.glob("converted*.jpg"), key=lambda path: (len(path.name), path.name))
-    if not made or made[0].stat().st_size > _LARGEST:
+    files = sorted(folder.glob("converted*.jpg"), key=lambda path: (len(path.name), path.name))
+    if not files or files[0].stat().st_size > _LARGEST:
         return b""
-    return made[0].read_bytes()
+    return files[0].read_bytes()

@@ -14,16 +14,12 @@ _SCHEME = re.compile(r"(https?|file)://", re.I)
 PLACES = ("{path}", "{name}")  # in an address: the path below the folder that was indexed, and the name of the file alone
 
 
-class WrongAddress(WrongUse):
-    """An address has no place for the name of a picture, or isn't one of a page or a file."""
-
-
 def check(address: str) -> str:
-    """The same address. Raises `WrongAddress`: an address such as `javascript:` is never a link."""
+    """The same address. Raises `WrongUse`: an address such as `javascript:` is never a link."""
     if not _SCHEME.match(address):
-        raise WrongAddress(f"--link-to: an address begins with https://, http:// or file://, and {address} doesn't")
+        raise WrongUse(f"--link-to: an address begins with https://, http:// or file://, and {address} doesn't")
     if not any(place in address for place in PLACES):
-        raise WrongAddress(f"--link-to: {address} has neither {{path}} nor {{name}}, so all pictures would have one address")
+        raise WrongUse(f"--link-to: {address} has neither {{path}} nor {{name}}, so all pictures would have one address")
     return address
 
 

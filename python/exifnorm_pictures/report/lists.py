@@ -61,10 +61,10 @@ def counts_of(about: About) -> Counts:
     source = f"FROM not_read JOIN pictures ON pictures.id = picture WHERE {chosen(about)}"
     query = f"SELECT what, count(DISTINCT picture) {source} GROUP BY what ORDER BY 2 DESC, what LIMIT {MOST_PARTS}"
     counts.parts = list(about.catalogue.rows(query, (), _counted_word))
-    counts.unread = _number(about, f"SELECT count(*) FROM pictures WHERE not_read IS NOT '' AND {chosen(about)}")
-    counts.damaged = _number(about, f"SELECT count(*) FROM pictures WHERE damage != ''{_and_chosen(about)}")
+    counts.unread = about.catalogue.number_of(f"SELECT count(*) FROM pictures WHERE not_read IS NOT '' AND {chosen(about)}")
+    counts.damaged = about.catalogue.number_of(f"SELECT count(*) FROM pictures WHERE damage != ''{_and_chosen(about)}")
     noted = f"FROM blocks JOIN pictures ON pictures.id = picture WHERE note IS NOT NULL AND {chosen(about)}"
-    counts.maker_notes = _number(about, f"SELECT count(DISTINCT picture) {noted}")
+    counts.maker_notes = about.catalogue.number_of(f"SELECT count(DISTINCT picture) {noted}")
     return counts
 
 
@@ -76,10 +76,6 @@ _STATE = """CASE WHEN ifnull(problem, '') != '' THEN problem WHEN exif IS NULL O
 def _counted_word(row: Tuple[str, int]) -> Tuple[str, int]:
     has(str, row[0])
     return row
-
-
-def _number(about: About, query: str) -> int:
-    return int(next(about.catalogue.rows(query))[0])
 
 
 class Contradicting(NamedTuple):

@@ -51,9 +51,8 @@ def _orientation(image_module: Any, file: BinaryIO) -> int:
 
 
 def _shrunk(image_module: Any, source: Any, orientation: int) -> Optional[bytes]:
-    turns = dict(
-        zip(range(2, 9), (0, 3, 1, 5, 4, 6, 2))
-    )  # FLIP_LEFT_RIGHT, ROTATE_180, FLIP_TOP_BOTTOM, TRANSPOSE, ROTATE_270, TRANSVERSE, ROTATE_90
+    # FLIP_LEFT_RIGHT, ROTATE_180, FLIP_TOP_BOTTOM, TRANSPOSE, ROTATE_270, TRANSVERSE, ROTATE_90
+    turns = dict(zip(range(2, 9), (0, 3, 1, 5, 4, 6, 2)))
     try:
         picture = image_module.open(source, formats=_formats(image_module))
         picture.draft("RGB", (_WIDEST[0], _WIDEST[0]))

@@ -4,14 +4,14 @@ from __future__ import annotations
 
 from collections import Counter
 from pathlib import Path
-from typing import TYPE_CHECKING, Any, Callable, Dict, List, Tuple
+from typing import TYPE_CHECKING, Any, Callable, Dict
 
 from ..comparison.readings import of_unknown
 from ..fields.left_out import of_maker_notes
 from ..model.errors import Failure
 from ..model.problems import COUNTED, TEXTS
 from ..model.results import Result
-from ..model.texts import escaped, safe, shown_path
+from ..model.texts import escaped, in_words, safe, shown_path
 from ..refusals.causes import CAUSES, words_of
 from .contradictions import texts_by_standard
 from .searching import labels_of
@@ -31,15 +31,9 @@ STATE_WORDS = {
 _TONES = {"accepted": "good", "refused": "bad", "no block": "plain", "damaged": "bad", "NoPicture": "plain"}
 _RESULT_TONES: Dict[str, str] = {
     Result.SAME: "good",
-    Result.ONLY_MAKER_NOTE: "plain",
-    Result.SAME_FILE: "plain",
-    Result.REFUSED_SAME: "plain",
-    Result.REFUSED: "bad",
-    Result.NOT_READ: "bad",
-    Result.DAMAGED: "bad",
-    Result.DAMAGED_BEFORE: "bad",
-    Result.DAMAGED_DIFFERENT: "bad",
-    Result.NOT_KNOWN: "bad",
+    **dict.fromkeys((Result.ONLY_MAKER_NOTE, Result.SAME_FILE, Result.REFUSED_SAME), "plain"),
+    **dict.fromkeys((Result.DAMAGED, Result.DAMAGED_BEFORE, Result.DAMAGED_DIFFERENT), "bad"),
+    **dict.fromkeys((Result.REFUSED, Result.NOT_READ, Result.NOT_KNOWN), "bad"),
 }
 
 
@@ -76,36 +70,17 @@ def environment(filters: Dict[str, Callable[..., Any]]) -> "jinja2.Environment":
     return templates
 
 
-def counted(count: int, what: str) -> str:
-    """A number of things.
-
-    >>> counted(1, "group"), counted(2000, "group")
-    ('1 group', '2,000 groups')
-    """
-    return f"{count:,} {what}{'' if count == 1 else 's'}"
-
-
-def rows_of(counts: "Counter[str]", tone: str) -> List[Tuple[str, int, str]]:
-    """The rows of a chart: names with their counts, the largest first, in one tone."""
-    return [(name, count, tone) for name, count in counts.most_common()]
-
-
-def result_tone(result: str) -> str:
-    """The tone of a result, by which it is coloured."""
-    return _RESULT_TONES.get(result, "odd")
-
-
 _FILTERS: Dict[str, Callable[..., Any]] = {
     "number": "{:,}".format,
-    "counted": counted,
+    "counted": in_words,
     "path": shown_path,
     "escaped": escaped,
-    "rows": lambda counts, tone: rows_of(Counter(dict(counts)), tone),
+    "rows": lambda counts, tone: [(name, count, tone) for name, count in Counter(dict(counts)).most_common()],  # of a chart
     "unknown": of_unknown,
     "maker_notes": of_maker_notes,
     "state": lambda state: STATE_WORDS.get(state, state),
     "tone": lambda state: _TONES.get(state, "odd"),
-    "result_tone": result_tone,
+    "result_tone": lambda result: _RESULT_TONES.get(result, "odd"),
     "problem": lambda problem: TEXTS.get(problem, ""),
     "texts": texts_by_standard,
     "labels": labels_of,

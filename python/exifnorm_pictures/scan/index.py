@@ -13,6 +13,7 @@ from collections import Counter
 from dataclasses import dataclass, field
 from datetime import datetime, timezone
 from itertools import chain, islice
+from operator import itemgetter
 from typing import Callable, Dict, Iterable, Iterator, List, Optional, Sequence, Set, Tuple
 
 from ..catalogue.store import Catalogue, Known
@@ -20,13 +21,15 @@ from ..extract import programs
 from ..extract.sidecars import marks
 from ..model import budgets
 from ..model.found import EXIFTOOL, EXIV2, UNREAD_TRAILER
+from ..model.numbers import Numbers
 from ..model.problems import AGAIN, GONE, NEEDED, Problem
 from ..model.records import PictureRecord, is_as_before
+from ..model.texts import pictures_in_words
 from .batches import LONGEST_WAIT, Batch, How, Lines, Result
 from .excluded import Excluded
 from .moved import Departed, deepest, moved_folders, shared_folder
 from .progress import Progress
-from .seen import Numbers, Paths
+from .seen import Paths
 from .walk import FoundFile, Part, Unlisted, below, can_overlap, outermost
 
 BATCH = 1000  # pictures of one transaction
@@ -107,8 +110,8 @@ def _settle(options: IndexOptions, at_work: "_Looking", departed: Departed) -> N
     if work.taken:
         catalogue.forget_pictures(work.taken)
     vanished = (PictureRecord.of(path, b"", problem=Problem.VANISHED, detail=Problem.VANISHED.text) for path, _ in departed.each())
-    while some := list(islice(vanished, BATCH)):
-        catalogue.put(run, some)
+    while batch := list(islice(vanished, BATCH)):
+        catalogue.put(run, batch)
     if work.new:
         departed.settle(catalogue, run, lambda path: path not in work.reread)
     folders: "Counter[Tuple[bytes, bytes]]" = Counter()
@@ -201,17 +204,13 @@ class _Finding:
 def _unfinished(catalogue: Catalogue) -> Iterator[int]:
     """The numbers of pictures with a block or a part that was not read for want of a program which is there now."""
     if importlib.util.find_spec("rdflib"):
-        yield from catalogue.rows(f"{_PICTURES_WITH} blocks ON picture = id AND xmp IS NULL AND cause = ?", ("NeedsRdflib",), _first)
+        yield from catalogue.rows(f"{_PICTURES_WITH} blocks ON picture = id AND xmp IS NULL AND cause = ?", ("NeedsRdflib",), itemgetter(0))
     if programs.is_there("exiftool"):
         parts = f"{_PICTURES_WITH} not_read AS part ON picture = id AND pictures.not_read IS NULL AND what = ?"
-        yield from catalogue.rows(parts, (UNREAD_TRAILER,), _first)
+        yield from catalogue.rows(parts, (UNREAD_TRAILER,), itemgetter(0))
 
 
 _PICTURES_WITH = "SELECT id FROM pictures CROSS JOIN"  # a cross join begins with the pictures, of which few are concerned
-
-
-def _first(row: Tuple[int]) -> int:
-    return row[0]
 
 
 def _is_unchanged(file: FoundFile, known: Optional[Known], how: How = How()) -> bool:
@@ -249,11 +248,22 @@ def _gone(options: IndexOptions, work: Work, catalogue: Catalogue, run: int) -> 
     return departed
 
 
+REFUSED = "problem IS NULL AND (exif IS NULL OR iptc IS NULL OR xmp IS NULL)"  # pictures with a block that isn't accepted
+DAMAGED = "damage != ''"  # those that are cut off or damaged, as far as that was seen
+OF_XMP = "type = 'XMP' AND problem IS NULL"  # XMP files that are no blocks of pictures
+OF_LAST_RUN = "run = (SELECT max(id) FROM runs)"
+
+
+def number_of(catalogue: Catalogue, condition: str) -> int:
+    """How many pictures of a catalogue fit a condition."""
+    return catalogue.number_of(f"SELECT count(*) FROM pictures WHERE {condition}")
+
+
 def _named_wrong(work: Work, catalogue: Catalogue) -> Iterator[PictureRecord]:
     """A line for each folder that can't be read, and for each name without a file. The catalogue keeps none of it."""
     for unlisted in work.unlisted:
         known = catalogue.count_below(unlisted.path)
-        kept = f"; its {known} pictures stay as they were" if known else ""
+        kept = f"; its {pictures_in_words(known)} stay{'s' * (known == 1)} as before" if known else ""
         yield PictureRecord.of(unlisted.path, b"", problem=Problem.UNREADABLE, detail=unlisted.reason + kept)
 
 

@@ -128,9 +128,8 @@ def file_digest(path: bytes, blocks: Blocks, whole: bool) -> str:
 
 def failed(file: FoundFile, why: str) -> PictureRecord:
     """The result for a file at which a program or a process failed."""
-    return compared_with_before(
-        file, PictureRecord.of_blocks(file.path, file.root, file.stamp, Blocks(problem=Problem.TOOL_FAILED, detail=why))
-    )
+    blocks = Blocks(problem=Problem.TOOL_FAILED, detail=why)
+    return compared_with_before(file, PictureRecord.of_blocks(file.path, file.root, file.stamp, blocks))
 
 
 def _now() -> int:

@@ -115,7 +115,7 @@ class Departed:
         row: Optional[Tuple[int]] = self._base.execute(_LIKELY, facts).fetchone()
         if row is None or self._base.execute(_ARE_TWO, (facts["content"],)).fetchone()[0]:
             return None
-        return None if next(catalogue.rows(_MEAN_THE_SAME, (path,)))[0] else row
+        return None if catalogue.number_of(_MEAN_THE_SAME, (path,)) else row
 
     def settle(self, catalogue: Catalogue, run: int, is_new: Callable[[bytes], bool]) -> None:
         """Finds which pictures that are gone have another name among those of this run, of which `is_new` tells whether they were unknown."""

@@ -16,9 +16,9 @@ from ..catalogue.store import NUMBERS, Catalogue
 from ..model.errors import WrongUse
 from ..model.problems import Problem
 from ..model.records import PictureRecord
-from ..model.texts import shown_path
+from ..model.texts import pictures_in_words, shown_path
 from .excluded import Excluded
-from .index import IndexOptions, index
+from .index import DAMAGED, OF_LAST_RUN, REFUSED, IndexOptions, index, number_of
 from .walk import Part, outermost, parts_of
 
 _WORD = 30  # characters of the name of a catalogue that are those of its folder
@@ -172,15 +172,14 @@ def indexed(where: str, shard: Shard, options: IndexOptions, patterns: Sequence[
     """Looks at the pictures of a part. If its folder is gone or empty, as of a disk that isn't mounted, its pictures stay as they were."""
     file = os.path.join(where, shard.name)
     if count := _unmounted(file, shard):
-        detail = f"the folder is empty, isn't there or can't be read; its {count:,} pictures stay as they were"
+        detail = f"the folder is empty, isn't there or can't be read; its {pictures_in_words(count)} stay{'s' * (count == 1)} as before"
         return not_looked_at(shard, Problem.UNREADABLE, detail, patterns)
     excluded = Excluded(patterns)
     with Catalogue(file, make=True) as catalogue:
         catalogue.number_above(_number_of(shard.name) * NUMBERS)
         was_stopped = next(catalogue.rows("SELECT ended IS NULL FROM runs ORDER BY id DESC LIMIT 1"), (0,))[0]
         counts = index(replace(options, names=[shard.part.top], part=shard.part, excluded=excluded), catalogue)
-        damaged = _count(catalogue, "damage != '' AND run = (SELECT max(id) FROM runs)")
-        refused = _count(catalogue, "problem IS NULL AND (exif IS NULL OR iptc IS NULL OR xmp IS NULL)")
+        damaged, refused = number_of(catalogue, f"{DAMAGED} AND {OF_LAST_RUN}"), number_of(catalogue, REFUSED)
     if excluded.count and not shard.part.is_flat:  # what lies directly in the folder is counted already
         counts["excluded"] = excluded.count
     return Outcome(counts, frozenset(excluded.unused()), damaged, refused, excluded.known, was_stopped)
@@ -207,10 +206,6 @@ def not_looked_at(shard: Shard, problem: Problem, detail: str, patterns: Sequenc
     """The outcome of a part that wasn't looked at, and why."""
     picture = PictureRecord.of(shard.part.folder, b"", problem=problem, detail=detail)
     return Outcome(Counter([picture.state]), frozenset(patterns), problem=picture)
-
-
-def _count(catalogue: Catalogue, condition: str) -> int:
-    return int(next(catalogue.rows(f"SELECT count(*) FROM pictures WHERE {condition}"))[0])
 
 
 def together(planned: Plan, outcomes: Sequence[Outcome]) -> Outcome:

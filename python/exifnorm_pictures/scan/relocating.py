@@ -47,10 +47,7 @@ def relocated(catalogue: Catalogue, old: bytes, new: bytes) -> "Counter[str]":
             (start, start[:-1] + b"0"),
         )
         rows = _rows(catalogue, old.rstrip(b"/"), new.rstrip(b"/"), began, counts)
-        while True:
-            rows_at_once = list(islice(rows, _AT_ONCE))
-            if not rows_at_once:
-                break
+        while rows_at_once := list(islice(rows, _AT_ONCE)):
             catalogue.base.executemany(_UPDATE, rows_at_once)
         catalogue.base.execute("DROP TABLE temp.moving")
     return counts

@@ -1,32 +1,9 @@
-"""What a run has seen of an archive, in little memory: numbers of rows as bits, and paths in a file once there are many."""
+"""The paths that a run has seen of an archive, in little memory: in a file once there are many."""
 
 from __future__ import annotations
 
 import sqlite3
-from typing import Dict, Optional
-
-
-class Numbers:
-    """A set of numbers of rows, which lie close together: 4,096 in a number of Python's.
-
-    >>> numbers = Numbers()
-    >>> numbers.add(5000)
-    >>> 5000 in numbers, 904 in numbers
-    (True, False)
-    """
-
-    def __init__(self) -> None:
-        self._bits: Dict[int, int] = {}
-
-    def add(self, number: int) -> None:
-        """Adds a number."""
-        self._bits[number >> 12] = self._bits.get(number >> 12, 0) | 1 << (number & 4095)
-
-    def __contains__(self, number: int) -> bool:
-        return bool(self._bits.get(number >> 12, 0) >> (number & 4095) & 1)
-
-    def __bool__(self) -> bool:
-        return bool(self._bits)
+from typing import Optional
 
 
 class Paths:

@@ -169,9 +169,7 @@ def outermost(names: Iterable[bytes]) -> Iterator[bytes]:
 LONGEST_LIST = 1 << 28  # bytes of a list that is a file, or a device that has no end
 
 
-def names_in_list(
-    name: str, by_nul: bool, before_read: Callable[[], object] = bool, stdin: Optional[io.BufferedIOBase] = None
-) -> Iterator[bytes]:
+def names_in_list(name: str, by_nul: bool, before_read: Callable[[], object] = bool) -> Iterator[bytes]:
     """The names in a list file: one for each line, or each ended by a NUL. Raises `BadList`.
 
     Those of standard input, `-`, come one by one, each before more is read, so that a program can ask for a name and wait for the answer.
@@ -186,11 +184,10 @@ def names_in_list(
             raise _ended_by_nul(name)
         yield from filter(None, octets.split(b"\0" if by_nul else b"\n"))
         return
-    if stdin is None and sys.stdin is None:
+    if sys.stdin is None:
         raise BadList("standard input is closed")
-    stream = stdin or cast(io.BufferedIOBase, sys.stdin.buffer)
     name_so_far = bytearray()
-    while piece := _more(stream, before_read):
+    while piece := _more(before_read):
         if not by_nul and b"\0" in piece:
             raise _ended_by_nul(name)
         first, *others = piece.split(b"\0" if by_nul else b"\n")
@@ -203,10 +200,10 @@ def names_in_list(
         yield bytes(name_so_far)
 
 
-def _more(stream: io.BufferedIOBase, before_read: Callable[[], object]) -> bytes:
-    """What is there of a stream, or what comes next; nothing at its end."""
+def _more(before_read: Callable[[], object]) -> bytes:
+    """What is there of standard input, or what comes next; nothing at its end."""
     before_read()
-    return stream.read1(_CHUNK)
+    return cast(io.BufferedIOBase, sys.stdin.buffer).read1(_CHUNK)
 
 
 _CHUNK = 1 << 16

@@ -22,7 +22,7 @@ class Node(NamedTuple):
     @property
     def container(self) -> str:
         """`Bag`, `Seq` or `Alt`, or nothing."""
-        types = {it.value for it in self.statements if it.predicate == TYPE and not isinstance(it.value, Node)}
+        types = {value for predicate, value in self.statements if predicate == TYPE and not isinstance(value, Node)}
         first = next(iter(types), None)
         return CONTAINERS.get(first.uri, "") if len(types) == 1 and isinstance(first, Uri) else ""
 
@@ -76,10 +76,10 @@ def unique(statements: Statements) -> "List[Statement]":
     >>> len(unique((Statement("a", Literal("1")), Statement("a", Literal("1")), Statement("a", Node(())), Statement("a", Node(())))))
     3
     """
-    if len(statements) < 2:
+    if len({predicate for predicate, _ in statements}) == len(statements):  # as in most packets
         return list(statements)
-    plain = dict.fromkeys(it for it in statements if not isinstance(it.value, Node))
-    return [*plain, *(it for it in statements if isinstance(it.value, Node))]
+    plain = dict.fromkeys([it for it in statements if not isinstance(it.value, Node)])
+    return [*plain, *[it for it in statements if isinstance(it.value, Node)]]
 
 
 def digest_of_statements(statements: Statements, is_bag: bool = False) -> str:

@@ -7,11 +7,12 @@ last box of a file may have the length 0. No reader follows boxes in boxes of un
 from __future__ import annotations
 
 import re
-from typing import Callable, Iterator, List, NamedTuple, Set
+from typing import Callable, Iterator, List, NamedTuple, Optional, Set
 
 from ...model.budgets import BOXES, BOX_BYTES, budget_of
-from ...model.found import CUT, REST, XMP, Blocks, Broken, NotRead, damage
-from .streams import Stream, digest_of, digest_of_rest, leave, leave_rest, read_at, size_of
+from ...model.found import CUT, REST, SIX, XMP, Blocks, Broken, NotRead, damage
+from ...model.tiff_types import HEADS
+from .streams import Stream, digest_of_rest, leave, leave_rest, read_at, size_of
 
 _LONGEST_HEAD = 32
 XMP_UUID = bytes.fromhex("be7acfcb97a942e89c71999491e3afac")  # XMP part 3, 1.1.4
@@ -62,9 +63,7 @@ def boxes(stream: Stream, start: int, end: int, is_file: bool = False) -> Iterat
 
 def boxes_of_file(blocks: Blocks, stream: Stream, is_whole: Callable[[Set[bytes]], bool]) -> List[Box]:
     """The boxes of a file. `is_whole` says of the kinds of some boxes whether they are a whole picture, after which anything may follow.
-
-    Raises `Broken` and `TooMuch`.
-    """
+    Raises `Broken` and `TooMuch`."""
     every: List[Box] = []
     try:
         for box in boxes(stream, 0, size_of(stream), is_file=True):
@@ -78,11 +77,10 @@ def boxes_of_file(blocks: Blocks, stream: Stream, is_whole: Callable[[Set[bytes]
     return every
 
 
-def leave_cut(blocks: Blocks, stream: Stream, why: str) -> None:
+def leave_cut(blocks: Blocks, why: str) -> None:
     """Names the end of a file that is cut off between two boxes, unless one in a box is named. Raises `TooMuch`."""
-    size = size_of(stream)
     if not damage(part.what for part in blocks.not_read):
-        blocks.name(NotRead(f"{REST} ({CUT}{why})", digest_of(stream, size, size)))
+        blocks.leave(f"{REST} ({CUT}{why})", b"")
 
 
 _PIXELS = frozenset((b"mdat", b"jxlc", b"jxlp", b"jp2c"))
@@ -109,6 +107,19 @@ def add_xmp(blocks: Blocks, stream: Stream, box: Box) -> None:
     data = content(stream, box)
     if data.strip(b"\0"):
         blocks.add(XMP, data, f"{box.kind.decode('ascii').strip()} box at {box.at}")
+
+
+def exif_in(data: bytes) -> Optional[bytes]:
+    """The block in an Exif item of HEIF or an Exif box of JPEG XL, which is a number, so many other bytes, and the block (ISO/IEC 23008-12, A.2.1;
+    ISO/IEC 18181-2); None if the number leads out of the content. Some writers leave out the number, as ExifTool knows.
+
+    >>> exif_in(b"\\0\\0\\0\\x06Exif\\0\\0MM\\0*"), exif_in(b"\\0\\0\\0\\x09MM\\0*")
+    (b'MM\\x00*', None)
+    """
+    if data.startswith((*HEADS, SIX)):
+        return data.removeprefix(SIX)
+    start = 4 + int.from_bytes(data[:4], "big")
+    return data[start:] if start <= len(data) else None
 
 
 # How a packet begins, which other XML doesn't: with a wrapper, or with its first element after a declaration

@@ -34,12 +34,8 @@ def one_block(structures: Dict[bytes, bytes], budget: Budget) -> Optional[bytes]
         return None
     try:
         return _Joined(structures, budget).block()
-    except (Broken, _NotOne):
+    except Broken:
         return None
-
-
-class _NotOne(Exception):
-    """The structures can't be one block."""
 
 
 class _Memory(io.BytesIO):
@@ -66,12 +62,12 @@ class _Joined(Directories):
         self._firsts = {it: self.number(structures[it][4:8]) for it in structures}
 
     def block(self) -> bytes:
-        """One block of all. Raises `Broken`, `TooMuch` and `_NotOne`."""
+        """One block of all. Raises `TooMuch`, and `Broken` if they can't be one."""
         tables = {kind: self._table(kind) for kind in (CMT1, CMT2, CMT4) if kind in self._ranges}
         if CMT3 in self._ranges:
             start, end = self._ranges[CMT3]
             if CMT2 not in tables or end - start <= IN_ENTRY:
-                raise _NotOne
+                raise Broken("no place for the MakerNote")
             _insert(tables[CMT2].entries, Entry(_NOTE, _UNDEFINED, end - start, self._packed(start), end - start))
         main = tables.pop(CMT1)
         for kind, table in tables.items():
@@ -80,7 +76,7 @@ class _Joined(Directories):
                 main.below[_TAGS[kind]] = table
         layout = Layout(self, main)
         if layout.length > LIMIT:
-            raise _NotOne
+            raise Broken("too long for a block")
         block = layout.block()
         self.check()
         return block
@@ -99,7 +95,7 @@ class _Joined(Directories):
         start, end = self._ranges[kind]
         directory: Directory = self.read(start + offset)
         if directory.following or directory.at + 6 + 12 * len(directory.entries) > end:
-            raise _NotOne
+            raise Broken("a further directory, or one that isn't in its box")
         return [it if it.size <= IN_ENTRY else it._replace(last=self._moved(it, start, end)) for it in directory.entries]
 
     def _moved(self, entry: Entry, start: int, end: int) -> bytes:
@@ -129,7 +125,7 @@ _NOTHING: Tuple[List[bytes], ...] = ([], [b"II*"], [b"MM\0*"])  # Canon writes a
 
 
 def _insert(entries: List[Entry], entry: Entry) -> None:
-    """Inserts an entry in the order of the tags. Raises `_NotOne` if its tag is there."""
+    """Inserts an entry in the order of the tags. Raises `Broken` if its tag is there."""
     if any(one.tag == entry.tag for one in entries):
-        raise _NotOne
+        raise Broken(f"a second entry of tag {entry.tag:04x}")
     entries.insert(next((number for number, one in enumerate(entries) if one.tag > entry.tag), len(entries)), entry)

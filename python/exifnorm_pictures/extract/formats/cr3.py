@@ -48,7 +48,7 @@ def read(stream: Stream, whole: bool = False) -> Blocks:
     if movies > 1:
         raise Broken("the file has two moov boxes")
     if not pixels:
-        leave_cut(blocks, stream, "before its picture")
+        leave_cut(blocks, "before its picture")
     return blocks
 
 

@@ -10,8 +10,8 @@ from typing import Dict, List, Optional, Set, Tuple
 
 from ...model.budgets import BOX_BYTES, budget_of
 from ...model.found import EXIF, IN_PICTURE, XMP, Blocks, Broken, NotRead
-from . import canon, item_exif
-from .boxes import XMP_UUID, Box, add_xmp, boxes, boxes_of_file
+from . import canon
+from .boxes import XMP_UUID, Box, add_xmp, boxes, boxes_of_file, exif_in
 from .heif_items import PICTURES, READERS, Item, Items
 from .streams import Stream, digest_of_parts, leave, read_at, size_of
 
@@ -112,7 +112,7 @@ class _Reader:
         elif not any(end > start for start, end in ranges):
             return  # ExifTool deletes an item so
         elif item.kind == b"Exif":
-            block = item_exif.block_of(self._data(ranges))
+            block = exif_in(self._data(ranges))
             if block is None:
                 self.blocks.name(NotRead(f"{what} without a header", digest_of_parts(self.stream, ranges)))
             else:

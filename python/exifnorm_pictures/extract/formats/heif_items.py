@@ -10,9 +10,7 @@ from .boxes import Box, Fields, boxes, content
 from .streams import Stream
 
 # Coded and derived pictures: their items have no metadata
-PICTURES = frozenset(
-    b"hvc1 hvt1 lhv1 av01 avc1 svc1 mvc1 jpeg j2k1 vvc1 vvcN evc1 unci mski grid iovl iden tmap tild".split(),
-)
+PICTURES = frozenset(b"hvc1 hvt1 lhv1 av01 avc1 svc1 mvc1 jpeg j2k1 vvc1 vvcN evc1 unci mski grid iovl iden tmap tild".split())
 MOST_DESCRIBED = 8  # pictures that one block describes, besides the main one
 
 _METHODS = 3  # how an item is found: in the file, in the box idat, or in other items

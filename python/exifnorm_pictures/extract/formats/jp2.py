@@ -9,16 +9,15 @@ from __future__ import annotations
 from typing import Set
 
 from ...model.budgets import CHUNKS, budget_of
-from ...model.found import EXIF, IN_PICTURE, IPTC, Blocks, Broken, NotRead
+from ...model.found import EXIF, IN_PICTURE, IPTC, SIX, Blocks, Broken
 from . import photoshop, tiff
 from .boxes import XMP_UUID, Box, add_xml, add_xmp, boxes, boxes_of_file, content
-from .streams import Stream, leave, read_at, size_of
-from .window import Window
+from .embedded import add_inside
+from .streams import Stream, Window, leave, read_at, size_of
 
 START = b"\0\0\0\x0cjP  \r\n\x87\n"
 BARE = b"\xff\x4f\xff\x51"
 _TILE_PART, _END_MARK = b"\xff\x90", b"\xff\xd9"
-_SIX = b"Exif\0\0"
 _KINDS = {
     b"JpgTiffExif->JP2": EXIF,
     bytes.fromhex("0537cdab9d0c4431a72afa561f2a113e"): EXIF,  # Photoshop's
@@ -28,20 +27,15 @@ _KINDS = {
 _PHOTOSHOP = bytes.fromhex("2c4c0100850440b9a03e562148d6dfeb")
 _GEOTIFF = bytes.fromhex("b14bf8bd083d4b43a5ae8cd7d5a6ce03")
 # Settings of Adobe's plugin, of one byte or four (ExifTool's module Jpeg2000)
-_SETTINGS = frozenset(
-    bytes.fromhex(digits)
-    for digits in (
-        "3a0d02180ae94115b3764bca41ce0e71",
-        "47c92cccd1a14581b90438bb5467713b",
-        "bc45a774dd504ec6a9f6f3a137f47e90",
-        "d7c8c5ef951f43b28757042500f538e8",
-    )
+_SETTINGS = (
+    bytes.fromhex("3a0d02180ae94115b3764bca41ce0e71"),
+    bytes.fromhex("47c92cccd1a14581b90438bb5467713b"),
+    bytes.fromhex("bc45a774dd504ec6a9f6f3a137f47e90"),
+    bytes.fromhex("d7c8c5ef951f43b28757042500f538e8"),
 )
 _NESTED = (b"jp2h", b"jpch", b"jplh", b"cgrp", b"res ", b"ftbl")  # boxes of boxes, in which ExifTool reads the same kinds as outside
 _DEEPEST = 4  # such boxes in one another; the standard needs three
-_WITHOUT = frozenset(
-    b"ftyp rreq jp2c dtbl mdat free ihdr bpcc colr pclr cmap cdef resc resd opct creg roid flst".split(),
-)
+_WITHOUT = frozenset(b"ftyp rreq jp2c dtbl mdat free ihdr bpcc colr pclr cmap cdef resc resd opct creg roid flst".split())
 
 
 def read(stream: Stream, whole: bool = False) -> Blocks:
@@ -99,21 +93,12 @@ def _uuid(blocks: Blocks, stream: Stream, box: Box) -> None:
     where = f"uuid box at {box.at}"
     if box.uuid in _KINDS:
         kind, data = _KINDS[box.uuid], content(stream, box)
-        blocks.add(kind, data[len(_SIX) :] if kind == EXIF and data.startswith(_SIX) else data, where)
+        blocks.add(kind, data.removeprefix(SIX) if kind == EXIF else data, where)
     elif box.uuid == XMP_UUID:
         add_xmp(blocks, stream, box)
     elif box.uuid == _PHOTOSHOP:
         photoshop.add_resources(blocks, [(where, content(stream, box))])
     elif box.uuid == _GEOTIFF and read_at(stream, box.start, min(4, box.end - box.start)) in tiff.HEADS:
-        _geotiff(blocks, Window(stream, box.start, box.end - box.start), where)
+        add_inside(blocks, tiff.read(Window(stream, box.start, box.end - box.start)), "GeoTIFF", where)
     elif box.uuid not in _SETTINGS or box.end - box.start > 4:
         leave(blocks, box.name, stream, box.start, box.end)
-
-
-def _geotiff(blocks: Blocks, stream: Window, where: str) -> None:
-    inside = tiff.read(stream)
-    for block in inside.blocks:
-        blocks.check()
-        blocks.blocks.append(block._replace(name=f"{block.name} of GeoTIFF", where=f"{block.where} of the {where}"))
-    for part in inside.not_read:
-        blocks.name(NotRead(f"{part.what} of GeoTIFF", part.digest))

@@ -11,31 +11,18 @@ import re
 from typing import List, Set, Tuple
 
 from ...model.budgets import Budget, budget_of
-from ...model.found import CUT, EXIF, REST, XMP, Blocks, Broken, NotRead, length_of
+from ...model.found import CUT, EXIF, REST, SIX, XMP, Blocks, Broken, NotRead
+from ...model.texts import in_words
 from . import mpf, photoshop
 from .extended_xmp import HEAD as EXTENDED, Pieces
-from .jpeg_segments import (
-    APP0,
-    APP1,
-    APP13,
-    APP15,
-    APP2,
-    APP3,
-    EXIF_PIECE,
-    PHOTOSHOP_PIECE,
-    SOS,
-    XMP_PACKET,
-    blocks_of,
-    is_not_compared,
-    read_head,
-)
+from .jpeg_segments import APP0, APP1, APP13, APP15, APP2, APP3, SOS
+from .jpeg_segments import EXIF_PIECE, PHOTOSHOP_PIECE, XMP_PACKET, blocks_of, is_not_compared, read_head
 from .jpeg_tail import WINDOW, Tail, is_scan, tail
 from .streams import Stream, digest_of, digest_of_rest, read_at, size_of
 from .trailers import add_blocks, known_trailer
 
 START = b"\xff\xd8\xff"
 NO_END_MARK = f"{CUT}before the end mark of its picture"  # which a decoder may still read wholly
-_SIX = b"Exif\0\0"
 _XMP = b"http://ns.adobe.com/xap/1.0/\0"
 # Some writers put up to four bytes before the word, or write it in another way; ExifTool reads these as well.
 _EXIF_LIKE = re.compile(rb".{0,4}?Exif\0.", re.I | re.S)
@@ -56,7 +43,7 @@ def read(stream: Stream, whole: bool = False) -> Blocks:
         blocks.not_read.append(NotRead(f"{REST} ({why})", digest_of(stream, head.end, end)))
         return blocks
     if head.is_open:
-        blocks.not_read.append(NotRead(f"{REST} (the file ends before its first scan, at {end})", digest_of(stream, end, end)))
+        blocks.leave(f"{REST} (the file ends before its first scan, at {end})", b"")
         return blocks
     starts = _further(stream, head, end)
     whole = whole or head.index_is_wrong
@@ -95,7 +82,10 @@ class _Head:
                 self._block(kind, start + at - 4, next(blocks))
             elif not kind and APP0 <= marker <= APP15:
                 self._segment(marker, start + at - 4, head.octets[at : at + size])
-        self._put_together()
+        for place, data in self._exif:
+            self.blocks.add(EXIF, data, place, self.part)
+        photoshop.add_resources(self.blocks, self._runs, self.part)
+        self._pieces.put_together(self.blocks, self.part)
         self.end, self.is_open = head.end, head.is_open
         if head.fault:
             raise Broken(head.fault)
@@ -108,7 +98,7 @@ class _Head:
     def _block(self, kind: int, at: int, data: bytes) -> None:
         """Adds a block. Its first segment begins as many bytes before `at` as the mark of its kind has."""
         if kind == EXIF_PIECE:
-            self._exif.append((f"APP1 segment at {at - len(_SIX)}", data))
+            self._exif.append((f"APP1 segment at {at - len(SIX)}", data))
         elif kind == PHOTOSHOP_PIECE:
             self._runs.append((f"APP13 segment at {at - len(photoshop.HEAD)}", data))
         elif kind == XMP_PACKET:
@@ -118,44 +108,21 @@ class _Head:
 
     def _segment(self, marker: int, start: int, data: bytes) -> None:
         """Adds what a segment of no known kind has."""
-        if marker == APP1:
-            self._app1(f"APP1 segment at {start}", data)
-        elif marker == APP13:
-            self._app13(f"APP13 segment at {start}", data)
-        else:
-            self._other(marker, start, data)
+        name = f"APP{marker - APP0} segment"
+        if marker == APP1 and (like := _EXIF_LIKE.match(data)):  # a lenient form: a mark that is written in another way
+            self._exif.append((f"{name} at {start}", data[like.end() :]))
+        elif marker == APP13 and data.startswith(photoshop.OLD_HEAD):  # a lenient form: the mark of an older Photoshop
+            self._runs.append((f"{name} at {start}", data[photoshop.OLD_HEAD_LENGTH :]))
+        elif marker == APP2 and data.startswith(mpf.HEAD):
+            self.indexes.append((start + 4 + len(mpf.HEAD), data[len(mpf.HEAD) :]))
+        elif marker == APP3 and data.startswith(_META):
+            self._leave(f"{name} Meta", data)
+        elif not is_not_compared(marker, data):
+            word = bytes(it for it in data.split(b"\0")[0][:12] if 32 < it < 127).decode("ascii")
+            self._leave(f"{name} of an unknown kind" if marker in (APP1, APP13) else f"{name} {word}".rstrip(), data)
 
     def _leave(self, what: str, data: bytes) -> None:
         self.blocks.leave(what + self.of, data)
-
-    def _app1(self, place: str, data: bytes) -> None:
-        """A lenient form: Exif by a mark that is written in another way."""
-        if like := _EXIF_LIKE.match(data):
-            self._exif.append((place, data[like.end() :]))
-        else:
-            self._leave("APP1 segment of an unknown kind", data)
-
-    def _app13(self, place: str, data: bytes) -> None:
-        """A lenient form: resources after the mark of an older Photoshop."""
-        if data.startswith(photoshop.OLD_HEAD):
-            self._runs.append((place, data[photoshop.OLD_HEAD_LENGTH :]))
-        elif not is_not_compared(APP13, data):
-            self._leave("APP13 segment of an unknown kind", data)
-
-    def _other(self, marker: int, at: int, data: bytes) -> None:
-        if marker == APP2 and data.startswith(mpf.HEAD):
-            self.indexes.append((at + 4 + len(mpf.HEAD), data[len(mpf.HEAD) :]))
-        elif marker == APP3 and data.startswith(_META):
-            self._leave("APP3 segment Meta", data)
-        elif not is_not_compared(marker, data):
-            word = bytes(it for it in data.split(b"\0")[0][:12] if 32 < it < 127).decode("ascii")
-            self._leave(f"APP{marker - APP0} segment {word}".rstrip(), data)
-
-    def _put_together(self) -> None:
-        for place, data in self._exif:
-            self.blocks.add(EXIF, data, place, self.part)
-        photoshop.add_resources(self.blocks, self._runs, self.part)
-        self._pieces.put_together(self.blocks, self.part)
 
 
 def _further(stream: Stream, head: _Head, end: int) -> List[int]:
@@ -164,13 +131,12 @@ def _further(stream: Stream, head: _Head, end: int) -> List[int]:
     for at, data in head.indexes:
         try:
             places = mpf.further_pictures(data, at)
-            for number, place in enumerate(places, 2):
-                if place.start + place.length > end > place.start + 3 and read_at(stream, place.start, 3) == START:
-                    rest = f"{REST} ({CUT}inside MPF picture {number})"
-                    head.blocks.name(NotRead(rest, digest_of(stream, place.start, end)))
-                if place.start < head.end or place.start + place.length > end or read_at(stream, place.start, 3) != START:
-                    raise Broken(f"no picture at {place.start}")
-            starts.update(it.start for it in places)
+            for number, (start, length) in enumerate(places, 2):
+                if start + length > end > start + 3 and read_at(stream, start, 3) == START:
+                    head.blocks.name(NotRead(f"{REST} ({CUT}inside MPF picture {number})", digest_of(stream, start, end)))
+                if start < head.end or start + length > end or read_at(stream, start, 3) != START:
+                    raise Broken(f"no picture at {start}")
+            starts.update(start for start, _ in places)
         except Broken as why:
             head.index_is_wrong = True
             head.blocks.leave(f"MPF index that does not fit the file ({why})", data)
@@ -200,7 +166,7 @@ def _read_after(stream: Stream, head: _Head, end: int, whole: bool) -> None:
     is_read = rest.has_mark and end == size_of(stream) and add_blocks(head.blocks, stream, start, end)
     head.blocks.has_more = head.blocks.has_more or (trailer is not None and trailer.may_hold_blocks and not is_read)
     what = f"{trailer.name} trailer" if trailer else _kind_of_rest(stream, start, end)
-    head.blocks.not_read.append(NotRead(f"{what} of {length_of(end - start)}{head.of}", digest))
+    head.blocks.not_read.append(NotRead(f"{what} of {in_words(end - start, 'byte')}{head.of}", digest))
 
 
 def _kind_of_rest(stream: Stream, at: int, end: int) -> str:

@@ -11,8 +11,7 @@ from typing import Optional, Set
 
 from ...model.budgets import budget_of
 from ...model.found import COMPRESSED, EXIF, XMP, Blocks, Broken
-from . import item_exif
-from .boxes import XMP_UUID, Box, add_xml, add_xmp, boxes_of_file, content, leave_cut
+from .boxes import XMP_UUID, Box, add_xml, add_xmp, boxes_of_file, content, exif_in, leave_cut
 from .streams import Stream, leave, read_at
 
 START = b"\0\0\0\x0cJXL \r\n\x87\n"
@@ -37,7 +36,7 @@ def read(stream: Stream, whole: bool = False) -> Blocks:
         elif box.at and box.kind not in _WITHOUT:  # the first one is the signature
             _take(blocks, stream, box)
     if piece and read_at(stream, piece.start, min(1, piece.end - piece.start)) < _IS_LAST:
-        leave_cut(blocks, stream, "before the last piece of its picture")
+        leave_cut(blocks, "before the last piece of its picture")
     return blocks
 
 
@@ -52,7 +51,7 @@ def _take(blocks: Blocks, stream: Stream, box: Box) -> None:
     if box.uuid == XMP_UUID:
         return add_xmp(blocks, stream, box)
     if box.kind == b"Exif":
-        block = item_exif.block_of(content(stream, box))
+        block = exif_in(content(stream, box))
         if block is not None:
             return blocks.add(EXIF, block, f"Exif box at {box.at}")
         what = "Exif box without a header"

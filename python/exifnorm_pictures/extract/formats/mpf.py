@@ -3,7 +3,7 @@
 from __future__ import annotations
 
 import struct
-from typing import List, NamedTuple
+from typing import List, Tuple
 
 from ...model.found import Broken
 from ...model.tiff_types import HEADS
@@ -15,15 +15,8 @@ _ENTRY = "4xII4x"  # of `struct`: its length and its offset
 _ENTRY_LENGTH = 16
 
 
-class Place(NamedTuple):
-    """A picture in the file."""
-
-    start: int
-    length: int
-
-
-def further_pictures(data: bytes, base: int) -> List[Place]:
-    """The pictures in the index besides the first one; `base` is the offset of the index's own header in the file.
+def further_pictures(data: bytes, base: int) -> List[Tuple[int, int]]:
+    """The start and the length of each picture in the index besides the first one; `base` is the offset of the index's own header in the file.
 
     The first entry, whose offset is 0, is the picture that the index is in. Raises `Broken`.
     """
@@ -36,4 +29,4 @@ def further_pictures(data: bytes, base: int) -> List[Place]:
     if place is None or (place[1] - place[0]) % _ENTRY_LENGTH or place[1] > len(data):
         raise Broken("the MPF index has no list of pictures")
     entries = struct.iter_unpack(order_of(data) + _ENTRY, data[slice(*place)])
-    return [Place(base + offset, length) for length, offset in entries if offset]
+    return [(base + offset, length) for length, offset in entries if offset]

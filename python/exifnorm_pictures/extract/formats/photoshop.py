@@ -11,7 +11,7 @@ from typing import List, Sequence, Tuple
 import exifnorm
 
 from ...model.budgets import LIMITS, RESOURCES, TooMuch
-from ...model.found import EXIF, FEW, IPTC, XMP, Blocks
+from ...model.found import EXIF, FEW, IPTC, SIX, XMP, Blocks
 
 HEAD = b"Photoshop 3.0\0"
 OLD_HEAD = b"Adobe_Photoshop2.5:"
@@ -21,7 +21,6 @@ SIGNATURES = (b"8BIM", b"PHUT", b"AgHg", b"DCSR", b"MeSa")  # Photoshop, PhotoDe
 _KINDS = {0x0404: IPTC, 0x0422: EXIF, 0x0424: XMP}
 _MORE_EXIF = 0x0423
 KEPT = (*_KINDS, _MORE_EXIF)  # the resources that are looked at
-_SIX = b"Exif\0\0"
 
 
 def resources(data: bytes, most: int = LIMITS[RESOURCES]) -> Tuple[List[exifnorm.Resource], bytes]:
@@ -63,4 +62,4 @@ def add_one(blocks: Blocks, number: int, data: bytes, where: str, part: str = ""
     if kind is None:
         blocks.leave(place, data)
     else:
-        blocks.add(kind, data[len(_SIX) :] if kind == EXIF and data.startswith(_SIX) else data, place, part)
+        blocks.add(kind, data.removeprefix(SIX) if kind == EXIF else data, place, part)

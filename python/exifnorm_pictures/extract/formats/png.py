@@ -7,18 +7,18 @@ Not compared, because they contain no Exif, IPTC or XMP: text chunks with other 
 from __future__ import annotations
 
 import zlib
+from typing import Iterator, Tuple
 
-from ...model.budgets import CHUNKS, CHUNK_BYTES, budget_of
-from ...model.found import EXIF, IPTC, XMP, Blocks, Broken, NotRead, length_of
+from ...model.budgets import CHUNKS, CHUNK_BYTES, Budget, budget_of
+from ...model.found import EXIF, IPTC, SIX, XMP, Blocks, Broken
 from . import photoshop
-from .streams import Stream, digest_of_rest, read_at, size_of
+from .streams import Stream, leave_rest, read_at, size_of
 
 START = b"\x89PNG\r\n\x1a\n"
-_SIX = b"Exif\0\0"
 _XMP_KEYWORD = b"xml:com.adobe.xmp"
 _XMP_HEAD = b"http://ns.adobe.com/xap/1.0/\0"
 _PROFILE = b"raw profile type "
-_TEXTS = (b"tEXt", b"zTXt", b"iTXt")
+TEXTS = (b"tEXt", b"zTXt", b"iTXt")
 
 
 class _Unreadable(Exception):
@@ -28,15 +28,23 @@ class _Unreadable(Exception):
 def read(stream: Stream, whole: bool = False) -> Blocks:
     """The blocks of a PNG, which is always read to its end. Raises `Broken`."""
     reader = _Reader(stream)
-    at = len(START)
-    while True:
-        reader.budget.spend(CHUNKS)
-        length, kind = reader.head(at)
-        reader.chunk(at, length, kind)
+    for at, kind, length in chunks(stream, reader.budget):
+        reader.chunk(at, kind, length)
+    leave_rest(reader.blocks, stream, at + 12 + length)
+    return reader.blocks
+
+
+def chunks(stream: Stream, budget: Budget) -> Iterator[Tuple[int, bytes, int]]:
+    """The offset, the kind and the length of each chunk, up to IEND. Raises `Broken` and `TooMuch`."""
+    at, size, kind = len(START), size_of(stream), b""
+    while kind != b"IEND":
+        budget.spend(CHUNKS)
+        head = read_at(stream, at, 8)
+        length, kind = int.from_bytes(head[:4], "big"), head[4:]
+        if at + 12 + length > size:
+            raise Broken(f"the file ends inside the chunk at {at}")
+        yield at, kind, length
         at += 12 + length
-        if kind == b"IEND":
-            reader.rest(at)
-            return reader.blocks
 
 
 class _Reader:
@@ -44,21 +52,12 @@ class _Reader:
 
     def __init__(self, stream: Stream) -> None:
         self.stream = stream
-        self.size = size_of(stream)
         self.budget = budget_of(stream)
         self.blocks = Blocks(type="PNG", budget=self.budget)
 
-    def head(self, at: int) -> "tuple[int, bytes]":
-        """The length and the kind of the chunk at an offset."""
-        head = read_at(self.stream, at, 8)
-        length = int.from_bytes(head[:4], "big")
-        if at + 12 + length > self.size:
-            raise Broken(f"the file ends inside the chunk at {at}")
-        return length, head[4:]
-
-    def chunk(self, at: int, length: int, kind: bytes) -> None:
+    def chunk(self, at: int, kind: bytes, length: int) -> None:
         """Adds the blocks of a chunk."""
-        if kind not in (b"eXIf", b"zxIf", *_TEXTS):
+        if kind not in (b"eXIf", b"zxIf", *TEXTS):
             return
         self.budget.spend(CHUNK_BYTES, length)
         data = read_at(self.stream, at + 8, length)
@@ -66,17 +65,11 @@ class _Reader:
             raise Broken(f"wrong check sum of the chunk at {at}")
         where = f"{kind.decode('ascii')} chunk at {at}"
         if kind == b"eXIf":
-            self.blocks.add(EXIF, data[len(_SIX) :] if data.startswith(_SIX) else data, where)
-        elif kind in _TEXTS:
+            self.blocks.add(EXIF, data.removeprefix(SIX), where)
+        elif kind in TEXTS:
             self._text(kind, data, where)
         else:
             self.blocks.leave("compressed Exif chunk", data)
-
-    def rest(self, at: int) -> None:
-        """The bytes after the last chunk."""
-        digest = digest_of_rest(self.stream, at, self.size)
-        if digest is not None:
-            self.blocks.not_read.append(NotRead(f"trailer of {length_of(self.size - at)}", digest))
 
     def _text(self, kind: bytes, data: bytes, where: str) -> None:
         keyword, _, text = data.partition(b"\0")
@@ -121,13 +114,12 @@ class _Reader:
             if data.startswith(_XMP_HEAD):
                 self.blocks.add(XMP, data[len(_XMP_HEAD) :], where)
             else:
-                self.blocks.add(EXIF, data[len(_SIX) :] if data.startswith(_SIX) else data, where)
+                self.blocks.add(EXIF, data.removeprefix(SIX), where)
         elif kind in (b"iptc", b"8bim"):
             if data[:1] == b"\x1c":
                 self.blocks.add(IPTC, data, where)
             else:
-                bare = data[len(photoshop.HEAD) :] if data.startswith(photoshop.HEAD) else data
-                photoshop.add_resources(self.blocks, [(where, bare)])
+                photoshop.add_resources(self.blocks, [(where, data.removeprefix(photoshop.HEAD))])
         elif kind == b"xmp":
             self.blocks.add(XMP, data, where)
         elif kind not in (b"icc", b"icm"):

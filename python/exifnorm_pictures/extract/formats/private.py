@@ -15,11 +15,10 @@ from ...model.budgets import DIRECTORIES
 from ...model.found import EXIF, IN_PICTURE, Blocks, Broken, NotRead
 from ...model.tiff_types import HEADS, IFD, LONG
 from .embedded import add_jpeg
-from .streams import digest_of_rest, read_at
+from .streams import Window, digest_of_rest, read_at
 from .tiff_block import Layout, Table, is_pointer
 from .tiff_directories import Directories, Directory
 from .tiff_entries import IN_ENTRY, Entry
-from .window import Window
 
 RW2_HEAD = b"IIU\0"
 

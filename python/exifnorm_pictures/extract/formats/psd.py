@@ -7,10 +7,11 @@ they contain no Exif, IPTC or XMP: the merged picture, colour tables and other r
 from __future__ import annotations
 
 import struct
-from typing import Callable, Dict, NamedTuple, Optional
+from typing import NamedTuple, Optional
 
 from ...model.budgets import RESOURCES, RESOURCE_BYTES, STRIPS, budget_of
-from ...model.found import IN_PICTURE, Blocks, Broken, NotRead, length_of
+from ...model.found import IN_PICTURE, Blocks, Broken, NotRead
+from ...model.texts import in_words
 from . import photoshop
 from .streams import Stream, digest_of_rest, leave, pieces, read_at, size_of
 from .trailers import add_blocks, known_trailer
@@ -83,9 +84,6 @@ def _sum(data: bytes, wide: int, code: str) -> int:
     return sum(struct.unpack(f">{len(data) // wide}{code}", data[: len(data) // wide * wide]))
 
 
-_LENGTHS: Dict[int, Callable[[bytes], int]] = {2: lambda it: _sum(it, 2, "H"), 4: lambda it: _sum(it, 4, "I")}
-
-
 def _end_of_picture(header: _Header, stream: Stream, at: int) -> Optional[int]:
     """Where the merged picture ends, which is the last part of a whole file; None if it isn't known."""
     compression = int.from_bytes(read_at(stream, at, 2), "big")
@@ -94,9 +92,9 @@ def _end_of_picture(header: _Header, stream: Stream, at: int) -> Optional[int]:
     if compression == _RAW:
         return start + rows * ((header.width * header.depth + 7) // 8)
     elif compression == _PACKED and rows <= STRIPS:
-        wide = 4 if header.version == _BIG else 2
+        wide, code = (4, "I") if header.version == _BIG else (2, "H")
         table = start + rows * wide  # of the lengths of the rows, which follow it
-        return table + sum(map(_LENGTHS[wide], pieces(stream, start, table)))
+        return table + sum(_sum(it, wide, code) for it in pieces(stream, start, table))
     return None
 
 
@@ -112,4 +110,4 @@ def _leave_trailer(blocks: Blocks, stream: Stream, start: Optional[int], end: in
     if digest is not None:
         is_read = add_blocks(blocks, stream, start, end)
         blocks.has_more = trailer is not None and trailer.may_hold_blocks and not is_read
-        blocks.name(NotRead(f"{trailer.name if trailer else ''} trailer of {length_of(end - start)}".lstrip(), digest))
+        blocks.name(NotRead(f"{trailer.name if trailer else ''} trailer of {in_words(end - start, 'byte')}".lstrip(), digest))

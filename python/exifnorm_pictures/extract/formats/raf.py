@@ -9,14 +9,13 @@ from __future__ import annotations
 from typing import Tuple
 
 from ...model.budgets import budget_of
-from ...model.found import Blocks, Broken, NotRead, length_of
+from ...model.found import Blocks, Broken, NotRead
 from ...model.tiff_types import HEADS
 from .embedded import add_jpeg
 from .private import add_directory
-from .streams import Stream, digest_of_rest, read_at, size_of
+from .streams import Stream, Window, digest_of_rest, leave_rest, read_at, size_of
 from .tiff_block import is_pointer
 from .tiff_directories import Directories
-from .window import Window
 
 START = b"FUJIFILMCCD-RAW "
 _HEADER = 0x88  # bytes of the longest header; the JPEG follows a shorter one directly
@@ -53,9 +52,7 @@ def read(stream: Stream, whole: bool = False) -> Blocks:
             blocks.name(NotRead("Fujifilm's directory of the raw data", digest or ""))
         elif read_at(stream, start, 4) in HEADS:
             _add_own(blocks, Window(stream, start, length), start)
-    digest = digest_of_rest(stream, end, size) if end < size else None
-    if digest is not None:
-        blocks.name(NotRead(f"trailer of {length_of(size - end)}", digest))
+    leave_rest(blocks, stream, end)
     return blocks
 
 

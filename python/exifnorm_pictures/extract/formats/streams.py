@@ -10,7 +10,8 @@ from typing import Iterable, Iterator, Optional, Protocol, Tuple
 from ...files import opening
 from ...files.copying import is_hollow
 from ...model.budgets import BYTES_READ, HOLES, Budget, budget_of
-from ...model.found import Blocks, Broken, NotRead, length_of
+from ...model.found import Blocks, Broken, NotRead
+from ...model.texts import in_words
 
 CHUNK = 1 << 18
 PIECE = 1 << 13  # bytes that are read at once where the parts are small
@@ -88,6 +89,38 @@ class File(Parts):
 
     def close(self) -> None:
         os.close(self.number)
+
+
+class Window:
+    """A part of a file as a file of its own, as a picture inside another one: the bytes from `start`, at most `length` of them. What is read of
+    them counts for the whole file."""
+
+    def __init__(self, stream: Stream, start: int, length: int) -> None:
+        end = size_of(stream)
+        self._stream = stream
+        self.start = min(start, end)
+        self.size = max(min(length, end - self.start), 0)
+        self.budget: Budget = budget_of(stream)
+        self._at = 0
+
+    def seek(self, at: int, whence: int = os.SEEK_SET, /) -> int:
+        """Sets the offset at which the next bytes are read."""
+        self._at = at + self.size if whence == os.SEEK_END else at
+        return self._at
+
+    def read(self, length: int, /) -> bytes:
+        """The next bytes: less than `length` only at the end.
+
+        >>> import io
+        >>> part = Window(io.BytesIO(b"abcdef"), 2, 3)
+        >>> part.read(2), part.read(2), part.read(2)
+        (b'cd', b'e', b'')
+        """
+        length = max(min(length, self.size - self._at), 0)
+        self._stream.seek(self.start + self._at)
+        data = self._stream.read(length) if length else b""
+        self._at += len(data)
+        return data
 
 
 def size_of(stream: Stream) -> int:
@@ -185,4 +218,4 @@ def leave_rest(blocks: Blocks, stream: Stream, end: int) -> None:
     """Names the bytes after the end of a picture, if there are any."""
     size = size_of(stream)
     if end < size:
-        leave(blocks, f"trailer of {length_of(size - end)}", stream, end, size)
+        leave(blocks, f"trailer of {in_words(size - end, 'byte')}", stream, end, size)

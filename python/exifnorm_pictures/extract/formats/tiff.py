@@ -14,21 +14,22 @@ from typing import Deque, Dict, Iterator, List, NamedTuple, Optional, Set, Tuple
 from exifnorm import LIMIT
 
 from ...model.budgets import DIRECTORIES, STRIPS
-from ...model.found import CUT, EXIF, IN_PICTURE, IPTC, REST, XMP, Blocks, Broken, NotRead, length_of
+from ...model.found import CUT, EXIF, IN_PICTURE, IPTC, REST, XMP, Blocks, Broken, NotRead
+from ...model.problems import Problem
 from ...model.tiff_types import HEADS, IFD, LONG
 from ..structure import counted, placed
 from . import photoshop
 from .private import RW2_HEAD, Private
-from .streams import Stream, digest_of, digest_of_rest, pieces
+from .streams import Stream, digest_of_rest, leave_rest, pieces
 from .tiff_block import Layout, Table, is_directory
 from .tiff_directories import Directories, Directory
-from .tiff_entries import IN_ENTRY, PIXELS, SUB_IFDS, Entry
+from .tiff_entries import BIG as BIG_TIFF, IN_ENTRY, PIXELS, SUB_IFDS, Entry
 
-__all__ = ["BIG", "HEADS", "RAW_HEADS", "read", "read_pages"]
+__all__ = ["BIG_HEADS", "HEADS", "OTHER_POINTERS", "RAW_HEADS", "read", "read_big"]
 
 _ORF_HEADS = (b"IIRO", b"IIRS", b"MMOR")
 RAW_HEADS = (*_ORF_HEADS, RW2_HEAD)
-BIG = "BigTIFF"
+BIG, BIG_HEADS = "BigTIFF", (b"II+\0", b"MM\0+")  # with offsets and counts of eight bytes (LibTIFF, "BigTIFF Design")
 DEEPEST = 10  # SubIFDs below one another
 
 _FREE = (0x0120, 0x0121)  # which Panasonic uses for other things
@@ -36,7 +37,7 @@ _PAIRS = ((0x0111, 0x0117), (0x0144, 0x0145), (0x0201, 0x0202))
 _XMP, _IPTC, _PHOTOSHOP, _LAYERS = 0x02BC, 0x83BB, 0x8649, 0x935C
 _Pointers = Dict[int, "_Pointers"]
 _POINTERS: _Pointers = {0x8769: {0xA005: {}}, 0x8825: {}}  # Exif with Interoperability, GPS
-_OTHER_POINTERS = {
+OTHER_POINTERS = {
     0x0190: "GlobalParametersIFD",
     0x8290: "Kodak's IFD",
     0x8606: "Leaf's IFD",
@@ -58,11 +59,19 @@ class _Page(NamedTuple):
 
 def read(stream: Stream, whole: bool = False) -> Blocks:
     """The blocks of a TIFF, or of a raw picture in its structure. Raises `Broken`."""
-    return read_pages(Directories(stream), whole)
+    return _read(Directories(stream), whole)
 
 
-def read_pages(directories: Directories, whole: bool) -> Blocks:
-    """The blocks of the pages of a TIFF or BigTIFF. Raises `Broken`."""
+def read_big(stream: Stream, whole: bool = False) -> Blocks:
+    """The blocks of a BigTIFF. No other program hands over an Exif block of one, so one that is broken has a problem."""
+    try:
+        return _read(Directories(stream, BIG_TIFF), whole)
+    except Broken as why:
+        fault = str(why) if str(why).startswith(CUT) else ""
+        return Blocks(type=BIG, problem=Problem.BIG_TIFF, detail=f"{Problem.BIG_TIFF.text}: {why}", damage=fault)
+
+
+def _read(directories: Directories, whole: bool) -> Blocks:
     reader = Reader(directories, whole)
     for page in reader.pages():
         reader.take(page)
@@ -210,8 +219,8 @@ class Reader:
         elif entry.tag == _LAYERS and entry.size > IN_ENTRY and (place := self.directories.place_of(entry)):
             self.blocks.name(NotRead(f"Photoshop's layers of {of}", digest_of_rest(self.directories.stream, *place) or ""))
         else:
-            if entry.tag in _OTHER_POINTERS and entry.type in (LONG, IFD):
-                self.blocks.name(NotRead(f"{_OTHER_POINTERS[entry.tag]} of {of}", ""))
+            if entry.tag in OTHER_POINTERS and entry.type in (LONG, IFD):
+                self.blocks.name(NotRead(f"{OTHER_POINTERS[entry.tag]} of {of}", ""))
             return False
         return True
 
@@ -230,12 +239,10 @@ class Reader:
         """The bytes after all parts that the directories point to; and with a MakerNote, which may lead to them, the bytes between."""
         if self._has_note:
             self._between()
-        stream, size = self.directories.stream, self.directories.size
         if self._cut:
-            self.blocks.not_read.append(NotRead(f"{REST} ({self._cut})", digest_of(stream, size, size)))
-        digest = digest_of_rest(stream, self._end, size) if self._end is not None and self._end < size else None
-        if self._end is not None and digest is not None:
-            self.blocks.not_read.append(NotRead(f"trailer of {length_of(size - self._end)}", digest))
+            self.blocks.leave(f"{REST} ({self._cut})", b"")
+        if self._end is not None:
+            leave_rest(self.blocks, self.directories.stream, self._end)
 
     def _between(self) -> None:
         """The bytes that no directory covers, if they aren't all 0, with their offsets: from the MakerNote on, if there is one, because a

@@ -61,9 +61,8 @@ class Directories:
         length = self._row.size * number
         end = start + length + self.variant.offset
         if end > self.size:
-            raise Broken(
-                f"the file ends inside {f'the directory at {at}' if self.variant is BIG else f'the {end - start} bytes at {start}'}"
-            )
+            what = f"directory at {at}" if self.variant is BIG else f"{end - start} bytes at {start}"
+            raise Broken(f"the file ends inside the {what}")
         self._claim(at, end)
         self.budget.spend(DIRECTORIES)
         self.budget.spend(ENTRIES, number)  # before a table is read that may be as long as the file

@@ -8,15 +8,9 @@ from ...model.budgets import PACKET_BYTES, TooMuch, budget_of
 from ...model.found import XMP, Blocks, LeftToOthers
 from .streams import Stream, read_at, size_of
 
-_NAME = re.compile(rb"\.xmp\Z", re.I)
 # A packet in UTF-8: a byte order mark, a declaration, comments and the packet's own instruction may precede its first element
 _PACKET = re.compile(rb"(?:\xef\xbb\xbf)?(?:\s|<\?(?:[^?]|\?(?!>))*\?>|<!--(?:[^-]|-(?!->))*-->)*<(?:x:xmpmeta|x:xapmeta|rdf:RDF)[\s>]")
 _HEAD = 2048  # bytes that are looked at
-
-
-def is_named_so(path: bytes) -> bool:
-    """Whether a file is called NAME.xmp, in letters of either case."""
-    return _NAME.search(path) is not None
 
 
 def read(stream: Stream, whole: bool = False) -> Blocks:

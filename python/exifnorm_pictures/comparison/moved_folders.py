@@ -1,4 +1,4 @@
-"""Pictures that moved together with their folder, which a report shows as one line."""
+"""Pictures that moved together with their folder, which are shown as one line."""
 
 from __future__ import annotations
 
@@ -47,6 +47,10 @@ class MovedFolders:
         if pair != (b"", b"") and (pair in self._counts or len(self._counts) < MOST):
             self._counts[pair] += 1
             self._shared[pair] = shared_folder(self._shared.get(pair), name)
+
+    def count(self, name: bytes, place: bytes) -> int:
+        """How many pictures moved as this one did, to another folder with the same name."""
+        return self._counts.get(folders_of(name, place), 0)
 
     def lines(self) -> List[MovedFolder]:
         """The folders from which two and more pictures moved to another one, those of the most pictures first."""

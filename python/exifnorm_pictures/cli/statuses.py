@@ -1,0 +1,103 @@
+"""What the exit statuses of each command mean: for `--help`, and for the table of docs/RECIPES.md."""
+
+from __future__ import annotations
+
+import textwrap
+from typing import Dict, Iterator, Mapping
+
+from ..model.budgets import FIELDS
+
+_NOT_SHOWN = "a block is refused or unreadable, or may be missing in a damaged file, or a file wasn't read"
+_NO_TEXTS = f"a block is refused or unreadable, may be missing in a damaged file, or has more than {FIELDS:,} fields, or a file or a part of it wasn't read"
+_NOT_COMPARED = "something can't be wholly compared"
+
+# Of each command its statuses below 3
+STATUSES: Dict[str, Dict[int, str]] = {
+    "index": {
+        0: "the catalogue has what could be read, refused metadata too",
+        2: "a picture can't be read, or a program failed at it, and this is new since the last run; or a folder of --shards isn't there",
+    },
+    "merge": {0: "the catalogues are joined"},
+    "forget": {0: "the catalogue doesn't have the pictures any more"},
+    "relocate": {
+        0: "all pictures are at the new place, with the same sizes and times",
+        1: "a picture isn't there, or has another size or time",
+    },
+    "verify": {
+        0: "all files are as they were, captioned or moved; a file that was damaged before may still be so",
+        1: "a file was damaged since, is missing, or has another picture",
+        2: "a file can't be read, or has no digest in the catalogue",
+    },
+    "same": {
+        0: "the pictures of each group are the same, and no others may be",
+        1: "MakerNotes of a group differ in bytes, and read the same",
+        2: "a group rests on a repair or on a MakerNote that moved, or other pictures may be the same",
+    },
+    "changed": {0: "nothing differs", 1: "a picture differs, was moved or is missing", 2: "a picture can't be wholly compared"},
+    "history": {0: "nothing has changed", 1: "something has changed", 2: _NOT_COMPARED},
+    "compare": {0: "nothing differs", 1: "something differs", 2: _NOT_COMPARED},
+    "list": {0: "of each picture it is known whether it fits, even if none does", 2: "a picture that wasn't wholly read may fit"},
+    "check": {0: "no rule is broken", 1: "a rule is broken", 2: "a picture that wasn't wholly read may break a rule"},
+    "nightly": {
+        0: "no news, and nothing is printed",
+        1: "there is news, or it is the first night",
+        2: "something can't be decided that could be last night, or a folder isn't there",
+    },
+    "show": {0: "all blocks are printed", 2: _NOT_SHOWN},
+    "captions": {0: "all texts are printed", 2: _NO_TEXTS},
+    "conflicts": {0: "no picture contradicts itself", 1: "a picture contradicts itself", 2: _NO_TEXTS},
+    "explain": {0: "all blocks are accepted", 2: "a block is refused or unreadable, or a file is damaged or wasn't read"},
+    "report": {0: "the report is written"},
+    "export": {0: "the tables are written"},
+    "mend": {
+        0: "each copy has the printed values of its picture",
+        1: "a copy lacks a printed value, or has another one",
+        2: "a picture isn't mended, or its file is damaged",
+    },
+}
+_ALL = {
+    0: "done; nothing differs",
+    1: "something differs, is damaged or breaks a rule, or there is news",
+    2: "something can't be decided, as where metadata are refused or a file can't be read",
+}
+_NO_NAME = ("index", "nightly")  # whose names may all lead nowhere
+_END = """If several apply, the status is the greatest of them. With a folder of
+catalogues it is at least 2 if one of them is missing or isn't listed. SIGTERM
+and SIGHUP end the command by that signal."""
+_OF_A_COMMAND = "exifnorm-pictures COMMAND --help has the statuses of a command."
+_MORE = """A file that can't be read, is gone, is no picture or has no metadata gets a
+line, and the other files are still read. In names, control characters and
+undecodable bytes are escaped. With --json each line is one object; it has the
+name as "path", and as "path_hex" too if the name is no UTF-8.
+
+Two Exif blocks, or two IPTC records, mean the same if their normal forms are
+equal, which is proved. How blocks are found in pictures, XMP, and groups are
+tested. XMP is compared by its statements. ExifTool reads the formats that have
+no reader here (Debian: libimage-exiftool-perl)."""
+
+
+def help_of(command: str) -> str:
+    """The end of the help of a command, or of the whole program if it has no name.
+
+    >>> print(help_of("export").partition("  3")[0], end="")
+    Statuses:
+      0    the tables are written
+    """
+    lines = ["Statuses:", *_lines(STATUSES.get(command, _ALL), command), *textwrap.wrap(_OF_A_COMMAND if not command else ""), _END]
+    return "\n".join(lines) + ("" if command else f"\n\n{_MORE}")
+
+
+def _lines(texts: Mapping[int, str], command: str) -> Iterator[str]:
+    more = {
+        3: "bad arguments" + "; or no name leads to a folder or a file" * (command in _NO_NAME),
+        4: "the command itself failed: the catalogue, a stream, an output file, the disk or the memory",
+        130: "stopped by Ctrl-C; what was reported is kept",
+    }
+    for status, text in {**texts, **more}.items():
+        yield from textwrap.wrap(text, 80, initial_indent=f"  {status:<3}  ", subsequent_indent=" " * 7)
+
+
+def table() -> str:
+    """The table of the page: a row for each command."""
+    rows = [f"| `{command}` | {' | '.join(texts.get(it, '') for it in range(3))} |" for command, texts in STATUSES.items()]
+    return "\n".join(["| Command | 0 | 1 | 2 |", "|---|---|---|---|", *rows]).replace("|  |", "| |")

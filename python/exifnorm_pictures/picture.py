@@ -1,0 +1,406 @@
+"""A picture that was read: its blocks, their fields and texts, and what was not read of it. `read` returns it; commands print it, also with a
+problem, and as a catalogue has it."""
+
+from __future__ import annotations
+
+import os
+import re
+from typing import TYPE_CHECKING, Dict, Iterable, Iterator, List, NamedTuple, Optional, Sequence, Tuple
+
+from .comparison.origin import Origin
+from .extract.extraction import too_much
+from .fields.block_fields import fields_of
+from .judge.judge import judge_all
+from .model.budgets import TooMuch
+from .model.found import Blocks, cut, not_known
+from .model.records import BlockRecord, PictureRecord
+from .model.steps import loses
+
+if TYPE_CHECKING:
+    from datetime import datetime
+
+    from .catalogue.texts import PictureTexts
+    from .fields.field import Field
+    from .fields.labels import Caption
+    from .fields.typed import Value
+
+
+class NoField(KeyError):
+    """A picture has no field of this name."""
+
+    def __init__(self, name: object, names: Sequence[str] = ()) -> None:
+        super().__init__(name)
+        self._names = tuple(names)
+
+    def __str__(self) -> str:
+        """Also the name that may be meant. It is looked for here, because programs catch this error for each of many pictures."""
+        from .fields.choosing import meant
+
+        name = self.args[0]
+        return f"{repr(name)[:100]}: the picture has no such field" + (meant(name, self._names) if isinstance(name, str) else "")
+
+
+class Refusal(NamedTuple):
+    """Why a block has no meaning: its first fault.
+
+    `block` is its name, `cause` a word such as "EmptyDirectory", `offset` the byte of the fault in the block or None, `sentence` the fault
+    for people, and `remedy` what helps. `str` makes a line of it.
+    """
+
+    block: str
+    cause: str
+    offset: Optional[int]
+    sentence: str
+    remedy: str
+
+    def __str__(self) -> str:
+        at = "" if self.offset is None else f" (byte {self.offset})"
+        return f"{self.block}: {self.sentence.rstrip('.')}{at}."
+
+
+class Position(NamedTuple):
+    """Where a picture was taken, in degrees (north and east are positive) and metres above the sea, or None."""
+
+    latitude: float
+    longitude: float
+    altitude: Optional[float]
+
+
+class Block:
+    """A block of metadata."""
+
+    __slots__ = ("_record", "_data")
+
+    def __init__(self, record: BlockRecord, data: bytes) -> None:
+        self._record, self._data = record, data
+
+    @property
+    def record(self) -> BlockRecord:
+        """The block as a catalogue has it, for the commands."""
+        return self._record
+
+    @property
+    def kind(self) -> str:
+        """The kind: "exif", "iptc" or "xmp"."""
+        return self._record.kind
+
+    @property
+    def name(self) -> str:
+        """Which block of the picture it is: "Exif", "second Exif", "Exif of page 2"."""
+        return self._record.name
+
+    @property
+    def status(self) -> str:
+        """The status: "accepted", "refused", "unreadable", "too long" or "failed"."""
+        return str(self._record.status)
+
+    @property
+    def is_accepted(self) -> bool:
+        """Whether it has a meaning."""
+        return self._record.is_accepted
+
+    @property
+    def digest(self) -> Optional[str]:
+        """SHA-256 of the meaning of an accepted block: equal digests of a kind, equal meaning."""
+        return self._record.digest
+
+    @property
+    def data(self) -> bytes:
+        """The bytes of the block, as they are in the file."""
+        return self._data
+
+    @property
+    def where(self) -> str:
+        """Its position in the file: "APP1 segment at 20"."""
+        return self._record.source
+
+    @property
+    def extractor(self) -> str:
+        """The program that extracted it: "own", "exiftool" or "exiv2"."""
+        return self._record.extractor
+
+    @property
+    def fields(self) -> Tuple[Field, ...]:
+        """Its fields, which are made when they are first asked for; of a refused block those after a repair in memory, if one is known."""
+        return tuple([field.in_block(self.name) for field in fields_of(self._record)])
+
+    @property
+    def refusal(self) -> Optional[Refusal]:
+        """Why it isn't accepted."""
+        if self.is_accepted:
+            return None
+        from .refusals import causes  # which takes long to import, and few blocks are refused
+
+        cause = self._record.cause or self.status
+        words = causes.words_of(cause, self._record.kind) or (f"It is {self.status}: {cause}.", "")
+        return Refusal(self.name, cause, self._record.place, *words)
+
+    @property
+    def repair(self) -> Tuple[str, ...]:
+        """The steps of the repair after which its fields were read. The file is as it was."""
+        return tuple(it.what for it in self._record.steps)
+
+    @property
+    def loses(self) -> Tuple[str, ...]:
+        """What the repair loses."""
+        return tuple(loses(self._record.steps))
+
+    def __repr__(self) -> str:
+        return f"Block(name={self.name!r}, status={self.status!r}, where={self.where!r})"
+
+
+class Picture:
+    """The metadata of a picture, as they were when it was read. `picture[name]` is the value of the first field with this name, `name in picture`
+    tells whether there is one, and a loop over a picture has the names."""
+
+    __slots__ = ("_name", "_read", "_records", "_origin", "_blocks", "_fields", "_names", "_texts", "_record")
+
+    def __init__(
+        self,
+        name: bytes,
+        read: Blocks,
+        records: Sequence[BlockRecord],
+        origin: Optional[Origin] = None,
+        texts: Optional[PictureTexts] = None,
+    ) -> None:
+        self._name, self._read, self._records, self._origin, self._texts = name, read, records, origin or Origin(), texts
+        self._blocks: Optional[Tuple[Block, ...]] = None
+        self._fields: Optional[List[Tuple[BlockRecord, List[Field]]]] = None
+        self._names: Optional[List[Dict[str, List[Field]]]] = None  # of each block
+        self._record: Optional[PictureRecord] = None
+
+    @classmethod
+    def of(cls, name: bytes, read: Blocks) -> "Picture":
+        """A picture by its blocks. One that goes over a limit has a problem."""
+        try:
+            return cls(name, read, [] if read.problem else judge_all(read))
+        except TooMuch as why:
+            return cls(name, too_much(why), [])
+
+    @property
+    def name(self) -> str:
+        """The path or the name that it was read by."""
+        return os.fsdecode(self._name)
+
+    @property
+    def path(self) -> bytes:
+        """The same in bytes, as a file system has it."""
+        return self._name
+
+    @property
+    def type(self) -> str:
+        """The format: "JPEG", "PNG", "TIFF", "HEIC" .."""
+        return self._read.type
+
+    @property
+    def problem(self) -> str:
+        """Why a command could not read it; empty of one that `read` returns."""
+        return self._read.problem or ""
+
+    @property
+    def detail(self) -> str:
+        """The problem in words."""
+        return self._read.detail
+
+    @property
+    def not_read(self) -> Tuple[str, ...]:
+        """The parts of the file that may have metadata and were not read."""
+        return tuple([it.what for it in self._read.not_read])
+
+    @property
+    def too_many(self) -> Tuple[str, ...]:
+        """The fields that were not read because their block has too many, such as "the fields of IPTC after the first 100,000": a text may be
+        among them."""
+        return tuple(self.labelled.rests)
+
+    @property
+    def damage(self) -> str:
+        """Where the file is cut off, as "the file ends inside the segment at 2000": what is missing may have metadata. Empty if that wasn't seen
+        while it was read; `compare` also finds other damage of its picture."""
+        return cut(self.not_read) or self._read.damage
+
+    @property
+    def damage_behind(self) -> str:
+        """The same where all metadata stand before the damage."""
+        return "" if self.problem else self._read.damage
+
+    @property
+    def not_known(self) -> Tuple[str, ...]:
+        """The kinds of which no block is left in a damaged file, and one may be missing: "exif", "iptc", "xmp"."""
+        return tuple(not_known(self.type, self.not_read, (it.kind for it in self._records)))
+
+    @property
+    def blocks(self) -> Tuple[Block, ...]:
+        """The blocks, in the order of the file."""
+        if self._blocks is None:
+            data = {it.name: it.data for it in self._read.blocks}
+            self._blocks = tuple([Block(it, data.get(it.name, b"")) for it in self._records])
+        return self._blocks
+
+    @property
+    def fields(self) -> Iterator[Field]:
+        """All fields of all blocks, in the order of the file."""
+        for block in self.blocks:
+            yield from block.fields
+
+    @property
+    def refusals(self) -> Tuple[Refusal, ...]:
+        """Why blocks have no meaning, one for each that isn't accepted."""
+        return tuple(it.refusal for it in self.blocks if it.refusal)
+
+    @property
+    def is_whole(self) -> bool:
+        """Whether every block is accepted and every part was read."""
+        return not self._read.not_read and all(it.is_accepted for it in self._records)
+
+    @property
+    def key(self) -> Optional[str]:
+        """A text that two pictures share exactly if their Exif, IPTC and XMP mean the same. None if there is no metadata, a block is refused or a
+        part was not read, so that two such pictures never seem to be equal."""
+        meanings = self.record.meanings
+        if not self.is_whole or None in meanings or not any(meanings):
+            return None
+        return "+".join(it or "-" for it in meanings)
+
+    @property
+    def record(self) -> PictureRecord:
+        """The picture as a catalogue has it, for the commands."""
+        if self._record is None:
+            path = os.path.abspath(self._origin.path) if self._origin.path else b""
+            self._record = PictureRecord.of_blocks(path, b"", self._origin.stamp, self._read, self._records)
+        return self._record
+
+    @property
+    def origin(self) -> Origin:
+        """The file that it was read from, for `compare`."""
+        return self._origin
+
+    def _of_blocks(self) -> List[Tuple[BlockRecord, List[Field]]]:
+        """The blocks with their fields."""
+        if self._fields is None:
+            self._fields = [(record, fields_of(record)) for record in self._records]
+        return self._fields
+
+    def _lists(self) -> Iterable[List[Field]]:
+        """The fields of the blocks, once of those that have the same: pages of a TIFF may share a block of many fields."""
+        return {id(fields): fields for _, fields in self._of_blocks()}.values()
+
+    @property
+    def names(self) -> Tuple[str, ...]:
+        """The names of all fields, each once, in the order of the file."""
+        return tuple(dict.fromkeys([field.name for fields in self._lists() for field in fields]))
+
+    def keys(self) -> Tuple[str, ...]:
+        """The same, by which `dict(picture)` has all values."""
+        return self.names
+
+    def _named(self, name: str) -> Iterator[Tuple[BlockRecord, List[Field]]]:
+        """The fields with a name, of each block that has some."""
+        if self._names is None:
+            known = {id(fields): _by_name(fields) for fields in self._lists()}
+            self._names = [known[id(fields)] for _, fields in self._of_blocks()]
+        for (record, _), names in zip(self._of_blocks(), self._names):
+            named = names.get(_text(name).casefold())
+            if named:
+                yield record, named
+
+    def find(self, name: str) -> Tuple[Field, ...]:
+        """All fields with a name, of all blocks: with its group or without, or the field's key, such as "dc:title", in capital or small letters."""
+        return tuple([field.in_block(record.name) for record, fields in self._named(name) for field in fields])
+
+    def get(self, name: str, default: Value = None) -> Value:
+        """The value of the first field with a name; of a DataSet that is repeated a tuple of all its values."""
+        for _, fields in self._named(name):
+            same = [it for it in fields if it.name == fields[0].name]
+            return same[0].value if len(same) == 1 else tuple([it.value for it in same])
+        return default
+
+    def __getitem__(self, name: str) -> Value:
+        if name not in self:
+            raise NoField(name, self.names)
+        return self.get(name)
+
+    def __contains__(self, name: object) -> bool:
+        return isinstance(name, str) and any(self._named(name))
+
+    def __iter__(self) -> Iterator[str]:
+        return iter(self.names)
+
+    @property
+    def captions(self) -> Tuple[Caption, ...]:
+        """The texts by label, such as "title" and "keywords", with the field of each."""
+        from .fields.labels import LABEL_WORDS
+
+        return tuple(sorted((it for it in self.labelled.texts if not it.is_empty), key=lambda it: LABEL_WORDS.index(it.label)))
+
+    @property
+    def labelled(self) -> PictureTexts:
+        """All texts, also those that are empty, in the order of the standards, for the commands."""
+        if self._texts is None:
+            from .catalogue.texts import texts_of  # which show and explain don't need
+
+            self._texts = texts_of(self._of_blocks())
+        return self._texts
+
+    def texts(self, label: str) -> Tuple[str, ...]:
+        """The texts of a label: of several fields those that `captions --csv` prints, the first that is whole and not a camera's. Raises `ValueError`
+        for a word that is no label."""
+        from .comparison.conflicts import chosen, conflicts
+        from .fields.labels import LABEL_WORDS, label_of
+
+        word = label_of(_text(label))
+        if word not in LABEL_WORDS:
+            import difflib
+
+            near = [] if word else difflib.get_close_matches(label.casefold(), LABEL_WORDS, 1)
+            perhaps = f" (perhaps {near[0]!r} is meant)" if near else ""
+            raise ValueError(f"{repr(label)[:100]} is no label{perhaps}; the labels are {', '.join(LABEL_WORDS)}")
+        of_label = [it for it in self.labelled.texts if it.label == word]
+        best = chosen(of_label, conflicts(self.labelled.texts) if len(of_label) > 1 else [])
+        return best.texts if best else ()
+
+    @property
+    def taken(self) -> Optional[datetime]:
+        """When it was taken: DateTimeOriginal, with its part of a second and its zone if they are there."""
+        from datetime import datetime, timedelta, timezone
+
+        when = self.get("ExifIFD:DateTimeOriginal")
+        if not isinstance(when, datetime):
+            return None
+        part, zone = self.get("ExifIFD:SubSecTimeOriginal"), self.get("ExifIFD:OffsetTimeOriginal")
+        if isinstance(part, str) and part.strip().isdecimal():
+            when = when.replace(microsecond=int(part.strip()[:6].ljust(6, "0")))
+        match = re.fullmatch(r"Z|([+-])([01]\d|2[0-3]):([0-5]\d)", zone.strip()) if isinstance(zone, str) else None
+        if match:
+            minutes = (int(match[2] or 0) * 60 + int(match[3] or 0)) * (-1 if match[1] == "-" else 1)
+            when = when.replace(tzinfo=timezone(timedelta(minutes=minutes)))
+        return when
+
+    @property
+    def position(self) -> Optional[Position]:
+        """Where it was taken, by the fields of GPS in Exif, otherwise by those in XMP; None if a part of the position is missing."""
+        from .fields.places import altitude_of, position_of
+
+        fields = [field for fields in self._lists() for field in fields]
+        place = position_of(fields)
+        return None if place is None else Position(*place, altitude_of(fields))
+
+    def __repr__(self) -> str:
+        return f"Picture(name={self.name!r}, type={self.type!r}, not_read={self.not_read!r})"
+
+
+def _by_name(fields: Sequence[Field]) -> Dict[str, List[Field]]:
+    """Fields by all spellings of their names."""
+    names: Dict[str, List[Field]] = {}
+    for field in fields:
+        folded = field.name.casefold()
+        for spelling in {folded, folded.partition(":")[2], field.key.casefold()}:
+            names.setdefault(spelling, []).append(field)
+    return names
+
+
+def _text(name: str) -> str:
+    """The name of a field or a label, of a program that isn't typed. Raises `TypeError`."""
+    if not isinstance(name, str):
+        raise TypeError(f"a name is a str, and not {type(name).__name__}")
+    return name

@@ -1,0 +1,218 @@
+"""The library's normal form of a packet of XMP: compared with the Python reader, which has its XML from expat, and with rdflib."""
+
+import itertools
+import random
+import re
+from pathlib import Path
+from xml.etree import ElementTree
+
+import pytest
+
+import exifnorm
+from exifnorm_pictures import xmp as reading
+from exifnorm_pictures.model.budgets import Budget
+from exifnorm_pictures.xmp import by_rdflib
+from exifnorm_pictures.xmp.packets import rdf_of
+from exifnorm_pictures.xmp.tree import Node, Uri
+from hypothesis import given, settings
+from hypothesis import strategies as st
+from made_files import xmp
+from packets import PACKET, packets
+from studio import needs
+
+RDF = "{http://www.w3.org/1999/02/22-rdf-syntax-ns#}"
+SAMPLES = Path(__file__).resolve().parents[2] / "samples"
+
+
+def said(packet):
+    """The digest of a packet's statements by the Python reader, or None if it is unreadable."""
+    try:
+        return reading.digest_of_packet(reading.statements(packet, {}, set()))
+    except reading.Unreadable:
+        return None
+
+
+def form_of(packet):
+    """The normal form, or the cause of the refusal."""
+    try:
+        return exifnorm.xmp_normal(packet)
+    except exifnorm.XmpRefused as refusal:
+        return refusal
+
+
+def check(packet):
+    """What holds of each packet."""
+    form, digest = form_of(packet), said(packet)
+    if isinstance(form, exifnorm.XmpRefused):
+        assert 0 <= form.offset <= max(len(packet), exifnorm.LIMIT), "the fault is outside of the packet"
+        assert form.is_rare or digest is None, f"refused, and the Python reader reads it: {form}"
+        return form
+    if b"<!DOCTYPE" not in packet:  # the Python reader refuses it in a comment or a text, too
+        assert digest is not None, "accepted, and the Python reader refuses it"
+        assert said(form) == digest, "the form makes other statements than the packet"
+    assert exifnorm.xmp_normal(form) == form, "the form is not its own normal form"
+    check_properties(form)
+    return form
+
+
+def check_properties(form):
+    """The properties of a form are those that the Python reader finds in it, in the order of the form."""
+    properties = [(it.namespace + it.name, value_of(it.value)) for it in exifnorm.xmp_properties(form)]
+    assert properties == [(it.predicate, read_value_of(it.value)) for it in reading.statements(form, {}, set())]
+
+
+def value_of(value):
+    """A value of a property, with the word for its kind."""
+    if isinstance(value, exifnorm.XmpContainer):
+        return value.kind, [value_of(it) for it in value.members]
+    if isinstance(value, exifnorm.XmpStructure):
+        return "structure", [(it.namespace + it.name, value_of(it.value)) for it in value.properties]
+    return ("resource", value.uri) if isinstance(value, exifnorm.XmpResource) else ("text", value.text, value.language)
+
+
+def read_value_of(value):
+    """The same of a value that the Python reader found."""
+    if isinstance(value, Node) and value.container:
+        return value.container, [read_value_of(it.value) for it in value.statements[1:]]
+    if isinstance(value, Node):
+        return "structure", [(it.predicate, read_value_of(it.value)) for it in value.statements]
+    return ("resource", value.uri) if isinstance(value, Uri) else ("text", value.text, value.language)
+
+
+def test_packets_of_the_samples():
+    whole = re.compile(rb"<x:xmpmeta\b.*?</x:xmpmeta>", re.S)
+    found = {it for path in SAMPLES.glob("*/*/*") for it in whole.findall(path.read_bytes())}
+    assert len(found) > 3, "the samples have packets"
+    assert [it for it in found if isinstance(check(it), exifnorm.XmpRefused)] == []
+
+
+@settings(max_examples=400)
+@given(packets())
+def test_agrees_with_the_python_reader(packet):
+    check(packet)
+
+
+@settings(max_examples=150)
+@given(st.lists(packets(), min_size=2, max_size=4))
+def test_equal_forms_are_equal_statements(some):
+    read = [(form, said(it)) for it in {*some, PACKET.encode()} if isinstance(form := form_of(it), bytes)]
+    for (form, digest), (other, other_digest) in itertools.combinations(read, 2):
+        assert (form == other) == (digest == other_digest)
+
+
+@needs("rdflib")
+@settings(max_examples=60)
+@given(packets())
+def test_agrees_with_rdflib(packet):
+    form = form_of(packet)
+    if isinstance(form, bytes):
+        one, other = (reading.digest_of_packet(by_rdflib.statements(rdf_of(it), Budget())) for it in (packet, form))
+        assert one == other
+
+
+def shuffled(element, draw):
+    """The same element with its properties and the members of its bags in another order, and some attributes as elements."""
+    for child in element:
+        shuffled(child, draw)
+    if element.tag == RDF + "Bag" or any(
+        child.tag == RDF + "Description" or "}" in child.tag and not child.tag.startswith(RDF) for child in element
+    ):
+        element[:] = draw.sample(list(element), len(element))
+    if element.tag == RDF + "Description":
+        for name in draw.sample(list(element.attrib), draw.randrange(len(element.attrib) + 1)):
+            if not name.startswith(RDF) and name.startswith("{http"):
+                ElementTree.SubElement(element, name).text = element.attrib.pop(name)
+
+
+@pytest.mark.parametrize("seed", range(20))
+def test_another_writer(seed):
+    """Another writer has other prefixes, another order, and elements in place of attributes."""
+    root = ElementTree.fromstring(PACKET.split("?>", 1)[1].rsplit("<?", 1)[0])
+    shuffled(root, random.Random(seed))
+    assert exifnorm.xmp_normal(ElementTree.tostring(root)) == exifnorm.xmp_normal(PACKET.encode())
+
+
+def test_spelling():
+    """The octets of a form, written by hand: properties by their octets, a language in lower case, four octets as references."""
+    packet = xmp("<dc:format xml:lang='DE'>a&#38;b&gt;&#xD;<![CDATA[<]]></dc:format><dc:b rdf:resource='x:&amp;'/><dc:a xmp:z='1'/>")
+    inside = (
+        '<p:a xmlns:p="http://purl.org/dc/elements/1.1/" rdf:parseType="Resource"><p:z xmlns:p="http://ns.adobe.com/xap/1.0/">1</p:z></p:a>'
+        '<p:b xmlns:p="http://purl.org/dc/elements/1.1/" rdf:resource="x:&amp;"/>'
+        '<p:format xmlns:p="http://purl.org/dc/elements/1.1/" xml:lang="de">a&amp;b&gt;&#13;&lt;</p:format>'
+    )
+    head = '<x:xmpmeta xmlns:x="adobe:ns:meta/"><rdf:RDF xmlns:rdf="http://www.w3.org/1999/02/22-rdf-syntax-ns#"><rdf:Description rdf:about="">'
+    assert exifnorm.xmp_normal(packet).decode() == head + inside + "</rdf:Description></rdf:RDF></x:xmpmeta>"
+
+
+@pytest.mark.parametrize("inside", ["", "<dc:b dc:c='1'/>", "<dc:b><rdf:Description dc:c='1'/></dc:b>"])
+def test_forms_of_deep_packets_are_packets(inside):
+    """A form has an element for each attribute, and x:xmpmeta: it is no deeper than may be, unless the packet has more than 98 elements."""
+    structures = 96 - len(re.findall("<[a-zA-Z]", inside))
+    deep = "<dc:a rdf:parseType='Resource'>" * structures + inside + "</dc:a>" * structures
+    packet = ElementTree.tostring(ElementTree.fromstring(xmp(deep)).find(f".//{RDF}RDF"))
+    assert isinstance(check(packet), bytes)
+
+
+LI = "<rdf:li>{}</rdf:li>"
+
+
+def long_form():
+    """A packet of 60 kB whose form repeats a namespace a thousand times."""
+    packet = xmp("".join(f"<q:a{it}/>" for it in range(1000)))
+    return packet.replace(b"xmlns:dc=", b"xmlns:q='http://" + b"q" * 50000 + b"/' xmlns:dc=", 1)
+
+
+REFUSED = {
+    "XmpBadCharacter": (b"<a>\xff</a>", 3),
+    "XmpBadMarkup": (b"<a><b x=1/></a>", 3),
+    "XmpBadReference": (b"<a>&nbsp;</a>", 3),
+    "XmpDocumentType": (b"<!DOCTYPE a><a/>", 0),
+    "XmpOtherEnd": (b"\0 <a></b>", 5),
+    "XmpAttributeTwice": (b"<a b='' b=''/>", 0),
+    "XmpBadPrefix": (b"<a><q:b/></a>", 3),
+    "XmpNoRoot": (b"<a/><b/>", 4),
+    "XmpTooDeep": (b"<a>" * 101 + b"</a>" * 101, 300),
+    "XmpNoRdf": (b"<a/>", 0),
+    "XmpSeveralSubjects": (xmp("</rdf:Description><rdf:Description rdf:about='u:2'>").replace(b"rdf:about=''", b"rdf:about='u:1'"), None),
+    "XmpRareEncoding": ("<a/>".encode("utf-16"), 0),
+    "XmpRareName": ("<a é=''/>".encode(), 0),
+    "XmpRareNamespace": (b"<q:a xmlns:q='abc'/>", 0),
+    "XmpRareCount": (b"<a " + b" ".join(b"b%d=''" % it for it in range(257)) + b"/>", 0),
+    "XmpRareElement": (xmp("<dc:a><dc:b/></dc:a>"), None),
+    "XmpRareAttribute": (xmp("<dc:a rdf:parseType='Literal'/>"), None),
+    "XmpRareText": (xmp("text"), None),
+    "XmpRareLanguage": (xmp("<dc:a xml:lang='no language'/>"), None),
+    "XmpRareResource": (xmp("<dc:a rdf:resource='relative'/>"), None),
+    "XmpRareRepeated": (xmp("<dc:a>1</dc:a><dc:a>2</dc:a>"), None),
+    "XmpRareLength": (long_form(), exifnorm.LIMIT),
+    "XmpTooLong": (b" " * (exifnorm.LIMIT + 1), exifnorm.LIMIT),
+}
+
+
+@pytest.mark.parametrize("cause", REFUSED)
+def test_each_cause(cause):
+    packet, offset = REFUSED[cause]
+    refusal = check(packet)
+    assert isinstance(refusal, exifnorm.XmpRefused), "accepted"
+    assert refusal.cause == cause and refusal.sentence and refusal.remedy
+    assert offset in (None, refusal.offset)
+
+
+@pytest.mark.parametrize("before", [b"", b"<?xml version='1.0'?>", b" \xef\xbb\xbf<?xml version='1.0'?><!-- c -->"])
+def test_attributes_are_not_compared_with_all_others_before_they_are_counted(before):
+    """By pairs these would take hours."""
+    packet = before + b"<a " + b" ".join(b"b%d=''" % it for it in range(200_000)) + b"/>"
+    assert check(packet).cause == "XmpRareCount"
+
+
+@pytest.mark.parametrize("count, cause", [(256, "XmpAttributeTwice"), (257, "XmpRareCount")])
+def test_attributes_are_counted_wherever_their_tag_stands(count, cause):
+    """They are the shortest, and all have one name, which would be the fault if they were not counted first."""
+    tag = b"<a" + b" b=''" * count + b"/>"
+    assert {form_of(b"<!--" + b"c" * shift + b"-->" + tag).cause for shift in range(1300)} == {cause}
+
+
+def test_padding_and_marks_mean_nothing():
+    packet = xmp(f"<dc:a>1</dc:a><dc:b><rdf:Bag>{LI.format(2)}</rdf:Bag></dc:b>")
+    for other in (b"\xef\xbb\xbf" + packet, b"\0 \n" + packet + b"\0\0", bytearray(packet), memoryview(packet)):
+        assert exifnorm.xmp_normal(other) == exifnorm.xmp_normal(packet)
