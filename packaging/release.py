@@ -195,10 +195,10 @@ def main(words: list[str]) -> int:
         with open(WORK.with_suffix(".lock"), "wb") as lock:
             fcntl.flock(lock, fcntl.LOCK_EX)  # another run uses the same folder, so it is waited for
             release(words[0], int(words[1]), "".join(words[2:]))
+            print(f"release: {MADE.relative_to(TOP)} has {len(list(MADE.iterdir()))} files; its README says which is for whom")
     except (Failed, NotBuilt, OSError, subprocess.SubprocessError) as why:
         print(f"release: {why}", file=sys.stderr)
         return 1
-    print(f"release: {MADE.relative_to(TOP)} has {len(list(MADE.iterdir()))} files; its README says which is for whom")
     return 0
 
 

@@ -9,7 +9,6 @@ import shutil
 import subprocess
 import sys
 import threading
-import time
 from concurrent.futures import ThreadPoolExecutor
 from pathlib import Path
 
@@ -28,7 +27,7 @@ PYTHON = "/usr/bin/python3"
 SYSTEM_PATH = "/usr/sbin:/usr/bin:/sbin:/bin"
 DEBS = ("exifnorm_*_amd64", "exifnorm-pictures_*_all", "libexifnorm-dev_*_amd64", "libexifnorm1_*_amd64", "python3-exifnorm_*_all")
 DEBS_OF_AARCH64 = ("exifnorm_*_arm64", "libexifnorm-dev_*_arm64", "libexifnorm1_*_arm64")
-pytestmark = [pytest.mark.xdist_group("release"), pytest.mark.timeout(1800)]  # the releases are built once
+pytestmark = pytest.mark.xdist_group("release")  # the releases are built once
 
 
 def run(*words, status=0, **more):
@@ -478,20 +477,26 @@ def test_a_release_that_fails_keeps_the_earlier_one(small, monkeypatch, capfd, w
 
 
 def test_two_releases_at_once_come_one_after_the_other(small, monkeypatch):
-    """Both would otherwise build in one folder."""
-    runs, begun, built = [], threading.Event(), release.build
+    """Both would otherwise build in one folder. The first build ends after the second run has asked for the lock."""
+    runs, begun, asked, built, lock = [], threading.Event(), threading.Event(), release.build, release.fcntl.flock
 
-    def slow(*words):
+    def build(*words):
         runs.append("begin")
         begun.set()
-        time.sleep(0.5)
+        asked.wait(600)
         runs.append("end")
         return built(*words)
 
-    monkeypatch.setattr(release, "build", slow)
+    def flock(*words):
+        if begun.is_set():
+            asked.set()
+        lock(*words)
+
+    monkeypatch.setattr(release, "build", build)
+    monkeypatch.setattr(release.fcntl, "flock", flock)
     with ThreadPoolExecutor() as pool:
         first = pool.submit(release.main, ["1.0", "0"])
-        begun.wait(60)
+        begun.wait(600)
         assert [release.main(["1.0", "0"]), first.result()] == [0, 0]
     assert runs == ["begin", "end", "begin", "end"]
 
