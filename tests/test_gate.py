@@ -120,12 +120,17 @@ def test_a_failed_test(gate):
     assert (ran.returncode, last_line(ran)) == (1, "4 passed, 1 failed"), ran
 
 
+def begun(folder: Path) -> int:
+    """Waits until the command in place of `rt` has begun: the number that it wrote. A file is there before it has what is written to it."""
+    while not (folder / "started").exists() or not (folder / "started").read_text(encoding="ascii").endswith("\n"):
+        time.sleep(0.05)
+    return int((folder / "started").read_text(encoding="ascii"))
+
+
 def test_after_a_run_that_was_killed(gate):
     put(gate, rt='[ "$1" = ci ] || exit 0; echo $$ >../../started; exec sleep 600')
     started = subprocess.Popen(["setsid", "./test"], cwd=gate, env=environment(gate), stdin=subprocess.DEVNULL, stdout=subprocess.DEVNULL)
-    while not (gate / "started").exists():
-        time.sleep(0.05)
-    os.killpg(os.getpgid(int((gate / "started").read_text(encoding="ascii"))), signal.SIGKILL)
+    os.killpg(os.getpgid(begun(gate)), signal.SIGKILL)
     started.wait(timeout=600)
     assert (gate / "out/gate").exists(), "the run left nothing, so this test shows nothing"
     (gate / "out/gate/crates/px_c/more.rt").touch()
@@ -149,8 +154,7 @@ def test_a_stopped_run_leaves_no_process(gate, tmp_path):
         words, how = ["env", "--default-signal", "./test"], {"stdin": subprocess.DEVNULL, "stdout": subprocess.PIPE, "text": True}
         runs[number] = subprocess.Popen(words, cwd=top, env=environment(top), **how)
     for number, started in runs.items():
-        while not (tmp_path / number.name / "started").exists():
-            time.sleep(0.05)
+        begun(tmp_path / number.name)
         started.send_signal(number)
     for number, started in runs.items():
         output, _ = started.communicate(timeout=600)  # the pipe is open as long as a process is left

@@ -23,7 +23,7 @@ from store import Store
 TOP = HERE.parent.parent
 MEMORY = 3 << 30  # of the machine, for each process that tries bodies; one has taken up to 1.9 GB
 TABLES = {path.stem: read_table(path) for path in HERE.glob("px_*.json")}
-pytestmark = [pytest.mark.proof, pytest.mark.timeout(3600)]
+pytestmark = pytest.mark.proof
 
 
 @pytest.fixture(scope="session")

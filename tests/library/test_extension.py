@@ -1,7 +1,6 @@
 """The extension module by itself: its arguments, its memory, each of its allocations failing in turn, and what it needs of Python."""
 
 import ctypes
-import gc
 import inspect
 import itertools
 import os
@@ -194,6 +193,19 @@ def resident():
     return int(Path("/proc/self/statm").read_text(encoding="ascii").split()[1]) * os.sysconf("SC_PAGE_SIZE")
 
 
+def check_no_leak(act, times):
+    """That the process has no more memory after many calls. Something else, as another thread, may take some once: a leak grows each time."""
+    for _ in range(times // 50):
+        act()
+    for _ in range(5):
+        before = resident()
+        for _ in range(times):
+            act()
+        if resident() - before < 1_000_000:
+            return
+    raise AssertionError("the process has more memory after each round of calls")
+
+
 @pytest.mark.parametrize("name", [*OF_ONE_BLOCK, "compare", "normal"])
 def test_memory_after_many_calls(call_of, name):
     """Nothing stays allocated or referred to, whether a call succeeds, fails, or gets a wrong argument."""
@@ -201,12 +213,8 @@ def test_memory_after_many_calls(call_of, name):
     asked_again = BLOCKS["three times as many bytes"]  # its captions are longer than expected
     for block, times in ((ONE, 50_000), (LOOP, 50_000), (asked_again, 2000), (None, 50_000)):
         arguments = (ONE, block) if name == "compare" else (block,)
-        for _ in range(times // 50):
-            outcome(call, *arguments)
-        before, counts = resident(), (sys.getrefcount(block), sys.getrefcount(ONE))
-        for _ in range(times):
-            outcome(call, *arguments)
-        assert resident() - before < 1_000_000
+        counts = sys.getrefcount(block), sys.getrefcount(ONE)
+        check_no_leak(lambda: outcome(call, *arguments), times)
         now = sys.getrefcount(block), sys.getrefcount(ONE)
         assert max(abs(it - was) for it, was in zip(now, counts)) < 100
 
@@ -216,23 +224,17 @@ def test_memory_after_many_calls(call_of, name):
 def test_memory_after_many_calls_for_jpegs(loaded, name, octets):
     call, times = getattr(loaded, name), 20_000 if len(octets) < 1000 else 2000
     for most in (1, 100_000):
-        for _ in range(times // 50):
-            call(octets, most)
-        before, count = resident(), sys.getrefcount(octets)
-        for _ in range(times):
-            call(octets, most)
-        assert resident() - before < 1_000_000 and abs(sys.getrefcount(octets) - count) < 100
+        count = sys.getrefcount(octets)
+        check_no_leak(lambda: call(octets, most), times)
+        assert abs(sys.getrefcount(octets) - count) < 100
 
 
 @pytest.mark.parametrize("second", PICTURES.values(), ids=PICTURES)
 def test_memory_after_many_comparisons_of_pictures(loaded, second):
-    first, times = PICTURES["a picture"], 50_000
-    for _ in range(times // 50):
-        loaded.jpeg_same(first, second)
-    before, count = resident(), sys.getrefcount(second)
-    for _ in range(times):
-        loaded.jpeg_same(first, second)
-    assert resident() - before < 1_000_000 and abs(sys.getrefcount(second) - count) < 100
+    first = PICTURES["a picture"]
+    count = sys.getrefcount(second)
+    check_no_leak(lambda: loaded.jpeg_same(first, second), 50_000)
+    assert abs(sys.getrefcount(second) - count) < 100
 
 
 def addresses(loaded):
@@ -243,14 +245,8 @@ def addresses(loaded):
 
 def test_functions_that_are_gone(loaded, native):
     where = addresses(loaded)
-    for turn in range(100_000):
-        functions = native.functions(*where)
-        if turn == 1000:
-            before = resident()
-    assert functions[1](ONE) == ONE
-    del functions
-    gc.collect()
-    assert resident() - before < 1_000_000
+    check_no_leak(lambda: native.functions(*where), 100_000)
+    assert native.functions(*where)[1](ONE) == ONE
 
 
 # ---- allocations that fail

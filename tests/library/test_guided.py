@@ -123,7 +123,6 @@ def test_only_the_branches_of_the_library_are_counted(targets, corpora, folder):
     assert reached(fuzz(targets.target("guided"), folder, "-runs=0", corpora[0]))[1] == counters
 
 
-@pytest.mark.timeout(1800)
 def test_no_block_that_is_made_of_them_breaks_a_law(targets, corpora, folder, record_property):
     words = [f"-runs={RUNS}", f"-seed={SEED}", "-max_len=4096", "-print_final_stats=1", folder, *corpora]
     ran = fuzz(targets.target("guided"), folder, *words)

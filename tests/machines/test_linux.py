@@ -18,8 +18,7 @@ from made_cases import cases_of_causes
 
 from commands import TOP, run
 
-# they are built once, and the first time proved, which takes minutes
-pytestmark = [pytest.mark.xdist_group("machines"), pytest.mark.timeout(1800)]
+pytestmark = pytest.mark.xdist_group("machines")  # they are built once
 CASES = [*(case for case in read_all() if isinstance(case, Case)), *cases_of_causes()]
 
 

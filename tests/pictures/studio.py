@@ -121,8 +121,8 @@ class Studio:
         return cls._made[name]
 
 
-def run(words, folder, given=None, seconds=120, **more):
-    """Runs a command; words and folder may be bytes."""
+def run(words, folder, given=None, seconds=1800, **more):
+    """Runs a command; words and folder may be bytes. The limit of time is a guard alone, also on a very busy machine."""
     environment = Studio.environment(**more)
     found = shutil.which(os.fsdecode(words[0]), path=environment["PATH"]) or words[0]
     return subprocess.run(
@@ -163,8 +163,8 @@ def read(path):
 
 
 def tool(folder, *words):
-    """Runs a tool that has to do its work, also on a busy machine."""
-    done = run(list(words), folder, seconds=900)
+    """Runs a tool that has to do its work."""
+    done = run(list(words), folder)
     if done.returncode:
         raise AssertionError(f"{words}: {done.returncode} {done.stderr.decode(errors='replace')}")
     return done.stdout

@@ -9,7 +9,6 @@ import sqlite3
 import subprocess
 import sys
 import tempfile
-import time
 import zlib
 from pathlib import Path
 
@@ -375,8 +374,8 @@ def test_a_signal_in_a_long_query(number, archive):
     code = (
         "import sys\nfrom exifnorm_pictures.comparison.groups import Groups\n"
         "def endless(groups, *_, **__):\n"
-        "    print('begun', flush=True)\n"
-        "    yield from groups.catalogue.rows('WITH RECURSIVE n(i) AS (SELECT 1 UNION ALL SELECT i + 1 FROM n) SELECT i FROM n WHERE i < 0')\n"
+        "    groups.catalogue.base.create_function('begun', 0, lambda: print('begun', flush=True), deterministic=True)\n"
+        "    yield from groups.catalogue.rows('WITH RECURSIVE n(i) AS (SELECT begun() UNION ALL SELECT 0 FROM n) SELECT i FROM n WHERE i')\n"
         "Groups.by_meaning = endless\n"
         "from exifnorm_pictures.cli.main import main\nsys.exit(main(sys.argv[1:]))\n"
     )
@@ -384,7 +383,6 @@ def test_a_signal_in_a_long_query(number, archive):
     with subprocess.Popen(words, cwd=archive, stdout=subprocess.PIPE, stderr=subprocess.DEVNULL, env=Studio.environment()) as started:
         try:
             assert started.stdout.readline() == b"begun\n"
-            time.sleep(0.2)
             started.send_signal(number)
             assert started.wait(300) == (130 if number == signal.SIGINT else -number)
         finally:

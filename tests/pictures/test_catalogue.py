@@ -392,7 +392,7 @@ class Rights(WithPictures):
         call = [sys.executable, "-m", "exifnorm_pictures", *words]
         if os.geteuid() == 0:
             call = ["setpriv", "--reuid=65534", "--regid=65534", "--clear-groups", *call]
-        return subprocess.run(call, cwd=self.folder, env=environment, capture_output=True, timeout=120, stdin=subprocess.DEVNULL)
+        return subprocess.run(call, cwd=self.folder, env=environment, capture_output=True, timeout=1800, stdin=subprocess.DEVNULL)
 
     def test_unreadable_files_and_folders(self):
         for folder in ("closed", "closed too"):

@@ -2,9 +2,10 @@
 
 import itertools
 import json
+import select
 import shutil
 import sqlite3
-import time
+from types import SimpleNamespace
 
 import pytest
 from growing import FORMATS, IN_EACH_FORMAT, OTHERS
@@ -17,6 +18,7 @@ from test_repairs import REFUSED
 import exifnorm_pictures
 from exifnorm_pictures.cli.parser import parsers
 from exifnorm_pictures.extract import exiftool, programs
+from exifnorm_pictures.files import session
 from exifnorm_pictures.model import budgets
 from exifnorm_pictures.model.found import UNREAD_NOTES, UNREAD_TRAILER
 from exifnorm_pictures.report import thumbnails
@@ -136,10 +138,17 @@ def test_pixels_that_never_end(try_each):
 
 
 # An ExifTool that has no end at a file with this mark, in each of its calls or at one stage of `mend`. It reads requests as ExifTool does,
-# and otherwise its arguments.
+# and otherwise its arguments. A fake program says by the length of a file how long it takes, in tenths of a second.
 MARK = b"has no end"
-FAKE = """#!/usr/bin/python3
-import json, os, re, sys, time
+TAKES = """#!/usr/bin/python3
+import json, os, sys, time
+def takes(seconds):
+    with open(os.path.join(os.path.dirname(sys.argv[0]), "spent"), "a") as spent:
+        spent.write("." * round(10 * seconds))
+"""
+FAKE = (
+    TAKES
+    + """
 sys.excepthook = lambda kind, *_: sys.stderr.write("Out of memory!\\n" if kind is MemoryError else str(kind))
 STAGES = {"shown": "-all#", "free": "-PageName", "written": "=zz", "rebuilt": "-tagsfromfile"}
 def about(names, words):
@@ -156,23 +165,26 @@ else:
         if words[-1] == "-execute":
             names = [it for it in words if it.startswith(("/", "./"))]
             about(names, words)
-            print(json.dumps([{"SourceFile": it, "A:FileType": "EXV", "A:MIMEType": "image/x-exv", "Canon:Owner": "x"} for it in names]))
+            types = ["NRW" if it.endswith(".nrw") else "EXV" for it in names]
+            print(json.dumps([{"SourceFile": it, "A:FileType": of, "A:MIMEType": "image/x", "Canon:Owner": "x"} for it, of in zip(names, types)]))
             print(next(it for it in words if it.startswith("{done")), flush=True)
             words = []
 """
-FAKE_EXIV2 = """#!/usr/bin/python3
-import os, sys, time
+)
+FAKE_EXIV2 = (
+    TAKES
+    + """
 if "--version" in sys.argv:
     print("exiv2 0.27.6")
 elif b"has no end" in open(sys.argv[-1], "rb").read():
-    time.sleep(1000)
+    takes(1000), time.sleep(1000)
 """
-SHORT = "4"  # seconds, in which a program of Python begins and ends also on a busy machine
+)
 WITHOUT_END = {
-    "silent": "time.sleep(1000)",
-    "slow": "[(print(' ', end='', flush=True), time.sleep(0.1)) for _ in range(10_000)]",
+    "silent": "takes(1000), time.sleep(1000)",
+    "slow": "[(print(' ', end='', flush=True), takes(0.1)) for _ in range(100)], time.sleep(1000)",
     "long": "[print(' ' * 1_000_000, flush=True) for _ in range(10_000)]",
-    "deaf": "os.close(0), time.sleep(1000)",
+    "deaf": "os.close(0), takes(1000), time.sleep(1000)",
 }
 GREEDY = "[bytearray(64 << 20) for _ in range(100)]"  # of which Python tells as Perl does
 NO_READER = b"\xff\x01Exiv2\xff\xd9"  # exiv2's own format
@@ -180,9 +192,31 @@ TRAILERS = [jpeg(app1(exif(b"Abc")), behind=b"AXS!" + it.ljust(20, b"\0") + b"AX
 COMMENT = segment(0xFE, MARK)
 
 
+class Clock:
+    """The clock for the calls of other programs. What these say that they take passes, and nothing else, however busy the machine is."""
+
+    def __init__(self, spent):
+        self.spent = spent
+
+    def monotonic(self):
+        return self.spent.stat().st_size / 10
+
+    def select(self, reads, writes, others, left):
+        ends = self.monotonic() + left
+        while True:
+            ready = select.select(reads, writes, others, 0.01)
+            if any(ready) or self.monotonic() >= ends:
+                return ready
+
+
 def programs_of(folder, monkeypatch, end, stage="", exiv2=""):
-    """Puts an ExifTool, and perhaps an exiv2, on PATH."""
+    """Puts an ExifTool, and perhaps an exiv2, on PATH, with a clock that they move."""
     (folder / "bin").mkdir()
+    (folder / "bin" / "spent").touch()
+    clock = Clock(folder / "bin" / "spent")
+    monkeypatch.setattr(programs, "select", SimpleNamespace(select=clock.select))
+    for module in (programs, session):
+        monkeypatch.setattr(module, "time", SimpleNamespace(monotonic=clock.monotonic))
     for name, text in (("exiftool", FAKE % (stage, end)), ("exiv2", exiv2)):
         if text:
             (folder / "bin" / name).write_text(text)
@@ -203,18 +237,28 @@ def asked(folder, monkeypatch, end, **pictures):
 def test_an_exiftool_without_end(end, called, folder, monkeypatch):
     """It costs the file at most the limit, whichever command asks it, and the next file is read."""
     asked(folder, monkeypatch, WITHOUT_END[end], a_exv=NO_READER + MARK, b_exv=NO_READER)
-    began = time.monotonic()
     for words in (
         ["index", "p", "--catalogue", "c", "--quiet", "--jobs", "1"],
         ["show", "p/a.exv", "p/b.exv"],
         ["captions", "p/a.exv", "p/b.exv"],
     ):
-        status, out, messages = called(*words, "--limit", SHORT)
+        status, out, messages = called(*words, "--limit", "4")
         assert status == 2 and "internal" not in out + messages, (words, out, messages)
     with sqlite3.connect("c") as base:
-        (first,), (second,) = base.execute("SELECT problem FROM pictures ORDER BY path")
-    assert first in ("TooSlow", "ToolFailed") and second is None
-    assert time.monotonic() - began < 500, "it was waited for as long as the program runs"
+        found = base.execute("SELECT problem, detail FROM pictures ORDER BY path").fetchall()
+    due = ("ToolFailed", f"exiftool wrote more than {budgets.OUTPUT:,} bytes about one file")
+    assert found == [due if end == "long" else ("TooSlow", "exiftool took longer than 4 seconds"), (None, "")]
+
+
+def test_an_exiv2_without_end(called, folder, monkeypatch):
+    """It costs the raw file the limit, and is asked about the next one."""
+    programs_of(folder, monkeypatch, "pass", exiv2=FAKE_EXIV2)
+    for name, more in (("a", MARK), ("b", b"")):
+        (folder / f"{name}.nrw").write_bytes(b"II*\0\x08\0\0\0\0\0\0\0\0\0" + more)
+    assert called("index", "a.nrw", "b.nrw", "--catalogue", "c", "--quiet", "--jobs", "1", "--limit", "4")[0] == 2
+    with sqlite3.connect("c") as base:
+        (first, detail), (second, _) = base.execute("SELECT problem, detail FROM pictures ORDER BY path")
+    assert (first, detail, second) == ("TooSlow", "exiv2 took longer than 4 seconds", "ToolFailed")
 
 
 def test_an_exiftool_without_end_at_what_is_read_here(called, folder, monkeypatch):
@@ -231,7 +275,7 @@ def test_an_exiftool_without_end_at_maker_notes(end, called, folder, monkeypatch
     """The picture's own fields are known, and its MakerNote is a part that was not read, which the next run asks for again; that of the next
     picture is read. `compare` knows nothing of it."""
     asked(folder, monkeypatch, WITHOUT_END[end], a_jpg=noted(more=[COMMENT]), b_jpg=noted())
-    index = ["index", "p", "--catalogue", "c", "--quiet", "--jobs", "1", "--limit", SHORT, "--maker-notes"]
+    index = ["index", "p", "--catalogue", "c", "--quiet", "--jobs", "1", "--limit", "4", "--maker-notes"]
     assert called(*index)[:2] == (0, "2 accepted\n")
     query = "SELECT problem, exif != '', readings IS NOT NULL, pictures.not_read != '' FROM pictures LEFT JOIN maker_notes ON picture = id ORDER BY path"
     with sqlite3.connect("c") as base:
@@ -270,7 +314,7 @@ def test_mend_without_end(stage, called, folder, monkeypatch):
     (folder / "out").mkdir()
     calls, run = [], programs.run
     monkeypatch.setattr(programs, "run", lambda *words: (calls.append(words), run(*words))[1])
-    status, printed, messages = called("mend", "--files-from", "list", "out", "--limit", SHORT, "--json")
+    status, printed, messages = called("mend", "--files-from", "list", "out", "--limit", "4", "--json")
     first, second, _ = map(json.loads, printed.splitlines())
     assert (status, first.get("problem"), second.get("step")) == (2, "TooSlow", "repair"), printed + messages
     assert [it.name for it in (folder / "out").iterdir()] == ["b.jpg"]
@@ -337,7 +381,7 @@ def tool_path(name):
 
 def test_what_explain_tries_has_the_time_of_one_call(called, folder, monkeypatch):
     """Each call of ExifTool ends in time, and all of them don't."""
-    programs_of(folder, monkeypatch, "time.sleep(2)")
+    programs_of(folder, monkeypatch, "takes(2)")
     (folder / "a.jpg").write_bytes(with_exif(SMALL_JPEG, b"II*\0\xff\xff\0\0" + MARK))
     allowed, run = [], programs.run
     monkeypatch.setattr(programs, "run", lambda words, seconds, *more: (allowed.append(seconds), run(words, seconds, *more))[1])

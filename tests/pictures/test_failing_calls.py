@@ -45,7 +45,7 @@ def command(folder, words, *before):
         cwd=folder,
         stdin=subprocess.DEVNULL,
         capture_output=True,
-        timeout=300,
+        timeout=1800,
         env=Studio.environment(EXIFNORM_DEBUG=""),
     )
 

@@ -33,7 +33,6 @@ ANSWERS = {
     "broken base64": ('printf \'[{"SourceFile":"%s","A:EXIF":"base64:!!"}]\\n\' "$name"', "no base64"),
     "nothing but its end": ("exit 3", "ended with status 3"),
     "death by a signal": ("kill -9 $$", "ended with status -9"),
-    "silence": ("exec sleep 1000", "5 seconds"),
 }
 
 # Reads requests as ExifTool does with -stay_open; the output about a file that is called bad*.exv is the fault.
@@ -73,14 +72,10 @@ class Tools(WithPictures):
         self.pictures()
         for what, (answer, words) in ANSWERS.items():
             with self.subTest(what):
-                limit = "5" if what == "silence" else "60"
                 environment = self.fake("exiftool", FAKE % answer)
-                lines = self.asked(
-                    "index", "p", "--catalogue", "c", "--again", "--quiet", "--json", "--limit", limit, status=2, **environment
-                )
+                lines = self.asked("index", "p", "--catalogue", "c", "--again", "--quiet", "--json", status=2, **environment)
                 found = {os.path.basename(it["path"]): it for it in map(json.loads, lines[:-1])}
-                problem = "TooSlow" if what == "silence" else "ToolFailed"
-                self.assertEqual([found[it].get("problem") for it in ("a.exv", "bad.exv", "c.exv")], [None, problem, None])
+                self.assertEqual([found[it].get("problem") for it in ("a.exv", "bad.exv", "c.exv")], [None, "ToolFailed", None])
                 self.assertIn(words, found["bad.exv"]["detail"])
 
     def test_a_file_at_which_a_program_failed_is_looked_at_again(self):
@@ -92,19 +87,11 @@ class Tools(WithPictures):
     def test_one_that_hangs_at_its_version(self):
         """The limit that was given holds, and not that of 60 seconds."""
         self.pictures()
-        how = {"status": 2, "seconds": 50, **self.fake("exiftool", "#!/bin/sh\nexec sleep 1000\n")}
-        lines = self.asked("index", "p/a.exv", "--catalogue", "c", "--limit", "1", **how)
-        self.assertIn("a.exv: TooSlow: exiftool", lines[0])
-        self.asked("show", "p/a.exv", "--limit", "1", **how)
-        self.asked("mend", "p/a.exv", "out", "--limit", "1", **how)
+        how = {"status": 2, **self.fake("exiftool", "#!/bin/sh\nexec sleep 1000\n")}
+        for words in (["index", "p/a.exv", "--catalogue", "c"], ["show", "p/a.exv"], ["mend", "p/a.exv", "out"]):
+            lines = self.asked(*words, "--limit", "1", **how)
+            self.assertIn("exiftool took longer than 1 seconds", "\n".join(lines) + self.complaint)
         self.assertFalse(os.path.exists(self.path("out")))
-
-    def test_exiv2_that_hangs(self):
-        write(self.path("a.nrw"), b"II*\0\x08\0\0\0\0\0\0\0\0\0")
-        self.fake("exiftool", FAKE.replace('"EXV"', '"NRW"') % ":")  # which takes no time, also on a slow machine
-        environment = self.fake("exiv2", '#!/bin/sh\n[ "$1" = --version ] && echo exiv2 0.27.6 && exit\nexec sleep 1000\n')
-        lines = self.asked("index", "a.nrw", "--catalogue", "c", "--limit", "5", status=2, **environment)
-        self.assertIn("a.nrw: TooSlow: exiv2", lines[0])
 
     @needs("exiftool")
     def test_each_wrong_result_of_exiv2_costs_one_file(self):
@@ -171,7 +158,7 @@ class Tools(WithPictures):
                 self.assertFalse(self.has_ended(tool, looks=1))
                 started.send_signal(number)
                 expected = 130 if number == signal.SIGINT else -number
-                self.assertEqual(started.wait(60), expected)
+                self.assertEqual(started.wait(1800), expected)
                 self.assertTrue(self.has_ended(tool))
                 if number != signal.SIGKILL:
                     self.assertEqual(os.listdir(own), [])
@@ -211,7 +198,7 @@ class Tools(WithPictures):
                         folder,
                     ]
                     done = subprocess.run(
-                        words, cwd=self.folder, env={**Studio.environment(**environment), "TMPDIR": own}, capture_output=True, timeout=300
+                        words, cwd=self.folder, env={**Studio.environment(**environment), "TMPDIR": own}, capture_output=True, timeout=1800
                     )
                     self.assertEqual(done.returncode, expected, done.stderr)
                     self.assertEqual(os.listdir(own), [])
@@ -392,7 +379,7 @@ class Catalogues(InFolder):
             "made = Catalogue('c', make=True)\nother = sqlite3.connect('c', isolation_level=None)\n"
             "other.execute('BEGIN')\nother.execute('SELECT count(*) FROM pictures').fetchall()\nmade.close()\n"
         )
-        done = run([sys.executable, "-c", text], self.folder, seconds=15)
+        done = run([sys.executable, "-c", text], self.folder)
         self.assertEqual((done.returncode, done.stderr), (0, b""))
         self.asked("index", "p", "--catalogue", "c", "--quiet")
         self.assertEqual(read(self.path("c"))[18:20], b"\1\1", "no write-ahead log is needed to read it")
@@ -423,7 +410,7 @@ class Catalogues(InFolder):
         words = [sys.executable, "-m", "exifnorm_pictures", "index", "p", "--catalogue", "c", "--quiet"]
         started = [subprocess.Popen(words, cwd=self.folder, env=Studio.environment(), stderr=subprocess.PIPE) for _ in range(4)]
         for it in started:
-            _, said = it.communicate(timeout=120)
+            _, said = it.communicate(timeout=1800)
             self.assertEqual((it.returncode, said), (0, b""))
         self.assertEqual(self.asked("index", "p", "--catalogue", "c", "--quiet"), ["1 unchanged"])
 

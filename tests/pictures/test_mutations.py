@@ -155,7 +155,7 @@ def outcomes(folder, calls):
             [sys.executable, "-c", CALLS],
             input="\n".join(map(json.dumps, calls)).encode(),
             cwd=folder,
-            timeout=400,
+            timeout=1800,
             preexec_fn=lambda: os.dup2(said.fileno(), 3),
             pass_fds=(3,),
             env=Studio.environment(EXIFNORM_DEBUG=""),

@@ -3,7 +3,6 @@
 import os
 import re
 import shutil
-import time
 
 import pytest
 import test_cr3
@@ -34,7 +33,6 @@ def archive(folder):
     put(folder / "pictures", {"a.cr3": NEVER_WHOLE})
     for name in os.listdir(folder / "pictures"):
         os.utime(folder / "pictures" / name, (1e9, 1e9))
-    time.sleep(0.05)
     return folder / "pictures"
 
 

@@ -9,7 +9,7 @@ import pytest
 from made_files import app1, exif, jpeg, title
 from studio import needs, run, write
 from test_index_shards import archive, picture, rows
-from with_cluster import EXV, Task, WithCluster
+from with_cluster import EXV, PATIENT, Task, WithCluster
 
 from exifnorm_pictures.catalogue import shards
 from exifnorm_pictures.catalogue.store import Catalogue
@@ -36,7 +36,7 @@ class Cluster(WithCluster):
             write(self.path("p", str(number), "x.exv"), EXV)
 
     def asked(self, *words, status=0):
-        done = run([self.python, "-m", "exifnorm_pictures", *words], self.folder, seconds=300)
+        done = run([self.python, "-m", "exifnorm_pictures", *words], self.folder)
         self.assertEqual(done.returncode, status, done)
         return done.stdout.decode().splitlines()
 
@@ -44,11 +44,11 @@ class Cluster(WithCluster):
         """ExifTool kills the worker that begins it, in each folder, until it has done so ten times."""
         once = " || ".join(f'mkdir "{self.path(f"killed{number}")}" 2>/dev/null' for number in range(KILLS))
         scheduler = self.cluster(workers=2, PATH=self.deadly(once))
-        lines = self.asked("index", "p", "--shards", "shards", "--scheduler", scheduler)
+        lines = self.asked("index", "p", "--shards", "shards", "--scheduler", scheduler, *PATIENT)
         killed = [it for it in os.listdir(self.folder) if it.startswith("killed")]
         self.assertEqual(len(killed), KILLS, "a worker for each")
         self.assertIn("folders go on from a run that was stopped", "".join(lines))
-        self.assertIn(f"{3 * FOLDERS} unchanged", self.asked("index", "p", "--shards", "shards", "--scheduler", scheduler))
+        self.assertIn(f"{3 * FOLDERS} unchanged", self.asked("index", "p", "--shards", "shards", "--scheduler", scheduler, *PATIENT))
         self.asked("index", "p", "--catalogue", "all", "--quiet")
         # the blocks of the JPEGs are refused, so that these may be the same
         for words, status in (("same --json --catalogue", 2), ("list --json", 0), ("report --json --no-look", 0)):

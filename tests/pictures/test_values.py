@@ -241,7 +241,7 @@ class Processors(unittest.TestCase):
 class Closed(WithPictures):
     def by_itself(self, text):
         """What a Python program prints, in this folder."""
-        done = run([sys.executable, "-c", text], self.folder, seconds=120)
+        done = run([sys.executable, "-c", text], self.folder)
         self.assertEqual((done.returncode, done.stderr), (0, b""))
         return done.stdout.decode().splitlines()
 

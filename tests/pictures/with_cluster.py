@@ -12,7 +12,8 @@ from studio import SMALL_JPEG, Studio, WithPictures, interpreter_with, run, writ
 
 EXV = b"\xff\x01Exiv2\xff\xd9"  # exiv2's own format, which has no reader here
 GOOD = with_exif(SMALL_JPEG, block([MAKE]))
-PATIENCE = 120  # seconds that a process of the cluster may take to begin
+PATIENCE = 600  # seconds that a process of the cluster may take to begin or to end, also on a very busy machine
+PATIENT = ("--limit", str(PATIENCE))  # for a command, which otherwise waits a minute for the first worker
 
 
 class WithCluster(WithPictures):
@@ -27,7 +28,8 @@ class WithCluster(WithPictures):
     def started(self, *words, **more):
         log = self.open.enter_context(open(self.path("cluster.log"), "ab"))
         # away from the folder of the pictures, so that a name that isn't absolute leads nowhere
-        it = subprocess.Popen([self.python, "-m", *words], cwd="/", env=Studio.environment(**more), stdout=log, stderr=log)
+        patient = {f"DASK_DISTRIBUTED__COMM__TIMEOUTS__{it}": f"{PATIENCE}s" for it in ("CONNECT", "TCP")}
+        it = subprocess.Popen([self.python, "-m", *words], cwd="/", env=Studio.environment(**patient, **more), stdout=log, stderr=log)
         self.open.callback(it.wait, PATIENCE)
         self.open.callback(it.terminate)
 
@@ -64,7 +66,7 @@ class WithCluster(WithPictures):
         return True
 
     def index(self, *words, status=0, quiet=("--quiet",)):
-        done = run([self.python, "-m", "exifnorm_pictures", "index", *words, "--catalogue", "c", *quiet], self.folder, seconds=240)
+        done = run([self.python, "-m", "exifnorm_pictures", "index", *words, "--catalogue", "c", *PATIENT, *quiet], self.folder)
         self.assertEqual(done.returncode, status, done)
         return done.stdout.decode().splitlines()
 

@@ -17,7 +17,7 @@ class Outcome:
     files: dict = field(default_factory=dict)
 
 
-def run(program, case, environment=None, seconds=120, keeps_open=()):
+def run(program, case, environment=None, seconds=600, keeps_open=()):
     """Runs the program with the case's arguments, files and input."""
     with tempfile.TemporaryDirectory() as folder:
         for name in case.folders:

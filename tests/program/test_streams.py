@@ -110,7 +110,6 @@ ENDS = {
 }
 
 
-@pytest.mark.timeout(60)
 @pytest.mark.parametrize("words, status", ENDS.items(), ids=ENDS)
 def test_only_the_filter_waits_for_standard_input(program, folder, words, status):
     """Every other run ends, even if nothing arrives there and nobody closes it."""

@@ -20,8 +20,8 @@ WORDS, CALLS = 48 * 1024, 140  # the most that reading the arguments takes: byte
 SMALL = 1024  # the most that small lists take
 FEW, COUNTERS = 64, 4 * 65536  # more DataSets than this are sorted, in a second list or with four bytes for each group
 LARGE, TIMES = 1 << 20, 6.3  # for a file of this size or more a run allocates at most so many times its bytes
-# a run takes at most a tenth of this, also on a busy machine; one that goes through all its data again and again takes far more
-SPENT, BYTES_A_MILLISECOND = 300, 8000
+# a run takes at most a hundredth of this, also on a slow machine; one that goes through all its data again and again takes far more
+SPENT, BYTES_A_MILLISECOND = 3000, 800
 ITEM, FIELD = 24, 32  # the bytes that are kept of a DataSet and of a field
 
 

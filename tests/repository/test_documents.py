@@ -78,7 +78,7 @@ def command(path: Path, line: str) -> None:
 
 
 def run(folder: Path, environment: dict[str, str], *words: str | Path) -> str:
-    ran = subprocess.run(words, cwd=folder, env=environment, capture_output=True, check=False, timeout=300)
+    ran = subprocess.run(words, cwd=folder, env=environment, capture_output=True, check=False, timeout=1800)
     assert ran.returncode == 0, (words, ran)
     return ran.stdout.decode()
 
@@ -143,7 +143,7 @@ class Runner:
         self.folder, self.environment, self.library = folder, environment, library
 
     def ran(self, *words: str | Path) -> subprocess.CompletedProcess[str]:
-        return subprocess.run(words, cwd=self.folder, env=self.environment, capture_output=True, text=True, check=False, timeout=300)
+        return subprocess.run(words, cwd=self.folder, env=self.environment, capture_output=True, text=True, check=False, timeout=1800)
 
     def run(self, block: Block) -> None:
         kinds = {"sh": self.run_sh, "console": self.run_console, "c": self.run_c, "python": self.run_python, "session": self.run_session}

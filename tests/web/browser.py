@@ -15,7 +15,7 @@ from pathlib import Path
 from typing import Any, Dict, Iterator, List
 
 WORDS = ["chromium", "--headless", "--no-sandbox", "--disable-gpu", "--remote-debugging-pipe", "--disable-background-networking"]
-PATIENCE = 120  # seconds, also on a very busy machine
+PATIENCE = 600  # seconds, also on a very busy machine
 
 
 class Browser:
@@ -124,7 +124,7 @@ class Browser:
 
     def end(self) -> None:
         self.call("Browser.close")
-        self.process.wait(60)
+        self.process.wait(PATIENCE)
         for process in self.left():  # such as the one that waits for crashes, which would take its time
             with contextlib.suppress(ProcessLookupError):
                 os.kill(process, signal.SIGKILL)
