@@ -93,12 +93,16 @@ def make(folder):
     put_bag(folder / "bag")
 
 
-@pytest.fixture(scope="session")
-def museum_of_this_process(tmp_path_factory):
-    folder = tmp_path_factory.mktemp("museum")
+def made(folder, make):
+    """A folder that `make` fills while the clock stands."""
     with standing_clock(), contextlib.chdir(folder):
         make(folder)
     return folder
+
+
+@pytest.fixture(scope="session")
+def museum_of_this_process(tmp_path_factory):
+    return made(tmp_path_factory.mktemp("museum"), make)
 
 
 @pytest.fixture

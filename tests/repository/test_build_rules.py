@@ -331,12 +331,7 @@ def test_one_build_at_a_time(room):
 
 @pytest.mark.parametrize("how", [signal.SIGTERM, signal.SIGINT, signal.SIGHUP], ids=lambda how: how.name)
 def test_a_build_that_is_stopped_ends_with_all_that_it_started(room, how):
-    room.hold("px_bytes")
-    (room.folder / "starts-px_bytes").touch()
-    started = room.start_proof("px_cli")
-    working = room.until("begin", "px_bytes")
-    wait_until(lambda: (room.folder / "starts-px_bytes").read_text(), "it starts no process")
-    below = int((room.folder / "starts-px_bytes").read_text())
+    started, working, below = room.begun("px_bytes", lambda: room.start_proof("px_cli"))
     assert runs(working) and runs(below)
     started.send_signal(how)
     why = started.communicate(timeout=800)[1]

@@ -210,12 +210,7 @@ def test_two_first_calls_at_once_compile_once(room):
 
 @pytest.mark.parametrize("how", (signal.SIGINT, signal.SIGTERM, signal.SIGHUP), ids=lambda how: how.name)
 def test_a_stopped_compilation_leaves_nothing_and_the_next_call_works(room, how):
-    room.hold("quick-px_cli")
-    (room.folder / "starts-quick-px_cli").touch()
-    started = room.start("a")
-    working = room.until("begin", "quick-px_cli")
-    wait_until(lambda: (room.folder / "starts-quick-px_cli").read_text(), "it starts no process")
-    below = int((room.folder / "starts-quick-px_cli").read_text())
+    started, working, below = room.begun("quick-px_cli", lambda: room.start("a"))
     started.send_signal(how)
     out, why = started.communicate(timeout=800)
     assert (started.returncode, out, why) == (70, "", f"{OF_PROGRAM}exifnorm: the build was stopped\n")

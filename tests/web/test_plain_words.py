@@ -182,13 +182,13 @@ def packets():
     chance = Random(SEED)
     made = [f"<r:RDF xmlns:r='{RDF}'><r:Description>{several(chance, 0)}</r:Description></r:RDF>".encode() for _ in range(PACKETS)]
     found = [*made, *small_packets(), PACKET.encode()]
-    return [packet for packet in found if has_form(packet)]
+    return [packet for packet in found if is_accepted(exifnorm.xmp_normal, packet)]
 
 
-def has_form(packet):
+def is_accepted(call, octets):
     try:
-        return bool(exifnorm.xmp_normal(packet))
-    except exifnorm.XmpRefused:
+        return bool(call(octets))
+    except (exifnorm.Refused, exifnorm.XmpRefused):
         return False
 
 
@@ -204,14 +204,7 @@ def blocks(library):
     made = [maker(chance) for _ in range(BLOCKS) for maker in (exif_block, record_block)]
     samples = [data for path in sorted(TOP.glob("samples/*/*/*.jpg")) for _, data in exifnorm.jpeg_blocks(path.read_bytes())]
     found = [*made, *samples, *(block for kind in small_kinds() for block in kind.blocks)]
-    return [block for block in found if accepted(block)]
-
-
-def accepted(block):
-    try:
-        return bool(exifnorm.kind(block))
-    except exifnorm.Refused:
-        return False
+    return [block for block in found if is_accepted(exifnorm.kind, block)]
 
 
 def test_names_and_values(blocks, node, folder, checks):

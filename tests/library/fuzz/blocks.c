@@ -4,11 +4,11 @@
 #include "laws.h"
 #include "made.h"
 #include "memory.h"
-#include <exifnorm.h>
+#include "untouched.h"
 #include <string.h>
 #include <strings.h>
 
-enum { MOST_BLOCKS = PARTS + 2, MOST_RESOURCES = LONGEST_HEAD / 12, FILLER = 0xA5, UNSET = 0x5EED5EED };
+enum { MOST_BLOCKS = PARTS + 2, MOST_RESOURCES = LONGEST_HEAD / 12 };
 
 typedef struct exifnorm_jpeg_block Block;
 typedef struct exifnorm_jpeg_packet Packet;
@@ -203,13 +203,6 @@ static PictureFault first_fault(void) {
 }
 
 /* ---- calls */
-
-static int is_filled(const void *bytes, size_t length) {
-    for (size_t i = 0; i < length; i++)
-        if (((const unsigned char *)bytes)[i] != FILLER)
-            return 0;
-    return 1;
-}
 
 /* The first bytes of the head. */
 static const unsigned char *picture(size_t length) {

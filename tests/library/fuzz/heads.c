@@ -3,10 +3,10 @@
 #include "area.h"
 #include "laws.h"
 #include "made.h"
-#include <exifnorm.h>
+#include "untouched.h"
 #include <string.h>
 
-enum { LONGEST = LONGEST_HEAD, FILLER = 0xA5, UNSET = 0x5EED5EED };
+enum { LONGEST = LONGEST_HEAD };
 
 typedef struct exifnorm_jpeg_part Part;
 typedef struct exifnorm_photoshop_resource Resource;
@@ -31,13 +31,6 @@ int open_heads(void) {
 }
 
 /* ---- calls */
-
-static int is_filled(const void *bytes, size_t length) {
-    for (size_t i = 0; i < length; i++)
-        if (((const unsigned char *)bytes)[i] != FILLER)
-            return 0;
-    return 1;
-}
 
 static struct found parts_of(const unsigned char *bytes, size_t length, size_t room) {
     struct found it = {UNSET, UNSET, {UNSET, UNSET}, (Part *)(void *)output - room, NULL};

@@ -1,14 +1,15 @@
 #define _GNU_SOURCE
 #include "laws.h"
+#include "area.h"
 #include "memory.h"
+#include "untouched.h"
 #include <exifnorm_fields.h>
 #include <stdio.h>
 #include <string.h>
-#include <sys/mman.h>
 
 /* The longest block that is judged: its listing and its captions then fit into the buffers below. */
-enum { LONGEST = 8192, ROOM = 16 * LONGEST, PAGE = 4096, SHOWN = 400 };
-enum { UNSET = 0x5EED5EED, FILLER = 0xA5, TAIL_BYTES = 3 };
+enum { LONGEST = 8192, ROOM = 16 * LONGEST, SHOWN = 400, TAIL_BYTES = 3 };
+enum { LONGEST_LAID = 2 * LONGEST + 64 };
 /* The most memory that judging may take at once: so many times the block, and a constant. */
 enum { TIMES = 16, BESIDE = 300000 };
 
@@ -26,12 +27,6 @@ size_t longest_block(void) {
     return LONGEST;
 }
 
-/* Bytes that end where a page begins that can't be read or written. */
-struct area {
-    unsigned char *start;
-    size_t size;
-};
-
 /* A result: its status, what was written, and the fault. */
 struct answer {
     uint32_t status, number;
@@ -47,7 +42,8 @@ struct known {
     uint32_t kind;
 };
 
-static struct area block_area, other_area, out_area;
+/* Where the areas of a block, of another one and of an output end, and where the other one begins. */
+static unsigned char *block_end, *other_end, *out_end, *other_block;
 static struct known now, before;
 static const unsigned char *current;
 static size_t current_length;
@@ -67,16 +63,14 @@ int holds(int law, int is_so) {
     return is_so;
 }
 
-static int open_area(struct area *area, size_t size) {
-    size = (size + PAGE - 1) / PAGE * PAGE;
-    area->start = mmap(NULL, size + PAGE, PROT_READ | PROT_WRITE, MAP_PRIVATE | MAP_ANONYMOUS, -1, 0);
-    area->size = size;
-    return area->start != MAP_FAILED && mprotect(area->start + size, PAGE, PROT_NONE) == 0;
-}
-
 int open_room(void) {
-    return open_area(&block_area, 2 * LONGEST + 64) && open_area(&other_area, 2 * LONGEST + 64) && open_area(&out_area, ROOM) && open_heads() &&
-           open_blocks() && open_pictures() && open_packets();
+    block_end = end_of_area(LONGEST_LAID);
+    other_end = end_of_area(LONGEST_LAID);
+    out_end = end_of_area(ROOM);
+    if (!block_end || !other_end || !out_end)
+        return 0;
+    other_block = other_end - LONGEST_LAID;
+    return open_heads() && open_blocks() && open_pictures() && open_packets();
 }
 
 /* Appends one part to another. */
@@ -87,26 +81,13 @@ static size_t joined(unsigned char *place, const void *one, size_t one_length, c
 }
 
 /* The bytes, copied to where the next byte can not be read. */
-static unsigned char *laid(const struct area *area, const unsigned char *bytes, size_t length) {
-    return memcpy(area->start + area->size - length, bytes, length);
+static unsigned char *laid(unsigned char *end, const unsigned char *bytes, size_t length) {
+    return memcpy(end - length, bytes, length);
 }
 
 static unsigned char *out_of(size_t room) {
-    return memset(out_area.start + out_area.size - room, FILLER, room);
+    return memset(out_end - room, FILLER, room);
 }
-
-static int is_filled(const unsigned char *bytes, size_t length) {
-    for (size_t i = 0; i < length; i++)
-        if (bytes[i] != FILLER)
-            return 0;
-    return 1;
-}
-
-static int is_fault(struct exifnorm_fault one, struct exifnorm_fault other) {
-    return one.cause == other.cause && one.place == other.place;
-}
-
-static const struct exifnorm_fault NO_FAULT = {UNSET, UNSET};
 
 static struct answer check(const unsigned char *block, size_t length) {
     struct answer it = {0, UNSET, 0, NULL, NO_FAULT};
@@ -168,7 +149,7 @@ static void judge_refused_prefix(const unsigned char *block, size_t length, stru
         return;
     if (is_record(block, length))
         fault = (struct exifnorm_fault){EXIFNORM_CAUSE_UNKNOWN_KIND, 0};
-    struct answer longer = check(other_area.start, joined(other_area.start, "Exif\0\0", 6, block, length));
+    struct answer longer = check(other_block, joined(other_block, "Exif\0\0", 6, block, length));
     holds(LAW_PREFIX, longer.status == EXIFNORM_REFUSED && is_fault(longer.fault, fault));
 }
 
@@ -209,7 +190,7 @@ static int judge_form(const unsigned char *block, size_t length) {
 
 /* The laws of a form by itself, and of a form and its block. */
 static void judge_form_again(const unsigned char *block, size_t length) {
-    const unsigned char *form = laid(&other_area, now.form, now.form_length);
+    const unsigned char *form = laid(other_end, now.form, now.form_length);
     struct answer kind = check(form, now.form_length);
     holds(LAW_FORM_KIND, kind.status == EXIFNORM_DONE && kind.number == now.kind);
     struct answer again = call(exifnorm_normalise, form, now.form_length, now.form_length);
@@ -296,7 +277,7 @@ static void judge_fields(void) {
     struct exifnorm_fields fields;
     struct exifnorm_field field;
     size_t count = 0;
-    exifnorm_fields_start(&fields, laid(&other_area, now.form, now.form_length), now.form_length);
+    exifnorm_fields_start(&fields, laid(other_end, now.form, now.form_length), now.form_length);
     while (exifnorm_fields_next(&fields, &field))
         count++;
     holds(LAW_FIELDS, exifnorm_fields_whole(&fields) && count == fields_of_listing(now.listing, now.listing_length));
@@ -311,7 +292,7 @@ static void judge_texts(const unsigned char *block, size_t length) {
         holds(LAW_LABELS, are_captions(now.captions, now.captions_length));
 }
 
-/* Whether the block in `other_area` has the known form. */
+/* Whether a block has the known form. */
 static int has_form(const unsigned char *block, size_t length) {
     struct answer form = call(exifnorm_normalise, block, length, now.form_length);
     return form.status == EXIFNORM_DONE && form.written == now.form_length && memcmp(form.bytes, now.form, form.written) == 0;
@@ -319,7 +300,7 @@ static int has_form(const unsigned char *block, size_t length) {
 
 /* The form with more bytes before or after it. */
 static void judge_longer(void) {
-    unsigned char *place = other_area.start;
+    unsigned char *place = other_block;
     if (now.kind == EXIFNORM_EXIF) {
         size_t length = joined(place, "Exif\0\0", 6, now.form, now.form_length);
         holds(LAW_PREFIX, has_form(place, length));
@@ -344,8 +325,8 @@ static void judge_pair(const unsigned char *block, size_t length) {
     if (now.kind != before.kind) {
         holds(LAW_KINDS_DIFFER, one.number == 0 && two.number == 0);
     } else if (now.kind == EXIFNORM_IIM) {
-        size_t joined_length = joined(other_area.start, before.form, before.form_length, now.form, now.form_length);
-        struct answer both = check(other_area.start, joined_length);
+        size_t joined_length = joined(other_block, before.form, before.form_length, now.form, now.form_length);
+        struct answer both = check(other_block, joined_length);
         holds(LAW_JOINED, both.status == EXIFNORM_DONE && both.number == EXIFNORM_IIM);
     }
 }
@@ -407,7 +388,7 @@ unsigned judge(const unsigned char *given, size_t length) {
     current = given;
     current_length = length;
     seen.blocks++;
-    const unsigned char *block = laid(&block_area, given, length);
+    const unsigned char *block = laid(block_end, given, length);
     struct answer first = counted_check(block, length);
     if (!holds(LAW_ANSWERS, first.status == EXIFNORM_DONE || first.status == EXIFNORM_REFUSED))
         return CAUSES;

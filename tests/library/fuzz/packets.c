@@ -3,11 +3,12 @@
 #include "area.h"
 #include "laws.h"
 #include "memory.h"
+#include "untouched.h"
 #include <exifnorm_fields.h>
 #include <string.h>
 
 /* The longest form that is judged, and the bytes that are put around it. */
-enum { LONGEST_FORM = 1 << 16, AROUND = 512, FILLER = 0xA5, UNSET = 0x5EED5EED };
+enum { LONGEST_FORM = 1 << 16, AROUND = 512 };
 /* The most memory that a call may take at once: so many times the packet and its form, and a constant. */
 enum { TIMES = 16, BESIDE = 300000 };
 
@@ -32,7 +33,6 @@ struct properties {
     size_t length;
 };
 
-static const struct exifnorm_fault NO_FAULT = {UNSET, UNSET};
 static unsigned char *packet_end, *out_end;
 static struct properties now, before;
 
@@ -40,17 +40,6 @@ int open_packets(void) {
     packet_end = end_of_area(2 * LONGEST_FORM + AROUND);
     out_end = end_of_area(2 * LONGEST_FORM + AROUND);
     return packet_end && out_end;
-}
-
-static int is_filled(const unsigned char *bytes, size_t length) {
-    for (size_t i = 0; i < length; i++)
-        if (bytes[i] != FILLER)
-            return 0;
-    return 1;
-}
-
-static int is_fault(struct exifnorm_fault one, struct exifnorm_fault other) {
-    return one.cause == other.cause && one.place == other.place;
 }
 
 static struct answer check(const unsigned char *packet, size_t length) {
