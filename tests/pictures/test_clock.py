@@ -1,5 +1,6 @@
 """The clock of a picture ends whatever reads it, and the next picture is read."""
 
+import functools
 import itertools
 import json
 import select
@@ -222,7 +223,8 @@ def programs_of(folder, monkeypatch, end, stage="", exiv2=""):
             (folder / "bin" / name).write_text(text)
             (folder / "bin" / name).chmod(0o755)
     monkeypatch.setenv("PATH", f"{folder / 'bin'}")
-    programs.version.cache_clear()
+    # with its own memory of versions, which no other test sees
+    monkeypatch.setattr(programs, "version", functools.lru_cache(programs.version.__wrapped__))
 
 
 def asked(folder, monkeypatch, end, **pictures):

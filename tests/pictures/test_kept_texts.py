@@ -7,6 +7,7 @@ import signal
 import sqlite3
 import subprocess
 import sys
+import tempfile
 from collections import Counter
 from contextlib import closing
 
@@ -226,10 +227,11 @@ def test_of_another_user(catalogue, folder, mode):
     os.chmod(Studio.room, 0o755)
     os.chmod(folder, mode)
     os.chmod(catalogue, 0o644)
+    os.chmod(room := tempfile.mkdtemp(dir=Studio.room), 0o777)
     call = as_process("list", "c", "--where", "title = 0", "-0")
     if os.geteuid() == 0:
         call = ["setpriv", "--reuid=65534", "--regid=65534", "--clear-groups", *call]
-    done = subprocess.run(call, cwd=folder, env=Studio.environment(TMPDIR="/tmp", HOME="/tmp"), capture_output=True, check=False)
+    done = subprocess.run(call, cwd=folder, env=Studio.environment(TMPDIR=room, HOME=room), capture_output=True, check=False)
     os.chmod(folder, 0o755)
     assert (done.returncode, done.stderr, done.stdout.count(b"\0")) == (0, b"", 14)
     assert prepared(catalogue) == (0, 0) and sorted(os.listdir(folder)) == ["c", "p"]

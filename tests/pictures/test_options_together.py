@@ -14,7 +14,7 @@ from typing import Dict, List, NamedTuple
 import made_museum
 import pytest
 from exifnorm_pictures.cli import parser
-from museum import WHOLE, done, put_bag, run, standing_clock
+from museum import WHOLE, done, made, put_bag, run, standing_clock
 from studio import needs
 from test_museum import ELSEWHERE, RULES
 from test_status_table import CELLS as STATUSES
@@ -164,10 +164,7 @@ KEPT = ("p", "q", "bag", "rules", "fields", "names", "block")
 
 @pytest.fixture(scope="session")
 def archive_of_this_process(tmp_path_factory):
-    folder = tmp_path_factory.mktemp("together")
-    with standing_clock(), contextlib.chdir(folder):
-        make(folder)
-    return folder
+    return made(tmp_path_factory.mktemp("together"), make)
 
 
 @pytest.fixture
@@ -302,6 +299,8 @@ def able_options(line, archive):
 @needs("exiftool", "exiv2")
 @pytest.mark.parametrize("line", [line for lines in LINES.values() for line in lines])
 def test_each_form_says_the_same_whatever_the_options(line, archive):
+    """With each set of options that may stand together, all forms of output have one status, name the same pictures, and write the same files; and
+    the options that are about how a command works change nothing of what it prints."""
     for row in [[], *rows(able_options(line, archive), groups_of(line.split()[0]))]:
         forms = Forms(line, row, archive)
         forms.check()

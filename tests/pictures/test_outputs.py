@@ -328,7 +328,8 @@ def test_a_catalogue_that_goes_away_while_it_is_read(words, how, folder, called)
     shutil.copy("c", "d")
     assert called(*words)[0] == (words[0] == "check")
     command = [sys.executable, "-m", "exifnorm_pictures", *words]
-    with subprocess.Popen(command, stdout=subprocess.PIPE, stderr=subprocess.PIPE, env=Studio.environment()) as running:
+    pipes = {"stdout": subprocess.PIPE, "stderr": subprocess.PIPE, "bufsize": 0}  # no more is read than 100 bytes
+    with subprocess.Popen(command, **pipes, env=Studio.environment()) as running:
         first = running.stdout.read(100)
         GONE[how](folder / "c")
         rest, said = running.communicate()
