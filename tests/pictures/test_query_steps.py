@@ -3,9 +3,11 @@
 The catalogues are made by SQL, with groups of every basis. The growths of test_growth.py have few pictures each, and read them.
 """
 
+import itertools
 import json
 import shutil
 import sqlite3
+import tracemalloc
 from contextlib import closing
 
 import pytest
@@ -15,8 +17,11 @@ from work import Counting, compiled
 from exifnorm_pictures.catalogue import store
 from exifnorm_pictures.catalogue.store import Catalogue, NoCatalogue
 from exifnorm_pictures.cli.parser import parsers
+from exifnorm_pictures.comparison.groups import Groups
+from exifnorm_pictures.comparison.readings import Readings
 from exifnorm_pictures.fields.field import Field
 from exifnorm_pictures.fields.packing import packed
+from exifnorm_pictures.judge.maker_notes import NotesReading
 from exifnorm_pictures.model.found import EXIF
 from exifnorm_pictures.model.records import BlockRecord, PictureRecord, Stamp
 
@@ -134,6 +139,37 @@ def test_forgetting_takes_no_memory_for_each_picture(tmp_path):
         memory.append(work.memory)
     counting.close()
     assert memory[1] < memory[0] + 100_000
+
+
+def groups_of(catalogue, size):
+    """Goes through all groups, and returns of how many pictures the readings of MakerNotes weren't known."""
+    groups = Groups(catalogue, look=False)
+    assert sum(group.count for group in groups.by_meaning()) > size / 2
+    return sum(groups.unknown.values())
+
+
+def readings_of(catalogue, size):
+    """Asks for the readings of all pictures one by one, twice, and returns how often one was read from the catalogue."""
+    asked = itertools.count()
+    catalogue.maker_notes = lambda picture, _: NotesReading({"IFD0:Model": str(picture.id % 99)} if next(asked) >= 0 else {})
+    readings = Readings(catalogue, True, None)
+    for number in itertools.chain(range(size), range(size)):
+        assert readings.of([PictureRecord(number)]) == {number: (NotesReading({"IFD0:Model": str(number % 99)}).key, False)}
+    return next(asked)
+
+
+@pytest.mark.parametrize("work", [groups_of, readings_of])
+def test_no_picture_is_held_but_for_a_bit(tmp_path, work):
+    memory, counts, sizes = [], [], (3000, 12_000)
+    for size in sizes:
+        make(tmp_path / str(size), size)
+        with Catalogue(str(tmp_path / str(size))) as catalogue:
+            tracemalloc.start()
+            counts.append(work(catalogue, size))
+            memory.append(tracemalloc.get_traced_memory()[1])
+            tracemalloc.stop()
+    assert counts[1] > 3.9 * counts[0] > 1000
+    assert memory[1] < memory[0] + 5 * (sizes[1] - sizes[0])  # Python keeps the memory of two thousand tuples
 
 
 @pytest.mark.parametrize("at_once", [1, 7, 1000])

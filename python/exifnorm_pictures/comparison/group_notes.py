@@ -27,7 +27,7 @@ def by_reading(group: Group, readings: Readings) -> Iterator[Group]:
         asked = written[_note_of(picture)]
         reading = known.get(asked.id)
         if reading is None:
-            readings.count(picture, asked)
+            readings.count(picture, asked, known)
         key = (None, _note_of(picture)) if reading is None else (reading.key, picture.maker_notes if reading.is_in_doubt else "")
         parts.setdefault(key, []).append(picture)
     for pictures in parts.values():
@@ -45,7 +45,7 @@ def by_maker_notes(group: Group, readings: Readings) -> Iterator[Group]:
         asked = written[_note_of(picture)]
         reading = known.get(asked.id)
         if reading is None or reading.is_in_doubt:
-            readings.count(picture, asked)
+            readings.count(picture, asked, known)
         else:
             parts.setdefault(reading.key, []).append(picture)
     lost = sum(_note_of(it) not in written for it in group.files.lost)

@@ -4,10 +4,11 @@ from __future__ import annotations
 
 import contextlib
 from collections import Counter
-from typing import TYPE_CHECKING, Dict, Iterable, NamedTuple, Optional, Set
+from typing import TYPE_CHECKING, Dict, Iterable, NamedTuple, Optional
 
 from ..catalogue.store import Catalogue
 from ..files.session import Session
+from ..model.numbers import Numbers
 from ..model.records import PictureRecord
 from ..model.words import Word
 
@@ -52,39 +53,56 @@ class Read(NamedTuple):
         return cls(reading.key, bool(reading.doubt))
 
 
+Known = Dict[int, Optional[Read]]  # by the number of a picture; None for one at which ExifTool fails
+_TABLE = "CREATE TEMP TABLE IF NOT EXISTS readings (picture INTEGER PRIMARY KEY, key BLOB, is_in_doubt INTEGER)"
+
+
 class Readings:
-    """What ExifTool reads of the MakerNotes of a catalogue's pictures: each is asked for once, if it isn't kept, and only its key is in memory."""
+    """What ExifTool reads of the MakerNotes of a catalogue's pictures: each is asked for once, if it isn't kept. All pictures of an archive may
+    have one, so the answers are in a temporary table, and those that were counted are a bit each."""
 
     def __init__(self, catalogue: Catalogue, look: bool, session: Optional[Session]) -> None:
         self.catalogue, self.look, self.session = catalogue, look, session
         self.unknown: Unknown = Counter()  # the pictures of which it isn't known
-        self._known: Dict[int, Optional[Read]] = {}
-        self._counted: Set[int] = set()
+        self._counted = Numbers()
+        with catalogue.guarded():
+            catalogue.base.execute(_TABLE)
 
-    def of(self, pictures: Iterable[PictureRecord]) -> Dict[int, Optional[Read]]:
-        """The readings of some pictures and of earlier ones, by their numbers: None for one at which ExifTool fails."""
+    def of(self, pictures: Iterable[PictureRecord]) -> Known:
+        """The readings of some pictures, as far as ExifTool is there."""
         from ..judge import maker_notes  # which is seldom needed
         from ..extract.programs import Missing
 
-        wanted = [it for it in pictures if it.id not in self._known] if self.look else []
+        wanted = list(pictures) if self.look else []
+        known = self._earlier(wanted)
+        new: Known = {}
         for picture in wanted:
-            kept = self.catalogue.maker_notes(picture, maker_notes.unpacked_reading)
+            kept = None if picture.id in known else self.catalogue.maker_notes(picture, maker_notes.unpacked_reading)
             if kept is not None:
-                self._known[picture.id] = Read.of(kept)
-        asked = [it for it in wanted if it.id not in self._known]
+                new[picture.id] = Read.of(kept)
+        asked = [it for it in wanted if it.id not in known and it.id not in new]
         with contextlib.suppress(Missing):
             readings = maker_notes.each_reading(self.session, [it.path for it in asked]) if self.session else iter(())
             for picture, reading in zip(asked, readings):
-                self._known[picture.id] = None if reading is None else Read.of(reading)
-        return self._known
+                new[picture.id] = None if reading is None else Read.of(reading)
+        with self.catalogue.guarded():
+            rows = ((number, *(reading or (None, None))) for number, reading in new.items())
+            self.catalogue.base.executemany("INSERT INTO temp.readings VALUES (?, ?, ?)", rows)
+        return {**known, **new}
 
-    def count(self, picture: PictureRecord, asked: PictureRecord) -> None:
+    def _earlier(self, pictures: Iterable[PictureRecord]) -> Known:
+        """Those that were asked for before."""
+        query = "SELECT picture, key, is_in_doubt FROM temp.readings WHERE picture = ?"
+        rows = [row for it in pictures for row in self.catalogue.rows(query, (it.id,))]
+        return {number: None if key is None else Read(key, bool(is_in_doubt)) for number, key, is_in_doubt in rows}
+
+    def count(self, picture: PictureRecord, asked: PictureRecord, known: Known) -> None:
         """Counts a picture once, of which the reading isn't known, or may mean nothing; `asked` is the one with the same MakerNote."""
         if picture.id in self._counted:
             return
         self._counted.add(picture.id)
-        if self._known.get(asked.id):
+        if known.get(asked.id):
             self.unknown[NotKnown.IN_DOUBT] += 1
         else:
             no_reading = NotKnown.NO_EXIFTOOL if self.look else NotKnown.NOT_LOOKED_AT
-            self.unknown[NotKnown.FAILED if asked.id in self._known else no_reading] += 1
+            self.unknown[NotKnown.FAILED if asked.id in known else no_reading] += 1
