@@ -8,24 +8,15 @@ from dataclasses import dataclass
 from pathlib import Path
 
 
-def uses_of(text: str) -> dict[str, list[str]]:
-    """The crates that each crate of a crates.txt uses.
+def listed(text: str) -> tuple[dict[str, list[str]], set[str]]:
+    """What each crate of a crates.txt uses, and the crates that are static libraries.
 
-    >>> uses_of("low: byteorder # a comment\\nhigh staticlib: low\\n")
-    {'low': ['byteorder'], 'high': ['low']}
+    >>> listed("low: byteorder # a comment\\nhigh staticlib: low\\n")
+    ({'low': ['byteorder'], 'high': ['low']}, {'high'})
     """
     lines = [line.partition("#")[0].partition(":") for line in text.splitlines()]
-    return {name.split()[0]: used.split() for name, _, used in lines if name.strip()}
-
-
-def archives_of(text: str) -> set[str]:
-    """The crates of a crates.txt that are static libraries.
-
-    >>> archives_of("low: byteorder\\nhigh staticlib: low\\n")
-    {'high'}
-    """
-    names = [line.partition("#")[0].partition(":")[0].split() for line in text.splitlines()]
-    return {name[0] for name in names if "staticlib" in name[1:]}
+    rows = [(head.split(), used.split()) for head, _, used in lines if head.strip()]
+    return {head[0]: used for head, used in rows}, {head[0] for head, _ in rows if "staticlib" in head[1:]}
 
 
 def below(crate: str, uses: dict[str, list[str]]) -> list[str]:
@@ -65,8 +56,7 @@ class Crates:
 
     @classmethod
     def read(cls, top: Path) -> Crates:
-        text = (top / "crates.txt").read_text(encoding="utf-8")
-        return cls(top, uses_of(text), archives_of(text))
+        return cls(top, *listed((top / "crates.txt").read_text(encoding="utf-8")))
 
     def folder(self, crate: str) -> Path:
         return self.top / "crates" / crate

@@ -11,7 +11,6 @@ machine. A product of the current sources is kept; its note is that of the crate
 from __future__ import annotations
 
 import os
-import subprocess
 import sys
 from pathlib import Path
 
@@ -19,7 +18,7 @@ sys.dont_write_bytecode = True
 
 from compiler import Compiler
 from crates import Crates
-from prove import NotBuilt, build, jobs, listen, locked, open_store, say, waited
+from prove import NotBuilt, build, jobs, locked, open_store, say, status_of, waited
 from store import Store
 from verdict import refused_verdict
 
@@ -76,22 +75,16 @@ def build_for(crate: str, machine_name: str, store: Store) -> Path:
     return target
 
 
-def main(crate: str, machine_name: str) -> int:
-    try:
-        listen()
-        crates = Crates.read(TOP)
-        if crate not in crates.uses:
-            raise NotBuilt(f"crates.txt names no crate {crate}")
-        if machine_name not in MACHINES:
-            raise NotBuilt(f"no machine {machine_name}: there are {', '.join(MACHINES)}")
-        build_for(crate, machine_name, open_store(crates))
-    except (NotBuilt, OSError, subprocess.SubprocessError) as why:
-        say(str(why))
-        return 1
-    return 0
+def work(crate: str, machine_name: str) -> None:
+    crates = Crates.read(TOP)
+    if crate not in crates.uses:
+        raise NotBuilt(f"crates.txt names no crate {crate}")
+    if machine_name not in MACHINES:
+        raise NotBuilt(f"no machine {machine_name}: there are {', '.join(MACHINES)}")
+    build_for(crate, machine_name, open_store(crates))
 
 
 if __name__ == "__main__":
     if len(sys.argv) != 3:
         sys.exit(__doc__)
-    sys.exit(main(*sys.argv[1:]))
+    sys.exit(status_of(lambda: work(*sys.argv[1:])))

@@ -24,7 +24,7 @@ sys.dont_write_bytecode = True
 from compiler import Compiler
 from crates import Crates
 from module import CRATE, kept
-from prove import NotBuilt, listen, say
+from prove import status_of
 
 TOP = Path(__file__).resolve().parent.parent
 TESTS = TOP / "tests" / "library"
@@ -106,19 +106,16 @@ def link(kind: Kind, library: Path, target: Path) -> None:
         run(*kind.link, "-o", target, *objects, library, folder=Path(name))
 
 
+def build(kind: Kind, target: Path) -> None:
+    library = Path(f"{target}.a")
+    build_library(kind, library)
+    link(kind, library, target)
+
+
 def main(words: list[str]) -> int:
     if len(words) != 2 or words[0] not in KINDS:
         sys.exit(__doc__)
-    try:
-        listen()
-        kind, target = KINDS[words[0]], Path(words[1]).resolve()
-        library = Path(f"{target}.a")
-        build_library(kind, library)
-        link(kind, library, target)
-    except (NotBuilt, OSError, subprocess.SubprocessError) as why:
-        say(str(why))
-        return 1
-    return 0
+    return status_of(lambda: build(KINDS[words[0]], Path(words[1]).resolve()))
 
 
 if __name__ == "__main__":

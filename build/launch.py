@@ -13,7 +13,6 @@ from __future__ import annotations
 
 import os
 import signal
-import subprocess
 import sys
 import traceback
 from pathlib import Path
@@ -23,7 +22,7 @@ sys.dont_write_bytecode = True
 import prove
 import quick
 from crates import Crates
-from prove import TOP, NotBuilt, say
+from prove import TOP, say
 from store import Store
 
 NOT_BUILT = 70
@@ -51,26 +50,25 @@ def run(program: Path | str, words: list[str]) -> None:
     os.execv(program, [os.fspath(program), *words])
 
 
+def work(command: str, words: list[str]) -> None:
+    if command != "exifnorm":
+        if not os.environ.get("EXIFNORM_LIBRARY"):
+            os.environ["EXIFNORM_LIBRARY"] = str(product(quick.LIBRARY))
+        run(sys.executable, [str(TOP / "build" / "pictures.py"), *words])
+    program = product(quick.PROGRAM)
+    if words != ["--where"]:
+        run(program, words)
+    os.write(1, os.fsencode(f"{program}\n"))
+
+
 def main(command: str, words: list[str]) -> int:
     while os.open(os.devnull, os.O_RDWR) < 3:  # no other file gets the number of a closed standard stream, which stays closed
         pass
     try:
-        prove.listen()
-        if command != "exifnorm":
-            if not os.environ.get("EXIFNORM_LIBRARY"):
-                os.environ["EXIFNORM_LIBRARY"] = str(product(quick.LIBRARY))
-            run(sys.executable, [str(TOP / "build" / "pictures.py"), *words])
-        program = product(quick.PROGRAM)
-        if words != ["--where"]:
-            run(program, words)
-        os.write(1, os.fsencode(f"{program}\n"))
-    except (NotBuilt, OSError, subprocess.SubprocessError) as why:
-        say(str(why))
-        return NOT_BUILT
+        return prove.status_of(lambda: work(command, words), NOT_BUILT)
     except Exception:
         say(traceback.format_exc())
         return NOT_BUILT
-    return 0
 
 
 if __name__ == "__main__":

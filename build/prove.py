@@ -199,23 +199,28 @@ def take(proved: Crates, store: Store) -> None:
                 store.put(crate, product, copy.expected(crate))
 
 
-def main(words: list[str]) -> int:
+def status_of(work: Callable[[], object], failed: int = 1) -> int:
+    """The exit status of a command that does this work: 0, or if it fails another one, and a line says why."""
     try:
         listen()
-        store = open_store(Crates.read(TOP))
-        if words[0] == "--take":
-            take(Crates.read(Path(words[1])), store)
-        elif words[0] not in store.crates.uses:
-            raise NotBuilt(f"crates.txt names no crate {words[0]}")
-        else:
-            build(words[0], store)
+        work()
     except (NotBuilt, OSError, subprocess.SubprocessError) as why:
         say(str(why))
-        return 1
+        return failed
     return 0
+
+
+def work(words: list[str]) -> None:
+    store = open_store(Crates.read(TOP))
+    if words[0] == "--take":
+        take(Crates.read(Path(words[1])), store)
+    elif words[0] not in store.crates.uses:
+        raise NotBuilt(f"crates.txt names no crate {words[0]}")
+    else:
+        build(words[0], store)
 
 
 if __name__ == "__main__":
     if len(sys.argv) != (3 if "--take" in sys.argv else 2):
         sys.exit(__doc__)
-    sys.exit(main(sys.argv[1:]))
+    sys.exit(status_of(lambda: work(sys.argv[1:])))

@@ -31,7 +31,7 @@ import module
 import quick
 from compiler import Compiler, version
 from crates import Crates
-from prove import NotBuilt, listen, locked, say
+from prove import NotBuilt, locked, status_of
 
 TOP = Path(__file__).resolve().parent.parent
 HEAP = TOP / "build" / "heap.c"
@@ -159,16 +159,14 @@ def main(words: list[str]) -> int:
     folders = words if is_proved else words[1:]
     if len(folders) != 1 or folders[0].startswith("-"):
         sys.exit(__doc__)
-    try:
-        listen()
+
+    def copy() -> None:
         source, folder = kept(is_proved), Path(folders[0])
         folder.mkdir(parents=True, exist_ok=True)
         for name in NAMES:
             shutil.copyfile(source / name, folder / name)
-    except (NotBuilt, OSError, subprocess.SubprocessError) as why:
-        say(str(why))
-        return 1
-    return 0
+
+    return status_of(copy)
 
 
 if __name__ == "__main__":

@@ -11,7 +11,8 @@ import module
 import pytest
 from crates import Crates
 from fuzz import write_files
-from fuzz_target import KINDS, NotBuilt
+from fuzz_target import KINDS
+from prove import NotBuilt
 
 from commands import run, text_of
 from compiling import HEADERS, HERE, need
