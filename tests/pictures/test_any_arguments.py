@@ -132,7 +132,7 @@ def test_a_list_may_be_a_pipe(option, words, line, end, folder):
     writing = threading.Thread(target=(folder / "pipe").write_text, args=(f"{line}\n",), daemon=True)
     writing.start()
     assert end([*words, option, "pipe"])[0] == 0
-    writing.join(60)
+    writing.join(600)
     assert not writing.is_alive(), "nobody has read it"
 
 

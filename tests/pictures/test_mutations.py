@@ -137,7 +137,7 @@ class TestSame:
 CALLS = """
 import contextlib, io, json, os, resource, sys
 from exifnorm_pictures.cli.main import main
-resource.setrlimit(resource.RLIMIT_CPU, (150, 150))
+resource.setrlimit(resource.RLIMIT_CPU, (1500, 1500))
 resource.setrlimit(resource.RLIMIT_AS, (2 << 30, 2 << 30))
 for line in sys.stdin:
     words = json.loads(line)

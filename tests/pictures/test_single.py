@@ -3,6 +3,7 @@
 import argparse
 import contextlib
 import fcntl
+import gc
 import io
 import json
 import os
@@ -321,6 +322,7 @@ class Folders(WithPictures):
         return self.path(name)
 
     def test_a_run_has_one_with_a_lock(self):
+        gc.collect()  # what an earlier test has left open would be closed meanwhile
         before = len(os.listdir("/proc/self/fd"))
         with tempdir.room() as name:
             self.assertEqual(os.path.dirname(name), self.folder)

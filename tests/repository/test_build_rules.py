@@ -341,16 +341,11 @@ def test_a_build_that_is_stopped_ends_with_all_that_it_started(room, how):
 
 
 def test_a_second_signal_does_not_end_a_stop():
-    before = {number: signal.getsignal(number) for number in prove.STOPS}
-    try:
-        prove.listen()
-        with pytest.raises(prove.NotBuilt, match="was stopped"):
-            os.kill(os.getpid(), signal.SIGTERM)
-        for number in prove.STOPS:
-            os.kill(os.getpid(), number)
-    finally:
-        for number, handler in before.items():
-            signal.signal(number, handler)
+    prove.listen()
+    with pytest.raises(prove.NotBuilt, match="was stopped"):
+        os.kill(os.getpid(), signal.SIGTERM)
+    for number in prove.STOPS:
+        os.kill(os.getpid(), number)
 
 
 def test_signals_that_the_caller_ignores_do_not_stop_a_build(room):
