@@ -2,7 +2,7 @@
  *
  *   STATUS=N    each call but those for names returns the status N, and does nothing
  *   VERSION=V   the version is V
- *   MEET=N      a call for a block waits until so many threads are inside one at the same time, or 10 seconds have passed
+ *   MEET=N      a call for a block waits until so many threads are inside one at the same time, or ten minutes have passed
  *
  * A call with a pointer that is NULL, which exifnorm.h forbids, ends the process.
  */
@@ -57,7 +57,7 @@ static void meet(void) {
     if (most == 0)
         return;
     clock_gettime(CLOCK_REALTIME, &until);
-    until.tv_sec += 10;
+    until.tv_sec += 600;
     pthread_mutex_lock(&lock);
     inside++;
     watched_inside = inside > watched_inside ? inside : watched_inside;

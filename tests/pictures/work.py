@@ -155,8 +155,10 @@ def counted(library, words):
     from exifnorm_pictures.export import tables
     from exifnorm_pictures.extract import sidecars
     from exifnorm_pictures.model import budgets
+    from exifnorm_pictures.scan import index, workers
 
-    budgets.SECONDS = budgets.PROGRAM_SECONDS = 1000.0  # what is counted ends a picture, and not the clock of a slow machine
+    budgets.SECONDS = budgets.PROGRAM_SECONDS = 1000.0  # what is counted ends a picture, and not the clock of a slow machine,
+    index.LONGEST_WAIT = workers.LONGEST_WAIT = 1e9  # which doesn't commit more often, either
     sidecars.MOST = 20  # of a picture, up to which the work for many pictures of one name is quadratic
     store.CACHE = tables._CACHE = 1000  # kB, which soon are in use
     budgets.READY_BYTES = 1 << 20

@@ -31,7 +31,7 @@ def made(folder):
     """A repository in which make has built all."""
     room = Room(folder, CRATES)
     for name in ("packaging", "debian"):
-        shutil.copytree(TOP / name, room.top / name)
+        shutil.copytree(TOP / name, room.top / name, ignore=shutil.ignore_patterns("__pycache__"))
     shutil.copy(TOP / "python/setup.py", room.top / "python")
     room.write("crates/px_engine/src/version.rt", "pub const VERSION")
     room.write("crates/px_c/include/exifnorm.h", "/* one */\n")
