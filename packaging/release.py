@@ -110,7 +110,7 @@ def copy_proofs(out: Path) -> None:
 def copy_module(out: Path) -> None:
     """Copies the library's module, which is not made again without the proved crates below it."""
     kept = module.kept(Crates.read(TOP))
-    shutil.copytree(kept, out / "module" / kept.name)
+    shutil.copytree(kept, out / "module" / kept.name, ignore=shutil.ignore_patterns("tmp*"))  # what another command makes beside it
 
 
 def build(tree: Path, source: Path, version: str, seconds: int) -> list[Path]:

@@ -26,11 +26,15 @@ EXTENSION = "exifnorm/_native.abi3.so"
 
 
 def copy_built(folder: Path) -> Path:
-    """Copies the sources and the build, so that nothing is built again there."""
-    unneeded = shutil.ignore_patterns(".git", "__pycache__", "*.rlib", "making", "stage", "wheel", "dist", "*.log")
+    """Copies the sources and the build, so that nothing is built again there. Of out/ only what is built and stays: tests in other processes
+    make and remove files beside it."""
+    unneeded = shutil.ignore_patterns(".git", ".hypothesis", ".mypy_cache", "__pycache__", "*.rlib", "making")
 
     def ignored(at: str, names: list[str]) -> set[str]:
-        return unneeded(at, names) | ({"out"} if Path(at).parent.name == "crates" else set())
+        others = (
+            {*names} - {"exifnorm", "lib", "proved"} if Path(at) == TOP / "out" else {"out"} if Path(at).parent.name == "crates" else set()
+        )
+        return unneeded(at, names) | others
 
     shutil.copytree(TOP, folder, symlinks=True, ignore=ignored)
     return folder

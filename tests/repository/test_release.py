@@ -16,10 +16,8 @@ import pytest
 
 import guard
 import machines
-import module
 import next_steps
 import release
-from crates import Crates
 
 TOP = Path(__file__).resolve().parents[2]
 
@@ -59,8 +57,7 @@ def clone(folder):
         shutil.copy2(TOP / name, folder / name, follow_symlinks=False)
     machines.make("aarch64", "static")
     release.copy_proofs(folder / "out")
-    kept = module.kept(Crates.read(TOP))
-    shutil.copytree(kept, folder / "out/module" / kept.name)
+    release.copy_module(folder / "out")
     run("git", "init", "-q", cwd=folder)
     run("git", "add", "-A", cwd=folder)
     return folder
