@@ -246,7 +246,11 @@ def test_fields_of_each_standard(folder, called, asked):
     assert asked("--with", "position")[0] == ["b.jpg", "c.jpg"]
     assert asked("--where", "serial = k-77 or owner = OTTO")[0] == ["c.jpg", "d.jpg"]
     printed = called("list", "c", "--csv", "--with", "position", "--columns", "position")[1]
-    assert [row[1:] for row in csv.reader(io.StringIO(printed))] == [["latitude", "longitude"], ["-33.5", "7.25"], ["51.5", "-0.12"]]
+    assert [row[1:] for row in csv.reader(io.StringIO(printed))] == [
+        ["latitude", "longitude", "not known"],
+        ["-33.5", "7.25", ""],
+        ["51.5", "-0.12", ""],
+    ]
     features = json.loads(called("list", "c", "--geojson", "--columns", "creator")[1])["features"]
     assert [it["geometry"]["coordinates"] for it in features] == [[7.25, -33.5], [-0.12, 51.5]]
     assert [it["properties"]["creator"] for it in features] == ["Anna Wirth", ""]
@@ -353,7 +357,7 @@ def test_forms_say_the_same(folder, called):
     )
     called("index", "p", "--catalogue", "c", "--quiet")
     rows = list(csv.reader(io.StringIO(called("list", "c", "--csv", "--columns", "title,keywords")[1])))
-    assert [row[1:] for row in rows] == [["title", "keywords"], ["1998.10", "a; b"], ["", "c"]]
+    assert [row[1:] for row in rows] == [["title", "keywords", "not known"], ["1998.10", "a; b", ""], ["", "c", ""]]
     printed = called("list", "c", "--columns", "title,keywords")[1].splitlines()
     assert printed[1:3] == ["  title     1998.10", "  keywords  a; b"] and printed[4] == "  title     (none)"
     assert printed[-1] == "2 of 2 pictures"

@@ -1,10 +1,12 @@
 """Parts of a picture that were not read are named once for people, and one by one for programs."""
 
 import json
+import re
 
 import pytest
 from made_files import A, app1, app1_xmp, jpeg, title, webp
-from studio import needs
+from studio import needs, put
+from test_cuts import FILES
 from test_never_the_same import reached
 
 import exifnorm_pictures as pictures
@@ -67,15 +69,19 @@ HIDDEN = {
 }
 
 
+# A whole file of each format, and bytes behind it in which anything may be
+BEHIND = {f"behind {name}": octets + b"\0\0\0\x20abcd" + TITLED[:60] for name, (octets, _) in FILES.items()}
+
+
 @needs("exiftool")
-@pytest.mark.parametrize("name", HIDDEN)
+@pytest.mark.parametrize("name", {**HIDDEN, **BEHIND})
 def test_a_text_may_be_where_nobody_read(name, folder, called):
-    """`captions` and `conflicts` say so by their status where `list` says that the picture may fit, of files and of a catalogue."""
-    (folder / "p").mkdir()
-    (folder / "p" / name).write_bytes(HIDDEN[name])
+    """Each command that prints texts says so by its status where `list` says that the picture may fit, of files and of a catalogue."""
+    put(folder, {f"p/{name}": {**HIDDEN, **BEHIND}[name], "rules": b"title at most 2000 characters\n"})
     called("index", "p", "--catalogue", "c", "--quiet")
     may_fit = json.loads(called("list", "c", "--where", "title = Bowl and title = Vase", "--json")[1].splitlines()[-1])["not_known"]
-    assert may_fit == (name not in ("only a MakerNote reaches.jpg", "whole.jpg"))
+    assert may_fit == any("MakerNote" not in part for part in pictures.read(folder / "p" / name).not_read)
+    assert may_fit == (name not in ("only a MakerNote reaches.jpg", "whole.jpg")) or name in BEHIND
     for source in (f"p/{name}", "p", "c"):
         for words in ([], ["--csv"], ["--json"]):
             assert called("captions", source, *words)[0] == 2 * may_fit, (source, words)
@@ -83,3 +89,28 @@ def test_a_text_may_be_where_nobody_read(name, folder, called):
             assert status == 2 * may_fit and (
                 "not read" in printed or "not wholly read" in printed or not may_fit or words == ["--json"]
             ), printed
+            if source != f"p/{name}":
+                status, printed, messages = called("list", source, "--columns", "title", *words)
+                assert status == 2 * may_fit and bool(re.search('not known: |"title": null', messages + printed)) == bool(may_fit), printed
+                assert called("list", source, "--count", "title", *words)[0] == 2 * may_fit
+                assert called("check", "rules", source, *words)[0] == 2 * may_fit
+
+
+@pytest.mark.parametrize("name", {**HIDDEN, **BEHIND})
+@pytest.mark.parametrize("words", [("show",), ("show", "--exact"), ("show", "--csv"), ("show", "--json"), ("explain",), ("explain", "--json")])
+def test_a_block_may_be_where_nobody_read(words, name, folder, called):
+    put(folder, {name: {**HIDDEN, **BEHIND}[name]})
+    assert called(*words, name)[0] == 2 * bool(pictures.read(folder / name).not_read)
+
+
+@pytest.mark.parametrize("octets", [jpeg(app1(A), behind=b"a trailer"), jpeg(app1(A))], ids=["with a part that isn't read", "whole"])
+@pytest.mark.parametrize("words", [(), ("--csv",), ("--json",)])
+def test_a_group_with_texts_that_are_not_known(words, octets, folder, called):
+    """The group is sure, and the texts are not."""
+    put(folder, {"p/a.jpg": octets, "p/b.jpg": octets})
+    called("index", "p", "--catalogue", "c", "--quiet")
+    assert called("same", "c", *words)[0] == 0
+    status, printed, messages = called("same", "c", "--columns", "title", *words)
+    is_open = octets.endswith(b"trailer")
+    found = re.search(r"title +\(not known\)|,title\r|\"title\": null", printed)
+    assert (status, bool(found), "text is not known" in printed + messages) == (2 * is_open, is_open, is_open and "--json" not in words)

@@ -111,8 +111,7 @@ class Commands(InProcess):
             os.mkdir(self.path(side))
             write(self.path(side, "a.jpg"), hidden)
         for command in ("show", "captions", "explain"):
-            status = 2 if command == "captions" else 0
-            found = [self.objects(command, "@/x/a.jpg"), self.objects(command, "@/x/a.jpg", "--whole", status=status)]
+            found = [self.objects(command, "@/x/a.jpg"), self.objects(command, "@/x/a.jpg", "--whole", status=2)]
             self.assertEqual([any(it.get("not_read") for it in some) for some in found], [False, True])
         for jobs in ("1", "2"):
             index = ("index", "@/x", "--catalogue", f"@/c{jobs}", "--jobs", jobs, "--quiet")

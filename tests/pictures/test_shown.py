@@ -19,7 +19,9 @@ def test_the_first_fields_of_all_blocks(most, called, monkeypatch):
     assert [field["value"] for block in blocks for field in block["fields"]] == values
     assert [block["has_more_fields"] for block in blocks] == [len(block["fields"]) < 3 for block in blocks]
     for words in ((), ("--exact",), ("--csv",)):
-        lines = called("show", "a.jpg", *words)[1].splitlines()
+        status, printed, _ = called("show", "a.jpg", *words)
+        lines = printed.splitlines()
+        assert status == 2 * (most < 9), "fields that are left out aren't printed, so the status isn't that of a whole answer"
         assert [it for it in (f"{block}{it}" for block in "abc" for it in range(3)) if any(it in line for line in lines)] == values, words
         assert sum("not shown" in line for line in lines) == sum(block["has_more_fields"] for block in blocks), words
 

@@ -263,7 +263,7 @@ _FREQUENT = (
 _SINGLE = "SELECT text, pictures, bare FROM temp.counted WHERE pictures = 1 AND bare NOT IN (SELECT bare FROM temp.alike) ORDER BY text"
 
 
-Texts = Sequence[Tuple[str, ...]]  # of a picture, for each of some labels
+Texts = Sequence[Optional[Tuple[str, ...]]]  # of a picture, for each of some labels; None: it isn't known whether it has one
 # A row without a text for a picture that has none
 _SHOWN = "SELECT place, number, text FROM temp.shown LEFT JOIN {} t ON t.label = ?1 AND long IN (0, 1) AND t.picture = shown.picture"
 
@@ -301,6 +301,7 @@ class Answer:
         if since is not None:
             self._scope &= catalogue.numbers(_SINCE, (since,))
         self._has_table = False
+        self._lacking: Dict[str, Numbers] = {}
         self._are_all = question is None and not ~self._scope
         sets = self._finder.of(question) if question else _Sets(self._scope, self._scope)
         self._sure, self._may = sets.sure & self._scope, sets.may & self._scope
@@ -321,20 +322,28 @@ class Answer:
         if label is None:
             numbers, labels = self._not_known(), self.labels
         else:
-            numbers, labels = self._sure & self._finder.unread([label]) & ~self._finder.with_label(label), [label]
+            numbers, labels = self._lacking_of(label), [label]
         return [reason for reason in _reasons(labels) if self._finder.unread_by(reason) & numbers]
+
+    def lacking(self, labels: Sequence[str]) -> int:
+        """Of how many pictures that fit it isn't known whether they have a text of one of some labels, of which they have none that was read."""
+        return functools.reduce(or_, map(self._lacking_of, labels), Numbers()).count(self._total)
+
+    def _lacking_of(self, label: str) -> Numbers:
+        """The pictures of `lacking` by one label."""
+        if label not in self._lacking:
+            self._lacking[label] = self._sure & self._finder.unread([label]) & ~self._finder.with_label(label)
+        return self._lacking[label]
 
     def having(self, label: str) -> Tuple[int, int, int]:
         """Of the pictures that fit: how many have a text of a label, how many have none, and of how many that isn't known."""
-        unread_ = self._sure & self._finder.unread([label])
         if self._are_all:
             having = sum(self._catalogue.number_of(query, (label,)) for query in _HAVING)
-            self._put("unread", unread_)
+            self._put("unread", self._sure & self._finder.unread([label]))
             not_known = self._catalogue.number_of(_UNREAD_WITHOUT, (label,))
         else:
-            with_label = self._finder.with_label(label)
-            having = (self._sure & with_label).count(self._total)
-            not_known = (unread_ & ~with_label).count(self._total)
+            having = (self._sure & self._finder.with_label(label)).count(self._total)
+            not_known = self.lacking([label])
         return having, self.fitting() - having - not_known, not_known
 
     def fitting(self) -> int:
@@ -388,14 +397,17 @@ class Answer:
             self._catalogue.base.execute("CREATE TEMP TABLE IF NOT EXISTS shown (place INTEGER PRIMARY KEY, picture INTEGER)")
             self._catalogue.base.execute("DELETE FROM temp.shown")  # it can't be dropped while pictures are read
             self._catalogue.base.executemany("INSERT INTO temp.shown (picture) VALUES (?)", ((number,) for number, _ in rows))
-        return zip(*map(self._shown_texts, labels))
+        return zip(*(self._shown_texts(label, rows) for label in labels))
 
-    def _shown_texts(self, label: str) -> Iterator[Tuple[str, ...]]:
+    def _shown_texts(self, label: str, pictures: Sequence[Tuple[int, bytes]]) -> Iterator[Optional[Tuple[str, ...]]]:
         """The texts of a label of each picture in the table of those that are shown next."""
         query = " UNION ALL ".join(_SHOWN.format(table) for table in self._catalogue.all_texts)
         rows = self._catalogue.rows(f"{query} ORDER BY place, number", (label,), _numbered_text)
-        for _, of_picture in groupby(rows, key=itemgetter(0)):
-            yield tuple([text for _, number, text in of_picture if number is not None])
+        for (picture, _), (_, of_picture) in zip(pictures, groupby(rows, key=itemgetter(0))):
+            yield self._or_not_known(picture, label, [text for _, number, text in of_picture if number is not None])
+
+    def _or_not_known(self, number: int, label: str, texts: Sequence[str]) -> Optional[Tuple[str, ...]]:
+        return None if not texts and number in self._lacking_of(label) else tuple(texts)
 
     def paths(self) -> Iterator[List[bytes]]:
         """The paths of the pictures that fit, in their order, some at once."""
@@ -423,10 +435,10 @@ class Answer:
         """Whether a picture, by its number, may have a further text of a label, because it was not wholly read."""
         return number in self._finder.unread([label])
 
-    def texts_of(self, number: int, labels: Sequence[str]) -> List[Tuple[str, ...]]:
+    def texts_of(self, number: int, labels: Sequence[str]) -> Texts:
         """The texts of a picture, by its number, for some labels."""
         query = "SELECT text FROM texts WHERE label = ? AND long IN (0, 1) AND picture = ? ORDER BY number"
-        return [tuple(self._catalogue.rows(query, (label, number), _text)) for label in labels]
+        return [self._or_not_known(number, label, list(self._catalogue.rows(query, (label, number), _text))) for label in labels]
 
     def _of_fitting(self) -> str:
         """The texts of the pictures that fit, in SQL. If all do, no picture is looked up."""

@@ -10,14 +10,13 @@ from ..comparison.conflicts import best, conflicts, own_texts
 from ..fields.labels import LABEL_WORDS, POSITION, Caption
 from ..fields.places import Place
 from ..fields.shown import Shown
-from ..model.found import damage
 from ..model.texts import Members, escaped, shown_path
 from ..picture import Picture
 from .columns import width
 from .exit_codes import SUCCESS, UNKNOWN
 from .labelled import is_of_many, is_open, members, not_read, origins, pictures, refused, together
 from .names import is_list
-from .not_read import OF_DAMAGED, no_block, picture_cut, unread
+from .not_read import no_block, not_found, picture_cut, unread
 from .objects import print_object
 from .output import print_lines, table_of
 
@@ -39,7 +38,9 @@ def run(arguments: argparse.Namespace) -> int:
         if table:
             table.row(*_row(picture))
         elif arguments.json:
-            print_object("captions", "picture", _members(picture))
+            about = _members(picture)
+            worst = max(worst, UNKNOWN if about["has_more_captions"] else SUCCESS)
+            print_object("captions", "picture", about)
         else:
             print_lines([*[f"== {shown_path(picture.path)}"] * has_heads, *_lines(picture)])
     return worst
@@ -85,7 +86,7 @@ def _lines(picture: Picture) -> Iterator[str]:
     if not picture.blocks:
         yield no_block(picture)
     elif not refused(picture) and not picture.too_many and all(one.is_empty for one in picture.labelled.texts):
-        yield "no title, caption, name, keyword or rights" + OF_DAMAGED * bool(damage(picture.not_read))
+        yield not_found("no title, caption, name, keyword or rights", not_read(picture))
     if not_read(picture):
         yield f"not wholly read: {', '.join(unread(picture, not_read(picture)))}"
     yield from picture_cut(picture)

@@ -12,7 +12,7 @@ from ..model.texts import escaped, shown_path
 from ..picture import Block, Picture
 from .exit_codes import SUCCESS, UNKNOWN
 from .names import each_name, is_catalogue, is_list
-from .not_read import is_damaged, no_block, picture_cut, unread
+from .not_read import lacks_some, no_block, picture_cut, unread
 from .output import print_lines
 
 
@@ -21,7 +21,7 @@ Describe = Callable[[Picture, Block], List[str]]
 
 def status_of(picture: Picture, is_about_file: bool = False) -> int:
     """The status of a command that prints the blocks or texts of a picture, or what is wrong with its file."""
-    return UNKNOWN if is_damaged(picture) or (is_about_file and picture.damage) else SUCCESS
+    return UNKNOWN if lacks_some(picture, picture.not_read) or (is_about_file and picture.damage) else SUCCESS
 
 
 def each_picture(arguments: argparse.Namespace) -> Iterator[Picture]:

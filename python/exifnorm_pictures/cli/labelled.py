@@ -17,7 +17,7 @@ from ..model.sides import REACHED
 from ..picture import Picture
 from ..scan.walk import Unlisted, below
 from .names import each_name, is_catalogue
-from .not_read import damage_members, is_damaged
+from .not_read import damage_members, lacks_some
 from .objects import picture_object
 from .parser import refuse
 
@@ -110,7 +110,7 @@ def not_read(picture: Picture) -> List[str]:
 
 def is_open(picture: Picture) -> bool:
     """Whether there may be a text that isn't known, so that the status of a command says so."""
-    return is_damaged(picture) or bool(not_read(picture))
+    return lacks_some(picture, not_read(picture))
 
 
 def members(picture: Picture) -> Members:

@@ -45,7 +45,9 @@ def run(arguments: argparse.Namespace) -> int:
         if counted is not None:
             not_known = _print_counts(arguments, answer, counted)
         else:
+            columns = [] if arguments.null else columns
             (_print_names if arguments.null else _print_pictures)(arguments, answer, columns)
+            not_known = answer.lacking(columns)
         return UNKNOWN if not_known or answer.not_known() else SUCCESS
 
 
@@ -80,10 +82,10 @@ def _since(text: str) -> str:
 # Pictures
 
 
-def _print_names(arguments: argparse.Namespace, answer: Answer, _: Sequence[str]) -> None:
+def _print_names(arguments: argparse.Namespace, answer: Answer, columns: Sequence[str]) -> None:
     for paths in answer.paths():
         sys.stdout.buffer.write(b"".join(path + b"\0" for path in paths))
-    _print_end(arguments, answer, answer.fitting(), answer.damaged())
+    _print_end(arguments, answer, answer.fitting(), answer.damaged(), columns)
 
 
 def _print_pictures(arguments: argparse.Namespace, answer: Answer, columns: Sequence[str]) -> None:
@@ -97,7 +99,7 @@ def _print_pictures(arguments: argparse.Namespace, answer: Answer, columns: Sequ
         if table:
             table.row(picture.path, *listed_texts.cells(columns, texts))
         elif arguments.json:
-            captions = {label: list(of_label) for label, of_label in zip(columns, texts)}
+            captions = listed_texts.member(columns, texts)
             print_object("list", "picture", {**path_members(picture.path), "texts": captions, "damage": picture.damage or None})
         elif arguments.geojson:
             print("," * (listed > 1) + json.dumps(_feature(picture, columns, texts)))
@@ -106,19 +108,20 @@ def _print_pictures(arguments: argparse.Namespace, answer: Answer, columns: Sequ
             print_lines([shown_path(picture.path) + fault, *listed_texts.lines(columns, texts, "  ")])
     if arguments.geojson:
         print("]}")
-    _print_end(arguments, answer, listed, damaged)
+    _print_end(arguments, answer, listed, damaged, columns)
 
 
 def _feature(picture: Fitting, columns: Sequence[str], texts: Texts) -> Members:
     """A picture on a map (RFC 7946), whose positions have the longitude first. Its last texts are its positions."""
-    place = next(map(place_of, texts[-1]), None)
+    place = next(map(place_of, texts[-1] or ()), None)
     geometry = None if place is None else {"type": "Point", "coordinates": [place.longitude, place.latitude]}
-    properties = {**path_members(picture.path), **{label: "; ".join(of_label) for label, of_label in zip(columns, texts)}}
+    properties = {**path_members(picture.path), **{label: None if it is None else "; ".join(it) for label, it in zip(columns, texts)}}
     return {"type": "Feature", "geometry": geometry, "properties": properties}
 
 
-def _print_end(arguments: argparse.Namespace, answer: Answer, listed: int, damaged: int) -> None:
-    """How many pictures were listed, how many of them are damaged, and of how many more it isn't known whether they fit."""
+def _print_end(arguments: argparse.Namespace, answer: Answer, listed: int, damaged: int, columns: Sequence[str]) -> None:
+    """How many pictures were listed, how many of them are damaged or may have a text that was not read, and of how many more it isn't known
+    whether they fit."""
     if arguments.json:
         numbers: Members = {"pictures": answer.count(), "listed": listed, "not_known": answer.not_known(), "damaged": damaged}
         print_object("list", "summary", numbers)
@@ -128,12 +131,13 @@ def _print_end(arguments: argparse.Namespace, answer: Answer, listed: int, damag
         + _since_then(arguments, answer.count())
         + f", {damaged:,} of them cut off or damaged" * bool(damaged)
         + _of_unknown(answer)
+        + "".join(_of_lacking(answer, label) for label in columns)
     )
     if not (arguments.csv or arguments.null or arguments.geojson):
         print_line(end)
         if arguments.since and listed:
             print_line(_WHAT_CHANGED)
-    elif answer.not_known() or damaged:
+    elif answer.not_known() or damaged or answer.lacking(columns):
         say_notes(end)
 
 
@@ -145,6 +149,11 @@ def _since_then(arguments: argparse.Namespace, pictures: int) -> str:
 def _of_unknown(answer: Answer) -> str:
     count = answer.not_known()
     return f"; {count:,} more may fit: {_unread(answer.why_not_known())}" if count else ""
+
+
+def _of_lacking(answer: Answer, label: str) -> str:
+    count = answer.lacking([label])
+    return f"; of {count:,} listed the {label} is not known: {_unread(answer.why_not_known(label))}" if count else ""
 
 
 def _unread(reasons: Sequence[Unread]) -> str:

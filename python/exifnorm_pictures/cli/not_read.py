@@ -9,7 +9,6 @@ from ..model.texts import Members
 from ..model.verdicts import with_verb
 from ..picture import Picture
 
-OF_DAMAGED = " in what is left of the file"  # which is damaged
 REMEDY = "another copy of the file, as from a backup. The missing part can't be restored from this one."
 
 
@@ -25,9 +24,18 @@ def picture_cut(picture: Picture) -> List[str]:
     return [f"{'cut off' if fault.startswith(CUT) else 'damaged'} behind its metadata: {fault}"] if fault else []
 
 
+def not_found(what: str, parts: Sequence[str]) -> str:
+    """What is said of what a picture doesn't have, as far as it was read.
+
+    >>> not_found("no block", ()), not_found("no block", ["trailer of 3 bytes"])
+    ('no block', 'no block in what was read of the file')
+    """
+    return what + (" in what is left of the file" if damage(parts) else " in what was read of the file" * bool(parts))
+
+
 def no_block(picture: Picture) -> str:
     """What is said of a picture without a block."""
-    return "no Exif, IPTC or XMP block" + OF_DAMAGED * bool(damage(picture.not_read))
+    return not_found("no Exif, IPTC or XMP block", picture.not_read)
 
 
 def damage_members(picture: Picture) -> Members:
@@ -35,9 +43,9 @@ def damage_members(picture: Picture) -> Members:
     return {"damage": picture.damage or None, "not_known": picture.not_known}
 
 
-def is_damaged(picture: Picture) -> bool:
-    """Whether the status of a command says that not everything is known of the metadata."""
-    return bool(picture.problem or damage(picture.not_read)) or any(not it.is_accepted for it in picture.blocks)
+def lacks_some(picture: Picture, parts: Sequence[str]) -> bool:
+    """Whether the status of a command says that not everything is known: a file, a block or one of these parts was not read."""
+    return bool(picture.problem or parts) or any(not it.is_accepted for it in picture.blocks)
 
 
 def damage_lines(picture: Picture) -> List[str]:

@@ -82,6 +82,7 @@ class _Texts:
         self.labels = list(dict.fromkeys([*columns, *([] if self._label is None else [self._label])]))
         self.alike = 0  # groups that aren't listed
         self.not_known = 0  # those of them that may differ, because a picture was not wholly read
+        self.has_unread = False  # whether a text of one that is listed isn't known
         self._answer: Optional[Answer] = None
         if self.labels:
             from ..catalogue import asking  # which most groups don't need
@@ -90,14 +91,16 @@ class _Texts:
 
     def of(self, picture: PictureRecord) -> Texts:
         """The texts of a picture, for each label."""
-        return self._answer.texts_of(picture.id, self.labels) if self._answer else []
+        texts = self._answer.texts_of(picture.id, self.labels) if self._answer else []
+        self.has_unread = self.has_unread or None in texts
+        return texts
 
     def differ_in(self, group: Group) -> bool:
         """Whether the pictures of a group have other texts of the label that they have to differ in, if there is one."""
         if self._label is None or self._answer is None:
             return True
         at = self.labels.index(self._label)
-        if len({frozenset(map(folded, self.of(picture)[at])) for picture in group.members}) > 1:
+        if len({frozenset(map(folded, self.of(picture)[at] or ())) for picture in group.members}) > 1:
             return True
         self.alike += 1
         self.not_known += any(self._answer.may_have(one.id, self._label) for one in group.members)
@@ -109,6 +112,8 @@ class _Texts:
             groups = "1 group isn't listed: its" if self.alike == 1 else f"{self.alike:,} groups aren't listed: their"
             may = f"; of {self.not_known:,} that isn't sure, because a picture was not wholly read" if self.not_known else ""
             yield f"{groups} pictures have the same {self._label}{may}"
+        if self.has_unread:
+            yield "Where a text is not known, the picture was not wholly read"
 
 
 def run(arguments: argparse.Namespace) -> int:
@@ -137,7 +142,7 @@ def run(arguments: argparse.Namespace) -> int:
         else:
             print_lines(_totals(listed, groups, left))
         say_unknown(chosen or (), catalogue.has)
-    return UNKNOWN if left.is_open or groups.unknown or listed.texts.not_known else status_of_results(listed.results)
+    return UNKNOWN if left.is_open or groups.unknown or listed.texts.not_known or listed.texts.has_unread else status_of_results(listed.results)
 
 
 class _Left(NamedTuple):
@@ -357,7 +362,7 @@ def _print_group(number: int, group: Group, keeps: Keeps, texts: _Texts) -> None
     }
     print(line_of("same", "group", known)[:-1], end=', "pictures": [')
     for at, picture in enumerate(group.members):
-        more: Members = {"texts": {label: list(one) for label, one in zip(texts.labels, texts.of(picture))}} if texts.labels else {}
+        more: Members = {"texts": listed_texts.member(texts.labels, texts.of(picture))} if texts.labels else {}
         about = _picture_members(group, picture, keeps.get(picture.id, _without_advice(picture)))
         print(", " * (at > 0) + json.dumps({**about, **more}), end="")
     print("]}")

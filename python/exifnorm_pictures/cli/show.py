@@ -15,7 +15,7 @@ from ..model.texts import Members, escaped
 from ..picture import Block, Picture
 from .columns import width
 from .each_block import Describe, each_block, each_picture, status_of
-from .exit_codes import SUCCESS
+from .exit_codes import SUCCESS, UNKNOWN
 from .not_read import damage_members, no_block, picture_cut, unread
 from .objects import block_object, picture_object, print_object
 from .output import table_of
@@ -27,15 +27,15 @@ if TYPE_CHECKING:
 def run(arguments: argparse.Namespace) -> int:
     """Lists the fields of pictures."""
     if not arguments.json and not arguments.csv:
-        return each_block(arguments, lambda: _describer(arguments.exact))
+        return each_block(arguments, lambda: _describer(arguments))
     worst = SUCCESS
     table = table_of(arguments, ["picture", "block", "field", "key", "type", "count", "value", "exact value", "note"])
     for picture in each_picture(arguments):
         worst = max(worst, status_of(picture))
         if table:
-            _print_rows(table, picture)
+            _print_rows(table, picture, _Shown(arguments))
         else:
-            print_object("show", "picture", _members(picture))
+            print_object("show", "picture", _members(picture, _Shown(arguments)))
     return worst
 
 
@@ -44,8 +44,18 @@ class _Shown(Shown):
 
     has_more = False  # whether a field of the last block is left out
 
+    def __init__(self, arguments: argparse.Namespace) -> None:
+        super().__init__()
+        self._arguments = arguments
+
     def of(self, block: Block) -> List[Field]:
-        """The fields of a block, or the first ones."""
+        """The fields of a block, or the first ones. If some are left out, the status says so."""
+        first = self._first(block)
+        if self.has_more:
+            self._arguments.least_status = UNKNOWN
+        return first
+
+    def _first(self, block: Block) -> List[Field]:
         if self.is_full:  # then no further fields are made
             self.has_more = bool(block.is_accepted or block.repair)
             return []
@@ -65,14 +75,14 @@ _MORE = f"further fields are not shown: more than {LIMITS}"
 # Lines
 
 
-def _describer(is_exact: bool) -> Describe:
+def _describer(arguments: argparse.Namespace) -> Describe:
     """What makes the lines of each block of a picture."""
-    shown = _Shown()
+    shown = _Shown(arguments)
 
     def lines_of(_: Picture, block: Block) -> List[str]:
         by = f", extracted by {PROGRAMS[block.extractor]}" if block.extractor in PROGRAMS else ""
         fields = shown.of(block)
-        lines = list(readable(fields, block.name + by)) if is_exact else [f"{block.name}{by}:", *map(_plain_line, fields)]
+        lines = list(readable(fields, block.name + by)) if arguments.exact else [f"{block.name}{by}:", *map(_plain_line, fields)]
         lines += [f"  {_MORE}"] * shown.has_more
         return lines if block.is_accepted else [*_repaired(block), *lines[1:]]
 
@@ -97,9 +107,8 @@ def _repaired(block: Block) -> List[str]:
 # --csv
 
 
-def _print_rows(table: Table, picture: Picture) -> None:
+def _print_rows(table: Table, picture: Picture, shown: _Shown) -> None:
     """A row for each field, and one for all that isn't one: a refused block, a part that was not read, a picture without a block."""
-    shown = _Shown()
     for block in picture.blocks:
         note = "read after repair in memory" if block.repair else None
         if not block.is_accepted:
@@ -130,8 +139,7 @@ def _notes(picture: Picture) -> Iterator[str]:
 # --json
 
 
-def _members(picture: Picture) -> Members:
-    shown = _Shown()
+def _members(picture: Picture, shown: _Shown) -> Members:
     blocks = [{**block_object(block.record), **_block_members(block, shown)} for block in picture.blocks]
     about = {**picture_object(picture.path, picture.problem, picture.detail), "type": picture.type or None}
     return {**about, "blocks": blocks, "not_read": picture.not_read, **damage_members(picture)}

@@ -7,8 +7,8 @@ from typing import Dict, Iterator, Mapping
 
 from ..model.budgets import FIELDS
 
-_NOT_SHOWN = "a block is refused or unreadable, or may be missing in a damaged file, or a file wasn't read"
-_NO_TEXTS = f"a block is refused or unreadable, may be missing in a damaged file, or has more than {FIELDS:,} fields, or a file or a part of it wasn't read"
+_NOT_READ = "or a file or a part of it wasn't read"
+_NO_TEXTS = f"a block is refused or unreadable or has more than {FIELDS:,} fields, {_NOT_READ}"
 _NOT_COMPARED = "something can't be wholly compared"
 
 # Of each command its statuses below 3
@@ -29,24 +29,31 @@ STATUSES: Dict[str, Dict[int, str]] = {
         2: "a file can't be read, or has no digest in the catalogue",
     },
     "same": {
-        0: "the pictures of each group are the same, and no others may be",
+        0: "the pictures of each group have the same metadata, or what --kind asks for, and no others may",
         1: "MakerNotes of a group differ in bytes, and read the same",
-        2: "a group rests on a repair or on a MakerNote that moved, or other pictures may be the same",
+        2: "a group rests on a repair or on a MakerNote that moved, or others may have the same metadata, or a printed text isn't known",
     },
-    "changed": {0: "nothing differs", 1: "a picture differs, was moved or is missing", 2: "a picture can't be wholly compared"},
-    "history": {0: "nothing has changed", 1: "something has changed", 2: _NOT_COMPARED},
-    "compare": {0: "nothing differs", 1: "something differs", 2: _NOT_COMPARED},
-    "list": {0: "of each picture it is known whether it fits, even if none does", 2: "a picture that wasn't wholly read may fit"},
+    "changed": {
+        0: "nothing that was compared differs",
+        1: "metadata or a coded picture differ, or a picture was moved or is missing",
+        2: _NOT_COMPARED,
+    },
+    "history": {0: "nothing that was compared has changed", 1: "something has changed", 2: _NOT_COMPARED},
+    "compare": {0: "nothing that was compared differs", 1: "something differs", 2: _NOT_COMPARED},
+    "list": {
+        0: "of each picture it is known whether it fits, even if none does",
+        2: "a picture that wasn't wholly read may fit, or a printed text isn't known",
+    },
     "check": {0: "no rule is broken", 1: "a rule is broken", 2: "a picture that wasn't wholly read may break a rule"},
     "nightly": {
         0: "no news, and nothing is printed",
         1: "there is news, or it is the first night",
         2: "something can't be decided that could be last night, or a folder isn't there",
     },
-    "show": {0: "all blocks are printed", 2: _NOT_SHOWN},
+    "show": {0: "all fields are printed", 2: f"a block is refused or unreadable or has more fields than are printed, {_NOT_READ}"},
     "captions": {0: "all texts are printed", 2: _NO_TEXTS},
     "conflicts": {0: "no picture contradicts itself", 1: "a picture contradicts itself", 2: _NO_TEXTS},
-    "explain": {0: "all blocks are accepted", 2: "a block is refused or unreadable, or a file is damaged or wasn't read"},
+    "explain": {0: "all blocks are accepted", 2: f"a block is refused or unreadable, a file is damaged, {_NOT_READ}"},
     "report": {0: "the report is written"},
     "export": {0: "the tables are written"},
     "mend": {
@@ -56,7 +63,7 @@ STATUSES: Dict[str, Dict[int, str]] = {
     },
 }
 _ALL = {
-    0: "done; nothing differs",
+    0: "done; nothing that was compared differs",
     1: "something differs, is damaged or breaks a rule, or there is news",
     2: "something can't be decided, as where metadata are refused or a file can't be read",
 }
