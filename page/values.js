@@ -145,6 +145,22 @@ function plainComment(field) {
   return text === null ? null : text || EMPTY;
 }
 
+// ---- texts that look alike
+
+const IGNORED = /[\p{Default_Ignorable_Code_Point}\ufff0-\ufffb]/gu, BLANK = /[\p{Z}\0-\x1f\x7f-\xa0\u2800]+/gu;
+const HIDDEN = /[\u0300-\u036f\u1ab0-\u1aff\u1dc0-\u1dff\u20d0-\u20ff\ufe20-\ufe2f\p{Default_Ignorable_Code_Point}\ufff0-\ufffb\0-\x1f\x7f-\xa0\u2800]|(?! )\p{Z}|^ | $| (?= )/gu;
+const look = (text) => text.normalize("NFC").replace(IGNORED, "").replace(BLANK, " ").trim();
+const numberOf = (character) => `<U+${character.codePointAt(0).toString(16).toUpperCase().padStart(4, "0")}>`;
+
+/** Two texts that differ. Of those that look alike the numbers of the characters that don't show: `Zu<U+0308>rich`. */
+export function toldApart(both) {
+  for (const hidden of [HIDDEN, /[^\0-\x7f]/gu]) {
+    if (both[0] === both[1] || look(both[0]) !== look(both[1])) break;
+    both = both.map((text) => text.replace(hidden, numberOf));
+  }
+  return both;
+}
+
 // ---- numbers: a fraction is [above, below], both BigInt and below > 0
 
 /** The fractions of a field; null in it for a denominator of 0, and null for all if it has no numbers, or too many to be shown. */

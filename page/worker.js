@@ -8,7 +8,7 @@ import { xmpProperties } from "../javascript/xmp.js";
 import { fieldsOf, nameOf, orderOf } from "./listing.js";
 import { md5 } from "./md5.js";
 import { sha256 } from "./sha256.js";
-import { guessed, plain } from "./values.js";
+import { guessed, plain, toldApart } from "./values.js";
 import { inOrder, keyOf, plainXmp, shownExactly, shownName, textsIn } from "./xmp.js";
 
 // A head is read in steps, so that a large file costs what its head does.
@@ -209,6 +209,12 @@ function apart(first, second) {
   return [one, other].map(({ raw }) => `byte ${at.toLocaleString("en")}: .. ${raw.slice(2 * start, 2 * at + 16)} ..`);
 }
 
+/** Lets two values look different that are. What tells them apart otherwise is added if their texts are equal. */
+function tellApart(cells, exactly) {
+  if (cells[0].text === cells[1].text) exactly().forEach((text, i) => { cells[i].exact = text; });
+  else toldApart(cells.map(({ text }) => text)).forEach((text, i) => { cells[i].text = text; });
+}
+
 /** What is shown where a block has no value: nothing, or that it is refused or not read. */
 function absent(block) {
   if (!block || isValid(block)) return null;
@@ -234,9 +240,7 @@ function xmpRowsOf(blocks, suffix) {
   const rows = keys.map((key) => {
     const values = both.map((side) => side.get(key)), isEqual = JSON.stringify(values[0]) === JSON.stringify(values[1]);
     const cells = values.map((value, i) => value ? { text: shortened(plainXmp(tables.spaces, value)), exact: "" } : absent(blocks[i]));
-    if (values[0] && values[1] && !isEqual && cells[0].text === cells[1].text) {
-      exactlyApart(values.map((value) => shownExactly(tables.spaces, value))).forEach((text, i) => { cells[i].exact = text; });
-    }
+    if (values[0] && values[1] && !isEqual) tellApart(cells, () => exactlyApart(values.map((value) => shownExactly(tables.spaces, value))));
     return { name: shownName(key) + suffix, isEqual, isXmp: true, cells };
   });
   return { rows, isCut: both.some(({ size }) => size === MOST_FIELDS) };
@@ -250,7 +254,7 @@ function rowsOf(first, second, suffix) {
   const rows = groups.map(([place, [field]]) => {
     const [one, other] = both.map((places) => places.get(place)), cells = [one, other].map((group, i) => group ? { text: valueOf(group), exact: "" } : absent([first, second][i]));
     const isEqual = !!one && !!other && one.length === other.length && one.every((value, i) => isSame(value, other[i]));
-    if (one && other && !isEqual && cells[0].text === cells[1].text) apart(one, other).forEach((text, i) => { cells[i].exact = text; });
+    if (one && other && !isEqual) tellApart(cells, () => apart(one, other));
     return { name: nameOf(tables, field) + suffix, isEqual, cells };
   });
   return { rows, isCut: fields.some(({ length }) => length === MOST_FIELDS) };
@@ -289,10 +293,11 @@ function captionsOf(block) {
 
 function captionRows(first, second) {
   const blocks = [first, second], both = blocks.map(captionsOf), kind = NAMES[first?.kind ?? second?.kind];
-  return [...new Set([...both[0].keys(), ...both[1].keys()])].map((label) => ({
-    label: `${label} (${kind})`,
-    cells: both.map((labels, i) => labels.has(label) ? { text: shortened(labels.get(label).join("; ")) } : absent(blocks[i])),
-  }));
+  return [...new Set([...both[0].keys(), ...both[1].keys()])].map((label) => {
+    const cells = both.map((labels, i) => labels.has(label) ? { text: shortened(labels.get(label).join("; ")) } : absent(blocks[i]));
+    if (both.every((labels) => labels.has(label))) tellApart(cells, () => []);
+    return { label: `${label} (${kind})`, cells };
+  });
 }
 
 /** The blocks of two heads, or of one, in pairs of the same kind and index; with a suffix for names where there are several. */

@@ -1,23 +1,28 @@
 """`compare`: two pictures side by side, with the verdict that `changed` has for folders of them."""
 
+import functools
 import itertools
 import json
 import os
 import struct
+import subprocess
 import unicodedata
 from collections import Counter
 
 import pytest
-from hypothesis import example, given, strategies as st
+from hypothesis import assume, example, given, strategies as st
 from made_blocks import ASCII, BLOCKS, LONG, SHORT, block, entry, segment, table, with_exif
 from made_files import app1, app1_xmp, app13, chunk, exif, iim, jpeg, png, resource, title, xmp
 from studio import SMALL_JPEG, needs, tool
 from test_jpeg_heads import COMPARED
+from test_list import record
 from test_never_the_same import damages, parts, reached, segments, texts
 
+from exifnorm_pictures.comparison.differing import FieldDifference
 from exifnorm_pictures.comparison.proved import head_of_file
 from exifnorm_pictures.comparison.two_pictures import compare, read
-from exifnorm_pictures.comparison.wording import told_apart
+from exifnorm_pictures.comparison.wording import told_apart, what
+from exifnorm_pictures.fields.field import Field
 from exifnorm_pictures.files.session import Session
 from exifnorm_pictures.model.found import EXIF, IPTC
 from exifnorm_pictures.scan.batches import How
@@ -271,22 +276,65 @@ def test_an_edit_by_exiftool(run, folder):
     assert found["ExifIFD:DateTimeOriginal"] == (None, "2003-05-24 23:21:01")
 
 
-LETTERS = "ae\u0308\u0301\u00e4\u00e9\u00c5\u212b \u00a0\u2003\u200b\u00ad<"
+LETTERS = "ae\u0308\u0301\u00e4\u00e9\u00c5\u212b \t\u00a0\u2003\u2800\u200b\u00ad\u034f\u061c\u180e\u3164\ufe0f\U000e0041<"
 
 
+@functools.lru_cache(maxsize=None)
+def ignorable():
+    """The characters that Unicode lets programs show as nothing, as Perl knows them."""
+    line = "binmode STDOUT, ':utf8'; for (0..0xd7ff, 0xe000..0xfffd, 0x1bca0..0x1d17a, 0xe0000..0xe0fff) { print chr if chr =~ /\\p{DI}/ }"
+    return subprocess.run(["perl", "-e", line], stdout=subprocess.PIPE, check=True).stdout.decode()
+
+
+def look(text):
+    """What people see of a text."""
+    visible = "".join(it for it in unicodedata.normalize("NFC", text) if it not in ignorable())
+    return " ".join(visible.replace("\u2800", " ").split())
+
+
+@needs("perl")
 @given(*[st.text(LETTERS, max_size=5)] * 2)
 @example("M\u00fcnchen", "Mu\u0308nchen")
 @example("\u212b\u00a0", "\u00c5\u00a0")
 def test_different_texts_never_look_alike(before, after):
     """By the canonical equivalence of Unicode, and whatever blanks and characters without a width are in them."""
-
-    def look(text):
-        visible = "".join(it for it in unicodedata.normalize("NFC", text) if unicodedata.category(it) != "Cf")
-        return " ".join(visible.split())
-
     shown = told_apart(before, after)
     assert before == after or look(shown[0]) != look(shown[1]), shown
     assert look(before) == look(after) or shown == (before, after)
+
+
+@needs("perl")
+def test_no_invisible_character_is_forgotten():
+    shown = {character: told_apart("a", f"a{character}")[1] for character in ignorable()}
+    assert len(shown) > 4000 and not [it for it, text in shown.items() if text != f"a<U+{ord(it):04X}>"]
+
+
+def keywords(texts):
+    """DataSets of IPTC, whose text may be in another character set too."""
+    return tuple([Field("iptc", "2:25", "octets", len(it), it) for it in texts])
+
+
+WORD = st.tuples(st.text(LETTERS, max_size=2), st.sampled_from(["utf-8", "windows-1252"])).map(lambda it: it[0].encode(it[1], "ignore"))
+
+
+@needs("perl")
+@given(*[st.lists(WORD, max_size=3)] * 2)
+@example(["Z\u00fcrich".encode()], ["Zu\u0308rich".encode()])
+@example([b"Z\xfcrich"], ["Z\u00fcrich".encode()])
+def test_members_of_lists_never_look_alike(before, after):
+    """What was added to a list and removed; and a list is in another order only if that is all."""
+    assume(before != after)
+    told = what(FieldDifference("iptc", "2:25", keywords(before), keywords(after))).text
+    added, _, removed = told.removeprefix(": added ").partition(", removed ")
+    assert not removed or look(added) != look(removed)
+    assert ("the same list in another order" in told) == (sorted(before) == sorted(after)), told
+
+
+def test_contradictions_never_look_alike(folder, called):
+    packet = app1_xmp(xmp("<dc:title>Otto\u3164</dc:title>"))
+    (folder / "a.jpg").write_bytes(jpeg(app13(resource(0x0404, record([("title", "Otto")]))), packet))
+    for command in ("conflicts", "captions"):
+        assert "Otto<U+3164>" in called(command, "a.jpg")[1]
 
 
 def test_values_that_look_alike(folder, called):

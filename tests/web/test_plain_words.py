@@ -11,6 +11,7 @@ import pytest
 import exifnorm
 from commands import TOP
 from exifnorm_pictures import xmp
+from exifnorm_pictures.comparison.wording import told_apart
 from exifnorm_pictures.fields import names
 from exifnorm_pictures.fields.listing import shortened
 from exifnorm_pictures.fields.normal_form import fields_of_form
@@ -77,6 +78,9 @@ COMMENTS += [
     b"\xd0\xe0\xf0 a",
     b"Z\x81rich",
 ]
+# accents, blanks and characters that don't show
+LETTERS = "ae\u0308\u00e4\u212b\u00c5\u20dd \t\n\x85\u00a0\u1680\u2003\u2028\u2800\u3000\u00ad\u034f\u061c\u115f\u17b4\u180e\u200b\u202e\u2064\u3164\ufe0f\ufff9\ufffc\uffa0"
+LETTERS += "\U0001bca0\U0001d173\U000e0041"
 NUMBERS = [0, 1, 2, 3, 5, 6, 10, 13, 25, 60, 100, 125, 255, 1000, 1250, 3600, 65535, 1 << 20, (1 << 31) - 1, (1 << 32) - 1]
 
 
@@ -216,7 +220,13 @@ def test_names_and_values(blocks, node, folder, checks):
     (folder / "listings").write_text(json.dumps([exifnorm.show(block) for block in blocks]), encoding="ascii")
     of_xmp = packets()
     (folder / "properties").write_text(json.dumps([properties(packet) for packet in of_xmp]), encoding="ascii")
-    answer = json.loads(node("plain.mjs", "tables", "listings", "properties", folder=folder))
+    pairs = [["".join(chance.choices(LETTERS, k=chance.randrange(5))) for _ in range(2)] for chance in [Random(SEED)] for _ in range(3000)]
+    pairs += [["Otto", f"Otto{letter}"] for letter in LETTERS] + [["M\u00fcnchen", "Mu\u0308nchen"]]
+    (folder / "pairs").write_text(json.dumps(pairs), encoding="ascii")
+    answer = json.loads(node("plain.mjs", "tables", "listings", "properties", "pairs", folder=folder))
+    for pair, found in zip(pairs, answer["apart"]):
+        checks.equal(ascii(pair), found, [*told_apart(*pair)])
+    checks.check("there are pairs that look alike", sum(map(list.__ne__, pairs, answer["apart"])) > 500)
     for packet, found in zip(of_xmp, answer["properties"]):
         for row, due in zip(found, sorted(described(packet))):
             checks.equal(packet[:300], row, due)

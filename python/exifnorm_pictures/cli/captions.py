@@ -7,6 +7,7 @@ import os
 from typing import TYPE_CHECKING, Iterator, List
 
 from ..comparison.conflicts import best, conflicts, own_texts
+from ..comparison.wording import tell_apart
 from ..fields.labels import LABEL_WORDS, POSITION, Caption
 from ..fields.places import Place
 from ..fields.shown import Shown
@@ -77,10 +78,11 @@ def _lines(picture: Picture) -> Iterator[str]:
     for word in LABEL_WORDS:
         conflict = known.get(word)
         mark = f"   <- {conflict.detail or 'they differ'}" if conflict and not conflict.is_alike else ""
-        for ours in together([one for one in picture.labelled.texts if one.label == word]):
+        every = together([one for one in picture.labelled.texts if one.label == word])
+        for ours, line in zip(every, tell_apart([ours[0].line for ours in every])):
             is_compared = not all(one.is_extra or one.block for one in ours)
             note = f"   <- {_OWN}" if any(one.is_own for one in ours) else mark if is_compared else ""
-            yield f"{_padded(word)} {escaped(ours[0].line)}   [{origins(ours)}]{note}"
+            yield f"{_padded(word)} {escaped(line)}   [{origins(ours)}]{note}"
     if place := _position(picture):
         yield f"{_padded(POSITION)} {Place(*place).text}"
     if not picture.blocks:

@@ -9,6 +9,7 @@ from dataclasses import dataclass, field
 from typing import TYPE_CHECKING, Dict, Iterator, List, Sequence, Set
 
 from ..comparison.conflicts import Conflict, ConflictKind, conflicts
+from ..comparison.wording import tell_apart
 from ..fields.choosing import UnknownField
 from ..fields.labels import LABELS, POSITION, label_of
 from ..model.found import STANDARDS, damage
@@ -126,7 +127,8 @@ def _print(picture: Picture, conflicts: Sequence[Conflict]) -> None:
         print(shown_path(picture.path))
     for conflict in conflicts:
         print_line(f"  {conflict.label}" + (f": {conflict.detail}" if conflict.detail else ""))
-        names = [(origins(ours), escaped(ours[0].line)) for ours in together(conflict.texts)]
+        every = together(conflict.texts)
+        names = list(zip(map(origins, every), map(escaped, tell_apart([ours[0].line for ours in every]))))
         width = max(len(name) for name, _ in names)
         for name, text in names:
             print_line(f"    {name:<{width}}  {text if len(text) <= LONGEST else f'{text[: LONGEST - 10]}.. ({len(text):,} characters)'}")

@@ -53,26 +53,38 @@ def told_apart(before: Optional[str], after: Optional[str]) -> Tuple[Optional[st
     >>> told_apart("Z\u00fcrich", "Zu\u0308rich"), told_apart("a b", "a\u00a0b"), told_apart("Otto", "Otto ")
     (('Zürich', 'Zu<U+0308>rich'), ('a b', 'a<U+00A0>b'), ('Otto', 'Otto<U+0020>'))
     """
-    if before is None or after is None or before == after or _look(before) != _look(after):
+    if before is None or after is None:
         return before, after
-    shown = _HIDDEN.sub(_number, before), _HIDDEN.sub(_number, after)
-    return shown if _look(shown[0]) != _look(shown[1]) else (_NOT_ASCII.sub(_number, before), _NOT_ASCII.sub(_number, after))
+    first, second = tell_apart([before, after])
+    return first, second
+
+
+def tell_apart(texts: Sequence[str]) -> List[str]:
+    """Any number of texts in this way."""
+    shown = list(texts)
+    for hidden in (_HIDDEN, _NOT_ASCII):
+        if len(set(map(_look, shown))) == len(set(texts)):
+            break
+        shown = [hidden.sub(_number, text) for text in texts]
+    return shown
 
 
 # Characters that don't show, such as a space at the end, or that show as a part of another one
 _ACCENTS = "\u0300-\u036f\u1ab0-\u1aff\u1dc0-\u1dff\u20d0-\u20ff\ufe20-\ufe2f"
-_BLANKS = "\u00a0\u00ad\u2000-\u200f\u2028-\u202f\u205f-\u206f\u3000\ufeff"
-_HIDDEN = re.compile(f"[{_ACCENTS}{_BLANKS}]|^ | $| (?= )")
+_BLANKS = "\0-\x1f\x7f-\xa0\u1680\u2000-\u200a\u2028\u2029\u202f\u205f\u2800\u3000"
+# By Unicode's property Default_Ignorable_Code_Point, and its marks of annotations
+_IGNORED = (
+    "\xad\u034f\u061c\u115f\u1160\u17b4\u17b5\u180b-\u180f\u200b-\u200f\u202a-\u202e\u2060-\u206f\u3164\ufe00-\ufe0f\ufeff\uffa0\ufff0-\ufffb"
+    "\U0001bca0-\U0001bca3\U0001d173-\U0001d17a\U000e0000-\U000e0fff"
+)
+_HIDDEN = re.compile(rf"[{_ACCENTS}{_BLANKS}{_IGNORED}]|^ | \Z| (?= )")
 _NOT_ASCII = re.compile("[^\x00-\x7f]")
+_NOTHING, _SPACE = re.compile(f"[{_IGNORED}]"), re.compile(f"[{_BLANKS}]")
 
 
 def _look(text: str) -> str:
     """Equal of texts that look alike."""
-    return " ".join(unicodedata.normalize("NFC", text).translate(_NOTHING).split())
-
-
-# Characters without a width
-_NOTHING = dict.fromkeys((0xAD, *range(0x200B, 0x2010), *range(0x202A, 0x202F), *range(0x2060, 0x2070), 0xFEFF))
+    return " ".join(_SPACE.sub(" ", _NOTHING.sub("", unicodedata.normalize("NFC", text))).split())
 
 
 def _number(character: "re.Match[str]") -> str:
@@ -171,21 +183,21 @@ def _of_list(difference: FieldDifference) -> str:
     more, less = Counter(after) - Counter(before), Counter(before) - Counter(after)
     if not more and not less:
         return ": the same list in another order"
-    if sum(more.values()) + sum(less.values()) > FEW:
+    removed, added = tell_apart([", ".join(text for text, _ in some.elements()) for some in (less, more)])
+    if sum(more.values()) + sum(less.values()) > FEW or removed == added:
         return ""
-    words = [f"{word} {', '.join(some.elements())}" for word, some in (("added", more), ("removed", less)) if some]
-    return ": " + ", ".join(words)
+    return ": " + ", ".join(f"{word} {texts}" for word, texts in (("added", added), ("removed", removed)) if texts)
 
 
-def _members(fields: Sequence[Field]) -> Optional[List[str]]:
-    """The members of a list of texts, in quotes; None for a field that is none."""
+def _members(fields: Sequence[Field]) -> Optional[List[Tuple[str, str]]]:
+    """The members of a list of texts, in quotes, each with what else tells it apart; None for a field that is none."""
     if not fields:
         return []
     if fields[0].directory == "iptc" and fields[0].tag in _REPEATED:
-        return [in_line(it) for it in fields]
+        return [(in_line(it), it.exact) for it in fields]
     if len(fields) == 1 and fields[0].type in ("Bag", "Seq"):
         texts = xmp_texts(fields[0])
-        return None if texts is None else [quoted(text) for text, _ in texts]
+        return None if texts is None else [(quoted(text), language) for text, language in texts]
     return None
 
 
