@@ -13,7 +13,7 @@ import pytest
 from bag_reader import faults_of_bag
 from made_files import A, B, app1, jpeg, title
 from made_more_files import gif
-from studio import SMALL_JPEG, Studio, needs, put, tool
+from studio import SMALL_JPEG, Studio, needs, put, run, tool
 
 from exifnorm_pictures.catalogue import store
 from exifnorm_pictures.files import opening
@@ -381,6 +381,16 @@ def test_a_run_that_was_stopped(archive, called, verified, reads, monkeypatch):
     status, states, (summary,) = verified("--state", "s")
     assert (status, states, summary["earlier"]) == (1, {"b.jpg": ("other picture", None)}, 1)
     assert "a.jpg" not in reads and reads["c.gif"] == os.path.getsize(archive / "c.gif") and not os.path.exists("s")
+
+
+@pytest.mark.parametrize("words", [(), ("--json",), ("--list", "damaged")], ids=" ".join)
+def test_a_run_whose_answer_did_not_get_out(words, archive, called, verified):
+    """Its state stays until the answer is written, and not only in a buffer."""
+    line = f'exec exifnorm-pictures verify --catalogue c --state s {" ".join(words)} > /dev/full'
+    found = run(["sh", "-c", line], archive.parent)
+    assert found.returncode == 4 and b"standard output" in found.stderr
+    status, _, (summary,) = verified("--state", "s")
+    assert status == 0 and summary["earlier"] == summary["files"] > 0 and not os.path.exists("s")
 
 
 def test_a_run_that_failed_at_its_end(archive, called, verified):

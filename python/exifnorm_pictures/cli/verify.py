@@ -59,6 +59,7 @@ def run(arguments: argparse.Namespace) -> int:
         if arguments.evidence and not is_nothing:
             _write_evidence(arguments, now)
     if is_nothing:
+        _remove_state(arguments)
         below = f" below {', '.join(map(shown_path, folders))}" if folders else ""
         raise WrongUse(f"{arguments.catalogue} has no file{below}, and none is there, so nothing is verified")
     if arguments.json:
@@ -72,6 +73,7 @@ def run(arguments: argparse.Namespace) -> int:
             print_line(f"{new:>11,} that the {'manifest' if arguments.bag else 'catalogue'} doesn't know")
         if arguments.evidence:
             print_line(f"{escaped(arguments.evidence)}: SHA-256 of {in_words(files, 'file')}, {_READERS[_form(arguments)]}")
+    _remove_state(arguments)
     if any(it.is_good is None for it in counts):
         return UNKNOWN
     is_more = bool(arguments.bag and new)  # a bag has no other files than its manifest
@@ -124,12 +126,17 @@ def _read_again(folders: Sequence[bytes], arguments: argparse.Namespace, before:
         if closed:
             raise NoCatalogue("; ".join(closed))
         yield catalogue, earlier
-    if state:
-        os.unlink(name)
-        os.rmdir(state)
 
 
 _KEPT = "verified.catalogue"
+
+
+def _remove_state(arguments: argparse.Namespace) -> None:
+    """Removes what a run could go on from, once its answer is out."""
+    sys.stdout.flush()
+    if arguments.state:
+        os.unlink(os.path.join(arguments.state, _KEPT))
+        os.rmdir(arguments.state)
 
 
 def _check_state(folder: str) -> None:
