@@ -1,7 +1,9 @@
 """What `index` passes over, and what it prints."""
 
+import json
 import os
 import sqlite3
+from unittest import mock
 
 import pytest
 from made_blocks import BLOCKS
@@ -9,7 +11,7 @@ from made_files import app1, exif, jpeg
 from studio import needs, put
 from test_maker_notes import noted
 
-from exifnorm_pictures.scan import batches
+from exifnorm_pictures.scan import batches, index
 
 ONE, OTHER = jpeg(app1(exif(b"abc"))), jpeg(app1(exif(b"xyz")))
 
@@ -120,27 +122,74 @@ def test_how_nightly_looks_at_pictures(folder, called, monkeypatch):
     assert "1 picture" in printed and hows[-1].maker_notes
 
 
+INDEX = ("index", "p", "--quiet")
+OF_UNREAD = "exifnorm-pictures: note: {} unchanged, and not read again by {}: index --again {} reads all\n"
+
+
 @needs("exiftool")
-def test_options_that_unchanged_files_go_without_are_noted(folder, called, capsys, monkeypatch):
-    """A catalogue that was made without them would seem to have all that they read, as the serial numbers in MakerNotes."""
-    (folder / "p").mkdir()
-    for name, octets in {"a.jpg": noted(), "b.jpg": ONE}.items():
-        (folder / "p" / name).write_bytes(octets)
-    run = ("index", "p", "--catalogue", "c", "--quiet")
-    assert called(*run)[2] == ""
-    assert called(*run, "--maker-notes")[2].splitlines() == [
-        "exifnorm-pictures: note: 1 picture with a MakerNote that was not read: --again --maker-notes reads all"
-    ]
-    assert called(*run, "--maker-notes", "--again")[2] == ""
-    assert called(*run, "--maker-notes")[2] == "", "it was read"
+@pytest.mark.parametrize("option, pictures", [("--whole", "2 pictures"), ("--maker-notes", "1 picture")])
+@pytest.mark.parametrize(
+    "run, again",
+    [
+        ((*INDEX, "--catalogue", "c"),) * 2,
+        ((*INDEX, "--shards", "s"),) * 2,
+        (("nightly", "p", "--catalogue", "c"), (*INDEX, "--catalogue", "c")),
+    ],
+    ids=["index", "index --shards", "nightly"],
+)
+def test_options_that_unchanged_files_go_without_are_noted(run, again, option, pictures, folder, called):
+    """A catalogue that was made without them would seem to have all that they read, as the serial numbers in MakerNotes. It is said once, but
+    by `index` of MakerNotes until they are read."""
+    put(folder, {"p/1/a.jpg": noted(), "p/b.jpg": ONE, "p/c.txt": b"text"})
+    note = OF_UNREAD.format(pictures, option, option)
+    notes = [called(*words)[2] for words in (run, (*run, option), (*run, option), (*again, option, "--again"), (*run, option))]
+    assert notes == ["", note, note if "--maker-notes" in option and run[0] == "index" else "", "", ""]
+
+
+@needs("exiftool")
+@pytest.mark.parametrize("option", ["--whole", "--maker-notes"])
+@pytest.mark.parametrize("step", ["nightly.index", "nightly.Night.compare"])
+def test_a_night_that_was_stopped_takes_no_note_with_it(step, option, folder, called, monkeypatch):
+    put(folder, {"p/b.jpg": noted()})
+    run = ("nightly", "p", "--catalogue", "c")
+    called(*run)
+    with monkeypatch.context() as stopped:
+        stopped.setattr(f"exifnorm_pictures.cli.{step}", mock.Mock(side_effect=KeyboardInterrupt))
+        notes = called(*run, option)[2]
+    assert f"by {option}" in notes + called(*run, option)[2]
+
+
+@needs("exiftool")
+def test_a_program_that_was_missing_is_asked_again(folder, called, monkeypatch):
+    put(folder, {"p/a.jpg": noted(), "p/b.jpg": ONE})
     of_new = ("index", "p", "--catalogue", "d", "--quiet", "--maker-notes")
     with monkeypatch.context() as without:
         without.setenv("PATH", "/nowhere")
         notes = called(*of_new)[2]
     assert notes.count("note: ") == 1 and "later runs ask again" in notes
     assert called(*of_new)[1:] == ("1 accepted, 1 unchanged\n", ""), "it was asked again"
-    noted_of = "note: 2 pictures unchanged, and not read again by --whole: --again --whole reads all"
-    assert noted_of in called(*run[:-1], "--whole")[2] and noted_of not in called(*run[:-1], "--whole", "--again")[2]
+
+
+def test_an_old_catalogue_is_from_before_a_run_that_was_stopped(folder, called, monkeypatch):
+    """The same command goes on, and what the stopped run has found is still what changed since the old one."""
+    put(folder, {"p/a.jpg": ONE, "p/b.jpg": ONE})
+    run = (*INDEX, "--catalogue", "c", "--keep-old", "old", "--jobs", "1")
+    called(*run)
+    put(folder, {"p/a.jpg": OTHER, "p/b.jpg": OTHER})
+    with monkeypatch.context() as stopped:
+        stopped.setattr(index, "BATCH", 1)
+        stopped.setattr(index._Looking, "keep_versions", mock.Mock(side_effect=KeyboardInterrupt))  # which follows the first commit
+        assert called(*run)[0] == 130
+    status, printed, notes = called(*run)
+    assert (status, printed) == (0, "1 accepted, 1 unchanged\n") and "old stays as it was" in notes
+    changed = map(json.loads, called("changed", "old", "c", "--json")[1].splitlines())
+    assert {it["path"]: it["result"] for it in changed if it["record"] == "picture"} == {"a.jpg": "different", "b.jpg": "different"}
+    assert called(*run)[2] == "" and called("changed", "old", "c")[0] == 0, "the next copy is of a whole run"
+
+
+def test_whole_is_refused_for_a_catalogue(folder, called, capsys):
+    put(folder, {"p/b.jpg": ONE})
+    called(*INDEX, "--catalogue", "c")
     for command in ("captions", "conflicts"):
         with pytest.raises(SystemExit) as refused:
             called(command, "p", "c", "--whole")

@@ -97,7 +97,9 @@ def test_a_text_may_be_where_nobody_read(name, folder, called):
 
 
 @pytest.mark.parametrize("name", {**HIDDEN, **BEHIND})
-@pytest.mark.parametrize("words", [("show",), ("show", "--exact"), ("show", "--csv"), ("show", "--json"), ("explain",), ("explain", "--json")])
+@pytest.mark.parametrize(
+    "words", [("show",), ("show", "--exact"), ("show", "--csv"), ("show", "--json"), ("explain",), ("explain", "--json")]
+)
 def test_a_block_may_be_where_nobody_read(words, name, folder, called):
     put(folder, {name: {**HIDDEN, **BEHIND}[name]})
     assert called(*words, name)[0] == 2 * bool(pictures.read(folder / name).not_read)

@@ -9,7 +9,7 @@ from typing import Callable, Optional, Sequence
 from ..files import rights
 from .store import Catalogue, NoCatalogue, check_schema, unlike
 
-_RUNS = "INSERT INTO main.runs SELECT id + ?, started, ended, exifnorm, exiftool, exiv2, sidecars FROM other.runs"
+_RUNS = "INSERT INTO main.runs SELECT id + ?, started, ended, exifnorm, exiftool, exiv2, sidecars, whole FROM other.runs"
 
 
 # Looks at a catalogue that is attached, before its pictures are added: the one that is written, the name under which it is attached, the names

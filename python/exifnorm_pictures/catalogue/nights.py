@@ -43,6 +43,7 @@ class Nights:
         self.is_first = False  # whether there was no night before to compare with
         self.earlier: Optional[Earlier] = None  # the last catalogue, if it is of an earlier release ..
         self.kept = ""  # .. and the name under which it is kept
+        self.is_as_last = False  # whether the last run was whole and looked at the same
         self._about = f"{about}\n{VERSION}"
         self._lock: Optional[IO[str]] = None
         self._mark = ""
@@ -80,6 +81,7 @@ class Nights:
     def begin(self, room: str) -> None:
         """Makes tonight's catalogue a copy of the last one, or goes on with that of a run that was killed."""
         self._mark = f"{self._about}\n{_mark(self.last)}"
+        self.is_as_last = not os.path.lexists(self.tonight) and self._noted().startswith(f"{self._about}\n")
         if os.path.lexists(self.tonight) and self._noted() == self._mark:
             return
         _refuse_others(self.tonight)

@@ -32,7 +32,7 @@ from ..model.problems import GONE, NO_BYTES
 from ..model.records import BLOCKS, PICTURES, BlockRecord, PictureRecord, Stamp, block_of_row, has_short, not_read_of_row, picture_of_row
 
 APPLICATION = 0x45584E50  # 'EXNP', which distinguishes a catalogue from other SQLite files
-VERSION = 7
+VERSION = 8
 CACHE = 32_000  # kB of a catalogue that is written to: digests go into its index in no order
 PATIENCE = 200  # milliseconds that closing waits for other programs; while they read, the write-ahead log stays
 WAIT = 10  # seconds for other processes that set the journal's mode
@@ -79,7 +79,8 @@ CREATE TABLE runs (
     exifnorm TEXT,                  -- the version of the library that made the digests; it ends with -unproved if that was not proved
     exiftool TEXT,                  -- versions of the programs that have read a picture
     exiv2 TEXT,
-    sidecars INTEGER NOT NULL       -- 1: XMP files beside pictures are blocks of them
+    sidecars INTEGER NOT NULL,      -- 1: XMP files beside pictures are blocks of them
+    whole INTEGER NOT NULL          -- 1: every byte of a JPEG is read
 );
 {PICTURES.table("pictures")}
 {BLOCKS.table("blocks", " WITHOUT ROWID")}
@@ -124,7 +125,7 @@ _FORGOTTEN = 10_000  # pictures of a statement
 _REFUSED = """SELECT path FROM pictures WHERE path > ? AND problem IS NULL AND (exif IS NULL OR iptc IS NULL OR xmp IS NULL)
     ORDER BY path LIMIT ?"""
 _AT_ONCE = 1000  # paths that are read together
-_BEGIN_RUN = "INSERT INTO runs (id, started, sidecars) SELECT max(ifnull(max(id), 0), ?) + 1, ?, ? FROM runs"
+_BEGIN_RUN = "INSERT INTO runs (id, started, sidecars, whole) SELECT max(ifnull(max(id), 0), ?) + 1, ?, ?, ? FROM runs"
 # What is equal of a picture that is read again and is as it was: nobody has written to its file or its sidecars
 _SAME = ("size", "modified", "changed", "inode", "sidecars", "problem", "exif_octets", "iptc_octets", "xmp_octets", "file")
 # The same tables without keys, for rows that are only written and read once
@@ -471,11 +472,15 @@ class Catalogue:
             if not self.last_number():
                 self.set_prepared(first)
 
-    def begin_run(self, started: str, sidecars: bool = False) -> int:
+    def begin_run(self, started: str, sidecars: bool = False, whole: bool = False) -> int:
         """A new run; its number."""
         with self.guarded():
-            values = (self.prepared() // NUMBERS * NUMBERS, started, sidecars)
+            values = (self.prepared() // NUMBERS * NUMBERS, started, sidecars, whole)
             return int(self.base.execute(_BEGIN_RUN, values).lastrowid or 0)
+
+    def was_stopped(self) -> bool:
+        """Whether the last run was stopped, so that a catalogue has a part of what it was to find."""
+        return next(self.rows("SELECT ended IS NULL FROM runs ORDER BY id DESC LIMIT 1"), (0,))[0] == 1
 
     def has_sidecars(self) -> bool:
         """Whether XMP files beside pictures are blocks of them here, as in one of its runs."""

@@ -13,14 +13,13 @@ from ..catalogue.nights import copy_over
 from ..catalogue.store import Catalogue
 from ..model.errors import WrongUse
 from ..model.problems import NOT_READABLE
-from ..model.records import RACY
 from ..model.texts import escaped, moved_line, pictures_in_words, shown_path
 from ..scan.excluded import Excluded
-from ..scan.index import DAMAGED, OF_LAST_RUN, OF_XMP, REFUSED, IndexOptions, index, number_of
+from ..scan.index import DAMAGED, OF_LAST_RUN, OF_XMP, REFUSED, IndexOptions, index, lacking, number_of
 from . import objects
 from .exit_codes import SUCCESS, UNKNOWN
 from .looking import how_of, xmp_files_alone
-from .names import named
+from .names import is_catalogue, named
 from .output import counted, kind_of_part, print_line, print_lines, record_lines, say_notes
 from .sources import settle_first
 
@@ -44,15 +43,15 @@ def run(arguments: argparse.Namespace) -> int:
     has_words = not arguments.json and not arguments.quiet
     with Catalogue(arguments.catalogue, make=True) as catalogue:
         _prepare(arguments, catalogue)
-        counts = index(_options(arguments, names, excluded), catalogue)
+        options = _options(arguments, names, excluded)
+        counts, unread = index(options, catalogue), lacking(options, catalogue)
         parts = _parts(catalogue) if has_words else []
         damaged = number_of(catalogue, f"{DAMAGED} AND {OF_LAST_RUN}")
         steps = list(_next_steps(catalogue, arguments.catalogue, excluded.known)) if has_words else []
-        lacking = _without_reading(catalogue) if arguments.maker_notes else 0
     if excluded.count:
         counts["excluded"] = excluded.count
     say_unused(excluded.unused())
-    say_notes(*_not_read_again(arguments, 0 if arguments.again else counts["unchanged"], 0 if arguments.again else lacking))
+    say_notes(*not_read_again(unread))
     if arguments.json:
         objects.print_object("index", "summary", {"counts": dict(counts), "damaged": damaged})
     else:
@@ -61,28 +60,29 @@ def run(arguments: argparse.Namespace) -> int:
     return UNKNOWN if are_special or any(counts[it] for it in NOT_READABLE) else SUCCESS
 
 
-def _not_read_again(arguments: argparse.Namespace, unchanged: int, lacking: int) -> Iterator[str]:
-    """What an option left as it was, because the files are unchanged: it would seem that it was done for them, too."""
-    if unchanged and arguments.whole and not arguments.quiet:
-        yield f"{pictures_in_words(unchanged)} unchanged, and not read again by --whole: --again --whole reads all"
-    if lacking:
-        yield f"{pictures_in_words(lacking)} with a MakerNote that was not read: --again --maker-notes reads all"
-
-
-def _without_reading(catalogue: Catalogue) -> int:
-    """How many pictures have a MakerNote of which the catalogue has no values, but for those of which the next run asks again."""
-    condition = f"maker_notes != '' AND changed != {RACY} AND id NOT IN (SELECT picture FROM maker_notes)"
-    return number_of(catalogue, condition)
+def not_read_again(counts: "Counter[str]") -> Iterator[str]:
+    """What options left as it was, because the files are unchanged: it would seem that it was done for them, too."""
+    for option, count in counts.items():
+        if count:
+            yield f"{pictures_in_words(count)} unchanged, and not read again by {option}: index --again {option} reads all"
 
 
 def _prepare(arguments: argparse.Namespace, catalogue: Catalogue) -> None:
     """Goes on with what a catalogue has. Raises `WrongUse`."""
     if arguments.keep_old:
-        copy_over(catalogue, arguments.keep_old, arguments.session.room)
+        _keep_old(catalogue, arguments)
     go_on_with_sidecars(arguments, catalogue)
     if arguments.sidecars and arguments.scheduler:
         raise WrongUse("XMP sidecars are read here only, not on the workers of a cluster: leave out --scheduler")
     arguments.pixels = arguments.pixels or catalogue.has_digests()  # of the pictures that changed, too
+
+
+def _keep_old(catalogue: Catalogue, arguments: argparse.Namespace) -> None:
+    """Copies the catalogue, unless it has a part of what a run was to find that was stopped: the copy from before that run is compared with."""
+    if catalogue.was_stopped() and is_catalogue(arguments.keep_old):
+        say_notes(f"{escaped(arguments.keep_old)} stays as it was: the last run was stopped, and this one goes on")
+    else:
+        copy_over(catalogue, arguments.keep_old, arguments.session.room)
 
 
 def _options(arguments: argparse.Namespace, names: List[bytes], excluded: Excluded) -> IndexOptions:

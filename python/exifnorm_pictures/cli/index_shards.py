@@ -12,10 +12,10 @@ from ..model.texts import escaped, shown_path
 from ..scan.parts import Outcome, Plan, indexed, plan, together
 from . import objects
 from .exit_codes import SUCCESS, UNKNOWN
-from .index import printing_options, say_unused
+from .index import not_read_again, printing_options, say_unused
 from .looking import how_of
 from .names import named
-from .output import counted, print_line, print_lines, record_lines
+from .output import counted, print_line, print_lines, record_lines, say_notes
 
 
 def run(arguments: argparse.Namespace) -> int:
@@ -29,6 +29,7 @@ def run(arguments: argparse.Namespace) -> int:
         )
     outcome = together(*(_on_cluster if arguments.scheduler else _here)(arguments, names))
     say_unused(sorted(outcome.unused))
+    say_notes(*not_read_again(outcome.lacking))
     if arguments.json:
         objects.print_object("index", "summary", {"counts": dict(outcome.counts), "damaged": outcome.damaged})
     else:

@@ -21,7 +21,9 @@ def labels_in(words: str) -> List[str]:
 
 def heads(labels: Sequence[str]) -> List[str]:
     """The heads of a table, in which a position is two numbers, as maps take them. The last one is of the labels of which a text may be unread."""
-    return [head for label in labels for head in (("latitude", "longitude") if label == POSITION else (label,))] + [_NOT_KNOWN] * bool(labels)
+    return [head for label in labels for head in (("latitude", "longitude") if label == POSITION else (label,))] + [_NOT_KNOWN] * bool(
+        labels
+    )
 
 
 def cells(labels: Sequence[str], texts: Texts) -> "Iterator[Cell]":

@@ -7,6 +7,7 @@ import contextlib
 import os
 import shlex
 import sys
+from collections import Counter
 from typing import List, Optional, Sequence, Tuple
 
 from ..catalogue import kept_texts, shards
@@ -23,10 +24,10 @@ from ..model.problems import NOT_READABLE
 from ..model.records import PictureRecord
 from ..model.texts import escaped, path_members, pictures_in_words, shown_path
 from ..scan.excluded import Excluded
-from ..scan.index import IndexOptions, index, number_of
+from ..scan.index import IndexOptions, index, lacking, number_of
 from .check import rules_of_file
 from .exit_codes import DIFFERENCE, SUCCESS, UNKNOWN
-from .index import go_on_with_sidecars, say_unused
+from .index import go_on_with_sidecars, not_read_again, say_unused
 from .letter import command, letter
 from .looking import how_of
 from .objects import print_object
@@ -50,6 +51,7 @@ class Night:
         self.news: List[News] = []
         self.broken: Broken = None
         self.notes: List[str] = []
+        self.unread: "Counter[str]" = Counter()  # pictures that lack what an option reads
 
     @property
     def status(self) -> int:
@@ -70,7 +72,9 @@ class Night:
             quiet = not sys.stderr.isatty()
             own = [*self.nights.names, *[self.arguments.html] * bool(self.arguments.html)]
             how = how_of(self.arguments, session.room)
-            index(IndexOptions(self.folders, quiet=quiet, how=how, excluded=self.excluded, lines=self._note, own=own), tonight)
+            options = IndexOptions(self.folders, quiet=quiet, how=how, excluded=self.excluded, lines=self._note, own=own)
+            index(options, tonight)
+            self.unread = lacking(options, tonight)
 
     def _note(self, picture: PictureRecord) -> List[str]:
         self.closed.append(picture)
@@ -149,11 +153,13 @@ def run(arguments: argparse.Namespace) -> int:
 
         check()  # which may be missing
     rules = rules_of_file(arguments.rules) if arguments.rules else []
-    about = repr((folders, arguments.sidecars, arguments.pixels, arguments.maker_notes, arguments.exclude))
+    about = repr((folders, arguments.sidecars, arguments.pixels, arguments.maker_notes, arguments.whole, arguments.exclude))
     with Nights(arguments.catalogue, about) as nights:
         nights.begin(arguments.session.room)
         night = Night(arguments, nights, folders, rules)
         night.look()
+        if not nights.is_as_last:  # then cron sends this once
+            say_notes(*not_read_again(night.unread))
         if night.is_first:
             night.first()
         else:

@@ -142,7 +142,11 @@ def run(arguments: argparse.Namespace) -> int:
         else:
             print_lines(_totals(listed, groups, left))
         say_unknown(chosen or (), catalogue.has)
-    return UNKNOWN if left.is_open or groups.unknown or listed.texts.not_known or listed.texts.has_unread else status_of_results(listed.results)
+    return (
+        UNKNOWN
+        if left.is_open or groups.unknown or listed.texts.not_known or listed.texts.has_unread
+        else status_of_results(listed.results)
+    )
 
 
 class _Left(NamedTuple):

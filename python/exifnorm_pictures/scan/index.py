@@ -23,7 +23,7 @@ from ..model import budgets
 from ..model.found import EXIFTOOL, EXIV2, UNREAD_TRAILER
 from ..model.numbers import Numbers
 from ..model.problems import AGAIN, GONE, NEEDED, Problem
-from ..model.records import PictureRecord, is_as_before
+from ..model.records import RACY, PictureRecord, is_as_before
 from ..model.texts import pictures_in_words
 from .batches import LONGEST_WAIT, Batch, How, Lines, Result
 from .excluded import Excluded
@@ -92,7 +92,7 @@ def index(options: IndexOptions, catalogue: Catalogue) -> "Counter[str]":
 
     A picture that was looked at with this size, these times and this inode is skipped, unless `again` is set.
     """
-    run = catalogue.begin_run(_now(), options.how.sidecars)
+    run = catalogue.begin_run(_now(), options.how.sidecars, options.how.whole)
     work, first = Work(), catalogue.is_empty()
     at_work = _Looking(options, catalogue, run, work)
     at_work.all(_Finding(options, catalogue, work, first))
@@ -257,6 +257,21 @@ OF_LAST_RUN = "run = (SELECT max(id) FROM runs)"
 def number_of(catalogue: Catalogue, condition: str) -> int:
     """How many pictures of a catalogue fit a condition."""
     return catalogue.number_of(f"SELECT count(*) FROM pictures WHERE {condition}")
+
+
+_BEFORE = "(SELECT whole FROM runs WHERE ended IS NOT NULL ORDER BY id DESC LIMIT 1 OFFSET 1)"
+# What an option would read of a picture that is unchanged, and of which the catalogue doesn't have it: of --whole this isn't kept, so the first
+# run with it says it. The next run reads RACY ones in any case
+_LACKING = {
+    "--whole": f"(type = 'JPEG' AND problem IS NULL OR problem = 'TooMuch') AND run IN (SELECT id FROM runs WHERE whole = 0) AND {_BEFORE} = 0",
+    "--maker-notes": f"maker_notes != '' AND changed != {RACY} AND id NOT IN (SELECT picture FROM maker_notes)",
+}
+
+
+def lacking(options: IndexOptions, catalogue: Catalogue) -> "Counter[str]":
+    """How many pictures lack what an option reads, because nobody has written to them since they were read without it."""
+    asked = {"--whole": options.how.whole, "--maker-notes": options.how.maker_notes}
+    return Counter({option: number_of(catalogue, _LACKING[option]) for option, is_asked in asked.items() if is_asked and not options.again})
 
 
 def _named_wrong(work: Work, catalogue: Catalogue) -> Iterator[PictureRecord]:

@@ -18,7 +18,7 @@ from ..model.problems import Problem
 from ..model.records import PictureRecord
 from ..model.texts import pictures_in_words, shown_path
 from .excluded import Excluded
-from .index import DAMAGED, OF_LAST_RUN, REFUSED, IndexOptions, index, number_of
+from .index import DAMAGED, OF_LAST_RUN, REFUSED, IndexOptions, index, lacking, number_of
 from .walk import Part, outermost, parts_of
 
 _WORD = 30  # characters of the name of a catalogue that are those of its folder
@@ -56,6 +56,7 @@ class Outcome(NamedTuple):
     refused: int = 0  # of all pictures, with a block that isn't accepted
     excluded: int = 0  # pictures of an earlier run that are excluded now
     continued: int = 0  # 1: an earlier run was stopped
+    lacking: "Counter[str]" = Counter()  # how many pictures lack what an option reads
     problem: Optional[PictureRecord] = None  # why the part wasn't looked at
 
 
@@ -175,14 +176,15 @@ def indexed(where: str, shard: Shard, options: IndexOptions, patterns: Sequence[
         detail = f"the folder is empty, isn't there or can't be read; its {pictures_in_words(count)} stay{'s' * (count == 1)} as before"
         return not_looked_at(shard, Problem.UNREADABLE, detail, patterns)
     excluded = Excluded(patterns)
+    options = replace(options, names=[shard.part.top], part=shard.part, excluded=excluded)
     with Catalogue(file, make=True) as catalogue:
         catalogue.number_above(_number_of(shard.name) * NUMBERS)
-        was_stopped = next(catalogue.rows("SELECT ended IS NULL FROM runs ORDER BY id DESC LIMIT 1"), (0,))[0]
-        counts = index(replace(options, names=[shard.part.top], part=shard.part, excluded=excluded), catalogue)
+        was_stopped = int(catalogue.was_stopped())
+        counts, unread = index(options, catalogue), lacking(options, catalogue)
         damaged, refused = number_of(catalogue, f"{DAMAGED} AND {OF_LAST_RUN}"), number_of(catalogue, REFUSED)
     if excluded.count and not shard.part.is_flat:  # what lies directly in the folder is counted already
         counts["excluded"] = excluded.count
-    return Outcome(counts, frozenset(excluded.unused()), damaged, refused, excluded.known, was_stopped)
+    return Outcome(counts, frozenset(excluded.unused()), damaged, refused, excluded.known, was_stopped, unread)
 
 
 def _unmounted(file: str, shard: Shard) -> int:
@@ -211,7 +213,9 @@ def not_looked_at(shard: Shard, problem: Problem, detail: str, patterns: Sequenc
 def together(planned: Plan, outcomes: Sequence[Outcome]) -> Outcome:
     """What became of all parts."""
     counts: "Counter[str]" = Counter({"excluded": planned.excluded} if planned.excluded else {})
+    unread: "Counter[str]" = Counter()
     for outcome in outcomes:
         counts.update(outcome.counts)
+        unread.update(outcome.lacking)
     numbers = [sum(values) for values in zip((0, 0, 0, 0), *(outcome[2:6] for outcome in outcomes))]
-    return Outcome(counts, planned.unused.intersection(*(outcome.unused for outcome in outcomes)), *numbers)
+    return Outcome(counts, planned.unused.intersection(*(outcome.unused for outcome in outcomes)), *numbers)._replace(lacking=unread)
