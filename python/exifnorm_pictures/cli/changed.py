@@ -88,8 +88,8 @@ class _Notes:
         self.counts = counts
 
     def has_news_of(self, comparison: changes.Compared) -> bool:
-        """Whether a picture may look otherwise, though its data and metadata are the same."""
-        return self.is_asked and comparison.picture == Coded.BESIDE
+        """Whether a picture may look otherwise, though what was compared is the same."""
+        return self.is_asked and (comparison.picture == Coded.BESIDE or comparison.is_unseen)
 
     def of_pictures(self) -> List[str]:
         """A sentence, if there are pictures on both sides."""

@@ -64,6 +64,7 @@ def _refuse_whole(arguments: argparse.Namespace) -> None:
 def _in_catalogue(arguments: argparse.Namespace, name: bytes) -> Iterator[Picture]:
     """The pictures of a catalogue as they were when it looked at them. Their files aren't needed."""
     from ..catalogue.texts import texts_of
+
     from .looking import opened
 
     _refuse_whole(arguments)
@@ -82,11 +83,16 @@ def _in_catalogue(arguments: argparse.Namespace, name: bytes) -> Iterator[Pictur
 
 def _in_folder(arguments: argparse.Namespace, folder: bytes) -> Iterator[Picture]:
     closed: List[Unlisted] = []
-    top = os.path.abspath(folder)
+    top, count = os.path.abspath(folder), 0
     for file in below([folder], closed.append):
         picture = _reading(arguments, os.path.join(folder, os.path.relpath(file.path, top)))
         if picture.problem not in (Problem.NO_PICTURE, Problem.NOT_A_FILE):
+            count += 1
             yield picture
+    if not (count or closed):
+        from .looking import note_no_picture  # which takes long to import
+
+        note_no_picture(folder)
     yield from (Picture(it.path, Blocks(problem=Problem.UNREADABLE, detail=it.reason), []) for it in closed)
 
 

@@ -27,6 +27,7 @@ _WORDS = {
     Kind.ADDED: ("now has a {}", "now have a {}"),
     Kind.OTHER: ("has other fields changed", "have other fields changed"),
     Kind.WRITTEN: ("was written to, and isn't read", "were written to, and aren't read"),
+    Kind.UNSEEN: ("was written to, and its picture isn't read", "were written to, and their pictures aren't read"),
     Kind.MOVED_FOLDER: ("moved with its folder", "moved with their folder"),
     Kind.MOVED: ("moved", "moved"),
     Kind.GONE: ("is gone", "are gone"),

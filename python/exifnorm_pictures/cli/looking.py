@@ -12,6 +12,7 @@ from typing import ContextManager, Iterator, List, Optional
 from ..catalogue import shards
 from ..catalogue.store import Catalogue, NoCatalogue
 from ..extract import programs
+from ..model.texts import shown_path
 from ..scan.batches import How, Lines
 from ..scan.index import OF_XMP, IndexOptions, index, number_of
 from ..scan.progress import Progress
@@ -71,7 +72,14 @@ def catalogue_of(name: str, arguments: argparse.Namespace, in_one_file: bool = F
         index(IndexOptions([os.fsencode(name)], quiet=_is_quiet(arguments), how=how, print_line=closed.append), catalogue)
         if closed:  # its pictures would seem to be missing
             raise NoCatalogue("; ".join(closed))
+        if not number_of(catalogue, "problem IS NOT 'NoPicture'"):
+            note_no_picture(os.fsencode(name))
         yield catalogue
+
+
+def note_no_picture(folder: bytes) -> None:
+    """Says that a folder has no picture: the answer would seem to be one about those that were meant, as on a disk that isn't mounted."""
+    say_notes(f"no picture is below {shown_path(folder)}: is its disk mounted?")
 
 
 def _is_quiet(arguments: argparse.Namespace) -> bool:

@@ -49,6 +49,7 @@ class Compared:
     repairs: List[Tuple[str, Tuple[Step, ...], Tuple[Step, ...]]] = field(default_factory=list)  # of each block, before and after
     left_out: List[str] = field(default_factory=list)  # fields and kinds that differ and don't count
     picture: Coded = Coded.UNKNOWN  # what is known of the coded picture
+    is_unseen: bool = False  # whether its file has other bytes and the same metadata, and its picture can't be compared
     damage: Tuple[str, str] = ("", "")  # of the file before and after
     has_more: bool = False  # whether further fields weren't compared, of pages that share blocks of many fields
 
@@ -103,8 +104,15 @@ def compared(pair: Pair, pairs: Sides, session: Optional[Session], choice: Choic
         comparison.note += "; the picture differs, too"
     elif coded == Coded.BESIDE:
         comparison.note += "; a colour profile or a comment differs or is missing"
+    elif coded == Coded.UNKNOWN and comparison.result == Result.SAME and _have_other_bytes(pair):
+        comparison.is_unseen = True
+        comparison.note += "; the file has other bytes, and its picture isn't read here"
     comparison.note = "; ".join(filter(None, [note, comparison.note]))
     return comparison
+
+
+def _have_other_bytes(pair: Pair) -> bool:
+    return bool(pair.old and pair.new and pair.old.sha256 and pair.new.sha256 and pair.old.sha256 != pair.new.sha256)
 
 
 _DAMAGED = {Coded.DAMAGED: Result.DAMAGED, Coded.DAMAGED_BEFORE: Result.DAMAGED_BEFORE}

@@ -29,7 +29,7 @@ class Coded(Word):
     DAMAGED = ("damaged",)
     DAMAGED_BEFORE = ("damaged before",)
     DAMAGED_BOTH = ("damaged before and after",)
-    UNKNOWN = ("not compared", "Only metadata was compared: there is no reader here for pictures of this format.")
+    UNKNOWN = ("not compared", "Only metadata was compared: these pictures aren't read here.")
 
 
 # The same as `coded_result`, for the rows `old` and `new` of two catalogues
@@ -70,7 +70,7 @@ def sentence_of_coded(counts: "Counter[Coded]", pixels: str = "index --pixels") 
         return ""
     if not counts[Coded.SAME] + counts[Coded.BESIDE] + counts[Coded.OTHER]:
         damaged = ", ".join(f"{count:,} {it}" for it, count in counts.items() if it != Coded.UNKNOWN and count)
-        more = f"{pixels} compares the pictures, too" if pixels else "pictures of two formats, or without a reader here, aren't compared"
+        more = f"{pixels} compares the pictures, too" if pixels else "pictures of two formats, or that aren't read here, aren't compared"
         only = f"Only metadata was compared: {more}." if counts[Coded.UNKNOWN] else ""
         return " ".join(filter(None, [f"The files: {damaged}." if damaged else "", only]))
     return f"The coded pictures: {', '.join(f'{counts[it]:,} {it}' for it in Coded if counts[it])}."

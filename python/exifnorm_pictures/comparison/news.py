@@ -44,6 +44,7 @@ class Kind(Word):
     ADDED = ("text added",)
     OTHER = ("other fields",)
     WRITTEN = ("other bytes",)  # of a file of a format that isn't read
+    UNSEEN = ("other bytes, the same metadata",)  # of a format whose pictures aren't read
     GONE = ("gone",)
     MOVED_FOLDER = ("folder moved",)
     MOVED = ("moved",)
@@ -236,6 +237,8 @@ def _kinds(comparison: Compared) -> Iterator[Kind]:
     kind = _OF_CODED.get(comparison.picture)
     if kind:
         yield kind
+    if comparison.is_unseen:
+        yield Kind.UNSEEN
     if comparison.result == Result.FILE_DIFFERENT:
         yield Kind.WRITTEN
     elif comparison.result.is_open and comparison.result not in (Result.DAMAGED, Result.DAMAGED_BEFORE):

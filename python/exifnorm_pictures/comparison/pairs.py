@@ -35,13 +35,14 @@ PRAGMA main.synchronous = OFF;
 """
 
 # The pairs for which nothing is reported: all kinds are known and mean the same, what wasn't read is known to be the same, and the coded
-# pictures, their colour profiles and comments aren't known to differ.
+# pictures, their colour profiles and comments aren't known to differ, nor the files whose pictures can't be compared.
 _SAME = """(typeof(old.path) = 'blob' AND old.problem IS NULL AND new.problem IS NULL AND old.exif = new.exif
     AND old.iptc = new.iptc AND old.xmp = new.xmp AND old.not_read = new.not_read
     AND (old.exif_octets = new.exif_octets OR old.maker_notes = '' OR new.maker_notes = '')
     AND old.damage = new.damage
-    AND (old.coded_picture = new.coded_picture AND old.beside = new.beside
-        OR ifnull(old.coded_picture, '') = '' OR ifnull(new.coded_picture, '') = '')) IS NOT TRUE"""
+    AND (nullif(old.coded_picture, '') = new.coded_picture AND old.beside = new.beside
+        OR (ifnull(old.coded_picture, '') = '' OR ifnull(new.coded_picture, '') = '')
+        AND (ifnull(old.sha256, '') = '' OR ifnull(new.sha256, '') = '' OR old.sha256 = new.sha256))) IS NOT TRUE"""
 
 # The new names of pictures, the surest first: the same file under the same name, the same file, a file of the same bytes, .., the only one with
 # the same blocks, size and time. Then the only one with the same blocks and size, if no other picture of its catalogue means the same: scans of
