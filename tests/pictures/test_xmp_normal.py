@@ -198,6 +198,16 @@ def test_each_cause(cause):
     assert offset in (None, refusal.offset)
 
 
+def test_only_rdf_names_the_subject():
+    """RDF/XML, 6.1.4 and 7.2.11: `xml:about` is no rdf:about. An `about` without a prefix is one, in old packets."""
+    for about in ("xml:about='u:2'", "xmp:about='u:2'"):
+        packet = xmp("").replace(b"rdf:about=''", f"rdf:about='u:1' {about}".encode())
+        found = check(packet)
+        assert b"u:2" in found if about.startswith("xmp") else found.cause == "XmpRareAttribute"
+    packet = xmp("</rdf:Description><rdf:Description about='u:2'>").replace(b"rdf:about=''", b"rdf:about='u:1'")
+    assert check(packet).cause == "XmpSeveralSubjects"
+
+
 @pytest.mark.parametrize("before", [b"", b"<?xml version='1.0'?>", b" \xef\xbb\xbf<?xml version='1.0'?><!-- c -->"])
 def test_attributes_are_not_compared_with_all_others_before_they_are_counted(before):
     """By pairs these would take hours."""

@@ -1,1 +1,3 @@
 pub mod PacketLaws
+pub mod MarkLaws
+pub mod TagLaws

@@ -1,1 +1,7 @@
 pub mod Packet
+pub mod Marks
+pub mod Names
+pub mod Tags
+pub mod Reading
+pub mod Laws
+pub mod calls

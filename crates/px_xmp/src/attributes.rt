@@ -1,5 +1,9 @@
 // The attributes of a tag, apart from declarations.
-ghost use Rattle.std.specs.Prelude.{◌≡◌, ◌≤◌, ◌<◌, length, IfSome};
+ghost use Rattle.std.specs.Prelude.{◌≡◌, ◌≤◌, ◌<◌, List, length, option_map, IfSome};
+ghost use Rattle.px_xmp_marks.specs.Reading.{Attr, name_view, next_view};
+ghost use Rattle.px_xmp_spaces.specs.Bindings.{declared_prefix};
+ghost use Rattle.px_xmp.specs.Tags.{names_language, is_plain, inherited};
+ghost use Rattle.px_xmp.specs.calls.Listed.{AreListed, IsNextPlain};
 
 use px_xmp_forms::is_language;
 use px_xmp_marks::{Name, NextAttribute, next_attribute};
@@ -11,7 +15,9 @@ const XML: &[u8] = b"xml";
 const LANG: &[u8] = b"lang";
 
 // The prefix of a declaration, after `xmlns`, or None if an attribute with this name declares none.
-pub(crate) fn declared_prefix<'a>(name: Name<'a>) -> Option<&'a [u8]> {
+pub(crate) fn declared_prefix<'a>(name: Name<'a>) -> Option<&'a [u8]>
+    ensures { option_map (λ p. p.now) result ≡ declared_prefix (name_view name.entry) }
+{
     if name.prefix == XMLNS {
         return Some(name.local);
     }
@@ -22,18 +28,28 @@ pub(crate) fn declared_prefix<'a>(name: Name<'a>) -> Option<&'a [u8]> {
 }
 
 // Whether an attribute with this name is xml:lang. The prefix is bound to one namespace, and no other is bound to that one.
-pub(crate) fn names_language(name: Name) -> bool {
+pub(crate) fn names_language(name: Name) -> bool
+    ensures { result ≡ names_language (name_view name.entry) }
+{
     name.prefix == XML && name.local == LANG
+}
+
+// Whether an attribute with this name declares nothing.
+pub(crate) fn is_plain(name: Name) -> bool
+    ensures { result ≡ is_plain (name_view name.entry) }
+{
+    declared_prefix(name).is_none() && !names_language(name)
 }
 
 // The first attribute that is no declaration and no language.
 pub(crate) fn next_plain<'a>(octets: &'a [u8]) -> Option<NextAttribute<'a>>
-    ensures { IfSome result (λ n. length n.rest.now < length octets.now) }
+    ensures value { (attributes : List Attr) → AreListed octets.now attributes → IsNextPlain (option_map next_view result) attributes }
+    ensures shorter { IfSome result (λ n. length n.rest.now < length octets.now) }
 {
+    px_xmp_marks::laws::attributes_in_order();
     let mut rest = octets;
     while let Some(next) = next_attribute(rest) {
-        let name = next.attribute.name;
-        if declared_prefix(name).is_none() && !names_language(name) {
+        if is_plain(next.attribute.name) {
             return Some(next);
         }
         rest = next.rest;
@@ -42,7 +58,9 @@ pub(crate) fn next_plain<'a>(octets: &'a [u8]) -> Option<NextAttribute<'a>>
 }
 
 // The language of the texts in an element that declares one or none, inside another language. None: it is for another reader.
-pub(crate) fn language_of<'a>(declared: Option<&'a [u8]>, outer: &'a [u8]) -> Option<&'a [u8]> {
+pub(crate) fn language_of<'a>(declared: Option<&'a [u8]>, outer: &'a [u8]) -> Option<&'a [u8]>
+    ensures { IfSome result (λ l. l.now ≡ inherited outer.now (option_map (λ d. d.now) declared.entry)) }
+{
     match declared {
         Some(language) => {
             if !is_language(language) {

@@ -4,13 +4,15 @@
 //! Three layers judge a packet, and the first layer with a fault decides: the length, the document (`px_xmp_document`), and
 //! RDF. A fault of RDF is the first from the left; that a packet has several subjects is reported last.
 //!
-//! It is proved that a packet with a form is a document, and that a form is the normal packet of a list of properties. Which
-//! properties a packet has, and its first fault of RDF, are tested, and no contract states them.
+//! It is proved that a packet with a form is a document, what each mark of a document is, which namespace each name has, and
+//! that a form is the normal packet of a list of properties. Which properties a packet has, and its first fault of RDF, are
+//! tested, and no contract states them.
 #![tactic(auto)]
 
 mod attributes;
 mod causes;
 mod frames;
+pub mod laws;
 mod marks;
 mod names;
 mod opening;

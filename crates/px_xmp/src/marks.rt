@@ -1,8 +1,13 @@
 // The marks of a document, as RDF needs them.
-ghost use Rattle.std.specs.Prelude.{◌≡◌, ◌≤◌, length, IfSome};
+ghost use Rattle.std.specs.Prelude.{◌≡◌, ◌≤◌, length, option_map, IfSome};
+ghost use Rattle.px_xmp_marks.specs.Reading.{begins_with};
+ghost use Rattle.px_xmp_marks.specs.Marks.{data_len};
+ghost use Rattle.px_xmp.specs.Reading.{mark_view, data_read, section_read, comment_read, instruction_read, other_read, tag_read, read};
 
 use crate::why::len_before;
-use px_xmp_marks::{StartTag, mark_len, read_section, read_start_tag};
+use px_xmp_marks::{
+    StartTag, read_comment, read_end_tag, read_instruction, read_section, read_start_tag,
+};
 use px_xmp_text::TextKind;
 
 // A text, as it is written.
@@ -29,69 +34,128 @@ pub(crate) struct Mark<'a> {
     pub(crate) size: usize,
 }
 
-// Character data at the start, or an octet.
-fn data<'a>(octets: &'a [u8]) -> Mark<'a>
-    requires { 1 ≤ length octets.now }
-    ensures { (1 ≤ result.size) × (result.size ≤ length octets.now) }
+// Whether octets begin with `<`.
+fn begins_markup(octets: &[u8]) -> bool
+    ensures { result ≡ begins_with 60 octets.now }
 {
-    let size = len_before(octets, b'<').max(1);
-    Mark {
+    !octets.is_empty() && octets[0] == b'<'
+}
+
+// The character data at the start.
+#[tactic(auto, unfolding(crate::specs::Reading::data_read))]
+fn data<'a>(octets: &'a [u8]) -> Option<Mark<'a>>
+    ensures value { option_map mark_view result ≡ data_read octets.now }
+    ensures within { IfSome result (λ m. (1 ≤ m.size) × (m.size ≤ length octets.now)) }
+{
+    let size = len_before(octets, b'<');
+    if size == 0 {
+        return None;
+    }
+    Some(Mark {
         kind: MarkKind::Text(Text {
             octets: octets.split_at(size).0,
             kind: TextKind::CharacterData,
         }),
         size,
-    }
+    })
 }
 
-// An end tag at the start. It ends with the first `>`.
-fn end_tag<'a>(octets: &'a [u8]) -> Mark<'a>
-    requires { 1 ≤ length octets.now }
-    ensures { (1 ≤ result.size) × (result.size ≤ length octets.now) }
+// The section at the start.
+#[tactic(auto, unfolding(crate::specs::Reading::section_read))]
+fn section<'a>(octets: &'a [u8]) -> Option<Mark<'a>>
+    ensures value { option_map mark_view result ≡ section_read octets.now }
+    ensures within { IfSome result (λ m. (1 ≤ m.size) × (m.size ≤ length octets.now)) }
 {
-    let before = len_before(octets, b'>');
-    Mark {
-        kind: MarkKind::End,
-        size: octets.len().min(before + 1),
-    }
-}
-
-// The kind of a section, a comment or a processing instruction.
-fn other_kind<'a>(octets: &'a [u8]) -> MarkKind<'a> {
-    match read_section(octets) {
-        Some(content) => MarkKind::Text(Text {
-            octets: content,
-            kind: TextKind::CdataSection,
-        }),
-        None => MarkKind::Other,
-    }
-}
-
-// The mark at the start of some octets of a document that has no fault: so only its end is looked for, but that of a start
-// tag, whose attributes are read. None if they begin with no mark.
-pub(crate) fn read_mark<'a>(octets: &'a [u8]) -> Option<Mark<'a>>
-    ensures { IfSome result (λ m. (1 ≤ m.size) × (m.size ≤ length octets.now)) }
-{
-    if octets.is_empty() {
-        return None;
-    }
-    if octets[0] != b'<' {
-        return Some(data(octets));
-    }
-    if octets.starts_with(b"</") {
-        return Some(end_tag(octets));
-    }
-    if let Some(tag) = read_start_tag(octets) {
-        return Some(Mark {
-            kind: MarkKind::Start(tag),
-            size: tag.size,
-        });
-    }
-    let Some(size) = mark_len(octets) else {
+    let Some(content) = read_section(octets) else {
         return None;
     };
     Some(Mark {
-        kind: other_kind(octets),
+        kind: MarkKind::Text(Text {
+            octets: content,
+            kind: TextKind::CdataSection,
+        }),
+        size: content.len() + 12,
+    })
+}
+
+// The comment at the start.
+#[tactic(auto, unfolding(crate::specs::Reading::comment_read))]
+fn comment<'a>(octets: &'a [u8]) -> Option<Mark<'a>>
+    ensures value { option_map mark_view result ≡ comment_read octets.now }
+    ensures within { IfSome result (λ m. (1 ≤ m.size) × (m.size ≤ length octets.now)) }
+{
+    let Some(content) = read_comment(octets) else {
+        return None;
+    };
+    Some(Mark {
+        kind: MarkKind::Other,
+        size: content.len() + 7,
+    })
+}
+
+// The processing instruction at the start.
+#[tactic(auto, unfolding(crate::specs::Reading::instruction_read))]
+fn instruction<'a>(octets: &'a [u8]) -> Option<Mark<'a>>
+    ensures value { option_map mark_view result ≡ instruction_read octets.now }
+    ensures within { IfSome result (λ m. (1 ≤ m.size) × (m.size ≤ length octets.now)) }
+{
+    let Some(size) = read_instruction(octets) else {
+        return None;
+    };
+    Some(Mark {
+        kind: MarkKind::Other,
         size,
     })
+}
+
+// The section, the comment or the processing instruction at the start.
+#[tactic(auto, unfolding(crate::specs::Reading::other_read))]
+fn other<'a>(octets: &'a [u8]) -> Option<Mark<'a>>
+    ensures value { option_map mark_view result ≡ other_read octets.now }
+    ensures within { IfSome result (λ m. (1 ≤ m.size) × (m.size ≤ length octets.now)) }
+{
+    match section(octets) {
+        Some(mark) => Some(mark),
+        None => match comment(octets) {
+            Some(mark) => Some(mark),
+            None => instruction(octets),
+        },
+    }
+}
+
+// The tag at the start.
+#[tactic(auto, unfolding(crate::specs::Reading::tag_read))]
+fn tag<'a>(octets: &'a [u8]) -> Option<Mark<'a>>
+    ensures value { option_map mark_view result ≡ tag_read octets.now }
+    ensures within { IfSome result (λ m. (1 ≤ m.size) × (m.size ≤ length octets.now)) }
+{
+    match read_start_tag(octets) {
+        Some(tag) => Some(Mark {
+            kind: MarkKind::Start(tag),
+            size: tag.size,
+        }),
+        None => match read_end_tag(octets) {
+            Some(tag) => Some(Mark {
+                kind: MarkKind::End,
+                size: tag.size,
+            }),
+            None => None,
+        },
+    }
+}
+
+// The mark at the start of some octets of a document that has no fault: so texts are not judged again. None if they begin
+// with no mark.
+#[tactic(auto, unfolding(crate::specs::Reading::read))]
+pub(crate) fn read_mark<'a>(octets: &'a [u8]) -> Option<Mark<'a>>
+    ensures value { option_map mark_view result ≡ read octets.now }
+    ensures within { IfSome result (λ m. (1 ≤ m.size) × (m.size ≤ length octets.now)) }
+{
+    if !begins_markup(octets) {
+        return data(octets);
+    }
+    match tag(octets) {
+        Some(mark) => Some(mark),
+        None => other(octets),
+    }
 }

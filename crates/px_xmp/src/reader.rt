@@ -2,7 +2,7 @@
 ghost use Rattle.std.specs.Prelude.{◌≡◌};
 ghost use Rattle.px_xmp_forms.specs.Allocations.{CountsAllocFailureInPacket};
 
-use crate::frames::{Filling, Frame, Opened, Role};
+use crate::frames::{Filling, Frame, Role};
 use crate::marks::{MarkKind, Text};
 use crate::scope::Scope;
 use px_bytes::Memory;
@@ -168,7 +168,7 @@ impl<'a> Reader<'a> {
         let Some(frame) = self.frames.pop() else {
             return Ok(());
         };
-        self.scope.close(self.frames.len());
+        self.scope.close();
         self.end(memory, frame)
     }
 
@@ -176,13 +176,7 @@ impl<'a> Reader<'a> {
     fn open(&mut self, memory: &mut Memory, tag: StartTag<'a>, place: usize) -> Result<(), Refusal>
         ensures memory { CountsAllocFailureInPacket result memory.old memory.new }
     {
-        let declared = self.scope.open(memory, tag.rest, self.frames.len(), place)?;
-        let opened = Opened {
-            name: self.scope.element(tag.name),
-            attributes: declared.attributes,
-            language: declared.language,
-            place,
-        };
+        let opened = self.scope.enter(memory, tag, place)?;
         self.begin(memory, opened)?;
         if tag.is_empty {
             return self.close(memory);

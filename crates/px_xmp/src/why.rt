@@ -1,5 +1,6 @@
 // Why no mark begins at a place: of XML, or of names that are for another reader.
-ghost use Rattle.std.specs.Prelude.{◌≡◌, ◌≤◌, ◌<◌, length};
+ghost use Rattle.std.specs.Prelude.{◌≡◌, ◌≤◌, ◌<◌, ◌==◌, not, length};
+ghost use Rattle.px_xmp_marks.specs.Reading.{run};
 
 use px_xmp_forms::Cause;
 use px_xmp_marks::{next_attribute, read_name};
@@ -12,7 +13,8 @@ fn after(octets: &[u8], offset: usize) -> &[u8] {
 
 // The number of octets before the first of a kind.
 pub(crate) fn len_before(octets: &[u8], mark: u8) -> usize
-    ensures { result ≤ length octets.now }
+    ensures value { result ≡ run (λ o. not (o == mark)) octets.now }
+    ensures within { result ≤ length octets.now }
 {
     for (n, octet) in octets.iter().enumerate() {
         if *octet == mark {

@@ -1,0 +1,3 @@
+pub mod Entries
+pub mod Listed
+pub mod Opening

@@ -1,0 +1,17 @@
+-- What is in scope, as it is stored: the outermost element first.
+use Rattle.std.specs.Prelude.{ℕ, List, take, map, reverse}
+use Rattle.px_xmp.specs.declared.scope.Entry.{Entry}
+use Rattle.px_xmp.specs.declared.scope.Entry.TheVariants as entries
+use Rattle.px_xmp_spaces.specs.Scopes.{Item, Element, Declaration}
+
+abbrev pub entry_view : Entry → Item
+entry_view entries.Element = Element
+entry_view (entries.Declaration p u) = Declaration p.now u.now
+
+-- entries, the last one first
+abbrev pub all_entries : List Entry → List Item
+all_entries entries = reverse (map entry_view entries)
+
+-- the first n entries
+abbrev pub entries_of : ℕ → List Entry → List Item
+entries_of n entries = all_entries (take n entries)

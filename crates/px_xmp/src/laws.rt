@@ -1,0 +1,14 @@
+//! The laws of packets. Each is the contract of a function that computes nothing.
+ghost use Rattle.px_xmp.specs.Laws.{KindsAreRead};
+
+/// Each mark of a document is read as what it is, and with its length.
+pub fn kinds_are_read()
+    ensures { KindsAreRead }
+{
+    px_xmp_marks::laws::marks_are_read();
+    px_xmp_marks::laws::start_tags_are_read();
+    px_xmp_marks::laws::end_tags_are_read();
+    px_xmp_marks::laws::sections_are_read();
+    px_xmp_marks::laws::comments_are_read();
+    px_xmp_marks::laws::instructions_are_read();
+}
