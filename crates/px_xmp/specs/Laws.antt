@@ -5,4 +5,5 @@ use Rattle.px_xmp.specs.Reading.{Read, IsReadAs, read}
 
 -- Each mark is read, whatever follows it.
 abbrev pub KindsAreRead : Type 0
-KindsAreRead = (k : Mark) (x rest : List ℕ) → IsKind k x rest → (r : Read) × (read (x ++ rest) ≡ Some r) × (r.size ≡ length x) × IsReadAs r.what k
+KindsAreRead = (k : Mark) (x rest : List ℕ) → IsKind k x rest
+    → (r : Read) × (read (x ++ rest) ≡ Some r) × (r.size ≡ length x) × IsReadAs r.what k

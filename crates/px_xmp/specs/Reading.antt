@@ -66,7 +66,8 @@ read x = if begins_with 60 x then or_read (tag_read x) (other_read x) else data_
 -- what is read is this mark
 abbrev pub IsReadAs : What → marks.Mark → Type 0
 IsReadAs (Tag t) k =
-    (attributes : List Attr) × (option_map (λ r. r.0) (attributes_of t.rest) ≡ Some attributes) × (k ≡ marks.Start t.name attributes t.is_empty)
+    (attributes : List Attr) × (option_map (λ r. r.0) (attributes_of t.rest) ≡ Some attributes)
+    × (k ≡ marks.Start t.name attributes t.is_empty)
 IsReadAs End k = k ≡ marks.End
 IsReadAs (Words kind octets) k = k ≡ marks.Text kind octets
 IsReadAs Other k = k ≡ marks.Other

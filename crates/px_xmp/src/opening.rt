@@ -22,6 +22,7 @@ impl<'a> Reader<'a> {
         value: &'a [u8],
         origin: Origin<'a>,
     ) -> Result<(), Refusal>
+        ensures scope { self.new.scope ≡ self.old.scope }
         ensures memory { CountsAllocFailureInPacket result memory.old memory.new }
     {
         match name.property() {
@@ -38,6 +39,7 @@ impl<'a> Reader<'a> {
         origin: Origin<'a>,
         is_subject: bool,
     ) -> Result<(), Refusal>
+        ensures scope { self.new.scope ≡ self.old.scope }
         ensures memory { CountsAllocFailureInPacket result memory.old memory.new }
     {
         let name = self.scope.attribute(attribute.name);
@@ -58,6 +60,7 @@ impl<'a> Reader<'a> {
         language: &'a [u8],
         is_subject: bool,
     ) -> Result<(), Refusal>
+        ensures scope { self.new.scope ≡ self.old.scope }
         ensures memory { CountsAllocFailureInPacket result memory.old memory.new }
     {
         let origin = Origin {
@@ -80,6 +83,7 @@ impl<'a> Reader<'a> {
         outer: &'a [u8],
         role: Role<'a>,
     ) -> Result<(), Refusal>
+        ensures scope { self.new.scope ≡ self.old.scope }
         ensures memory { CountsAllocFailureInPacket result memory.old memory.new }
     {
         let Some(language) = language_of(opened.language, outer) else {
@@ -97,6 +101,7 @@ impl<'a> Reader<'a> {
         attribute: Attribute<'a>,
         origin: Origin<'a>,
     ) -> Result<Filling, Refusal>
+        ensures scope { self.new.scope ≡ self.old.scope }
         ensures memory { CountsAllocFailureInPacket result memory.old memory.new }
     {
         let name = self.scope.attribute(attribute.name);
@@ -123,6 +128,7 @@ impl<'a> Reader<'a> {
         attribute: Attribute<'a>,
         origin: Origin<'a>,
     ) -> Result<Filling, Refusal>
+        ensures scope { self.new.scope ≡ self.old.scope }
         ensures memory { CountsAllocFailureInPacket result memory.old memory.new }
     {
         let name = self.scope.attribute(attribute.name);
@@ -141,6 +147,7 @@ impl<'a> Reader<'a> {
         attribute: Attribute<'a>,
         origin: Origin<'a>,
     ) -> Result<Filling, Refusal>
+        ensures scope { self.new.scope ≡ self.old.scope }
         ensures memory { CountsAllocFailureInPacket result memory.old memory.new }
     {
         match filling {
@@ -157,6 +164,7 @@ impl<'a> Reader<'a> {
         opened: Opened<'a>,
         language: &'a [u8],
     ) -> Result<Filling, Refusal>
+        ensures scope { self.new.scope ≡ self.old.scope }
         ensures memory { CountsAllocFailureInPacket result memory.old memory.new }
     {
         let mut filling = Filling::Text(false);
@@ -180,6 +188,7 @@ impl<'a> Reader<'a> {
         outer: &'a [u8],
         label: Label<'a>,
     ) -> Result<(), Refusal>
+        ensures scope { self.new.scope ≡ self.old.scope }
         ensures memory { CountsAllocFailureInPacket result memory.old memory.new }
     {
         let Some(language) = language_of(opened.language, outer) else {
@@ -199,6 +208,7 @@ impl<'a> Reader<'a> {
         opened: Opened<'a>,
         outer: &'a [u8],
     ) -> Result<(), Refusal>
+        ensures scope { self.new.scope ≡ self.old.scope }
         ensures memory { CountsAllocFailureInPacket result memory.old memory.new }
     {
         match opened.name.property() {
@@ -214,6 +224,7 @@ impl<'a> Reader<'a> {
         opened: Opened<'a>,
         outer: &'a [u8],
     ) -> Result<(), Refusal>
+        ensures scope { self.new.scope ≡ self.old.scope }
         ensures memory { CountsAllocFailureInPacket result memory.old memory.new }
     {
         if !opened.name.is_rdf(b"li") {
@@ -230,6 +241,7 @@ impl<'a> Reader<'a> {
         outer: &'a [u8],
         container: Container,
     ) -> Result<(), Refusal>
+        ensures scope { self.new.scope ≡ self.old.scope }
         ensures memory { CountsAllocFailureInPacket result memory.old memory.new }
     {
         let Some(language) = language_of(opened.language, outer) else {
@@ -248,6 +260,7 @@ impl<'a> Reader<'a> {
         opened: Opened<'a>,
         frame: Frame<'a>,
     ) -> Result<(), Refusal>
+        ensures scope { self.new.scope ≡ self.old.scope }
         ensures memory { CountsAllocFailureInPacket result memory.old memory.new }
     {
         self.output.remove_text(memory)?;
@@ -268,6 +281,7 @@ impl<'a> Reader<'a> {
         frame: Frame<'a>,
         filling: Filling,
     ) -> Result<(), Refusal>
+        ensures scope { self.new.scope ≡ self.old.scope }
         ensures memory { CountsAllocFailureInPacket result memory.old memory.new }
     {
         match filling {
@@ -280,6 +294,7 @@ impl<'a> Reader<'a> {
 
     // Begins rdf:RDF.
     fn begin_rdf(&mut self, memory: &mut Memory, opened: Opened<'a>) -> Result<(), Refusal>
+        ensures scope { self.new.scope ≡ self.old.scope }
         ensures memory { CountsAllocFailureInPacket result memory.old memory.new }
     {
         if next_plain(opened.attributes).is_some() {
@@ -293,6 +308,7 @@ impl<'a> Reader<'a> {
 
     // Begins the root.
     fn begin_root(&mut self, memory: &mut Memory, opened: Opened<'a>) -> Result<(), Refusal>
+        ensures scope { self.new.scope ≡ self.old.scope }
         ensures memory { CountsAllocFailureInPacket result memory.old memory.new }
     {
         if opened.name.is_rdf(b"RDF") {
@@ -311,6 +327,7 @@ impl<'a> Reader<'a> {
         opened: Opened<'a>,
         has_rdf: bool,
     ) -> Result<(), Refusal>
+        ensures scope { self.new.scope ≡ self.old.scope }
         ensures memory { CountsAllocFailureInPacket result memory.old memory.new }
     {
         if has_rdf || !opened.name.is_rdf(b"RDF") {
@@ -327,6 +344,7 @@ impl<'a> Reader<'a> {
         opened: Opened<'a>,
         outer: &'a [u8],
     ) -> Result<(), Refusal>
+        ensures scope { self.new.scope ≡ self.old.scope }
         ensures memory { CountsAllocFailureInPacket result memory.old memory.new }
     {
         if !opened.name.is_rdf(b"Description") {
@@ -337,6 +355,7 @@ impl<'a> Reader<'a> {
 
     // Begins an element.
     pub(crate) fn begin(&mut self, memory: &mut Memory, opened: Opened<'a>) -> Result<(), Refusal>
+        ensures scope { self.new.scope ≡ self.old.scope }
         ensures memory { CountsAllocFailureInPacket result memory.old memory.new }
     {
         let Some(frame) = self.innermost() else {

@@ -1,5 +1,11 @@
 // Reads the marks of a document as RDF, one after another. XMP part 1, 7; RDF/XML, 2 and 7.
-ghost use Rattle.std.specs.Prelude.{◌≡◌};
+ghost use Rattle.std.specs.Prelude.{◌≡◌, List, [], if◌then◌else◌, OnOk};
+ghost use Rattle.px_xmp_marks.specs.Reading.{Attr};
+ghost use Rattle.px_xmp_spaces.specs.Scopes.{ended};
+ghost use Rattle.px_xmp.specs.Marks.{Mark};
+ghost use Rattle.px_xmp.specs.Tags.{inside, scope_after};
+ghost use Rattle.px_xmp.specs.Reading.{kind_view, IsReadAs};
+ghost use Rattle.px_xmp.specs.calls.Listed.{AreListed};
 ghost use Rattle.px_xmp_forms.specs.Allocations.{CountsAllocFailureInPacket};
 
 use crate::frames::{Filling, Frame, Role};
@@ -22,7 +28,9 @@ pub(crate) struct Reader<'a> {
 }
 
 impl<'a> Reader<'a> {
-    pub(crate) fn new(memory: &Memory) -> Reader<'a> {
+    pub(crate) fn new(memory: &Memory) -> Reader<'a>
+        ensures { result.scope ≡ [] }
+    {
         Reader {
             scope: Scope::new(memory),
             frames: memory.list(),
@@ -49,6 +57,7 @@ impl<'a> Reader<'a> {
         place: usize,
         language: &'a [u8],
     ) -> Result<(), Refusal>
+        ensures scope { self.new.scope ≡ self.old.scope }
         ensures memory { CountsAllocFailureInPacket result memory.old memory.new }
     {
         if role.has_output() {
@@ -64,7 +73,9 @@ impl<'a> Reader<'a> {
     }
 
     // Changes what the innermost element is.
-    pub(crate) fn set_role(&mut self, role: Role<'a>) {
+    pub(crate) fn set_role(&mut self, role: Role<'a>)
+        ensures { self.new.scope ≡ self.old.scope }
+    {
         let n = self.frames.len();
         if n > 0 {
             self.frames[n - 1].role = role;
@@ -72,7 +83,9 @@ impl<'a> Reader<'a> {
     }
 
     // Notes that the innermost element, a property or a member, has a node.
-    fn fill(&mut self, filling: Filling) {
+    fn fill(&mut self, filling: Filling)
+        ensures { self.new.scope ≡ self.old.scope }
+    {
         if let Some(frame) = self.innermost() {
             if let Role::Value(label, _) = frame.role {
                 self.set_role(Role::Value(label, filling));
@@ -87,6 +100,7 @@ impl<'a> Reader<'a> {
         value: &'a [u8],
         place: usize,
     ) -> Result<(), Refusal>
+        ensures scope { self.new.scope ≡ self.old.scope }
         ensures memory { CountsAllocFailureInPacket result memory.old memory.new }
     {
         if value.is_empty() || self.other.is_some() {
@@ -110,6 +124,7 @@ impl<'a> Reader<'a> {
         label: Label<'a>,
         filling: Filling,
     ) -> Result<(), Refusal>
+        ensures scope { self.new.scope ≡ self.old.scope }
         ensures memory { CountsAllocFailureInPacket result memory.old memory.new }
     {
         if filling.has_properties() {
@@ -120,6 +135,7 @@ impl<'a> Reader<'a> {
     }
 
     fn end_rdf(&mut self, memory: &mut Memory) -> Result<(), Refusal>
+        ensures scope { self.new.scope ≡ self.old.scope }
         ensures memory { CountsAllocFailureInPacket result memory.old memory.new }
     {
         self.output.join_properties(memory)?;
@@ -128,6 +144,7 @@ impl<'a> Reader<'a> {
     }
 
     fn end_node(&mut self, memory: &mut Memory) -> Result<(), Refusal>
+        ensures scope { self.new.scope ≡ self.old.scope }
         ensures memory { CountsAllocFailureInPacket result memory.old memory.new }
     {
         self.output.join_properties(memory)?;
@@ -137,6 +154,7 @@ impl<'a> Reader<'a> {
     }
 
     fn end_container(&mut self, memory: &mut Memory, container: Container) -> Result<(), Refusal>
+        ensures scope { self.new.scope ≡ self.old.scope }
         ensures memory { CountsAllocFailureInPacket result memory.old memory.new }
     {
         let is_bag = container == Container::Bag;
@@ -148,6 +166,7 @@ impl<'a> Reader<'a> {
 
     // Ends an element that was the innermost one.
     fn end(&mut self, memory: &mut Memory, frame: Frame<'a>) -> Result<(), Refusal>
+        ensures scope { self.new.scope ≡ self.old.scope }
         ensures memory { CountsAllocFailureInPacket result memory.old memory.new }
     {
         match frame.role {
@@ -163,17 +182,20 @@ impl<'a> Reader<'a> {
 
     // Ends the innermost element.
     fn close(&mut self, memory: &mut Memory) -> Result<(), Refusal>
+        ensures scope { self.new.scope ≡ ended self.old.scope }
         ensures memory { CountsAllocFailureInPacket result memory.old memory.new }
     {
-        let Some(frame) = self.frames.pop() else {
-            return Ok(());
-        };
         self.scope.close();
-        self.end(memory, frame)
+        match self.frames.pop() {
+            Some(frame) => self.end(memory, frame),
+            None => Ok(()),
+        }
     }
 
     // Begins an element with what its tag declares.
     fn open(&mut self, memory: &mut Memory, tag: StartTag<'a>, place: usize) -> Result<(), Refusal>
+        ensures scope { (all : List Attr) → AreListed tag.entry.rest.now all
+            → OnOk result (self.new.scope ≡ (if tag.entry.is_empty then self.old.scope else inside self.old.scope all)) }
         ensures memory { CountsAllocFailureInPacket result memory.old memory.new }
     {
         let opened = self.scope.enter(memory, tag, place)?;
@@ -192,6 +214,7 @@ impl<'a> Reader<'a> {
         says: bool,
         text: Text<'a>,
     ) -> Result<(), Refusal>
+        ensures scope { self.new.scope ≡ self.old.scope }
         ensures memory { CountsAllocFailureInPacket result memory.old memory.new }
     {
         let more = self.output.put_text(memory, text.octets, text.kind)?;
@@ -201,6 +224,7 @@ impl<'a> Reader<'a> {
 
     // Reads a text.
     fn text(&mut self, memory: &mut Memory, text: Text<'a>, place: usize) -> Result<(), Refusal>
+        ensures scope { self.new.scope ≡ self.old.scope }
         ensures memory { CountsAllocFailureInPacket result memory.old memory.new }
     {
         let Some(frame) = self.innermost() else {
@@ -219,6 +243,7 @@ impl<'a> Reader<'a> {
         kind: MarkKind<'a>,
         place: usize,
     ) -> Result<(), Refusal>
+        ensures scope { (k : Mark) → IsReadAs (kind_view kind.entry) k → OnOk result (self.new.scope ≡ scope_after k self.old.scope) }
         ensures memory { CountsAllocFailureInPacket result memory.old memory.new }
     {
         match kind {

@@ -90,7 +90,8 @@ impl<'a> Noted<'a> {
 
     // The octets from the first attribute on that declares nothing, after one more attribute, with which some octets begin.
     fn first_after(self, name: Name, octets: &'a [u8]) -> Option<&'a [u8]>
-        ensures { option_map (λ l. l.now) result ≡ first_after (option_map (λ l. l.now) self.entry.first) (is_plain (name_view name.entry)) octets.now }
+        ensures { option_map (λ l. l.now) result
+            ≡ first_after (option_map (λ l. l.now) self.entry.first) (is_plain (name_view name.entry)) octets.now }
     {
         if let Some(first) = self.first {
             return Some(first);
@@ -158,7 +159,8 @@ impl<'a> Scope<'a> {
         attribute: Attribute<'a>,
         place: usize,
     ) -> Result<(), Refusal>
-        ensures items { OnOk result (self.new ≡ with_prefix (declared_prefix (name_view attribute.entry.name)) attribute.entry.value.now self.old) }
+        ensures items { OnOk result (self.new
+            ≡ with_prefix (declared_prefix (name_view attribute.entry.name)) attribute.entry.value.now self.old) }
         ensures memory { CountsAllocFailureInPacket result memory.old memory.new }
     {
         let Some(prefix) = declared_prefix(attribute.name) else {

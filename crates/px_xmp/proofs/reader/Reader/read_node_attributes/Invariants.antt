@@ -2,7 +2,10 @@ use Rattle.std.proofs.Common.{◌≡◌, length}
 use Rattle.px_xmp.proofs.reader.Reader.read_node_attributes.Given as goal
 
 abbrev pub invariant-loop-next : goal.invariant-loop-next
-invariant-loop-next l = l.memory.failed_allocations ≡ l.fn.memory.failed_allocations
+invariant-loop-next l = record {
+  scope : l.self.scope ≡ l.fn.self.scope;
+  failed_allocations : l.memory.failed_allocations ≡ l.fn.memory.failed_allocations;
+}
 
 abbrev pub decreases-loop-next : goal.decreases-loop-next
 decreases-loop-next l = length l.rest
