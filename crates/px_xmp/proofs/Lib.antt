@@ -1,3 +1,4 @@
 pub mod PacketLaws
 pub mod MarkLaws
 pub mod TagLaws
+pub mod RowLaws

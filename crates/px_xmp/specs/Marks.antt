@@ -1,5 +1,5 @@
 -- Marks, as RDF needs them: which texts are there is said, and no comment or processing instruction. RDF/XML, 6 and 7.
-use Rattle.std.specs.Prelude.{◌≡◌, ◌⊎◌, ℕ, Bool, List}
+use Rattle.std.specs.Prelude.{◌≡◌, ◌⊎◌, ℕ, Bool, List, [], ◌∷◌, ◌++◌}
 use Rattle.px_xmp_text.specs.declared.pieces.TextKind.{TextKind}
 use Rattle.px_xmp_text.specs.declared.pieces.TextKind.TheVariants.{CharacterData, CdataSection, AttributeValue}
 use Rattle.px_xmp_marks.specs.Reading.{Named, Attr}
@@ -24,3 +24,8 @@ IsKind (Text CharacterData octets) x y = IsText x × EndsText y × (octets ≡ x
 IsKind (Text CdataSection octets) x y = IsSection x octets
 IsKind (Text AttributeValue octets) x y = ⊥
 IsKind Other x y = ((content : List ℕ) × IsComment x content) ⊎ IsInstruction x
+
+-- x is these marks in a row
+abbrev pub AreRow : List Mark → List ℕ → Type 0
+AreRow [] x = x ≡ []
+AreRow (k ∷ more) x = (m rest : List ℕ) × IsKind k m rest × (x ≡ m ++ rest) × AreRow more rest

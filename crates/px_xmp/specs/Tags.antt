@@ -73,3 +73,8 @@ scope_after (Start n attributes false) scope = inside scope attributes
 scope_after End scope = ended scope
 scope_after (Text kind octets) scope = scope
 scope_after Other scope = scope
+
+-- what is in scope after marks in a row
+abbrev pub scope_after_all : List Mark → List Item → List Item
+scope_after_all [] scope = scope
+scope_after_all (k ∷ more) scope = scope_after_all more (scope_after k scope)

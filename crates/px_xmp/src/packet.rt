@@ -1,5 +1,7 @@
 // A packet: its document, and what is around it.
-ghost use Rattle.std.specs.Prelude.{◌≡◌, ◌≤◌, length, take, drop, true, IfOk, OnOk};
+ghost use Rattle.std.specs.Prelude.{◌≡◌, ◌≤◌, List, length, take, drop, true, IfOk, OnOk};
+ghost use Rattle.px_xmp.specs.Marks.{Mark, AreRow};
+ghost use Rattle.px_xmp.specs.Tags.{scope_after_all};
 ghost use Rattle.px_bytes.specs.Parts.{limit};
 ghost use Rattle.px_xmp_marks.specs.Declarations.{every};
 ghost use Rattle.px_xmp_document.specs.Document.{IsFile};
@@ -130,8 +132,10 @@ fn read_marks<'a>(
     octets: &'a [u8],
     start: usize,
 ) -> Result<(), Refusal>
+    ensures scope { (ks : List Mark) → AreRow ks octets.now → OnOk result (reader.new.scope ≡ scope_after_all ks reader.old.scope) }
     ensures memory { CountsAllocFailureInPacket result memory.old memory.new }
 {
+    crate::laws::kinds_are_read();
     let mut at = 0;
     while at < octets.len() {
         let place = start.saturating_add(at);
