@@ -5,7 +5,7 @@ use Rattle.px_bytes.specs.Reading.{ReadsUpTo}
 use Rattle.px_engine.specs.declared.error.Fault.{Fault}
 use Rattle.px_engine.specs.declared.error.Fault.TheVariants.{Refused, NormalTooLong, OutOfMemory, ReadFailed, WriteFailed}
 use Rattle.px_engine.specs.Files.{Said}
-use Rattle.px_engine.specs.Input.{most_read, HasMeaning, IsRunFault, CountsAllocFailureInRunBy}
+use Rattle.px_engine.specs.Input.{most_read, HasMeaning, IsRunFault, CountsAllocFailureInRunBy, CountsFault, CountsReads}
 use Rattle.px_engine.specs.Prints.{Prints}
 use Rattle.px_engine.specs.calls.Ends.{WritesText}
 use Rattle.px_engine.specs.calls.Faults.{as_fault}
@@ -50,3 +50,22 @@ no_text_alloc_failure (Err (Refused cause place)) old new a b sent first last q 
 no_text_alloc_failure (Err OutOfMemory) old new a b sent first last q w = absurd w
 no_text_alloc_failure (Err ReadFailed) old new a b sent first last q w = absurd w
 no_text_alloc_failure (Err NormalTooLong) old new a b sent first last q w = absurd w
+
+-- nor does it read
+pub text_reads_nothing : {A : Type 0} (r : Result A Fault) (old new : Option (List ℕ)) (a b : Calls) (sent : List ℕ)
+    → WritesText r old new a b sent → (calls : Calls) → CountsReads r calls calls
+text_reads_nothing (Ok x) old new a b sent w calls = refl
+text_reads_nothing (Err WriteFailed) old new a b sent w calls = refl
+text_reads_nothing (Err (Refused cause place)) old new a b sent w calls = absurd w
+text_reads_nothing (Err OutOfMemory) old new a b sent w calls = absurd w
+text_reads_nothing (Err ReadFailed) old new a b sent w calls = absurd w
+text_reads_nothing (Err NormalTooLong) old new a b sent w calls = absurd w
+
+-- nor does judging
+pub fault_reads_nothing : (fault : Fault) (bytes : List ℕ) (lacking : ℕ) → IsRunFault bytes lacking fault
+    → (calls : Calls) → CountsFault fault calls calls
+fault_reads_nothing (Refused cause place) bytes lacking h calls = refl
+fault_reads_nothing OutOfMemory bytes lacking h calls = refl
+fault_reads_nothing ReadFailed bytes lacking h calls = absurd h
+fault_reads_nothing NormalTooLong bytes lacking h calls = absurd h
+fault_reads_nothing WriteFailed bytes lacking h calls = absurd h

@@ -45,6 +45,9 @@ pub use px_text::{Caption, Captions, Label};
 pub use slice::{
     captions_text_in, check_of_in, normal_form_in, put_form_in, same_of_in, show_of_in,
 };
-pub use stream::{captions_in, check_in, compare_in, normalise_in, read_all_in, show_in};
+pub use stream::{
+    captions_file_in, captions_in, check_in, compare_in, normalise_in, read_all_in, show_file_in,
+    show_in,
+};
 pub use text::captions_of_in;
 pub use version::VERSION;

@@ -1,14 +1,14 @@
 // Files from readers: read, checked, normalised, compared and printed to writers.
-ghost use Rattle.std.specs.Prelude.{◌≡◌, IfOk, IfErr, ◌+◌, OnOk};
+ghost use Rattle.std.specs.Prelude.{◌≡◌, IfOk, IfErr, ◌+◌, OnOk, length};
 ghost use Rattle.px_bytes.specs.Allocations.{AsksAtMost};
 ghost use Rattle.px_bytes.specs.Reading.{ReadsUpTo, ConsumesAtMost, readable, read_request};
-ghost use Rattle.px_engine.specs.Asking.{run_request};
+ghost use Rattle.px_engine.specs.Asking.{block_request, run_request};
 ghost use Rattle.px_engine.specs.Input.{most_read, CountsReads, IsReadFault, CountsAllocFailureInRun, CountsAllocFailureInPair};
 ghost use Rattle.px_engine.specs.calls.Second.{CountsSecond, ComparesSecond};
 ghost use Rattle.px_engine.specs.calls.Seen.{said_view};
 ghost use Rattle.px_bytes.specs.Devices.{CanCountFailure};
 ghost use Rattle.px_engine.specs.Runs.{Checks, FormOnce, Normalises, Compares, CountsWrites, CountsSides, Untouched};
-ghost use Rattle.px_engine.specs.Prints.{caption_text, listing, Prints};
+ghost use Rattle.px_engine.specs.Prints.{caption_text, listing, Prints, PrintsRead, ReadsNothing};
 
 use crate::error::{CompareFault, Fault, Side};
 use crate::kind::BlockKind;
@@ -154,6 +154,43 @@ pub fn captions_in<R: Source, W: Sink>(
 {
     let file = read_all_in(memory, reader)?;
     let meaning = judge(memory, &file)?;
+    let done = write_captions(&meaning, writer);
+    drop(meaning);
+    done
+}
+
+/// Writes the listing of a file that was read, as `show_in` does for a reader: it writes nothing until the file is judged, and
+/// flushes once. Allocates the meaning. `ReadFailed` and `NormalTooLong` are never returned.
+pub fn show_file_in<W: Sink>(memory: &mut Memory, file: &[u8], writer: &mut W) -> Result<(), Fault>
+    requires { CanCountFailure (W.calls writer.old) }
+    ensures done { PrintsRead listing result file.now (W.bytes_taken writer.old) (W.bytes_taken writer.new) }
+    ensures reads { ReadsNothing result }
+    ensures writes { CountsWrites result (W.calls writer.old) (W.calls writer.new) }
+    ensures flushed { OnOk result (W.unflushed writer.new ≡ 0) }
+    ensures memory { CountsAllocFailureInRun result memory.old memory.new }
+    ensures asked { AsksAtMost (block_request (length file.now)) memory.old memory.new }
+{
+    let meaning = judge(memory, file)?;
+    let done = write_listing(&meaning, writer);
+    drop(meaning);
+    done
+}
+
+/// Writes the captions of a file that was read, as `captions_in` does for a reader, with the results of `show_file_in`.
+pub fn captions_file_in<W: Sink>(
+    memory: &mut Memory,
+    file: &[u8],
+    writer: &mut W,
+) -> Result<(), Fault>
+    requires { CanCountFailure (W.calls writer.old) }
+    ensures done { PrintsRead caption_text result file.now (W.bytes_taken writer.old) (W.bytes_taken writer.new) }
+    ensures reads { ReadsNothing result }
+    ensures writes { CountsWrites result (W.calls writer.old) (W.calls writer.new) }
+    ensures flushed { OnOk result (W.unflushed writer.new ≡ 0) }
+    ensures memory { CountsAllocFailureInRun result memory.old memory.new }
+    ensures asked { AsksAtMost (block_request (length file.now)) memory.old memory.new }
+{
+    let meaning = judge(memory, file)?;
     let done = write_captions(&meaning, writer);
     drop(meaning);
     done
