@@ -1,6 +1,6 @@
 //! The program `exifnorm`: it prints the meaning of a block of Exif or IPTC (IIM) metadata, compares two
 //! blocks, and writes a block's normal form. It opens no picture file, edits no metadata, repairs nothing,
-//! and writes nothing to standard error.
+//! and writes nothing to standard error. Of XMP it prints packets, which are in files of their own, and no more.
 //!
 //! ```text
 //! exifnorm < block > normal           # the normal form of a block

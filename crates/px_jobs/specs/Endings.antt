@@ -1,20 +1,24 @@
 -- How the runs of the program end.
-use Rattle.std.specs.Prelude.{◌≡◌, ◌+◌, ℕ, Bool, true, false, List, Option, Some, None, codes, Result, Ok, Err, ⊤}
+use Rattle.std.specs.Prelude.{◌≡◌, ◌⊎◌, ◌+◌, ℕ, Bool, true, false, List, Option, Some, None, IfSome, codes, Result, Ok, Err, ⊤}
 use Rattle.px_engine.specs.declared.BlockKind.{BlockKind}
 use Rattle.px_engine.specs.declared.BlockKind.TheVariants as kind
 use Rattle.px_engine.specs.declared.CompareFault.{CompareFault}
 use Rattle.px_engine.specs.declared.Fault.{Fault}
-use Rattle.px_engine.specs.declared.Fault.TheVariants.{WriteFailed}
+use Rattle.px_engine.specs.declared.Fault.TheVariants.{Refused, WriteFailed}
 use Rattle.px_engine.specs.Files.{Said}
 use Rattle.px_engine.specs.Input.{CountsAllocFailureInRun, CountsAllocFailureInPair, CountsReads, OnSide, most_read}
 use Rattle.px_engine.specs.Asking.{run_request}
+use Rattle.px_engine.specs.Laws.{taken}
 use Rattle.px_engine.specs.Runs.{KnownMeaning, Stops, Checks, Compares, Normalises, CountsWrites, CountsSides}
 use Rattle.px_engine.specs.Prints.{listing, caption_text}
 use Rattle.px_jobs.specs.declared.job.Job.{Job}
 use Rattle.px_jobs.specs.declared.job.Job.TheVariants.{Show, Check, Captions, Normalise}
+use Rattle.px_bytes.specs.declared.Cause.{Cause}
 use Rattle.px_bytes.specs.Devices.{Device}
 use Rattle.px_bytes.specs.Allocations.{MemoryCounts, AsksAtMost}
 use Rattle.px_bytes.specs.Reading.{ConsumesAtMost}
+use Rattle.px_xmp_lines.specs.Lines.{is_packet}
+use Rattle.px_jobs.specs.Packets.{is_other, PrintsPacket}
 use Rattle.px_jobs.specs.Lines.{IsFailed, IsFlushed, IsWell, Took, TookNothing, TookPrefix, Reports, ReportsFault}
 
 -- ---- the status and the line of an outcome
@@ -86,17 +90,32 @@ abbrev pub EndsCheck : Device → Device → MemoryCounts → MemoryCounts → �
 EndsCheck reader lines allocs allocs_now status = (r : Result BlockKind Fault) × Checks r reader.old
     × CountsReads r reader.calls reader.calls_now × IsRun r reader allocs allocs_now × ReportsChecked r status lines
 
--- the text of the file
+-- the text of the file, which is a block; or the line of its first fault, if the file doesn't begin as a packet of XMP does
 abbrev pub EndsText : (Said → List ℕ) → Device → Device → MemoryCounts → MemoryCounts → ℕ → Type 0
 EndsText text reader lines allocs allocs_now status = (r : Result ⊤ Fault) × CountsReads r reader.calls reader.calls_now
     × IsRun r reader allocs allocs_now × ReportsText text r reader.old status lines
+    × IfSome reader.old (λ f. is_other r (taken f) ≡ false)
+
+-- The file was read, is refused as a block, and begins as a packet of XMP does: it is printed as one. `file` is what was read, and
+-- `between` are the numbers of the memory when it was refused as a block.
+abbrev pub EndsPacket : Device → Device → MemoryCounts → MemoryCounts → ℕ → Type 0
+EndsPacket reader lines allocs allocs_now status = (file : List ℕ) × (between : MemoryCounts) × (cause : Cause) × (place : ℕ)
+    × IfSome reader.old (λ f. file ≡ taken f) × Stops (Refused cause place) reader.old × (is_packet file ≡ true)
+    × (reader.calls_now ≡ reader.calls) × ConsumesAtMost reader.old reader.new most_read
+    × (between.failed_allocations ≡ allocs.failed_allocations) × AsksAtMost (run_request reader.old) allocs between
+    × PrintsPacket file lines between allocs_now status
+
+-- the text of a block or of a packet
+abbrev pub EndsShown : (Said → List ℕ) → Device → Device → MemoryCounts → MemoryCounts → ℕ → Type 0
+EndsShown text reader lines allocs allocs_now status =
+    EndsText text reader lines allocs allocs_now status ⊎ EndsPacket reader lines allocs allocs_now status
 
 -- of the reader, the writer of normal bytes and the writer of lines
 abbrev pub Ends : Job → Device → Device → Device → MemoryCounts → MemoryCounts → ℕ → Type 0
 Ends Normalise reader out lines allocs allocs_now status = EndsNormalise reader out lines allocs allocs_now status
 Ends Check reader out lines allocs allocs_now status = IsIdle out × EndsCheck reader lines allocs allocs_now status
-Ends Show reader out lines allocs allocs_now status = IsIdle out × EndsText listing reader lines allocs allocs_now status
-Ends Captions reader out lines allocs allocs_now status = IsIdle out × EndsText caption_text reader lines allocs allocs_now status
+Ends Show reader out lines allocs allocs_now status = IsIdle out × EndsShown listing reader lines allocs allocs_now status
+Ends Captions reader out lines allocs allocs_now status = IsIdle out × EndsShown caption_text reader lines allocs allocs_now status
 
 abbrev pub EndsCompare : Device → Device → Device → MemoryCounts → MemoryCounts → ℕ → Type 0
 EndsCompare first second lines allocs allocs_now status = (r : Result Bool CompareFault) × Compares r first.old second.old

@@ -1,18 +1,19 @@
 // Runs of the program over readers and writers.
-ghost use Rattle.std.specs.Prelude.{◌≡◌, ◌≢◌, Err};
-ghost use Rattle.px_engine.specs.declared.Fault.{Fault};
-ghost use Rattle.px_engine.specs.declared.Fault.TheVariants.{WriteFailed};
+ghost use Rattle.std.specs.Prelude.{◌≡◌, ◌≤◌, length};
+ghost use Rattle.px_engine.specs.Input.{most_read};
 ghost use Rattle.px_engine.specs.Prints.{caption_text, listing};
-ghost use Rattle.px_jobs.specs.Endings.{accepted, compared, compared_status, Ends, EndsCheck, EndsCompare, EndsNormalise, EndsText};
+ghost use Rattle.px_jobs.specs.Endings.{accepted, compared, compared_status, Ends, EndsCheck, EndsCompare, EndsNormalise, EndsShown};
 ghost use Rattle.px_jobs.specs.Endings.{ReportsChecked, ReportsCompared, ReportsWritten};
 ghost use Rattle.px_jobs.specs.Lines.{FlushesLast};
-ghost use Rattle.px_jobs.specs.calls.Reporting.{ReportsPrinted, ReportsAfter};
+ghost use Rattle.px_jobs.specs.calls.Printing.{PrintsFile};
 ghost use Rattle.px_bytes.specs.Devices.{CanCountFailure, device_of};
 
 use crate::lines::{print_bytes, report_fault};
+use crate::packets::{Text, report_file};
 use px_bytes::{Memory, Sink, Source};
 use px_engine::{
-    BlockKind, CompareFault, Fault, captions_in, check_in, compare_in, normalise_in, show_in,
+    BlockKind, CompareFault, Fault, captions_file_in, check_in, compare_in, normalise_in,
+    read_all_in, show_file_in,
 };
 
 /// What to do with one file.
@@ -59,32 +60,6 @@ fn report_checked<L: Sink>(lines: &mut L, checked: Result<BlockKind, Fault>) -> 
     match checked {
         Ok(kind) => print_bytes(lines, accepted(kind), 0),
         Err(fault) => report_fault(lines, fault, None),
-    }
-}
-
-// Reports the fault of a text. If the lines failed, it writes no more to them.
-fn report_text_fault<L: Sink>(lines: &mut L, fault: Fault) -> u8
-    requires { fault ≢ WriteFailed → CanCountFailure (L.calls lines.old) }
-    ensures reported { ReportsAfter fault result (device_of L.calls L.bytes_taken lines.old lines.new) }
-    ensures last { FlushesLast (L.calls lines.old) (L.calls lines.new) (L.unflushed lines.new) }
-    ensures still { L.calls lines.new ≡ L.calls lines.old → lines.new ≡ lines.old }
-{
-    if fault == Fault::WriteFailed {
-        return 4;
-    }
-    report_fault(lines, fault, None)
-}
-
-// Reports a failed text. A written one needs no further line.
-fn report_printed<L: Sink>(lines: &mut L, printed: Result<(), Fault>) -> u8
-    requires { (e : Fault) → printed ≡ Err e → e ≢ WriteFailed → CanCountFailure (L.calls lines.old) }
-    ensures reported { ReportsPrinted printed result (device_of L.calls L.bytes_taken lines.old lines.new) }
-    ensures last { FlushesLast (L.calls lines.old) (L.calls lines.new) (L.unflushed lines.new) }
-    ensures still { L.calls lines.new ≡ L.calls lines.old → lines.new ≡ lines.old }
-{
-    match printed {
-        Ok(()) => 0,
-        Err(fault) => report_text_fault(lines, fault),
     }
 }
 
@@ -154,30 +129,56 @@ fn run_check<R: Source, L: Sink>(memory: &mut Memory, reader: &mut R, lines: &mu
     report_checked(lines, check_in(memory, reader))
 }
 
-// Writes the listing of the block.
+// Writes the listing of a file that was read.
+fn show_file<L: Sink>(memory: &mut Memory, file: &[u8], lines: &mut L) -> u8
+    requires few { length file.now ≤ most_read }
+    requires reporting { CanCountFailure (L.calls lines.old) }
+    ensures ends { PrintsFile listing file.now (device_of L.calls L.bytes_taken lines.old lines.new) memory.old memory.new result }
+    ensures last { FlushesLast (L.calls lines.old) (L.calls lines.new) (L.unflushed lines.new) }
+{
+    let printed = show_file_in(memory, file, lines);
+    report_file(memory, file, Text::Listing, lines, printed)
+}
+
+// Writes the listing of the block or of the packet.
 fn run_show<R: Source, L: Sink>(memory: &mut Memory, reader: &mut R, lines: &mut L) -> u8
     requires reading { CanCountFailure (R.calls reader.old) }
     requires reporting { CanCountFailure (L.calls lines.old) }
-    ensures ends { EndsText listing (device_of R.calls R.bytes_left reader.old reader.new)
+    ensures ends { EndsShown listing (device_of R.calls R.bytes_left reader.old reader.new)
         (device_of L.calls L.bytes_taken lines.old lines.new)
         memory.old memory.new result }
     ensures last { FlushesLast (L.calls lines.old) (L.calls lines.new) (L.unflushed lines.new) }
 {
-    let printed = show_in(memory, reader, lines);
-    report_printed(lines, printed)
+    match read_all_in(memory, reader) {
+        Ok(file) => show_file(memory, file.as_slice(), lines),
+        Err(fault) => report_fault(lines, fault, None),
+    }
 }
 
-// Writes the captions of the block.
+// Writes the captions of a file that was read.
+fn captions_file<L: Sink>(memory: &mut Memory, file: &[u8], lines: &mut L) -> u8
+    requires few { length file.now ≤ most_read }
+    requires reporting { CanCountFailure (L.calls lines.old) }
+    ensures ends { PrintsFile caption_text file.now (device_of L.calls L.bytes_taken lines.old lines.new) memory.old memory.new result }
+    ensures last { FlushesLast (L.calls lines.old) (L.calls lines.new) (L.unflushed lines.new) }
+{
+    let printed = captions_file_in(memory, file, lines);
+    report_file(memory, file, Text::Captions, lines, printed)
+}
+
+// Writes the captions of the block or of the packet.
 fn run_captions<R: Source, L: Sink>(memory: &mut Memory, reader: &mut R, lines: &mut L) -> u8
     requires reading { CanCountFailure (R.calls reader.old) }
     requires reporting { CanCountFailure (L.calls lines.old) }
-    ensures ends { EndsText caption_text (device_of R.calls R.bytes_left reader.old reader.new)
+    ensures ends { EndsShown caption_text (device_of R.calls R.bytes_left reader.old reader.new)
         (device_of L.calls L.bytes_taken lines.old lines.new)
         memory.old memory.new result }
     ensures last { FlushesLast (L.calls lines.old) (L.calls lines.new) (L.unflushed lines.new) }
 {
-    let printed = captions_in(memory, reader, lines);
-    report_printed(lines, printed)
+    match read_all_in(memory, reader) {
+        Ok(file) => captions_file(memory, file.as_slice(), lines),
+        Err(fault) => report_fault(lines, fault, None),
+    }
 }
 
 /// Does a job on one file, of which it reads at most the first `LIMIT` + 7 bytes, 16,777,223. Returns the exit
@@ -191,6 +192,9 @@ fn run_captions<R: Source, L: Sink>(memory: &mut Memory, reader: &mut R, lines: 
 /// `failed: WriteFailed`). It flushes once after the line or text. If writing to `lines` fails, the status is 4, they
 /// took a prefix, and it writes no more to them. A line allocates nothing. `failed: OutOfMemory` means that one
 /// allocation of this run failed; after any other outcome none did.
+///
+/// `Show` and `Captions` also print a packet of XMP: a file that is refused as a block, and begins as a packet does. Its text is
+/// in memory before any of it is written. A packet with a text is a document in UTF-8; which lines it has no contract states.
 pub fn run_one_in<R: Source, O: Sink, L: Sink>(
     memory: &mut Memory,
     job: Job,

@@ -21,6 +21,8 @@
 mod job;
 pub mod laws;
 mod lines;
+mod packets;
+mod printed;
 
 pub use job::{Job, run_compare_in, run_one_in};
 pub use lines::{print_text, report_fault};

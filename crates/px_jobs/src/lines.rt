@@ -107,7 +107,7 @@ fn status(fault: Fault) -> u8
 }
 
 // Flushes. Returns the exit status: `expected`, or 4 if the flush fails.
-fn flushed<L: Sink>(lines: &mut L, expected: u8) -> u8
+pub(crate) fn flushed<L: Sink>(lines: &mut L, expected: u8) -> u8
     requires { CanCountFailure (L.calls lines.old) }
     ensures reported { Flushes expected result (device_of L.calls L.bytes_taken lines.old lines.new) }
     ensures last { FlushesLast (L.calls lines.old) (L.calls lines.new) (L.unflushed lines.new) }

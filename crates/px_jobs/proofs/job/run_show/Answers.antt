@@ -1,28 +1,23 @@
-use Rattle.std.proofs.Common.{ap}
 use Rattle.px_engine.specs.Prints.{listing}
-use Rattle.px_jobs.proofs.TextLaws.{counts_writes_space, text_reported}
-use Rattle.px_jobs.proofs.EndLaws.{text_last}
+use Rattle.px_engine.specs.Input.{most_read}
+use Rattle.px_bytes.specs.Devices.{device_of}
+use Rattle.px_jobs.proofs.PacketLaws.{file_shown, read_few, unread_shown}
 use Rattle.px_jobs.proofs.job.run_show.Goals as goal
 
-pub returns-clause-ends : goal.returns-clause-ends
-returns-clause-ends g c = (
-  c.show_in-printed.result,
-  c.show_in-printed.ensures.reads,
-  (c.show_in-printed.ensures.memory, c.show_in-printed.ensures.asked, c.show_in-printed.ensures.lost),
-  text_reported listing c.show_in-printed.result (g.R.Source.bytes_left c.args.reader.now) c.report_printed.result
-      (g.L.Device.calls c.args.lines.now) (g.L.Device.calls c.show_in-printed.new.writer) (g.L.Device.calls c.report_printed.new.lines)
-      (g.L.Sink.bytes_taken c.args.lines.now) (g.L.Sink.bytes_taken c.show_in-printed.new.writer)
-      (g.L.Sink.bytes_taken c.report_printed.new.lines)
-      c.show_in-printed.ensures.done c.show_in-printed.ensures.writes c.report_printed.ensures.reported,
-)
+pub returns-in-Ok-clause-ends : goal.returns-in-Ok-clause-ends
+returns-in-Ok-clause-ends g c = file_shown listing
+    (device_of g.R.Device.calls g.R.Source.bytes_left c.args.reader.now c.read_all_in.new.reader)
+    (device_of g.L.Device.calls g.L.Sink.bytes_taken c.args.lines.now c.show_file.new.lines) c.args.memory.now c.read_all_in.new.memory
+    c.show_file.new.memory c.show_file.result c.in-Ok.file.items
+    c.in-Ok.ensures.found c.in-Ok.ensures.lost c.in-Ok.ensures.count c.in-Ok.ensures.memory c.in-Ok.ensures.asked
+    (rw c.as_slice.ensures.value at c.show_file.ensures.ends)
 
-pub report_printed-requires : goal.report_printed-requires
-report_printed-requires g c =
-    counts_writes_space c.show_in-printed.result (g.L.Device.calls c.args.lines.now) (g.L.Device.calls c.show_in-printed.new.writer)
-    c.show_in-printed.ensures.writes c.requires.reporting
+pub show_file-requires-clause-few : goal.show_file-requires-clause-few
+show_file-requires-clause-few g c = rw c.as_slice.ensures.value (read_few _ _ most_read c.in-Ok.file.items c.in-Ok.ensures.found)
 
-pub returns-clause-last : goal.returns-clause-last
-returns-clause-last g c =
-    text_last c.show_in-printed.result c.report_printed.result _ (g.L.Device.calls c.show_in-printed.new.writer) _ _ _
-    (g.L.Sink.unflushed c.show_in-printed.new.writer) _ c.show_in-printed.ensures.writes c.show_in-printed.ensures.flushed
-    (λ s. ap g.L.Sink.unflushed (c.report_printed.ensures.still s)) c.report_printed.ensures.last c.report_printed.ensures.reported
+pub returns-in-Err-clause-ends : goal.returns-in-Err-clause-ends
+returns-in-Err-clause-ends g c = unread_shown listing c.in-Err.fault
+    (device_of g.R.Device.calls g.R.Source.bytes_left c.args.reader.now c.read_all_in.new.reader)
+    (device_of g.L.Device.calls g.L.Sink.bytes_taken c.args.lines.now c.report_fault.new.lines) c.args.memory.now c.read_all_in.new.memory
+    c.report_fault.result c.in-Err.ensures.fault
+    c.in-Err.ensures.lost c.in-Err.ensures.count c.in-Err.ensures.memory c.in-Err.ensures.asked c.report_fault.ensures.reported

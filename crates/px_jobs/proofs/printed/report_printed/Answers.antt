@@ -1,6 +1,6 @@
 use Rattle.std.proofs.Common.{refl}
 use Rattle.px_jobs.proofs.LineLaws.{idle_last}
-use Rattle.px_jobs.proofs.job.report_printed.Goals as goal
+use Rattle.px_jobs.proofs.printed.report_printed.Goals as goal
 
 pub returns-in-Err-clause-reported : goal.returns-in-Err-clause-reported
 returns-in-Err-clause-reported g c = rw c.in-Err.is c.report_text_fault.ensures.reported

@@ -1,6 +1,6 @@
 use Rattle.std.proofs.Common.{refl}
 use Rattle.px_jobs.proofs.LineLaws.{idle_last, reported_not_idle}
-use Rattle.px_jobs.proofs.job.report_text_fault.Goals as goal
+use Rattle.px_jobs.proofs.printed.report_text_fault.Goals as goal
 
 pub returns-then-eq-clause-last : goal.returns-then-eq-clause-last
 returns-then-eq-clause-last g c = idle_last _ _ _ refl

@@ -1,0 +1,5 @@
+use Rattle.std.proofs.Common.{◌≡◌}
+use Rattle.px_xmp_lines.proofs.captions.append_captions.Given as goal
+
+abbrev pub invariant-loop-i : goal.invariant-loop-i
+invariant-loop-i l = l.memory.failed_allocations ≡ l.fn.memory.failed_allocations

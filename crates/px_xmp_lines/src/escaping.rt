@@ -1,0 +1,113 @@
+// Octets and texts of a form, appended to lines. Only octets from space to tilde are printed, and line feeds between lines.
+ghost use Rattle.px_bytes.specs.Allocations.{CountsAllocFailure};
+
+use crate::parts::advance;
+use px_bytes::{AllocFailed, Memory};
+
+// What a reference or an octet means, and its length.
+#[derive(Clone, Copy, Debug, PartialEq, Eq)]
+struct Character {
+    octet: u8,
+    size: usize,
+}
+
+// Appends octets.
+pub(crate) fn append(
+    memory: &mut Memory,
+    out: &mut Vec<u8>,
+    octets: &[u8],
+) -> Result<(), AllocFailed>
+    ensures memory { CountsAllocFailure result memory.old memory.new }
+{
+    memory.extend_from_slice(out, octets)
+}
+
+// Whether an octet is printed as it is.
+fn is_plain(octet: u8) -> bool {
+    0x20 <= octet && octet <= 0x7E && octet != 0x5C
+}
+
+// A number below 16 as a hexadecimal digit.
+fn digit(number: u8) -> u8 {
+    if number < 10 {
+        return number.saturating_add(b'0');
+    }
+    number.saturating_add(b'a' - 10)
+}
+
+// Appends an octet, escaped unless it is plain.
+fn append_octet(memory: &mut Memory, out: &mut Vec<u8>, octet: u8) -> Result<(), AllocFailed>
+    ensures memory { CountsAllocFailure result memory.old memory.new }
+{
+    if is_plain(octet) {
+        return memory.push(out, octet);
+    }
+    append(memory, out, &[b'\\', digit(octet / 16), digit(octet % 16)])
+}
+
+// The character at the start of a text of a form, which has four references.
+fn character_at(octets: &[u8]) -> Character {
+    if octets.starts_with(b"&lt;") {
+        return Character {
+            octet: b'<',
+            size: 4,
+        };
+    }
+    if octets.starts_with(b"&gt;") {
+        return Character {
+            octet: b'>',
+            size: 4,
+        };
+    }
+    if octets.starts_with(b"&amp;") {
+        return Character {
+            octet: b'&',
+            size: 5,
+        };
+    }
+    if octets.starts_with(b"&#13;") {
+        return Character {
+            octet: b'\r',
+            size: 5,
+        };
+    }
+    match octets.first() {
+        Some(octet) => Character {
+            octet: *octet,
+            size: 1,
+        },
+        None => Character { octet: 0, size: 1 },
+    }
+}
+
+// Appends a text of a form, escaped.
+pub(crate) fn append_text(
+    memory: &mut Memory,
+    out: &mut Vec<u8>,
+    text: &[u8],
+) -> Result<(), AllocFailed>
+    ensures memory { CountsAllocFailure result memory.old memory.new }
+{
+    let mut rest = text;
+    while !rest.is_empty() {
+        let character = character_at(rest);
+        append_octet(memory, out, character.octet)?;
+        rest = advance(rest, character.size);
+    }
+    Ok(())
+}
+
+// Appends a space and a text, if there is one.
+pub(crate) fn append_after_space(
+    memory: &mut Memory,
+    out: &mut Vec<u8>,
+    text: &[u8],
+) -> Result<(), AllocFailed>
+    ensures memory { CountsAllocFailure result memory.old memory.new }
+{
+    if text.is_empty() {
+        return Ok(());
+    }
+    append(memory, out, b" ")?;
+    append_text(memory, out, text)
+}
