@@ -216,8 +216,8 @@ class Unread(NamedTuple):
 
 
 class NotRead(NamedTuple):
-    """Two JPEGs have the same Exif and IPTC as far as they are read, and one has a place that isn't read: the first one. It is neither true
-    nor false, so a test of it raises TypeError.
+    """Two JPEGs have the same metadata as far as they are read, and one has a place that isn't read. It is neither true nor false, so a test
+    of it raises TypeError.
 
     >>> if NotRead(1, Unread(False, 6)):
     ...     print("the same")
@@ -228,7 +228,7 @@ class NotRead(NamedTuple):
     side: int
     """The number of the JPEG, 1 or 2; 2 only if all of the first is read."""
     unread: Unread
-    """The place, as `jpeg_unread` returns it."""
+    """The place."""
 
     def __bool__(self) -> bool:
         place = f"{self.unread.start}{' of its joined blocks' * self.unread.joined}"
@@ -239,10 +239,10 @@ class NotRead(NamedTuple):
 
 
 def jpeg_unread(picture: Block) -> Optional[Unread]:
-    """The first place in a JPEG at which something is that other programs read as Exif or IPTC, or may, and `jpeg_same` doesn't, or the
+    """The first place in a JPEG at which something is that other programs read as Exif or IPTC, or may, and `jpeg_same_blocks` doesn't, or the
     reverse: a segment APP1 that seems to be Exif by another mark, APP13 with another mark than Photoshop's and Adobe_CM, resource 0422,
     resource 0404 with another signature than 8BIM, or bytes other than zeros after the last resource. None if there is none: of two such
-    JPEGs `jpeg_same` reads all.
+    JPEGs all Exif and IPTC is read.
 
     The bytes may be a whole file or only its first bytes. Raises HeadRefused, with the first fault, if they don't begin with the whole
     head of a JPEG; MemoryError and LibraryMissing.
@@ -292,11 +292,14 @@ def jpeg_xmp(picture: Block) -> Optional[bytes]:
 
 
 def jpeg_same(first: Block, second: Block) -> Union[bool, NotRead]:
-    """Whether two JPEGs have the same Exif and IPTC: as many blocks of each kind as `jpeg_blocks` finds, which mean the same, pair by pair,
-    in their order. So two JPEGs without metadata are the same. XMP, pixels, and what follows the head are not compared.
+    """Whether two JPEGs have the same Exif, IPTC and XMP: as many blocks of each kind as `jpeg_blocks` finds, which mean the same, pair by pair,
+    in their order; and no XMP, or one packet each, with equal forms by `xmp_normal`. So two JPEGs without metadata are the same. Pixels, and
+    what follows the head, are not compared. What this says of Exif and IPTC is proved, and which properties a packet has is tested.
 
-    If they are the same as far as they are read, and `jpeg_unread` finds a place in one of them, the result is that place, a `NotRead`, which
-    has no truth value: `if` raises TypeError, so nobody takes it for the same. Ask `is True` or `is False` where that may be.
+    If they are the same as far as they are read, and something in one of them isn't read, the result is its place, a `NotRead`, which has no
+    truth value: `if` raises TypeError, so nobody takes it for the same. Ask `is True` or `is False` where that may be. It is a place that
+    `jpeg_unread` returns; or XMP by another mark or in Photoshop's resource 0424; a packet that `xmp_normal` refuses; a second packet; or extended
+    XMP.
 
     The bytes may be whole files or only their first bytes. Raises PictureRefused, with the first fault, if one of them doesn't begin with
     the whole head of a JPEG, or has a block that breaks the rules; MemoryError and LibraryMissing.
@@ -310,7 +313,22 @@ def jpeg_same(first: Block, second: Block) -> Union[bool, NotRead]:
     >>> jpeg_same(turned, written_anew), jpeg_same(turned, upright)
     (True, False)
     """
-    answer = library().jpeg_same(_bytes_of(first), _bytes_of(second))
+    return _answer(library().jpeg_same(_bytes_of(first), _bytes_of(second)))
+
+
+def jpeg_same_blocks(first: Block, second: Block) -> Union[bool, NotRead]:
+    """Whether two JPEGs have the same Exif and IPTC, as for `jpeg_same`: XMP is not compared. All of this answer is proved. A `NotRead` has the
+    first place that `jpeg_unread` finds in one of them.
+
+    >>> picture = b"\\xff\\xd8\\xff\\xe1\\0\\x24http://ns.adobe.com/xap/1.0/\\0<x/>.\\xff\\xd9"
+    >>> jpeg_same_blocks(picture, b"\\xff\\xd8\\xff\\xd9"), jpeg_same(picture, b"\\xff\\xd8\\xff\\xd9")
+    (True, NotRead(side=1, unread=Unread(joined=False, start=35)))
+    """
+    return _answer(library().jpeg_same_blocks(_bytes_of(first), _bytes_of(second)))
+
+
+def _answer(answer: Union[int, PictureFailure]) -> Union[bool, NotRead]:
+    """The answer of a comparison of two JPEGs."""
     if isinstance(answer, int):
         return answer == 1
     status, _, joined, _, start = answer

@@ -160,6 +160,7 @@ ARGUMENTS = {
     "exifnorm_jpeg_parts": [*_BLOCK, ctypes.POINTER(PartStruct), *_ROOM, _JPEG_FAULT],
     "exifnorm_photoshop_resources": [*_BLOCK, ctypes.POINTER(ResourceStruct), *_ROOM],
     "exifnorm_jpeg_same": [*_BLOCK, *_BLOCK, _NUMBER, ctypes.POINTER(UnreadStruct), _PICTURE_FAULT],
+    "exifnorm_jpeg_same_blocks": [*_BLOCK, *_BLOCK, _NUMBER, ctypes.POINTER(UnreadStruct), _PICTURE_FAULT],
     "exifnorm_jpeg_blocks": [
         *_BLOCK,
         ctypes.POINTER(PlaceStruct),
@@ -176,8 +177,11 @@ ARGUMENTS = {
     "exifnorm_cause_name": [ctypes.c_uint32, *_OUT],
     "exifnorm_version": _OUT,
 }
-_OF_EXTENSION = list(ARGUMENTS)[:9]
-_NEWER = {"exifnorm_jpeg_xmp"}  # calls that a library may lack which is older than this package: all others work with it
+_OF_EXTENSION = list(ARGUMENTS)[:10]
+_NEWER = {
+    "exifnorm_jpeg_xmp",
+    "exifnorm_jpeg_same_blocks",
+}  # calls that a library may lack which is older than this package: all others work
 
 
 class Room:
@@ -261,9 +265,15 @@ class ByCtypes:
         return self._rows(self._library.exifnorm_photoshop_resources, octets, most, ResourceStruct)
 
     def jpeg_same(self, first: bytes, second: bytes) -> Pair:
+        return self._pair(self._library.exifnorm_jpeg_same, first, second)
+
+    def jpeg_same_blocks(self, first: bytes, second: bytes) -> Pair:
+        return self._pair(getattr(self._library, _name_of("exifnorm_jpeg_same_blocks", self._library)), first, second)
+
+    @staticmethod
+    def _pair(call: Callable[..., int], first: bytes, second: bytes) -> Pair:
         same, unread, fault = ctypes.c_uint32(), UnreadStruct(), PictureFault()
-        pictures = first, len(first), second, len(second)
-        status = self._library.exifnorm_jpeg_same(*pictures, ctypes.byref(same), ctypes.byref(unread), ctypes.byref(fault))
+        status = call(first, len(first), second, len(second), ctypes.byref(same), ctypes.byref(unread), ctypes.byref(fault))
         if status in (Status.NOT_READ, Status.SECOND_NOT_READ):
             return status, 0, unread.joined, 0, unread.start
         return same.value if status == _DONE else (status, fault.cause, fault.kind, fault.number, fault.place)
@@ -342,18 +352,21 @@ class Library:
     jpeg_parts: Callable[[bytes, int], Rows]
     photoshop_resources: Callable[[bytes, int], Rows]
     jpeg_same: Callable[[bytes, bytes], Pair]
+    jpeg_same_blocks: Callable[[bytes, bytes], Pair]
     jpeg_blocks: Callable[[bytes], Places]
 
     def __init__(self, place: str) -> None:
         self._library = _opened(place)
         self.by_ctypes = calls = ByCtypes(self._library)
         blocks: Any = calls.check, calls.normalise, calls.compare, calls.show, calls.captions
-        jpegs: Any = calls.jpeg_parts, calls.photoshop_resources, calls.jpeg_same, calls.jpeg_blocks
+        jpegs: Any = calls.jpeg_parts, calls.photoshop_resources, calls.jpeg_same, calls.jpeg_same_blocks, calls.jpeg_blocks
         if _native:
-            functions = _native.functions(*(_address(getattr(self._library, name)) for name in _OF_EXTENSION))
+            functions = _native.functions(*(_address(getattr(self._library, _name_of(name, self._library))) for name in _OF_EXTENSION))
             blocks, jpegs = functions[:5], functions[5:]
         self.check, self.normalise, self.compare, self.show, self.captions = blocks
-        self.jpeg_parts, self.photoshop_resources, self.jpeg_same, self.jpeg_blocks = jpegs
+        self.jpeg_parts, self.photoshop_resources, self.jpeg_same, self.jpeg_same_blocks, self.jpeg_blocks = jpegs
+        if not hasattr(self._library, "exifnorm_jpeg_same_blocks"):
+            self.jpeg_same = _without_xmp
         self.jpeg_unread, self.jpeg_xmp, self.xmp_normalise = calls.jpeg_unread, calls.jpeg_xmp, calls.xmp_normalise  # which take longer
 
     def cause_name(self, cause: int) -> str:
@@ -369,6 +382,16 @@ class Library:
         out, written = ctypes.create_string_buffer(NAME_ROOM), ctypes.c_size_t()
         call(*first, out, NAME_ROOM, ctypes.byref(written))
         return out.value.decode("ascii")
+
+
+def _name_of(name: str, library: ctypes.CDLL) -> str:
+    """The name of a call in a library: `exifnorm_jpeg_same` of an older one compares blocks alone."""
+    return name if name != "exifnorm_jpeg_same_blocks" or hasattr(library, name) else "exifnorm_jpeg_same"
+
+
+def _without_xmp(first: bytes, second: bytes) -> Pair:
+    """In place of a comparison that an older library makes without XMP."""
+    raise LibraryMissing("the library compares no XMP of two JPEGs: it is older than this package")
 
 
 def _address(function: Any) -> int:

@@ -43,6 +43,7 @@ struct calls {
     parts_call jpeg_parts;
     resources_call photoshop_resources;
     same_call jpeg_same;
+    same_call jpeg_same_blocks;
     blocks_call jpeg_blocks;
 };
 
@@ -299,19 +300,19 @@ static PyObject *photoshop_resources(PyObject *capsule, PyObject *arguments)
     return rows_of(capsule, arguments, get_resources, sizeof(struct exifnorm_photoshop_resource));
 }
 
-static PyObject *jpeg_same(PyObject *capsule, PyObject *arguments)
+/* The answer of a comparison of two JPEGs. */
+static PyObject *pair(same_call call, const char *name, PyObject *arguments)
 {
-    struct calls *calls = PyCapsule_GetPointer(capsule, NULL);
     struct exifnorm_picture_fault fault = {0, 0, 0, 0};
     struct exifnorm_unread_part unread = {0, 0, 0};
     struct bytes first, second;
     uint32_t status, same = 0;
 
-    if (calls == NULL || get_pair(arguments, "jpeg_same", &first, &second) < 0) {
+    if (get_pair(arguments, name, &first, &second) < 0) {
         return NULL;
     }
     Py_BEGIN_ALLOW_THREADS
-    status = calls->jpeg_same(first.start, first.length, second.start, second.length, &same, &unread, &fault);
+    status = call(first.start, first.length, second.start, second.length, &same, &unread, &fault);
     Py_END_ALLOW_THREADS
     if (status == EXIFNORM_DONE) {
         return PyLong_FromUnsignedLong(same);
@@ -321,6 +322,20 @@ static PyObject *jpeg_same(PyObject *capsule, PyObject *arguments)
     }
     return Py_BuildValue("(IIInn)", (unsigned int)status, (unsigned int)fault.cause, (unsigned int)fault.kind, (Py_ssize_t)fault.number,
                          (Py_ssize_t)fault.place);
+}
+
+static PyObject *jpeg_same(PyObject *capsule, PyObject *arguments)
+{
+    const struct calls *calls = PyCapsule_GetPointer(capsule, NULL);
+
+    return calls == NULL ? NULL : pair(calls->jpeg_same, "jpeg_same", arguments);
+}
+
+static PyObject *jpeg_same_blocks(PyObject *capsule, PyObject *arguments)
+{
+    const struct calls *calls = PyCapsule_GetPointer(capsule, NULL);
+
+    return calls == NULL ? NULL : pair(calls->jpeg_same_blocks, "jpeg_same_blocks", arguments);
 }
 
 /* The rows of the blocks and the joined bytes. The call is made again if they are more than a few, or if there are joined bytes. */
@@ -382,7 +397,8 @@ static PyMethodDef of_library[] = {
     {"captions", captions, METH_O, "The text with the captions of a block."},
     {"jpeg_parts", jpeg_parts, METH_VARARGS, "The parts of a JPEG's head, at most so many."},
     {"photoshop_resources", photoshop_resources, METH_VARARGS, "Photoshop's image resources, at most so many."},
-    {"jpeg_same", jpeg_same, METH_VARARGS, "1 if two JPEGs have the same Exif and IPTC, 0 if not, or a place that isn't read."},
+    {"jpeg_same", jpeg_same, METH_VARARGS, "1 if two JPEGs have the same Exif, IPTC and XMP, 0 if not, or a place that isn't read."},
+    {"jpeg_same_blocks", jpeg_same_blocks, METH_VARARGS, "1 if two JPEGs have the same Exif and IPTC, 0 if not, or a place that isn't read."},
     {"jpeg_blocks", jpeg_blocks, METH_O, "Where the blocks of a JPEG are, and the bytes of those in several pieces."},
 };
 #define COUNT ((Py_ssize_t)(sizeof of_library / sizeof of_library[0]))
@@ -409,7 +425,8 @@ static PyObject *capsule_of(const Py_ssize_t *at)
     calls->jpeg_parts = (parts_call)at[5];
     calls->photoshop_resources = (resources_call)at[6];
     calls->jpeg_same = (same_call)at[7];
-    calls->jpeg_blocks = (blocks_call)at[8];
+    calls->jpeg_same_blocks = (same_call)at[8];
+    calls->jpeg_blocks = (blocks_call)at[9];
     capsule = PyCapsule_New(calls, NULL, free_calls);
     if (capsule == NULL) {
         PyMem_Free(calls);
@@ -438,7 +455,8 @@ static PyObject *functions(PyObject *module, PyObject *arguments)
     Py_ssize_t at[COUNT];
     PyObject *capsule, *made;
 
-    if (!PyArg_ParseTuple(arguments, "nnnnnnnnn:functions", &at[0], &at[1], &at[2], &at[3], &at[4], &at[5], &at[6], &at[7], &at[8])) {
+    if (!PyArg_ParseTuple(arguments, "nnnnnnnnnn:functions", &at[0], &at[1], &at[2], &at[3], &at[4], &at[5], &at[6], &at[7], &at[8],
+                          &at[9])) {
         return NULL;
     }
     for (Py_ssize_t i = 0; i < COUNT; i++) {
@@ -486,10 +504,10 @@ static PyObject *normal(PyObject *module, PyObject *arguments, PyObject *named)
 
 static PyMethodDef methods[] = {
     {"functions", functions, METH_VARARGS,
-     "The functions check, normalise, compare, show, captions, jpeg_parts, photoshop_resources, jpeg_same and jpeg_blocks that call the "
-     "library's functions at these nine addresses. Each takes bytes, jpeg_parts and photoshop_resources also the most rows, and returns its result, "
-     "or a tuple of the status, the number of the cause and the offset, with jpeg_parts also the rows before the fault, and with jpeg_same "
-     "the kind and the index of the block before the offset. For a place that isn't read that is the status, 0, whether it is in the joined "
+     "The functions check, normalise, compare, show, captions, jpeg_parts, photoshop_resources, jpeg_same, jpeg_same_blocks and jpeg_blocks "
+     "that call the library's functions at these ten addresses. Each takes bytes, jpeg_parts and photoshop_resources also the most rows, and returns its result, "
+     "or a tuple of the status, the number of the cause and the offset, with jpeg_parts also the rows before the fault, and with the two "
+     "comparisons of JPEGs the kind and the index of the block before the offset. For a place that isn't read that is the status, 0, whether it is in the joined "
      "bytes, 0, and the offset."},
     {"normal", (PyCFunction)(void (*)(void))normal, METH_VARARGS | METH_KEYWORDS,
      "normal($module, /, block)\n"
@@ -520,5 +538,6 @@ PyMODINIT_FUNC PyInit__native(void)
     (void)sizeof(1 ? ((struct calls *)0)->jpeg_parts : exifnorm_jpeg_parts);
     (void)sizeof(1 ? ((struct calls *)0)->photoshop_resources : exifnorm_photoshop_resources);
     (void)sizeof(1 ? ((struct calls *)0)->jpeg_same : exifnorm_jpeg_same);
+    (void)sizeof(1 ? ((struct calls *)0)->jpeg_same_blocks : exifnorm_jpeg_same_blocks);
     return PyModuleDef_Init(&definition);
 }

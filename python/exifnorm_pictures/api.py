@@ -167,7 +167,7 @@ class Comparison(NamedTuple):
     - `picture`: whether the data are equal from which the pixels are decoded: "the same", "the same but for colour profiles or comments",
       "other", "damaged", "damaged before" or "damaged before and after"; "not compared" if there is no reader for these data, the formats
       differ, or a file is gone
-    - `proved`: the proved answer of `exifnorm.jpeg_same` for the Exif and IPTC in the heads of two JPEGs: "same", "different", or "not wholly
+    - `proved`: the proved answer of `exifnorm.jpeg_same_blocks` for the Exif and IPTC in the heads of two JPEGs: "same", "different", or "not wholly
       read" (the same as far as they were read). None if there is no answer: a file is gone or is no JPEG, its head is damaged, or a block is
       refused
 

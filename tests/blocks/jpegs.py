@@ -6,6 +6,7 @@ import re
 TEM, RST0, SOI, EOI, SOS = 0x01, 0xD0, 0xD8, 0xD9, 0xDA
 SIGNATURES = (b"8BIM", b"PHUT", b"AgHg", b"DCSR", b"MeSa")
 SEEMS_EXIF = re.compile(rb".{0,4}Exif\0.", re.DOTALL | re.IGNORECASE)  # ExifTool.pm, ProcessJPEG
+SEEMS_XMP = re.compile(rb"\A(?:http|XMP\0)|<(?:exif:|\?xpacket)")  # in APP1, by ExifTool's source
 
 
 class Fault(Exception):
@@ -107,6 +108,22 @@ def unread(octets):
         joined += len(data) * is_joined
         if kind == "photoshop" and (at := unread_resource(data)) is not None:
             return is_joined, first + at
+    return None
+
+
+def other_xmp(octets):
+    """The first place in a head beside packets and extended XMP in which ExifTool reads XMP, in the form of `unread`."""
+    for marker, kind, _, start, size in parts(octets)[0]:
+        if not kind and marker == 0xE1 and SEEMS_XMP.search(octets[start : start + size]):
+            return False, start
+    joined = 0
+    for kind, pieces in blocks(octets):
+        data = b"".join(octets[start : start + size] for start, size in pieces)
+        is_joined, first = len(pieces) > 1, joined if len(pieces) > 1 else pieces[0][0]
+        joined += len(data) * is_joined
+        there = [at for _, number, at, length in placed_resources(data)[0] if length and number == 0x0424] if kind == "photoshop" else []
+        if there:
+            return is_joined, first + there[0]
     return None
 
 

@@ -1,5 +1,5 @@
 /* What one call of the library costs: cost CALL FILE, where CALL is check, normalise, show, captions, compare (with itself), jpeg_parts,
- * photoshop_resources, jpeg_same (with itself), jpeg_unread, jpeg_xmp, xmp_check or xmp_normalise. It prints the most bytes that the call has allocated at once, the number of its allocations, how many of these made
+ * photoshop_resources, jpeg_same or jpeg_same_blocks (with itself), jpeg_unread, jpeg_xmp, xmp_check or xmp_normalise. It prints the most bytes that the call has allocated at once, the number of its allocations, how many of these made
  * something longer, the bytes that they asked for, and the length of the output. test_costs.py runs it, also under callgrind, which counts the
  * instructions of the call. */
 #include "fuzz/memory.h"
@@ -54,6 +54,8 @@ static uint32_t called(const char *name, struct block block, void *out, size_t r
         return exifnorm_photoshop_resources(block.bytes, block.length, out, room / sizeof(struct exifnorm_photoshop_resource), written);
     if (!strcmp(name, "jpeg_same"))
         return exifnorm_jpeg_same(block.bytes, block.length, block.bytes, block.length, &number, &unread, &of_picture);
+    if (!strcmp(name, "jpeg_same_blocks"))
+        return exifnorm_jpeg_same_blocks(block.bytes, block.length, block.bytes, block.length, &number, &unread, &of_picture);
     if (!strcmp(name, "jpeg_unread"))
         return exifnorm_jpeg_unread(block.bytes, block.length, &unread, &of_head);
     if (!strcmp(name, "jpeg_xmp"))

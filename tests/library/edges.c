@@ -103,6 +103,7 @@ static void try_no_picture(const unsigned char *none) {
     REQUIRE(exifnorm_jpeg_same(none, 0, picture, PICTURE, &same, &unread, &of_picture) == EXIFNORM_REFUSED);
     REQUIRE(of_picture.cause == EXIFNORM_JPEG_NO_START && of_picture.place == 0);
     REQUIRE(exifnorm_jpeg_same(picture, PICTURE, none, 0, &same, &unread, &of_picture) == EXIFNORM_SECOND_REFUSED);
+    REQUIRE(exifnorm_jpeg_same_blocks(none, 0, picture, PICTURE, &same, &unread, &of_picture) == EXIFNORM_REFUSED);
     REQUIRE(same == UNSET && unread.found == UNSET);
 }
 

@@ -213,7 +213,7 @@ def test_no_comparison_of_pictures_asks_for_more_than_is_proved(costs):
             ([(exif, record)] * 2, picture(of_exif(exif), of_record(record), of_exif(exif), of_record(record))),
         ):
             once = sum(2 * bounds().exif_request(len(one)) + bounds().iim_request(len(other)) for one, other in blocks)
-            asked = costs.counts("jpeg_same", octets).asked
+            asked = costs.counts("jpeg_same_blocks", octets).asked
             assert asked <= 2 * (bounds().join_request(len(octets)) + once), f"{len(octets)} bytes ask for {asked}"
 
 
@@ -338,13 +338,13 @@ PARTS = {
     "pieces of Exif": ("jpeg_parts", segment(0xE1, b"Exif\0\0MM\0*" + bytes(100)), 305),
     "extended XMP": ("jpeg_parts", segment(0xE1, b"http://ns.adobe.com/xmp/extension/\0" + bytes(100)), 383),
     "resources": ("photoshop_resources", b"8BIM\4\4\0\0\0\0\0\x02ab", 139),
-    "comments in two pictures": ("jpeg_same", segment(0xFE, b"comment"), 1_473),
+    "comments in two pictures": ("jpeg_same_blocks", segment(0xFE, b"comment"), 1_473),
     "resources in two pictures": (
-        "jpeg_same",
+        "jpeg_same_blocks",
         segment(0xED, b"Photoshop 3.0\0" + b"8BIM\4\x22\0\0\0\0\0\x02ab") + segment(0xFE, b""),
         3_980,
     ),
-    "XMP in two pictures": ("jpeg_same", segment(0xE1, b"http://ns.adobe.com/xap/1.0/\0" + bytes(100)), 3_356),
+    "XMP in two pictures": ("jpeg_same_blocks", segment(0xE1, b"http://ns.adobe.com/xap/1.0/\0" + bytes(100)), 3_356),
     "comments in a picture without XMP": ("jpeg_xmp", segment(0xFE, b"comment"), 145),
     "Exif in a picture without XMP": ("jpeg_xmp", segment(0xE1, b"Exif\0\0MM\0*" + bytes(100)), 230),
     "long resources": ("photoshop_resources", b"MeSa\4\4\0\0\0\0\x10\0" + bytes(4096), 184),

@@ -61,8 +61,11 @@ def picture(block):
     return b"\xff\xd8\xff\xe1" + (len(block) + 8).to_bytes(2, "big") + b"Exif\0\0" + block + b"\xff\xd9"
 
 
+PAIRS = ("jpeg_same", "jpeg_same_blocks")
+PACKET = b"http://ns.adobe.com/xap/1.0/\0<r:RDF xmlns:r='http://www.w3.org/1999/02/22-rdf-syntax-ns#'/>"
 PICTURES = {
     "a picture": picture(ONE),
+    "a packet": b"\xff\xd8\xff\xe1" + (2 + len(PACKET)).to_bytes(2, "big") + PACKET + b"\xff\xd9",
     "without metadata": JPEGS["a head"],
     "a refused block": picture(LOOP),
     "no head": b"x",
@@ -127,7 +130,8 @@ def test_rows_are_those_of_ctypes(loaded, octets, most):
 @pytest.mark.parametrize("first", PICTURES.values(), ids=PICTURES)
 def test_comparisons_of_pictures_are_those_of_ctypes(loaded, first):
     for second in PICTURES.values():
-        assert loaded.jpeg_same(first, second) == loaded.by_ctypes.jpeg_same(first, second)
+        for name in PAIRS:
+            assert getattr(loaded, name)(first, second) == getattr(loaded.by_ctypes, name)(first, second)
 
 
 @pytest.mark.parametrize("wrong", [None, 5, "MM", bytearray(ONE), memoryview(ONE)], ids=lambda it: type(it).__name__)
@@ -136,7 +140,8 @@ def test_arguments_of_calls(loaded, wrong):
         assert outcome(getattr(loaded, name), wrong)[0] == "TypeError"
         assert outcome(getattr(loaded, name))[0] == "TypeError"
     for wrong_pair in ((wrong, ONE), (ONE, wrong), (ONE,), (ONE, ONE, ONE)):
-        assert outcome(loaded.compare, *wrong_pair)[0] == outcome(loaded.jpeg_same, *wrong_pair)[0] == "TypeError"
+        for name in ("compare", *PAIRS):
+            assert outcome(getattr(loaded, name), *wrong_pair)[0] == "TypeError"
     for name in OF_JPEGS:
         for words in ((wrong, 1), (ONE, "1"), (ONE, 1.5), (ONE,), (ONE, 1, 1)):
             assert outcome(getattr(loaded, name), *words)[0] == "TypeError"
@@ -146,12 +151,12 @@ def test_arguments_of_calls(loaded, wrong):
 @pytest.mark.parametrize(
     "wrong, error",
     [
-        ((0, 1, 1, 1, 1, 1, 1, 1, 1), "ValueError"),
-        ((1, 1, 1, 1, 1, 1, 1, 1, 0), "ValueError"),
-        ((1, 1, 1, 1, 1, 1, 1, 1), "TypeError"),
-        ((1, 1, 1, 1, 1, 1, 1, 1, None), "TypeError"),
-        ((1, 1, 1, 1, 1, 1, 1, 1, 1.5), "TypeError"),
-        ((1, 1, 1, 1, 1, 1, 1, 1, 1 << 70), "OverflowError"),
+        ((0, 1, 1, 1, 1, 1, 1, 1, 1, 1), "ValueError"),
+        ((1, 1, 1, 1, 1, 1, 1, 1, 1, 0), "ValueError"),
+        ((1, 1, 1, 1, 1, 1, 1, 1, 1), "TypeError"),
+        ((1, 1, 1, 1, 1, 1, 1, 1, 1, None), "TypeError"),
+        ((1, 1, 1, 1, 1, 1, 1, 1, 1, 1.5), "TypeError"),
+        ((1, 1, 1, 1, 1, 1, 1, 1, 1, 1 << 70), "OverflowError"),
     ],
 )
 def test_addresses(native, wrong, error):
@@ -175,6 +180,7 @@ for name in sys.argv[3:]:
         call(block)
     calls.compare(block, block)
     calls.jpeg_same(block, block)
+    calls.jpeg_same_blocks(block, block)
     for call in (calls.jpeg_parts, calls.photoshop_resources):
         for most in (1, 64, 100_000):
             call(block, most)
@@ -239,7 +245,7 @@ def test_memory_after_many_comparisons_of_pictures(loaded, second):
 
 def addresses(loaded):
     """Those of the library's functions, as the extension module takes them."""
-    names = ("check", "normalise", "compare", "show", "captions", *OF_JPEGS, "jpeg_same", "jpeg_blocks")
+    names = ("check", "normalise", "compare", "show", "captions", *OF_JPEGS, *PAIRS, "jpeg_blocks")
     return [ctypes.cast(getattr(loaded._library, f"exifnorm_{it}"), ctypes.c_void_p).value for it in names]
 
 
@@ -307,8 +313,9 @@ def test_allocations_of_a_comparison_that_fail(loaded, refusing):
 def test_allocations_of_a_comparison_of_pictures_that_fail(loaded, refusing):
     first = PICTURES["a picture"]
     for second in PICTURES.values():
-        *failed, last = outcomes(refusing, lambda it, other=second: loaded.jpeg_same(it, other), first)
-        assert failed == [("MemoryError",)] * len(failed) and last == loaded.jpeg_same(first, second)
+        for call in (loaded.jpeg_same, loaded.jpeg_same_blocks):
+            *failed, last = outcomes(refusing, lambda it, call=call, other=second: call(it, other), first)
+            assert failed == [("MemoryError",)] * len(failed) and last == call(first, second)
 
 
 @pytest.mark.parametrize("name", OF_JPEGS)

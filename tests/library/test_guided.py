@@ -31,6 +31,7 @@ CALLS = (
     "jpeg_blocks",
     "photoshop_resources",
     "jpeg_same",
+    "jpeg_same_blocks",
     "jpeg_unread",
     "jpeg_xmp",
     "xmp_check",

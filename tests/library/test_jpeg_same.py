@@ -1,5 +1,5 @@
-"""exifnorm_jpeg_same, from C and by the package: pictures whose blocks are known, each kind of fault on either side, and thousands of pairs that
-are made by chance, beside the independent readers of heads and of blocks."""
+"""exifnorm_jpeg_same and exifnorm_jpeg_same_blocks, from C and by the package: pictures whose blocks are known, each kind of fault on either side,
+and thousands of pairs that are made by chance, beside the independent readers of heads and of blocks. test_jpeg_same_xmp.py is about XMP."""
 
 import ctypes
 import pickle
@@ -58,8 +58,14 @@ def picture(*pieces, end=END):
     return START + b"".join(pieces) + end
 
 
+@pytest.fixture(params=["jpeg_same_blocks", "jpeg_same"])
+def name(request):
+    """The name of the call: of the one without XMP, or of the one with it."""
+    return request.param
+
+
 @pytest.fixture
-def compared(shared):
+def compared(shared, name):
     """The call in C: its status, and the result or the fault. What a status doesn't name must be unchanged."""
     library = ctypes.CDLL(str(shared))
 
@@ -67,7 +73,7 @@ def compared(shared):
         same, fault = ctypes.c_uint32(UNSET), ctypes.create_string_buffer(bytes((FILLER,)) * FAULT.size, FAULT.size)
         sizes = ctypes.c_size_t(len(first)), ctypes.c_size_t(len(second))
         unread = ctypes.create_string_buffer(bytes((FILLER,)) * UNREAD.size, UNREAD.size)
-        status = library.exifnorm_jpeg_same(first, sizes[0], second, sizes[1], ctypes.byref(same), unread, fault)
+        status = library[f"exifnorm_{name}"](first, sizes[0], second, sizes[1], ctypes.byref(same), unread, fault)
         assert (same.value == UNSET) == (status != DONE), "the result"
         assert (unread.raw == bytes((FILLER,)) * UNREAD.size) == (status not in (NOT_READ, SECOND_NOT_READ)), "the place that isn't read"
         assert (fault.raw == bytes((FILLER,)) * FAULT.size) == (status not in (REFUSED, SECOND_REFUSED)), "the fault"
@@ -79,27 +85,28 @@ def compared(shared):
 
 
 @pytest.fixture
-def see(compared, way):
+def see(compared, name, way):
     """Sees that the call in C and that of the package give the expected result: whether two pictures are the same, or the fault."""
+    call = getattr(exifnorm, name)
 
     def check(first, second, expected):
         found = compared(first, second)
         if isinstance(expected, bool):
             assert found == (DONE, int(expected))
-            assert exifnorm.jpeg_same(first, second) is expected
+            assert call(first, second) is expected
             return
         if isinstance(expected, NotRead):
             side, (joined, start) = expected
             assert found == (SECOND_NOT_READ if side == 2 else NOT_READ, (1, int(joined), start))
-            assert exifnorm.jpeg_same(first, second) == expected
+            assert call(first, second) == expected
             with pytest.raises(TypeError, match=f"JPEG {side} has a part at {start}"):
-                bool(exifnorm.jpeg_same(first, second))
+                bool(call(first, second))
             return
         cause, place, side, kind, index = expected
         number = (NUMBERS if kind else HEADS)[cause]
         assert found == (SECOND_REFUSED if side == 2 else REFUSED, (number, KINDS.index(kind), index, place))
         with pytest.raises(PictureRefused) as raised:
-            exifnorm.jpeg_same(first, second)
+            call(first, second)
         it = raised.value
         assert (it.cause, it.offset, it.side, it.kind, it.index) == expected
         again = pickle.loads(pickle.dumps(it))
@@ -125,7 +132,6 @@ SAME = {
         picture(exif(TURNED), iptc(LONG_CAPTION), exif(UPRIGHT), COMMENT, iptc(URN)),
     ),
     "an empty resource is no block": (picture(iptc(b"")), picture()),
-    "XMP": (picture(segment(0xE1, XMP + b"<x/>"), photoshop(resource(0x0424, b"<x/>"))), picture()),
     "zeros after the resources": (picture(photoshop(resource(0x0404, CAPTION) + bytes(5))), picture(iptc(CAPTION))),
     "empty resources that aren't read": (picture(photoshop(resource(0x0422, b"") + resource(0x0404, b"", b"AgHg"))), picture()),
     "an empty APP13, and APP1 without the word": (picture(segment(0xED, b""), segment(0xE1, b"Exif\0")), picture()),
@@ -245,8 +251,8 @@ def blocks_of(octets):
     return found, None
 
 
-def expected_of(first, second):
-    """The result by the independent readers."""
+def expected_of(first, second, has_xmp):
+    """The result by the independent readers. No packet of XMP here has a form."""
     pictures = [blocks_of(it) for it in (first, second)]
     for side, (_, fault) in enumerate(pictures, 1):
         if fault:
@@ -261,13 +267,21 @@ def expected_of(first, second):
                 except Fault as why:
                     return (*why.args, side, kind, index)
         forms.append(meant)
-    place = place_of(first, second)
+    place = place_of(first, second, has_xmp)
     return forms[0] == forms[1] if forms[0] != forms[1] or place is None else place
 
 
-def place_of(first, second):
+def xmp_of(octets):
+    """The place of XMP that isn't read: in other places than packets, or that of the only packet or of the second one."""
+    if other := jpegs.other_xmp(octets):
+        return other
+    packets = [(False, start) for _, kind, _, start, _ in jpegs.parts(octets)[0] if kind == "xmp"]
+    return packets[min(len(packets) - 1, 1)] if packets else None
+
+
+def place_of(first, second, has_xmp):
     """The first place that isn't read, by the independent reader."""
-    places = [jpegs.unread(it) for it in (first, second)]
+    places = [jpegs.unread(it) or (xmp_of(it) if has_xmp else None) for it in (first, second)]
     return next((NotRead(side, Unread(*place)) for side, place in enumerate(places, 1) if place), None)
 
 
@@ -307,12 +321,12 @@ def changed(chance, octets):
     return octets[:at] if way == 1 else octets
 
 
-def test_pairs_that_are_made_by_chance(compared):
+def test_pairs_that_are_made_by_chance(compared, name):
     chance, met = Random(SEED), {}
     for _ in range(PAIRS):
         first = changed(chance, made(chance))
         second = changed(chance, first if chance.randrange(2) else made(chance))
-        expected = expected_of(first, second)
+        expected = expected_of(first, second, name == "jpeg_same")
         status, found = compared(first, second)
         if isinstance(expected, bool):
             assert (status, found) == (DONE, int(expected)), (first.hex(), second.hex())
@@ -337,27 +351,51 @@ def test_pairs_that_are_made_by_chance(compared):
 # ---- the package
 
 
-def test_ways_to_give_bytes(way):
+def test_ways_to_give_bytes(way, name):
     """A picture may be longer than any block."""
+    call = getattr(exifnorm, name)
     long = picture(exif(ONE), end=SCAN) + bytes(17_000_000)
     for given_as in (bytearray, lambda it: memoryview(b"xx" + it + b"yy")[2:-2]):
-        assert exifnorm.jpeg_same(given_as(long), picture(exif(TURNED))) is True
-        assert exifnorm.jpeg_same(picture(exif(UPRIGHT)), given_as(long)) is False
+        assert call(given_as(long), picture(exif(TURNED))) is True
+        assert call(picture(exif(UPRIGHT)), given_as(long)) is False
     for wrong in (None, 5, "MM"):
-        assert outcome(exifnorm.jpeg_same, wrong, long)[0] == outcome(exifnorm.jpeg_same, long, wrong)[0] == "TypeError"
-    assert outcome(exifnorm.jpeg_same, memoryview(long)[::2], long)[0] == "BufferError"
+        assert outcome(call, wrong, long)[0] == outcome(call, long, wrong)[0] == "TypeError"
+    assert outcome(call, memoryview(long)[::2], long)[0] == "BufferError"
 
 
-def test_a_library_that_answers_otherwise(way, monkeypatch):
+def test_a_library_that_answers_otherwise(way, name, monkeypatch):
+    call = getattr(exifnorm, name)
     for failure, expected in (((4, 0, 0, 0, 0), "MemoryError"), ((3, 0, 0, 0, 0), "AssertionError"), ((9, 0, 0, 0, 0), "AssertionError")):
-        monkeypatch.setattr(_library.library(), "jpeg_same", lambda *_, it=failure: it)
-        assert outcome(exifnorm.jpeg_same, picture(), picture())[0] == expected
-    monkeypatch.setattr(_library.library(), "jpeg_same", lambda *_: (6, 105, 0, 0, 0))
+        monkeypatch.setattr(_library.library(), name, lambda *_, it=failure: it)
+        assert outcome(call, picture(), picture())[0] == expected
+    monkeypatch.setattr(_library.library(), name, lambda *_: (6, 105, 0, 0, 0))
     with pytest.raises(PictureRefused) as raised:
-        exifnorm.jpeg_same(picture(), picture())
+        call(picture(), picture())
     assert str(raised.value) == "JpegTooLong at 0 in the head, picture 2"
 
 
+def test_an_older_library_compares_blocks_alone(shared, monkeypatch, way):
+    """Its only comparison is that of blocks, and is never taken for one with XMP."""
+
+    class Older:
+        def __init__(self, library):
+            self._library = library
+            self.exifnorm_jpeg_same = library.exifnorm_jpeg_same_blocks
+
+        def __getattr__(self, name):
+            if name == "exifnorm_jpeg_same_blocks":
+                raise AttributeError(name)
+            return getattr(self._library, name)
+
+    plain = ctypes.CDLL
+    monkeypatch.setattr(_library.ctypes, "CDLL", lambda place: Older(plain(place)))
+    older = _library.Library(str(shared))
+    assert older.jpeg_same_blocks(picture(exif(ONE)), picture(exif(TURNED))) == 1
+    with pytest.raises(exifnorm.LibraryMissing, match="XMP"):
+        older.jpeg_same(picture(exif(ONE)), picture(exif(TURNED)))
+
+
 def test_one_call_of_the_library(watch):
-    assert watch.of(exifnorm.jpeg_same, picture(exif(ONE)), picture(exif(TURNED))) == {"jpeg_same": 1}
+    for name in ("jpeg_same", "jpeg_same_blocks"):
+        assert watch.of(getattr(exifnorm, name), picture(exif(ONE)), picture(exif(TURNED))) == {name: 1}
     assert watch.of(exifnorm.jpeg_unread, picture(exif(ONE))) == {"jpeg_unread": 1}

@@ -15,8 +15,8 @@
 #include <time.h>
 
 /* How often each call was made: check, normalise, compare, show, captions, cause_name, version, jpeg_parts, photoshop_resources,
- * jpeg_same, jpeg_blocks, jpeg_unread, xmp_check, xmp_normalise, jpeg_xmp. */
-unsigned long watched_calls[15];
+ * jpeg_same, jpeg_blocks, jpeg_unread, xmp_check, xmp_normalise, jpeg_xmp, jpeg_same_blocks. */
+unsigned long watched_calls[16];
 /* The length of the output of the calls for texts: of the last one, and of all together. */
 unsigned long watched_room, watched_rooms;
 /* The most threads that were inside such a call at once. */
@@ -138,17 +138,21 @@ uint32_t exifnorm_photoshop_resources(const unsigned char *bytes, size_t length,
     return has_status(&status) ? status : call(bytes, length, resources, room, count);
 }
 
-uint32_t exifnorm_jpeg_same(const unsigned char *first, size_t first_length, const unsigned char *second, size_t second_length, uint32_t *same,
-                            struct exifnorm_unread_part *unread, struct exifnorm_picture_fault *fault) {
-    uint32_t (*call)(const unsigned char *, size_t, const unsigned char *, size_t, uint32_t *, struct exifnorm_unread_part *,
-                     struct exifnorm_picture_fault *);
-    uint32_t status;
-    count_call(9);
-    need(first, second, same, fault);
-    need(unread, unread, unread, unread);
-    *(void **)&call = dlsym(right, "exifnorm_jpeg_same");
-    return has_status(&status) ? status : call(first, first_length, second, second_length, same, unread, fault);
-}
+#define SAME(name, number) \
+    uint32_t name(const unsigned char *first, size_t first_length, const unsigned char *second, size_t second_length, uint32_t *same, \
+                  struct exifnorm_unread_part *unread, struct exifnorm_picture_fault *fault) { \
+        uint32_t (*call)(const unsigned char *, size_t, const unsigned char *, size_t, uint32_t *, struct exifnorm_unread_part *, \
+                         struct exifnorm_picture_fault *); \
+        uint32_t status; \
+        count_call(number); \
+        need(first, second, same, fault); \
+        need(unread, unread, unread, unread); \
+        *(void **)&call = dlsym(right, #name); \
+        return has_status(&status) ? status : call(first, first_length, second, second_length, same, unread, fault); \
+    }
+
+SAME(exifnorm_jpeg_same, 9)
+SAME(exifnorm_jpeg_same_blocks, 15)
 
 uint32_t exifnorm_jpeg_blocks(const unsigned char *bytes, size_t length, struct exifnorm_jpeg_block *blocks, size_t room, unsigned char *out,
                               size_t out_length, struct exifnorm_jpeg_sizes *sizes, struct exifnorm_jpeg_fault *fault) {

@@ -122,17 +122,24 @@ static void print_packet_of_picture(octets picture) {
     printf(" %u %lu %u %lu\n", (unsigned)unread.found, (unsigned long)unread.start, (unsigned)fault.cause, (unsigned long)fault.place);
 }
 
-static void print_comparison(octets first, octets second) {
-    struct exifnorm_fault fault = {0, 0};
+typedef uint32_t Same(const unsigned char *, size_t, const unsigned char *, size_t, uint32_t *, struct exifnorm_unread_part *,
+                      struct exifnorm_picture_fault *);
+
+static void print_pictures(Same *call, octets first, octets second) {
     struct exifnorm_picture_fault picture = {0, 0, 0, 0};
     struct exifnorm_unread_part unread = {9, 9, 9};
-    uint32_t same = 9, status = exifnorm_compare(first.bytes, first.length, second.bytes, second.length, &same, &fault);
-    printf("compare %u %u %u %u\n", (unsigned)status, (unsigned)same, (unsigned)fault.cause, (unsigned)fault.place);
-    same = 9;
-    status = exifnorm_jpeg_same(first.bytes, first.length, second.bytes, second.length, &same, &unread, &picture);
+    uint32_t same = 9, status = call(first.bytes, first.length, second.bytes, second.length, &same, &unread, &picture);
     printf("pictures %u %u %u %u %lu %lu", (unsigned)status, (unsigned)same, (unsigned)picture.cause, (unsigned)picture.kind,
            (unsigned long)picture.number, (unsigned long)picture.place);
     printf(" %u %u %lu\n", (unsigned)unread.found, (unsigned)unread.joined, (unsigned long)unread.start);
+}
+
+static void print_comparison(octets first, octets second) {
+    struct exifnorm_fault fault = {0, 0};
+    uint32_t same = 9, status = exifnorm_compare(first.bytes, first.length, second.bytes, second.length, &same, &fault);
+    printf("compare %u %u %u %u\n", (unsigned)status, (unsigned)same, (unsigned)fault.cause, (unsigned)fault.place);
+    print_pictures(exifnorm_jpeg_same, first, second);
+    print_pictures(exifnorm_jpeg_same_blocks, first, second);
 }
 
 static void print_names(void) {

@@ -210,7 +210,7 @@ def test_pictures_are_the_same_exactly_if_the_library_says_so(folder):
     for (one, first), (other, second) in itertools.product(sides, repeat=2):
         found = {it.result for it in verdicts.verdicts(first, second, (EXIF, IPTC))}
         try:
-            expected = exifnorm.jpeg_same(one, other)
+            expected = exifnorm.jpeg_same_blocks(one, other)
         except exifnorm.PictureRefused:
             assert found - {Result.ABSENT, Result.SAME, Result.DIFFERENT}, "a block is refused"
             expected = None

@@ -1,5 +1,5 @@
 /* exifnorm.h: the meaning of a picture's metadata block: its one normal form, and whether two blocks mean the same; where the blocks
- * of a JPEG picture and its packet of XMP are, and whether two pictures have the same blocks; and the normal form of a packet of XMP.
+ * of a JPEG picture and its packet of XMP are, and whether two pictures have the same metadata; and the normal form of a packet of XMP.
  *
  * A block is an Exif block or a block of IPTC-NAA IIM DataSets. An Exif block may begin with the six bytes "Exif\0\0" that
  * precede it in a JPEG file. The calls open no picture file: they read a block in memory. Two blocks that mean
@@ -7,10 +7,12 @@
  * rules is refused, with its first fault and the byte offset of that fault. Blocks are never repaired.
  *
  * The head of a JPEG picture is what precedes its first scan: markers, and segments of data (ITU-T T.81, B.1.1). Three calls find the
- * segments that contain blocks or a packet of XMP, without reading these. Another one compares the blocks of two pictures.
+ * segments that contain blocks or a packet of XMP, without reading these. Two more compare the metadata of two pictures: exifnorm_jpeg_same
+ * with XMP, and exifnorm_jpeg_same_blocks without.
  *
- * Whether two blocks of Exif or IPTC mean the same is proved. Whether two JPEGs have the same Exif and IPTC is proved of the library's
- * call. How blocks are found in other formats, XMP, and groups of pictures are tested. It is proved of each call which status but
+ * Whether two blocks of Exif or IPTC mean the same is proved. Whether two JPEGs have the same Exif and IPTC is proved of
+ * exifnorm_jpeg_same_blocks, and exifnorm_jpeg_same returns nothing else of these. Where the packets of XMP are is proved, and which properties
+ * a packet has is tested. How blocks are found in other formats, and groups of pictures, are tested. It is proved of each call which status but
  * EXIFNORM_NO_MEMORY it returns for which input, what it sets, and what stays unchanged; and that exifnorm_check doesn't return
  * EXIFNORM_NO_MEMORY for a block of DataSets. What this page says otherwise of EXIFNORM_NO_MEMORY, and of copies, of the stack, of
  * threads, of ownership, and that EXIFNORM_NAME_ROOM is enough, is tested. That texts are ASCII is read in their definitions, and tested.
@@ -185,8 +187,8 @@ enum {
     EXIFNORM_JPEG_NO_MARKER = 102,   /* a part doesn't begin with FF, or 0 follows its bytes FF */
     EXIFNORM_JPEG_LENGTH_FORM = 103, /* a segment's length is less than 2 */
     EXIFNORM_JPEG_HEAD_CUT = 104,    /* the bytes end before the head does */
-    EXIFNORM_JPEG_TOO_LONG = 105     /* blocks in several pieces have more than 16 times EXIFNORM_LIMIT bytes; exifnorm_jpeg_same and
-                                        exifnorm_jpeg_unread alone */
+    EXIFNORM_JPEG_TOO_LONG = 105     /* blocks in several pieces have more than 16 times EXIFNORM_LIMIT bytes; exifnorm_jpeg_same,
+                                        exifnorm_jpeg_same_blocks and exifnorm_jpeg_unread alone */
 };
 
 /* A part of a head: a marker, with the data of its segment if it has one. */
@@ -283,30 +285,57 @@ struct exifnorm_unread_part {
     size_t start;    /* the byte offset */
 };
 
-/* Compares the Exif and the IPTC of two JPEG pictures. They have the same if they have equal numbers of Exif blocks and of IPTC blocks,
- * and each block means the same as its counterpart, in their order. So two pictures without metadata have the same. Exif is in segments
- * APP1, and IPTC in Photoshop's resources 0x0404 in segments APP13. One without a byte is no block (docs/FORMAT.md, "The head of a JPEG").
- * XMP, pixels, and what follows the head are not compared. The first bytes of a file may be enough, as for exifnorm_jpeg_parts.
+/* Compares the Exif, the IPTC and the XMP of two JPEG pictures. They have the same if
  *
- * Other programs read Exif and IPTC in more places, which exifnorm_jpeg_unread lists. If the pictures have the same, but one of them has
- * something in such a place, they may differ there. Then the status is NOT_READ or SECOND_NOT_READ, and same is unchanged.
+ * - they have the same Exif and IPTC, as exifnorm_jpeg_same_blocks compares them;
+ * - neither has XMP; or each has one packet (exifnorm_jpeg_xmp), and these have equal normal forms (exifnorm_xmp_normalise);
+ * - nothing in them is left unread.
  *
- * Both heads are read first. Then the blocks of the first picture are checked, and then those of the second, Exif before IPTC.
+ * So two pictures without metadata have the same. Pixels, and what follows the head, are not compared. The first bytes of a file may be
+ * enough, as for exifnorm_jpeg_parts. What is read of Exif and IPTC is proved, and so are the places of packets and that a form is a normal
+ * packet; which properties a packet has is tested.
  *
- *   DONE             same is set: 1 if the pictures have the same and there is no such place in them, 0 if they don't have the same.
- *   NOT_READ         they have the same, as far as they are read; unread is the first such place, in the first picture.
- *   SECOND_NOT_READ  the same; the first picture has no such place, and unread is the first one in the second picture.
- *   REFUSED          fault is set, and describes the first picture.
+ * A known difference comes first: in Exif or IPTC; or in XMP, if all XMP of both pictures is read and one has none, or the forms differ.
+ * Otherwise, if something is not read, the pictures may differ there. Then the status is NOT_READ or SECOND_NOT_READ, and same is unchanged.
+ * In each picture, the first of these places counts:
+ *
+ * - one that exifnorm_jpeg_unread returns;
+ * - XMP that ExifTool reads too: in a segment APP1 without a known mark that begins with "http", or with "XMP" and a zero, or has
+ *   "<?xpacket" or "<exif:" in it; or else in Photoshop's resource 0x0424;
+ * - a packet that is wrong or rare: exifnorm_xmp_check says why;
+ * - a second packet, or extended XMP.
+ *
+ *   DONE             same is set: 1 if the pictures have the same, 0 if they don't.
+ *   NOT_READ         they have the same, as far as they are read; unread is a place in the first picture.
+ *   SECOND_NOT_READ  the same; all of the first picture is read, and unread is a place in the second picture.
+ *   REFUSED          fault is set, and describes the first picture. No fault of XMP is one of these.
  *   SECOND_REFUSED   fault is set, and describes the second picture.
  *   NO_MEMORY        nothing is set.
  */
 uint32_t exifnorm_jpeg_same(const unsigned char *first, size_t first_length,   /* a picture, or its first bytes */
                             const unsigned char *second, size_t second_length, /* the other picture */
                             uint32_t *same,                                    /* is set to 1 or 0 */
-                            struct exifnorm_unread_part *unread,               /* is set to the first place that isn't read */
+                            struct exifnorm_unread_part *unread,               /* is set to a place that isn't read */
                             struct exifnorm_picture_fault *fault);             /* is set to the cause of a refusal */
 
-/* Finds the first place in a picture where other programs may read Exif or IPTC and exifnorm_jpeg_same doesn't, or the reverse.
+/* Compares the Exif and the IPTC of two JPEG pictures, and not their XMP: this call is proved as a whole. They have the same if they have
+ * equal numbers of Exif blocks and of IPTC blocks, and each block means the same as its counterpart, in their order. Exif is in segments
+ * APP1, and IPTC in Photoshop's resources 0x0404 in segments APP13. One without a byte is no block (docs/FORMAT.md, "The head of a JPEG").
+ * Two pictures whose XMP differs may have the same here.
+ *
+ * Other programs read Exif and IPTC in more places, which exifnorm_jpeg_unread lists. If the pictures have the same, but one of them has
+ * something in such a place, they may differ there. Then the status is NOT_READ or SECOND_NOT_READ, and same is unchanged.
+ *
+ * Both heads are read first. Then the blocks of the first picture are checked, and then those of the second, Exif before IPTC. Statuses as
+ * for exifnorm_jpeg_same; unread is the first such place of its picture.
+ */
+uint32_t exifnorm_jpeg_same_blocks(const unsigned char *first, size_t first_length,   /* a picture, or its first bytes */
+                                   const unsigned char *second, size_t second_length, /* the other picture */
+                                   uint32_t *same,                                    /* is set to 1 or 0 */
+                                   struct exifnorm_unread_part *unread,               /* is set to the first place that isn't read */
+                                   struct exifnorm_picture_fault *fault);             /* is set to the cause of a refusal */
+
+/* Finds the first place in a picture where other programs may read Exif or IPTC and exifnorm_jpeg_same_blocks doesn't, or the reverse.
  * Segments come before resources. Such a place is
  *
  * - a segment APP1 that has "Exif" in any case and a zero among its first nine bytes, but doesn't begin with "Exif" and two zeros;

@@ -9,8 +9,11 @@ use Rattle.px_pictures.specs.declared.faults.PictureSide.{PictureSide}
 use Rattle.px_pictures.specs.declared.unread.Unread.{Unread}
 use Rattle.px_pictures.specs.Faults.{IsFaultOf}
 use Rattle.px_pictures.specs.Same.{IsComparison}
+use Rattle.px_xmp_pictures.specs.Same.{IsComparisonOfAll}
 use Rattle.px_pictures.specs.declared.faults.Comparison.{Comparison}
 use Rattle.px_pictures.specs.declared.faults.Comparison.TheVariants.{Same, Different, NotRead}
+use Rattle.px_c.specs.declared.pictures.Compared.{Compared}
+use Rattle.px_c.specs.declared.pictures.Compared.TheVariants.{Blocks, All}
 use Rattle.px_c.specs.declared.pictures.ExifnormPictureFault.{ExifnormPictureFault}
 use Rattle.px_c.specs.declared.unread.ExifnormUnreadPart.{ExifnormUnreadPart}
 use Rattle.px_c.specs.Jpeg.{head_cause}
@@ -37,11 +40,16 @@ RefusesPicture side f g seen = (e : MetadataFault) × (refused : ℕ) × IsSeenF
 abbrev pub comparison_of : ℕ → Comparison
 comparison_of n = if n == 1 then Same else Different
 
--- the blocks of both pictures have meanings: 1 if these are the same and there is no place in the pictures that isn't read; 0 if they are
--- different
-abbrev pub ArePicturesCompared : List ℕ → List ℕ → ℕ → Type 0
-ArePicturesCompared f g n = (n ≤ 1) × IsComparison f g (comparison_of n)
+-- the answer of a comparison: of Exif and IPTC, or of XMP too
+abbrev pub IsAnswer : Compared → List ℕ → List ℕ → Comparison → Type 0
+IsAnswer Blocks f g c = IsComparison f g c
+IsAnswer All f g c = IsComparisonOfAll f g c
 
--- the meanings are the same, and the picture of this side has this first place that isn't read; if that is the second, the first has none
-abbrev pub LeavesUnread : PictureSide → List ℕ → List ℕ → ExifnormUnreadPart → Type 0
-LeavesUnread side f g seen = (u : Unread) × IsComparison f g (NotRead side u) × (seen ≡ seen_unread (Some u))
+-- the blocks of both pictures have meanings: 1 if what is compared is the same and there is no place in the pictures that isn't read; 0 if it
+-- is different
+abbrev pub ArePicturesCompared : Compared → List ℕ → List ℕ → ℕ → Type 0
+ArePicturesCompared x f g n = (n ≤ 1) × IsAnswer x f g (comparison_of n)
+
+-- what is read is the same, and the picture of this side has this place that isn't read; if that is the second, the first has none
+abbrev pub LeavesUnread : Compared → PictureSide → List ℕ → List ℕ → ExifnormUnreadPart → Type 0
+LeavesUnread x side f g seen = (u : Unread) × IsAnswer x f g (NotRead side u) × (seen ≡ seen_unread (Some u))

@@ -1,5 +1,5 @@
 //! The engine for C: the kind of a block in memory, its normal form, its texts, whether two blocks mean the
-//! same, where the blocks of a JPEG picture and its packet of XMP are, whether the blocks of two pictures mean the same, and the
+//! same, where the blocks of a JPEG picture and its packet of XMP are, whether the Exif, IPTC and XMP of two pictures are the same, and the
 //! normal form of a packet of XMP. Each call returns one of the
 //! statuses of `statuses`. Its contract states for each status when it comes, what the call has written to
 //! its output arguments, and what is unchanged. For each input exactly one status other than `NO_MEMORY` is
@@ -20,6 +20,7 @@ ghost use Rattle.px_engine.specs.Slices.{PutsForm, IsUnwritten};
 ghost use Rattle.px_engine.specs.Input.{HasMeaning};
 ghost use Rattle.px_engine.specs.Prints.{caption_text, listing};
 ghost use Rattle.px_pictures.specs.declared.faults.PictureSide.TheVariants.{First, Second};
+ghost use Rattle.px_c.specs.declared.pictures.Compared.TheVariants.{Blocks, All};
 ghost use Rattle.px_c.specs.Blocks.{StoresBlocks, StoresEnded, IsTooShortForBlocks};
 ghost use Rattle.px_c.specs.Jpeg.{StoresHead, StoresFront, IsTooShort, StoresResources, IsTooShortForResources};
 ghost use Rattle.px_c.specs.Numbers.{cause_name};
@@ -50,7 +51,8 @@ pub use jpeg::{ExifnormJpegFault, ExifnormJpegPart, ExifnormPhotoshopResource};
 use jpeg::{head_cause, put_parts, store_resources};
 use names::cause_name;
 use over_memory::{
-    captions_in, check_in, compare_in, jpeg_same_in, jpeg_unread_in, normalise_in, show_in,
+    captions_in, check_in, compare_in, jpeg_same_blocks_in, jpeg_same_in, jpeg_unread_in,
+    normalise_in, show_in,
 };
 pub use packets::ExifnormJpegPacket;
 use packets::put_xmp;
@@ -260,18 +262,15 @@ pub extern "C" fn exifnorm_jpeg_blocks(
     }
 }
 
-/// Stores in `same` whether two pictures have the same Exif and IPTC: 1 if they have as many blocks of each kind,
-/// these mean the same, pair by pair, in order, and `exifnorm_jpeg_unread` finds nothing in either; 0 if they have
-/// not as many, or one pair doesn't mean the same. Exif is that of APP1, IPTC that of Photoshop's resource 0x0404, of
-/// which one without a byte is no block. Each picture may be its first bytes, as far as its head goes. Allocates what
-/// `compare_metadata_in` of px_pictures does: the blocks in several pieces, and the meanings of two blocks at a time.
+/// Stores in `same` whether two pictures have the same Exif, IPTC and XMP: 1 if `exifnorm_jpeg_same_blocks` stores 1, and neither has XMP
+/// or both have one packet, and these have equal normal forms; 0 if `exifnorm_jpeg_same_blocks` stores 0, or all XMP of both is read and is
+/// different: only one has a packet, or the forms differ. Which normal form a packet has is tested, and no contract states it. Allocates what
+/// `compare_all_in` of px_xmp_pictures does.
 ///
-/// `NOT_READ`: what is read is the same, and `unread` is the first place of the first picture that isn't read.
-/// `SECOND_NOT_READ`: there is none in the first, and `unread` is that of the second. `REFUSED`: `fault` is in the
-/// first picture; `SECOND_REFUSED`: in the second. It is the first fault: that of the first head, or that too many of
-/// its bytes are joined; then the same of the second; then of a block of the first picture, then of the second.
-/// `NO_MEMORY`: an allocation failed. Only success changes `same`, only `NOT_READ` and `SECOND_NOT_READ` change
-/// `unread`, and only a refusal changes `fault`.
+/// `NOT_READ`: what is read is the same, and `unread` is a place of the first picture that isn't read: as `exifnorm_jpeg_same_blocks` stores it,
+/// or else of XMP in an APP1 segment by another mark or in Photoshop's resource 0x0424, of a packet that is wrong or rare, of a second
+/// packet, or of extended XMP. `SECOND_NOT_READ`: there is none in the first, and `unread` is that of the second. `REFUSED`,
+/// `SECOND_REFUSED` and `NO_MEMORY`, and what a status changes, are as for `exifnorm_jpeg_same_blocks`.
 #[unsafe(no_mangle)]
 pub extern "C" fn exifnorm_jpeg_same(
     alloc: Global,
@@ -283,9 +282,9 @@ pub extern "C" fn exifnorm_jpeg_same(
 ) -> u32
     ensures known { (result ≡ status.done) ⊎ (result ≡ status.refused) ⊎ (result ≡ status.no_memory) ⊎ (result ≡ status.second_refused)
         ⊎ (result ≡ status.not_read) ⊎ (result ≡ status.second_not_read) }
-    ensures done { result ≡ status.done → ArePicturesCompared first.now second.now same.new }
-    ensures left { result ≡ status.not_read → LeavesUnread First first.now second.now unread.new }
-    ensures left_second { result ≡ status.second_not_read → LeavesUnread Second first.now second.now unread.new }
+    ensures done { result ≡ status.done → ArePicturesCompared All first.now second.now same.new }
+    ensures left { result ≡ status.not_read → LeavesUnread All First first.now second.now unread.new }
+    ensures left_second { result ≡ status.second_not_read → LeavesUnread All Second first.now second.now unread.new }
     ensures refused { result ≡ status.refused → RefusesPicture First first.now second.now fault.new }
     ensures second { result ≡ status.second_refused → RefusesPicture Second first.now second.now fault.new }
     ensures same { result ≢ status.done → same.new ≡ same.old }
@@ -295,8 +294,43 @@ pub extern "C" fn exifnorm_jpeg_same(
     jpeg_same_in(&mut Memory::new(alloc), first, second, same, unread, fault)
 }
 
+/// Stores in `same` whether two pictures have the same Exif and IPTC: 1 if they have as many blocks of each kind,
+/// these mean the same, pair by pair, in order, and `exifnorm_jpeg_unread` finds nothing in either; 0 if they have
+/// not as many, or one pair doesn't mean the same. XMP is not compared. Exif is that of APP1, IPTC that of Photoshop's resource 0x0404, of
+/// which one without a byte is no block. Each picture may be its first bytes, as far as its head goes. Allocates what
+/// `compare_metadata_in` of px_pictures does: the blocks in several pieces, and the meanings of two blocks at a time.
+///
+/// `NOT_READ`: what is read is the same, and `unread` is the first place of the first picture that isn't read.
+/// `SECOND_NOT_READ`: there is none in the first, and `unread` is that of the second. `REFUSED`: `fault` is in the
+/// first picture; `SECOND_REFUSED`: in the second. It is the first fault: that of the first head, or that too many of
+/// its bytes are joined; then the same of the second; then of a block of the first picture, then of the second.
+/// `NO_MEMORY`: an allocation failed. Only success changes `same`, only `NOT_READ` and `SECOND_NOT_READ` change
+/// `unread`, and only a refusal changes `fault`.
+#[unsafe(no_mangle)]
+pub extern "C" fn exifnorm_jpeg_same_blocks(
+    alloc: Global,
+    first: &[u8],
+    second: &[u8],
+    same: &mut u32,
+    unread: &mut ExifnormUnreadPart,
+    fault: &mut ExifnormPictureFault,
+) -> u32
+    ensures known { (result ≡ status.done) ⊎ (result ≡ status.refused) ⊎ (result ≡ status.no_memory) ⊎ (result ≡ status.second_refused)
+        ⊎ (result ≡ status.not_read) ⊎ (result ≡ status.second_not_read) }
+    ensures done { result ≡ status.done → ArePicturesCompared Blocks first.now second.now same.new }
+    ensures left { result ≡ status.not_read → LeavesUnread Blocks First first.now second.now unread.new }
+    ensures left_second { result ≡ status.second_not_read → LeavesUnread Blocks Second first.now second.now unread.new }
+    ensures refused { result ≡ status.refused → RefusesPicture First first.now second.now fault.new }
+    ensures second { result ≡ status.second_refused → RefusesPicture Second first.now second.now fault.new }
+    ensures same { result ≢ status.done → same.new ≡ same.old }
+    ensures unread { result ≢ status.not_read → result ≢ status.second_not_read → unread.new ≡ unread.old }
+    ensures fault { result ≢ status.refused → result ≢ status.second_refused → fault.new ≡ fault.old }
+{
+    jpeg_same_blocks_in(&mut Memory::new(alloc), first, second, same, unread, fault)
+}
+
 /// Stores in `unread` the first place in a picture at which something is that other programs read as metadata, or
-/// may, and that `exifnorm_jpeg_same` doesn't read: an APP1 segment that seems to be Exif by another mark, an APP13
+/// may, and that `exifnorm_jpeg_same_blocks` doesn't read: an APP1 segment that seems to be Exif by another mark, an APP13
 /// segment with another mark than Photoshop's and `Adobe_CM`, Photoshop's resource 0x0422, resource 0x0404 by another
 /// signature than `8BIM`, which is read here and by some other programs alone, or what follows the last resource,
 /// unless that is zeros. `found` is 0 if there is none: of two such pictures the comparison has read all. Allocates

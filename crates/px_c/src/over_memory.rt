@@ -11,6 +11,7 @@ ghost use Rattle.px_engine.specs.Input.{HasMeaning};
 ghost use Rattle.px_engine.specs.Prints.{caption_text, listing};
 ghost use Rattle.px_pictures.specs.Asking.{AsksForBoth, join_request};
 ghost use Rattle.px_pictures.specs.declared.faults.PictureSide.TheVariants.{First, Second};
+ghost use Rattle.px_c.specs.declared.pictures.Compared.TheVariants.{Blocks, All};
 ghost use Rattle.px_c.specs.Outcomes.{Refuses, PutsTextOf, IsOfKind, AreCompared};
 ghost use Rattle.px_c.specs.Pictures.{ArePicturesCompared, LeavesUnread, RefusesPicture};
 ghost use Rattle.px_c.specs.Unread.{ShowsUnread, RefusesJoining};
@@ -19,7 +20,7 @@ ghost use Rattle.px_c.specs.Numbers as status;
 use crate::faults::{ExifnormFault, fault_from};
 use crate::giving::give;
 use crate::jpeg::{ExifnormJpegFault, head_cause};
-use crate::pictures::{ExifnormPictureFault, TOO_LONG as JOINED_TOO_LONG, seen_fault};
+use crate::pictures::{Compared, ExifnormPictureFault, TOO_LONG as JOINED_TOO_LONG, seen_fault};
 use crate::statuses::{
     DONE, NO_MEMORY, NOT_READ, REFUSED, SECOND_NOT_READ, SECOND_REFUSED, TOO_LITTLE_ROOM, TOO_LONG,
 };
@@ -214,9 +215,10 @@ pub(crate) fn captions_in(
     }
 }
 
-// Whether two JPEG pictures have the same Exif and IPTC, and whether all of it is read.
-pub(crate) fn jpeg_same_in(
+// Whether two JPEG pictures have the same metadata, and whether all of it is read.
+fn compare_pictures_in(
     memory: &mut Memory,
+    compared: Compared,
     first: &[u8],
     second: &[u8],
     same: &mut u32,
@@ -225,9 +227,9 @@ pub(crate) fn jpeg_same_in(
 ) -> u32
     ensures known { (result ≡ status.done) ⊎ (result ≡ status.refused) ⊎ (result ≡ status.no_memory) ⊎ (result ≡ status.second_refused)
         ⊎ (result ≡ status.not_read) ⊎ (result ≡ status.second_not_read) }
-    ensures done { result ≡ status.done → ArePicturesCompared first.now second.now same.new }
-    ensures left { result ≡ status.not_read → LeavesUnread First first.now second.now unread.new }
-    ensures left_second { result ≡ status.second_not_read → LeavesUnread Second first.now second.now unread.new }
+    ensures done { result ≡ status.done → ArePicturesCompared compared first.now second.now same.new }
+    ensures left { result ≡ status.not_read → LeavesUnread compared First first.now second.now unread.new }
+    ensures left_second { result ≡ status.second_not_read → LeavesUnread compared Second first.now second.now unread.new }
     ensures refused { result ≡ status.refused → RefusesPicture First first.now second.now fault.new }
     ensures second { result ≡ status.second_refused → RefusesPicture Second first.now second.now fault.new }
     ensures same { result ≢ status.done → same.new ≡ same.old }
@@ -235,9 +237,9 @@ pub(crate) fn jpeg_same_in(
     ensures fault { result ≢ status.refused → result ≢ status.second_refused → fault.new ≡ fault.old }
     ensures lacking { result ≡ status.no_memory → memory.new.failed_allocations ≡ memory.old.failed_allocations + 1 }
     ensures memory { result ≢ status.no_memory → memory.new.failed_allocations ≡ memory.old.failed_allocations }
-    ensures asked { AsksForBoth first.now second.now memory.old memory.new }
+    ensures asked { compared ≡ Blocks → AsksForBoth first.now second.now memory.old memory.new }
 {
-    match px_pictures::compare_metadata_in(memory, first, second) {
+    match crate::pictures::compare_in(memory, compared, first, second) {
         Ok(Comparison::Same) => {
             *same = 1;
             DONE
@@ -266,6 +268,57 @@ pub(crate) fn jpeg_same_in(
             }
         },
     }
+}
+
+// Whether two JPEG pictures have the same Exif and IPTC, and whether all of it is read.
+pub(crate) fn jpeg_same_blocks_in(
+    memory: &mut Memory,
+    first: &[u8],
+    second: &[u8],
+    same: &mut u32,
+    unread: &mut ExifnormUnreadPart,
+    fault: &mut ExifnormPictureFault,
+) -> u32
+    ensures known { (result ≡ status.done) ⊎ (result ≡ status.refused) ⊎ (result ≡ status.no_memory) ⊎ (result ≡ status.second_refused)
+        ⊎ (result ≡ status.not_read) ⊎ (result ≡ status.second_not_read) }
+    ensures done { result ≡ status.done → ArePicturesCompared Blocks first.now second.now same.new }
+    ensures left { result ≡ status.not_read → LeavesUnread Blocks First first.now second.now unread.new }
+    ensures left_second { result ≡ status.second_not_read → LeavesUnread Blocks Second first.now second.now unread.new }
+    ensures refused { result ≡ status.refused → RefusesPicture First first.now second.now fault.new }
+    ensures second { result ≡ status.second_refused → RefusesPicture Second first.now second.now fault.new }
+    ensures same { result ≢ status.done → same.new ≡ same.old }
+    ensures unread { result ≢ status.not_read → result ≢ status.second_not_read → unread.new ≡ unread.old }
+    ensures fault { result ≢ status.refused → result ≢ status.second_refused → fault.new ≡ fault.old }
+    ensures lacking { result ≡ status.no_memory → memory.new.failed_allocations ≡ memory.old.failed_allocations + 1 }
+    ensures memory { result ≢ status.no_memory → memory.new.failed_allocations ≡ memory.old.failed_allocations }
+    ensures asked { AsksForBoth first.now second.now memory.old memory.new }
+{
+    compare_pictures_in(memory, Compared::Blocks, first, second, same, unread, fault)
+}
+
+// The same with XMP.
+pub(crate) fn jpeg_same_in(
+    memory: &mut Memory,
+    first: &[u8],
+    second: &[u8],
+    same: &mut u32,
+    unread: &mut ExifnormUnreadPart,
+    fault: &mut ExifnormPictureFault,
+) -> u32
+    ensures known { (result ≡ status.done) ⊎ (result ≡ status.refused) ⊎ (result ≡ status.no_memory) ⊎ (result ≡ status.second_refused)
+        ⊎ (result ≡ status.not_read) ⊎ (result ≡ status.second_not_read) }
+    ensures done { result ≡ status.done → ArePicturesCompared All first.now second.now same.new }
+    ensures left { result ≡ status.not_read → LeavesUnread All First first.now second.now unread.new }
+    ensures left_second { result ≡ status.second_not_read → LeavesUnread All Second first.now second.now unread.new }
+    ensures refused { result ≡ status.refused → RefusesPicture First first.now second.now fault.new }
+    ensures second { result ≡ status.second_refused → RefusesPicture Second first.now second.now fault.new }
+    ensures same { result ≢ status.done → same.new ≡ same.old }
+    ensures unread { result ≢ status.not_read → result ≢ status.second_not_read → unread.new ≡ unread.old }
+    ensures fault { result ≢ status.refused → result ≢ status.second_refused → fault.new ≡ fault.old }
+    ensures lacking { result ≡ status.no_memory → memory.new.failed_allocations ≡ memory.old.failed_allocations + 1 }
+    ensures memory { result ≢ status.no_memory → memory.new.failed_allocations ≡ memory.old.failed_allocations }
+{
+    compare_pictures_in(memory, Compared::All, first, second, same, unread, fault)
 }
 
 // The first place in a JPEG picture that the comparison doesn't read.

@@ -1,10 +1,14 @@
-// Why two JPEG pictures are not compared, as numbers.
-ghost use Rattle.std.specs.Prelude.{◌≡◌, MatchOption};
+// The comparison of two JPEG pictures, and why they are not compared, as numbers.
+ghost use Rattle.std.specs.Prelude.{◌≡◌, IfOk, IfErr, MatchOption};
 ghost use Rattle.px_pictures.specs.declared.faults.MetadataFault.TheVariants.{OutOfMemory};
-ghost use Rattle.px_c.specs.Pictures.{IsSeenFault, block_kind};
+ghost use Rattle.px_pictures.specs.Asking.{AsksForBoth};
+ghost use Rattle.px_pictures.specs.Faults.{IsPictureFault, CountsAllocFailureInPicture};
+ghost use Rattle.px_c.specs.declared.pictures.Compared.TheVariants.{Blocks};
+ghost use Rattle.px_c.specs.Pictures.{IsSeenFault, IsAnswer, block_kind};
 
 use crate::jpeg::head_cause;
-use px_pictures::{MetadataFault, MetadataKind};
+use px_bytes::Memory;
+use px_pictures::{Comparison, MetadataFault, MetadataKind, PictureFault};
 
 // The cause of a picture of which too many bytes would be joined.
 pub(crate) const TOO_LONG: u32 = 105;
@@ -22,6 +26,33 @@ pub struct ExifnormPictureFault {
     pub number: usize,
     /// The byte offset, in the block or in the picture. 0 if the pieces have too many bytes.
     pub place: usize,
+}
+
+// What is compared of two pictures.
+#[derive(Clone, Copy)]
+pub(crate) enum Compared {
+    // Exif and IPTC.
+    Blocks,
+    // XMP too.
+    All,
+}
+
+// Compares two pictures.
+pub(crate) fn compare_in(
+    memory: &mut Memory,
+    compared: Compared,
+    first: &[u8],
+    second: &[u8],
+) -> Result<Comparison, PictureFault>
+    ensures compared { IfOk result (IsAnswer compared first.now second.now) }
+    ensures fault { IfErr result (IsPictureFault first.now second.now memory.new.failed_allocations) }
+    ensures memory { CountsAllocFailureInPicture result memory.old memory.new }
+    ensures asked { compared ≡ Blocks → AsksForBoth first.now second.now memory.old memory.new }
+{
+    match compared {
+        Compared::Blocks => px_pictures::compare_metadata_in(memory, first, second),
+        Compared::All => px_xmp_pictures::compare_all_in(memory, first, second),
+    }
 }
 
 // The kind of a block as a number.

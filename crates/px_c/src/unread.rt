@@ -4,8 +4,7 @@ ghost use Rattle.px_c.specs.Unread.{seen_unread};
 
 use px_pictures::Unread;
 
-/// The first place in a picture at which something is that other programs read as metadata, or may, and that
-/// `exifnorm_jpeg_same` doesn't read.
+/// A place in a picture at which something is that other programs read as metadata, or may, and that a comparison doesn't read.
 #[repr(C)]
 #[derive(Clone, Copy, Drop)]
 pub struct ExifnormUnreadPart {

@@ -9,3 +9,4 @@ pub mod SameLaws
 pub mod MetadataLaws
 pub mod OneFaultLaws
 pub mod EitherLaws
+pub mod PartLaws

@@ -1,6 +1,7 @@
 pub mod Metadata
 pub mod Places
 pub mod Unread
+pub mod Xmp
 pub mod Faults
 pub mod Asking
 pub mod Same

@@ -1,5 +1,5 @@
 //! The Exif and IPTC of JPEG pictures: the blocks of a picture, and whether two pictures have the same. It opens no
-//! file. What a picture has behind its head, its XMP and its pixels are not read.
+//! file. What a picture has behind its head and its pixels are not read; of its XMP the places are found.
 #![tactic(auto)]
 
 mod blocks;
@@ -17,6 +17,7 @@ mod ranges;
 mod runs;
 mod same;
 mod unread;
+mod xmp;
 
 pub use blocks::{ExifBlocks, IptcBlocks};
 pub use comparison::compare_metadata_in;

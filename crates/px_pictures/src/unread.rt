@@ -158,7 +158,7 @@ fn unread_resources(octets: &[u8]) -> Option<usize>
 }
 
 // The bytes of which a block is a range.
-fn whole_of<'b>(picture: &'b [u8], all: &'b [u8], joined: bool) -> &'b [u8]
+pub(crate) fn whole_of<'b>(picture: &'b [u8], all: &'b [u8], joined: bool) -> &'b [u8]
     ensures { result.now ≡ (if joined then all.now else picture.now) }
 {
     if joined {

@@ -21,7 +21,7 @@ def answer(head: Optional[bytes], other: Optional[bytes]) -> Optional[Result]:
     if head is None or other is None:
         return None
     try:
-        result = exifnorm.jpeg_same(head, other)
+        result = exifnorm.jpeg_same_blocks(head, other)
     except exifnorm.PictureRefused:
         return None
     if isinstance(result, exifnorm.NotRead):

@@ -337,13 +337,36 @@ static void judge_unread(Place expected_place) {
     holds(LAW_FREED, memory.live == live);
 }
 
+/* The same with XMP: a picture whose XMP isn't read is never the same, and none is different from itself. */
+static void judge_same_with_xmp(Place place, PictureFault expected_fault) {
+    Place found_place = {UNSET, UNSET, UNSET}, of_xmp = found_place;
+    PictureFault fault = {UNSET, UNSET, UNSET, UNSET};
+    struct exifnorm_jpeg_packet packet = {UNSET, UNSET, UNSET};
+    struct exifnorm_jpeg_fault of_head;
+    struct exifnorm_fault of_packet;
+    uint32_t same = UNSET;
+    const unsigned char *bytes = picture(head.length);
+    uint32_t status = exifnorm_jpeg_same(bytes, head.length, bytes, head.length, &same, &found_place, &fault);
+    uint32_t xmp = exifnorm_jpeg_xmp(bytes, head.length, &packet, &of_xmp, &of_head);
+    int is_read = xmp == EXIFNORM_DONE && (!packet.found || exifnorm_xmp_check(bytes + packet.start, packet.size, &of_packet) == EXIFNORM_DONE);
+    if (expected_fault.cause)
+        holds(LAW_SAME_XMP, status == EXIFNORM_REFUSED && fault.cause == expected_fault.cause && fault.place == expected_fault.place);
+    else if (place.found)
+        holds(LAW_SAME_XMP, status == EXIFNORM_NOT_READ && is_place(found_place, place) && same == UNSET);
+    else if (status == EXIFNORM_DONE)
+        holds(LAW_SAME_XMP, is_read && same == 1 && found_place.found == UNSET && fault.cause == UNSET);
+    else
+        holds(LAW_SAME_XMP, status == EXIFNORM_NOT_READ && found_place.found == 1 && same == UNSET && fault.cause == UNSET);
+}
+
 /* The picture beside itself: its first fault, or the same, or the place that isn't read. */
 static void judge_same(Place place) {
     Place found_place = {UNSET, UNSET, UNSET};
     PictureFault expected_fault = first_fault(), fault = {UNSET, UNSET, UNSET, UNSET};
     uint32_t same = UNSET;
     const unsigned char *bytes = picture(head.length);
-    uint32_t status = exifnorm_jpeg_same(bytes, head.length, bytes, head.length, &same, &found_place, &fault);
+    uint32_t status = exifnorm_jpeg_same_blocks(bytes, head.length, bytes, head.length, &same, &found_place, &fault);
+    judge_same_with_xmp(place, expected_fault);
     if (expected_fault.cause)
         holds(LAW_BLOCKS_CHECKED, status == EXIFNORM_REFUSED && fault.cause == expected_fault.cause && fault.kind == expected_fault.kind &&
                                       fault.number == expected_fault.number && fault.place == expected_fault.place);

@@ -63,6 +63,7 @@
     LAW(NOT_READ, "pictures that are the same but for a place that is not read are not called the same, and the first such place is named") \
     LAW(PICTURES, "two pictures are the same exactly if they have as many blocks, and these mean the same") \
     LAW(PICTURE_FAULT, "a picture with a refused block is refused, with the block's kind, number, cause and offset, on either side") \
+    LAW(SAME_XMP, "the comparison with XMP returns what that of blocks does, but for a difference of XMP, or for XMP that is not read") \
     LAW(PICTURE_MEMORY, "a failed allocation while pictures are compared is NO_MEMORY, and sets nothing") \
     LAW(PACKET, "a packet of XMP has a form, or a cause of its status and an offset in the packet") \
     LAW(PACKET_CHECK, "xmp_normalise accepts what xmp_check accepts, with the same fault otherwise, and sets nothing else") \

@@ -96,6 +96,13 @@ static struct picture made(int which, int is_record, unsigned copies, const unsi
 
 static struct result compared(struct picture one, struct picture two) {
     struct result it = {UNSET, UNSET, NO_PLACE, NO_FAULT};
+    it.status = exifnorm_jpeg_same_blocks(one.bytes, one.length, two.bytes, two.length, &it.same, &it.unread, &it.fault);
+    return it;
+}
+
+/* The same with XMP, which neither picture has. */
+static struct result compared_with_xmp(struct picture one, struct picture two) {
+    struct result it = {UNSET, UNSET, NO_PLACE, NO_FAULT};
     it.status = exifnorm_jpeg_same(one.bytes, one.length, two.bytes, two.length, &it.same, &it.unread, &it.fault);
     return it;
 }
@@ -173,6 +180,7 @@ static void judge_beside(const unsigned char *block, size_t length, int is_recor
     else if (holds(LAW_ANSWERS, exifnorm_compare(block, length, before->bytes, before->length, &same, &none) == EXIFNORM_DONE))
         judge_accepted(it, other, same);
     judge_memory(it, other);
+    holds(LAW_SAME_XMP, is_result(compared_with_xmp(it, other), compared(it, other)));
     if (!cause) /* a block more */
         judge_accepted(it, made(1, is_record, copies + 1, block, length, segment_of(seen.blocks / 4)), 0);
 }

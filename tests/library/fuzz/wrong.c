@@ -127,6 +127,9 @@
     MISTAKE(PICTURE_SETS, "the result is set although a picture is refused") \
     MISTAKE(PICTURE_IGNORES_NULL, "pictures are different if an allocation failed") \
     MISTAKE(PICTURE_SETS_WITHOUT_MEMORY, "the fault is set although an allocation failed") \
+    MISTAKE(XMP_IGNORED, "the comparison with XMP is that of blocks") \
+    MISTAKE(XMP_ALONE, "the comparison with XMP calls pictures the same whose blocks differ") \
+    MISTAKE(XMP_DIFFERENT, "the comparison with XMP calls a picture different that is not wholly read") \
     MISTAKE(PACKET_CAUSE_OF_RARE, "a packet that is wrong has the cause of a rare one") \
     MISTAKE(PACKET_PLACE_OUTSIDE, "the offset of a packet's fault is after the packet") \
     MISTAKE(PACKET_ACCEPTED, "xmp_check accepts every packet") \
@@ -171,7 +174,7 @@ static Resources *right_resources;
 static Blocks *right_blocks;
 static Unread *right_unread;
 static Xmp *right_xmp;
-static Same *right_same;
+static Same *right_same, *right_same_blocks;
 static Packet *right_xmp_check;
 static Text *right_xmp_normalise;
 static int wrong;
@@ -187,7 +190,7 @@ Resources its_photoshop_resources;
 Blocks its_jpeg_blocks;
 Unread its_jpeg_unread;
 Xmp its_jpeg_xmp;
-Same its_jpeg_same;
+Same its_jpeg_same, its_jpeg_same_blocks;
 Packet its_xmp_check;
 Text its_xmp_normalise;
 #define ITS(type, name) its_##name
@@ -217,6 +220,7 @@ __attribute__((constructor)) static void open_right(void) {
     right_unread = ITS(Unread, jpeg_unread);
     right_xmp = ITS(Xmp, jpeg_xmp);
     right_same = ITS(Same, jpeg_same);
+    right_same_blocks = ITS(Same, jpeg_same_blocks);
     right_xmp_check = ITS(Packet, xmp_check);
     right_xmp_normalise = ITS(Text, xmp_normalise);
     while (wrong < COUNT && strcmp(names[wrong], name) != 0)
@@ -691,12 +695,12 @@ static uint32_t changed_same(const unsigned char *first, size_t first_length, ui
     return wrong == SECOND_UNREAD_IS_FIRST && is_unread ? EXIFNORM_NOT_READ : status;
 }
 
-uint32_t exifnorm_jpeg_same(const unsigned char *first, size_t first_length, const unsigned char *second, size_t second_length, uint32_t *same, struct exifnorm_unread_part *unread, struct exifnorm_picture_fault *fault) {
-    if (is_right("jpeg_same"))
-        return right_same(first, first_length, second, second_length, same, unread, fault);
+uint32_t exifnorm_jpeg_same_blocks(const unsigned char *first, size_t first_length, const unsigned char *second, size_t second_length, uint32_t *same, struct exifnorm_unread_part *unread, struct exifnorm_picture_fault *fault) {
+    if (is_right("jpeg_same_blocks"))
+        return right_same_blocks(first, first_length, second, second_length, same, unread, fault);
     if (wrong == NONE_OF_THEM_ANSWERS)
         return EXIFNORM_DONE;
-    uint32_t status = right_same(first, first_length, second, second_length, same, unread, fault);
+    uint32_t status = right_same_blocks(first, first_length, second, second_length, same, unread, fault);
     if (status == EXIFNORM_NO_MEMORY && wrong == PICTURE_IGNORES_NULL)
         return *same = 0, EXIFNORM_DONE;
     if (status == EXIFNORM_NO_MEMORY && wrong == PICTURE_SETS_WITHOUT_MEMORY)
@@ -714,6 +718,22 @@ uint32_t exifnorm_jpeg_same(const unsigned char *first, size_t first_length, con
     if (wrong == PICTURE_SETS)
         *same = 0;
     return wrong == PICTURE_OF_FIRST ? EXIFNORM_REFUSED : status;
+}
+
+/* The comparison with XMP. */
+uint32_t exifnorm_jpeg_same(const unsigned char *first, size_t first_length, const unsigned char *second, size_t second_length, uint32_t *same, struct exifnorm_unread_part *unread, struct exifnorm_picture_fault *fault) {
+    if (is_right("jpeg_same"))
+        return right_same(first, first_length, second, second_length, same, unread, fault);
+    if (wrong == NONE_OF_THEM_ANSWERS)
+        return EXIFNORM_DONE;
+    if (wrong == XMP_IGNORED)
+        return right_same_blocks(first, first_length, second, second_length, same, unread, fault);
+    uint32_t status = right_same(first, first_length, second, second_length, same, unread, fault);
+    if (status == EXIFNORM_DONE && wrong == XMP_ALONE)
+        *same = 1;
+    if ((status == EXIFNORM_NOT_READ || status == EXIFNORM_SECOND_NOT_READ) && wrong == XMP_DIFFERENT)
+        return *same = 0, EXIFNORM_DONE;
+    return status;
 }
 
 /* ---- packets of XMP */

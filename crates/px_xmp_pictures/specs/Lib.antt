@@ -1,0 +1,2 @@
+pub mod Xmp
+pub mod Same

@@ -1,0 +1,55 @@
+-- The XMP of two pictures. Which properties a packet has, and so which normal form, no definition states.
+use Rattle.std.specs.Prelude.{◌≡◌, ◌⊎◌, ℕ, false, Some, None, List}
+use Rattle.px_jpeg.specs.declared.packets.FoundXmp.TheVariants as found
+use Rattle.px_jpeg.specs.Head.{HasHead, Picture}
+use Rattle.px_jpeg.specs.Pieces.{range}
+use Rattle.px_jpeg.specs.Xmp.{xmp_of}
+use Rattle.px_pictures.specs.declared.faults.Comparison.{Comparison}
+use Rattle.px_pictures.specs.declared.faults.Comparison.TheVariants as answer
+use Rattle.px_pictures.specs.declared.faults.PictureSide.TheVariants.{First, Second}
+use Rattle.px_pictures.specs.Xmp.{IsOtherXmp}
+use Rattle.px_xmp.specs.Packet.{IsPacket}
+use Rattle.px_xmp_forms.specs.Forms.{IsNormal}
+use Rattle.px_xmp_pictures.specs.declared.reading.ReadXmp.{ReadXmp}
+use Rattle.px_xmp_pictures.specs.declared.reading.ReadXmp.TheVariants.{Absent, Form, NotRead}
+
+-- ---- one picture
+
+-- a packet that is read begins at an offset: it is the picture's only XMP by its own marks, and a document
+abbrev pub IsOnlyPacket : Picture → ℕ → ℕ → Type 0
+IsOnlyPacket p start size = (xmp_of p.octets p.parts ≡ found.Packet start size) × IsPacket (range p.octets start size)
+
+-- at an offset is a second packet or extended XMP, or the only packet, which has no normal form
+abbrev pub IsLeft : Picture → ℕ → Type 0
+IsLeft p start = (xmp_of p.octets p.parts ≡ found.NotRead start) ⊎ ((size : ℕ) × (xmp_of p.octets p.parts ≡ found.Packet start size))
+
+-- the picture has no XMP; or one packet, which has a normal form; or XMP at this place that isn't read
+abbrev pub IsXmp : Picture → ReadXmp → Type 0
+IsXmp p Absent = IsOtherXmp p.octets None × (xmp_of p.octets p.parts ≡ found.Absent)
+IsXmp p (Form form) = IsOtherXmp p.octets None × IsNormal form.items × ((start size : ℕ) × IsOnlyPacket p start size)
+IsXmp p (NotRead u) = IsOtherXmp p.octets (Some u) ⊎ (IsOtherXmp p.octets None × (u.joined ≡ false) × IsLeft p u.start)
+
+-- the same of the picture b, which has a head
+abbrev pub HasXmp : List ℕ → ReadXmp → Type 0
+HasXmp b x = (p : Picture) × (p.octets ≡ b) × HasHead p.octets p.parts × IsXmp p x
+
+-- ---- two pictures
+
+-- two normal forms are equal or not
+abbrev pub IsFormAnswer : List ℕ → List ℕ → Comparison → Type 0
+IsFormAnswer x y answer.Same = x ≡ y
+IsFormAnswer x y answer.Different = x ≡ y → ⊥
+IsFormAnswer x y (answer.NotRead side u) = ⊥
+
+-- the answer for the XMP of two pictures: both have none, or equal forms; or one has none, or the forms differ; or XMP isn't read
+abbrev pub IsXmpAnswer : ReadXmp → ReadXmp → Comparison → Type 0
+IsXmpAnswer (NotRead u) y c = c ≡ answer.NotRead First u
+IsXmpAnswer Absent (NotRead v) c = c ≡ answer.NotRead Second v
+IsXmpAnswer Absent Absent c = c ≡ answer.Same
+IsXmpAnswer Absent (Form form) c = c ≡ answer.Different
+IsXmpAnswer (Form form) (NotRead v) c = c ≡ answer.NotRead Second v
+IsXmpAnswer (Form form) Absent c = c ≡ answer.Different
+IsXmpAnswer (Form form) (Form other) c = IsFormAnswer form.items other.items c
+
+abbrev pub IsXmpComparison : List ℕ → List ℕ → Comparison → Type 0
+IsXmpComparison f g c = (x y : ReadXmp) × HasXmp f x × HasXmp g y × IsXmpAnswer x y c
