@@ -20,7 +20,7 @@ from test_groups import FILES as TWINS, with_short_note
 from test_maker_notes import noted
 
 from exifnorm_pictures.export.rows import FieldRows
-from exifnorm_pictures.export.tables import Tables
+from exifnorm_pictures.export.tables import _EMPTY_IS_NULL, Tables
 from exifnorm_pictures.fields.field import Field
 from exifnorm_pictures.fields.packing import packed, unpacked
 from exifnorm_pictures.model.columns import Damaged
@@ -421,6 +421,22 @@ def test_texts_of_a_damaged_catalogue(exported, run):
     base.close()
     run("export", "c", "t")
     assert asked(sqlite3.connect("t"), "SELECT value FROM fields") == [(r"\ud800",)]
+
+
+def test_what_is_missing_is_null(exported, folder):
+    """A column that may be NULL is never an empty text, and a number that is 0 isn't missing."""
+    put(folder, {"p/none.jpg": SMALL_JPEG})
+    base = exported(SAMPLES, "p")
+    missing = set()
+    for (table,) in asked(base, "SELECT name FROM sqlite_master WHERE type = 'table' AND name NOT LIKE 'sqlite%'"):
+        for _, column, _, is_always_there, _, is_key in asked(base, f"PRAGMA table_info({table})"):
+            if not is_always_there and not is_key:
+                empty, null = asked(base, f"SELECT ifnull(sum({column} = ''), 0), ifnull(sum({column} IS NULL), 0) FROM {table}")[0]
+                assert empty == 0, (table, column)
+                missing |= {f"{table}.{column}"} if null else set()
+    assert missing >= {f"{table}.{column}" for table, columns in _EMPTY_IS_NULL.items() for column in columns}, missing
+    (row,) = FieldRows().of_block(packed([Field("main", "0112", "SHORT", 1, (0,))]).octets)
+    assert row.cells[-1] == 0
 
 
 def test_a_refused_block_has_its_cause_and_its_repair(exported):

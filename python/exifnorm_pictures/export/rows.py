@@ -60,7 +60,7 @@ class Export:
             blocks = [(block, self._fields.of_block(packed_fields(block))) for block in self.catalogue.blocks_of(picture)]
         angles = [row.angle for _, rows in blocks for row in rows if row.angle]
         place = position_of(angles) if angles else None
-        self.tables.add("pictures", [(*_picture_row(picture), *(place or (None, None)))])
+        self.tables.add("pictures", [(*_picture_row(picture), *(place or ("", "")))])
         if any([block.note is not None for block, _ in blocks]):
             self._maker_notes(picture)
         self.tables.add("blocks", [_block_row(picture, number, block) for number, (block, _) in enumerate(blocks)])
@@ -88,15 +88,15 @@ class Export:
         rows = [*_text_rows(texts.texts), *((word, *(None,) * 6) for word in sorted(missing))]
         self.tables.add("captions", [(picture.id, at, *row) for at, row in enumerate(rows)])
         known = [one for one in conflicts(texts.texts, texts.located) if not one.is_alike and one.label not in missing]
-        self.tables.add("conflicts", [(picture.id, one.label, one.kind, one.detail or None) for one in known])
+        self.tables.add("conflicts", [(picture.id, one.label, one.kind, one.detail) for one in known])
 
 
 def _picture_row(picture: PictureRecord) -> Row:
     path, is_escaped = _path(picture.path)
-    names = (path, int(is_escaped), picture.path if is_escaped else None, _path(picture.root)[0])
-    about = (picture.type or None, _state(picture), picture.problem, picture.detail or None, picture.size, _time(picture.modified))
-    rest = [one or None for one in (*picture.meanings, picture.coded_picture, picture.sha256, picture.damage)]
-    return (picture.id, *names, *about, *rest)
+    names = (path, int(is_escaped), picture.path if is_escaped else "", _path(picture.root)[0])
+    about = (picture.type or None, _state(picture), picture.problem or "", picture.detail, picture.size, _time(picture.modified))
+    digests = [one or "" for one in (*picture.meanings, picture.coded_picture, picture.sha256)]
+    return (picture.id, *names, *about, *digests, picture.damage)
 
 
 def _keep_row(keep: Keep) -> Row:
@@ -127,9 +127,8 @@ def _time(nanoseconds: Optional[int]) -> Optional[str]:
 
 
 def _block_row(picture: PictureRecord, number: int, block: BlockRecord) -> Row:
-    repair = steps.words(block.steps) or None
-    about = (block.kind, block.name, block.source, block.extractor, block.status, block.cause, block.place, block.length)
-    return (picture.id, number, *about, repair, block.digest, int(block.note is not None))
+    about = (block.kind, block.name, block.source, block.extractor, block.status, block.cause or "", block.place, block.length)
+    return (picture.id, number, *about, steps.words(block.steps), block.digest, int(block.note is not None))
 
 
 class FieldRow(NamedTuple):
@@ -183,7 +182,8 @@ class FieldRows:
         all_of_them = "".join(texts)
         if "\0" in all_of_them:
             texts = list(map(without_nul, texts))
-        cells = (*texts[:4], field.count, *texts[4:], number_of(field))
+        number = number_of(field)
+        cells = (*texts[:4], field.count, *texts[4:], "" if number is None else number)
         return FieldRow(cells, len(all_of_them), field if about.is_text else None, field if about.is_angle else None)
 
     def _about_of(self, field: Field) -> _About:
@@ -200,5 +200,5 @@ class FieldRows:
 def _text_rows(texts: Sequence[Caption]) -> Iterator[Row]:
     """A row for each text, several of a list."""
     for caption in texts:
-        about = (caption.label, caption.standard, caption.field, caption.block or None)
-        yield from ((*about, text, caption.guess or None, int(caption.is_own)) for text in caption.texts if text)
+        about, more = (caption.label, caption.standard, caption.field, caption.block), (caption.guess, int(caption.is_own))
+        yield from [(*about, text, *more) for text in caption.texts if text]

@@ -123,6 +123,15 @@ CREATE INDEX maker_notes_by_name ON maker_notes (name, value);
 CREATE INDEX groups_by_picture ON groups (picture);
 """
 
+# Columns that are mostly NULL. Rows have an empty text there: of each None Python 3.11 asks for an adapter, which fails by an error each time.
+_EMPTY_IS_NULL = {
+    "pictures": {"path_bytes", "problem", "detail", "exif", "iptc", "xmp", "coded_picture", "sha256", "damage", "latitude", "longitude"},
+    "blocks": {"cause", "repair"},
+    "fields": {"number"},
+    "captions": {"block", "guess"},
+    "conflicts": {"detail"},
+}
+
 Row = Tuple[object, ...]
 
 
@@ -166,7 +175,8 @@ class Tables:
         rows = self._rows.pop(table, [])
         if not rows:
             return
-        places = ", ".join("?" * len(rows[0]))
+        columns = [name for _, name, *_ in self._base.execute(f"PRAGMA table_info({table})")]
+        places = ", ".join("nullif(?, '')" if name in _EMPTY_IS_NULL.get(table, ()) else "?" for name in columns)
         try:
             self._base.executemany(f"INSERT INTO {table} VALUES ({places})", rows)
         except UnicodeEncodeError:  # in one of the rows; those before it are written
