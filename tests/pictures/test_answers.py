@@ -155,3 +155,15 @@ def test_a_folder_without_a_picture(words, files, folder, called):
     (folder / "p").mkdir(exist_ok=True)
     assert "note: no picture is below p: is its disk mounted?" in called(*words)[2]
     assert "is its disk" not in called(*(word.replace("p", "q") if word == "p" else word for word in words))[2]
+
+
+@pytest.mark.parametrize("sidecar", ["a.xmp", "a.jpg.xmp", "a.XMP", None])
+@pytest.mark.parametrize("words", [("show",), ("captions",), ("captions", "--csv"), ("conflicts",), ("compare", "b.jpg")], ids=" ".join)
+def test_a_sidecar_that_is_not_read(words, sidecar, folder, called):
+    """A title in it would seem to be missing."""
+    put(folder, {"a.jpg": jpeg(app1(A)), "b.jpg": jpeg(app1(A)), "b.xml": T, **({sidecar: T} if sidecar else {})})
+    notes = called(*words, "a.jpg")[2]
+    assert notes == (
+        f"exifnorm-pictures: note: {sidecar} isn't read: index --sidecars takes it as metadata of its picture\n" if sidecar else ""
+    )
+    assert not sidecar or called("show", sidecar)[2] == ""

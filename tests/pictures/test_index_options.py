@@ -170,6 +170,15 @@ def test_a_program_that_was_missing_is_asked_again(folder, called, monkeypatch):
     assert called(*of_new)[1:] == ("1 accepted, 1 unchanged\n", ""), "it was asked again"
 
 
+@pytest.mark.parametrize("option", [[], ["--whole"]])
+def test_a_merged_catalogue_knows_what_was_whole(option, folder, called):
+    put(folder, {"p/b.jpg": ONE})
+    called(*INDEX, "--catalogue", "c", *option)
+    called("merge", "c", "--catalogue", "d")
+    called(*INDEX, "--catalogue", "d")
+    assert ("by --whole" in called(*INDEX, "--catalogue", "d", "--whole")[2]) == (not option)
+
+
 def test_an_old_catalogue_is_from_before_a_run_that_was_stopped(folder, called, monkeypatch):
     """The same command goes on, and what the stopped run has found is still what changed since the old one."""
     put(folder, {"p/a.jpg": ONE, "p/b.jpg": ONE})

@@ -70,7 +70,7 @@ def test_what_a_catalogue_keeps_is_what_is_read(museum):
             if not caption["own"]:
                 texts[caption["label"]].update(caption["texts"])
         for label in LABELS.split(","):
-            assert sorted(set(picture["texts"][label])) == sorted(texts[label]), (path, label)
+            assert sorted(set(picture["texts"][label] or ())) == sorted(texts[label]), (path, label)
 
 
 @needs("exiftool")

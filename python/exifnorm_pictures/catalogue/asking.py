@@ -332,7 +332,8 @@ class Answer:
     def _lacking_of(self, label: str) -> Numbers:
         """The pictures of `lacking` by one label."""
         if label not in self._lacking:
-            self._lacking[label] = self._sure & self._finder.unread([label]) & ~self._finder.with_label(label)
+            unread_ = self._sure & self._finder.unread([label])  # mostly none, and then no text is looked up
+            self._lacking[label] = unread_ & ~self._finder.with_label(label) if unread_ else unread_
         return self._lacking[label]
 
     def having(self, label: str) -> Tuple[int, int, int]:

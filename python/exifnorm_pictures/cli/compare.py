@@ -27,7 +27,7 @@ from .columns import columns
 from .exit_codes import SUCCESS, UNKNOWN, status_of_results
 from .names import refuse_folders
 from .objects import picture_object, print_object, unread_members
-from .output import print_lines, table_of
+from .output import note_sidecar, print_lines, table_of
 
 if TYPE_CHECKING:
     from .tables import Table
@@ -45,6 +45,8 @@ def run(arguments: argparse.Namespace) -> int:
     rows = rows if arguments.exact else with_position(rows, old, new)
     names = [os.fsencode(it) for it in (arguments.before, arguments.after)]
     choice.add_left_out(comparison.left_out)
+    for name in names:
+        note_sidecar(name)
     table = table_of(arguments, ["field", "before", "after", "exact before", "exact after", "note"])
     if arguments.json:
         print_object("compare", "comparison", _members(comparison, rows, names, choice))

@@ -13,7 +13,7 @@ from ..picture import Block, Picture
 from .exit_codes import SUCCESS, UNKNOWN
 from .names import each_name, is_catalogue, is_list
 from .not_read import lacks_some, no_block, picture_cut, unread
-from .output import print_lines
+from .output import note_sidecar, print_lines
 
 
 Describe = Callable[[Picture, Block], List[str]]
@@ -27,6 +27,8 @@ def status_of(picture: Picture, is_about_file: bool = False) -> int:
 def each_picture(arguments: argparse.Namespace) -> Iterator[Picture]:
     """The pictures that are named. What is printed of one is written before the next name of standard input is read."""
     for name in each_name(arguments, arguments.pictures):
+        if not arguments.block:
+            note_sidecar(name)
         yield Picture.of(name, blocks_of_named(name, arguments.session, arguments.whole, arguments.block))
 
 

@@ -19,6 +19,7 @@ from ..scan.walk import Unlisted, below
 from .names import each_name, is_catalogue
 from .not_read import damage_members, lacks_some
 from .objects import picture_object
+from .output import note_sidecar
 from .parser import refuse
 
 
@@ -33,6 +34,8 @@ def pictures(arguments: argparse.Namespace) -> Iterator[Picture]:
         _refuse_whole(arguments)  # before anything is printed
     for name in each_name(arguments, arguments.pictures):
         if arguments.block or not is_of_many(name):
+            if not arguments.block:
+                note_sidecar(name)
             yield _reading(arguments, name)
         elif os.path.isdir(name) and not is_catalogue(os.fsdecode(name)):
             yield from _in_folder(arguments, name)

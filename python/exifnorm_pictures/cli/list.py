@@ -47,7 +47,7 @@ def run(arguments: argparse.Namespace) -> int:
         else:
             columns = [] if arguments.null else columns
             (_print_names if arguments.null else _print_pictures)(arguments, answer, columns)
-            not_known = answer.lacking(columns)
+            not_known = answer.lacking(columns) if arguments.columns is not None else 0  # in each form of the answer the same
         return UNKNOWN if not_known or answer.not_known() else SUCCESS
 
 

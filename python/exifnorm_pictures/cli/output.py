@@ -2,6 +2,7 @@
 
 from __future__ import annotations
 
+import os
 import re
 import shutil
 import sys
@@ -42,6 +43,14 @@ def say_notes(*texts: str) -> None:
     """Says on standard error what belongs to an answer, and would be in the way of a program that reads it."""
     for text in texts:
         signals.say(f"exifnorm-pictures: note: {text}")
+
+
+def note_sidecar(picture: bytes) -> None:
+    """Says that an XMP file beside a picture isn't read: what it has would seem to be missing."""
+    beside = (stem + ending for stem in (picture, os.path.splitext(picture)[0]) for ending in (b".xmp", b".XMP"))
+    sidecar = next((name for name in beside if name != picture and os.path.isfile(name)), None)
+    if sidecar:
+        say_notes(f"{shown_path(sidecar)} isn't read: index --sidecars takes it as metadata of its picture")
 
 
 def table_of(arguments: argparse.Namespace, heads: Sequence[str]) -> Optional[Table]:

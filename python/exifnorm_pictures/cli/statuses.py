@@ -31,7 +31,7 @@ STATUSES: Dict[str, Dict[int, str]] = {
     "same": {
         0: "the pictures of each group have the same metadata, or what --kind asks for, and no others may",
         1: "MakerNotes of a group differ in bytes, and read the same",
-        2: "a group rests on a repair or on a MakerNote that moved, or others may have the same metadata, or a printed text isn't known",
+        2: "a group rests on a repair or on a MakerNote that moved, or others may have the same metadata, or a text of --columns isn't known",
     },
     "changed": {
         0: "nothing that was compared differs",
@@ -42,7 +42,7 @@ STATUSES: Dict[str, Dict[int, str]] = {
     "compare": {0: "nothing that was compared differs", 1: "something differs", 2: _NOT_COMPARED},
     "list": {
         0: "of each picture it is known whether it fits, even if none does",
-        2: "a picture that wasn't wholly read may fit, or a printed text isn't known",
+        2: "a picture that wasn't wholly read may fit, or a text of --columns isn't known",
     },
     "check": {0: "no rule is broken", 1: "a rule is broken", 2: "a picture that wasn't wholly read may break a rule"},
     "nightly": {
