@@ -264,11 +264,40 @@ def plain(number: int) -> bytes:
     return b"/%04d/%07d.jpg" % (number // 1000, number)
 
 
-def instructions(words: Sequence[str]) -> int:
-    """The instructions of a command, which don't depend on what else the machine does; those of programs that it starts aren't counted."""
-    counting = ["valgrind", "--tool=cachegrind", "--cache-sim=no", "--cachegrind-out-file=/dev/null", *words]
+# Runs `index`, whose further processes end at once: each has counted what the first one had when it forked.
+FORKED = """
+import os, sys
+from exifnorm_pictures.scan import workers
+workers._begin, workers._one_by_one = lambda *_: os._exit(0), lambda *_: sys.exit()
+from exifnorm_pictures.cli.main import main
+main(sys.argv[1:])
+"""
+
+
+def each_counted(words: Sequence[str]) -> List[int]:
+    """The instructions of each process of a command, which don't depend on what else the machine does, with those of the first one before it
+    forked; the first process, which waits for the others, is the last."""
+    counting = ["valgrind", "--tool=cachegrind", "--cache-sim=no", "--trace-children=yes", "--cachegrind-out-file=/dev/null", *words]
     done = subprocess.run(counting, check=True, stdout=subprocess.DEVNULL, stderr=subprocess.PIPE, text=True)
-    return int(re.findall(r"I\s+refs:\s+([\d,]+)", done.stderr)[0].replace(",", ""))
+    return [int(it.replace(",", "")) for it in re.findall(r"I\s+refs:\s+([\d,]+)", done.stderr)]
+
+
+def instructions(words: Sequence[str]) -> int:
+    """The instructions of a command; those of programs that it starts aren't counted."""
+    return each_counted(words)[-1]
+
+
+def by_four(folder: str, count: int) -> Iterator[ROW]:
+    """The instructions of `index` by four processes over those by one."""
+    there, catalogue = os.path.join(folder, f"by_four{count}"), os.path.join(folder, "four.catalogue")
+    os.mkdir(there)
+    make_pictures(there, count)
+    words = ["index", there, "--quiet", "--catalogue"]
+    one = instructions(pictures(*words, f"{catalogue}1", "--jobs", "1"))
+    *further, first = each_counted(pictures(*words, f"{catalogue}4", "--jobs", "4"))
+    before = each_counted([sys.executable, "-c", FORKED, *words, f"{catalogue}0", "--jobs", "4"])[0]
+    four = first + sum(it - before for it in further)
+    yield f"instructions of `index` with four processes, over one ({count:,} JPEG files)", f"{four / one:.2f}", "1.15"
 
 
 def counted(folder: str, count: int) -> Iterator[ROW]:
@@ -324,6 +353,7 @@ def main() -> None:
         if asked.counted:
             cost(pictures("--version"))  # which compiles the modules
             show(counted(folder, asked.counted))
+            show(by_four(folder, asked.counted))
         show(great(folder, asked.rows, asked.compared))
 
 

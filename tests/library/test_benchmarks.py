@@ -233,6 +233,14 @@ def test_instructions_of_commands_on_pictures(of_pictures, folder, monkeypatch):
     assert rows == ["700 thousand for a picture, 300 million for the start"] * 2
 
 
+def test_instructions_of_several_processes(of_pictures, folder, monkeypatch):
+    """Of an index that takes 500 million, or 430 and four times 20 more after the fork at 350 million."""
+    million = {"1": [500], "4": [370, 370, 370, 370, 430]}
+    counted = lambda words: [350] * 4 + [400] if "-c" in words else million[words[-1]]
+    monkeypatch.setattr(of_pictures, "each_counted", counted)
+    assert [row[1] for row in of_pictures.by_four(str(folder), 10)] == [f"{(430 + 80) / 500:.2f}"]
+
+
 def test_costs_over_another_tree(library, tmp_path, monkeypatch):
     """Over this one itself they are the same. Valgrind takes long."""
     monkeypatch.setenv("EXIFNORM_LIBRARY", str(library / "libexifnorm.so.1"))
