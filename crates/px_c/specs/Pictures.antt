@@ -45,8 +45,8 @@ abbrev pub IsAnswer : Compared → List ℕ → List ℕ → Comparison → Type
 IsAnswer Blocks f g c = IsComparison f g c
 IsAnswer All f g c = IsComparisonOfAll f g c
 
--- the blocks of both pictures have meanings: 1 if what is compared is the same and there is no place in the pictures that isn't read; 0 if it
--- is different
+-- the blocks of both pictures have meanings: 1 if what is compared is the same and there is no place in the pictures that isn't read; 0 if
+-- it is different
 abbrev pub ArePicturesCompared : Compared → List ℕ → List ℕ → ℕ → Type 0
 ArePicturesCompared x f g n = (n ≤ 1) × IsAnswer x f g (comparison_of n)
 

@@ -20,7 +20,9 @@ ghost use Rattle.px_c.specs.Numbers as status;
 use crate::faults::{ExifnormFault, fault_from};
 use crate::giving::give;
 use crate::jpeg::{ExifnormJpegFault, head_cause};
-use crate::pictures::{Compared, ExifnormPictureFault, TOO_LONG as JOINED_TOO_LONG, seen_fault};
+use crate::pictures::{
+    Compared, ExifnormPictureFault, Pair, TOO_LONG as JOINED_TOO_LONG, seen_fault,
+};
 use crate::statuses::{
     DONE, NO_MEMORY, NOT_READ, REFUSED, SECOND_NOT_READ, SECOND_REFUSED, TOO_LITTLE_ROOM, TOO_LONG,
 };
@@ -219,27 +221,27 @@ pub(crate) fn captions_in(
 fn compare_pictures_in(
     memory: &mut Memory,
     compared: Compared,
-    first: &[u8],
-    second: &[u8],
+    pictures: Pair,
     same: &mut u32,
     unread: &mut ExifnormUnreadPart,
     fault: &mut ExifnormPictureFault,
 ) -> u32
     ensures known { (result ≡ status.done) ⊎ (result ≡ status.refused) ⊎ (result ≡ status.no_memory) ⊎ (result ≡ status.second_refused)
         ⊎ (result ≡ status.not_read) ⊎ (result ≡ status.second_not_read) }
-    ensures done { result ≡ status.done → ArePicturesCompared compared first.now second.now same.new }
-    ensures left { result ≡ status.not_read → LeavesUnread compared First first.now second.now unread.new }
-    ensures left_second { result ≡ status.second_not_read → LeavesUnread compared Second first.now second.now unread.new }
-    ensures refused { result ≡ status.refused → RefusesPicture First first.now second.now fault.new }
-    ensures second { result ≡ status.second_refused → RefusesPicture Second first.now second.now fault.new }
+    ensures done { result ≡ status.done → ArePicturesCompared compared pictures.entry.first.now pictures.entry.second.now same.new }
+    ensures left { result ≡ status.not_read → LeavesUnread compared First pictures.entry.first.now pictures.entry.second.now unread.new }
+    ensures left_second { result ≡ status.second_not_read
+        → LeavesUnread compared Second pictures.entry.first.now pictures.entry.second.now unread.new }
+    ensures refused { result ≡ status.refused → RefusesPicture First pictures.entry.first.now pictures.entry.second.now fault.new }
+    ensures second { result ≡ status.second_refused → RefusesPicture Second pictures.entry.first.now pictures.entry.second.now fault.new }
     ensures same { result ≢ status.done → same.new ≡ same.old }
     ensures unread { result ≢ status.not_read → result ≢ status.second_not_read → unread.new ≡ unread.old }
     ensures fault { result ≢ status.refused → result ≢ status.second_refused → fault.new ≡ fault.old }
     ensures lacking { result ≡ status.no_memory → memory.new.failed_allocations ≡ memory.old.failed_allocations + 1 }
     ensures memory { result ≢ status.no_memory → memory.new.failed_allocations ≡ memory.old.failed_allocations }
-    ensures asked { compared ≡ Blocks → AsksForBoth first.now second.now memory.old memory.new }
+    ensures asked { compared ≡ Blocks → AsksForBoth pictures.entry.first.now pictures.entry.second.now memory.old memory.new }
 {
-    match crate::pictures::compare_in(memory, compared, first, second) {
+    match crate::pictures::compare_in(memory, compared, pictures.first, pictures.second) {
         Ok(Comparison::Same) => {
             *same = 1;
             DONE
@@ -293,7 +295,8 @@ pub(crate) fn jpeg_same_blocks_in(
     ensures memory { result ≢ status.no_memory → memory.new.failed_allocations ≡ memory.old.failed_allocations }
     ensures asked { AsksForBoth first.now second.now memory.old memory.new }
 {
-    compare_pictures_in(memory, Compared::Blocks, first, second, same, unread, fault)
+    let pictures = Pair { first, second };
+    compare_pictures_in(memory, Compared::Blocks, pictures, same, unread, fault)
 }
 
 // The same with XMP.
@@ -318,7 +321,8 @@ pub(crate) fn jpeg_same_in(
     ensures lacking { result ≡ status.no_memory → memory.new.failed_allocations ≡ memory.old.failed_allocations + 1 }
     ensures memory { result ≢ status.no_memory → memory.new.failed_allocations ≡ memory.old.failed_allocations }
 {
-    compare_pictures_in(memory, Compared::All, first, second, same, unread, fault)
+    let pictures = Pair { first, second };
+    compare_pictures_in(memory, Compared::All, pictures, same, unread, fault)
 }
 
 // The first place in a JPEG picture that the comparison doesn't read.

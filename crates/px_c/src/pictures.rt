@@ -37,6 +37,13 @@ pub(crate) enum Compared {
     All,
 }
 
+// Two pictures.
+#[derive(Clone, Copy)]
+pub(crate) struct Pair<'a> {
+    pub first: &'a [u8],
+    pub second: &'a [u8],
+}
+
 // Compares two pictures.
 pub(crate) fn compare_in(
     memory: &mut Memory,

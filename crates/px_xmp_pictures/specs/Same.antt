@@ -6,8 +6,8 @@ use Rattle.px_pictures.specs.declared.faults.PictureSide.TheVariants.{First, Sec
 use Rattle.px_pictures.specs.Same.{IsComparison}
 use Rattle.px_xmp_pictures.specs.Xmp.{IsXmpComparison}
 
--- The answer of two comparisons of the same pictures. A known difference comes first; then a place of the first picture that isn't read; then
--- one of the second. The places of the first comparison come before those of the other.
+-- The answer of two comparisons of the same pictures. A known difference comes first; then a place of the first picture that isn't read;
+-- then one of the second. The places of the first comparison come before those of the other.
 abbrev pub joint : Comparison → Comparison → Comparison
 joint Different other = Different
 joint Same other = other
