@@ -514,10 +514,6 @@ def unread_picture(number, mark):
     return whole_jpeg(Parts()) + b"\xff\xda\0\4ab%d" % number
 
 
-def no_picture(number, mark):
-    return b"no picture %d" % number
-
-
 def put_sidecars(number, mark, folder):
     """A sidecar for each of many pictures, and many versions of one picture's."""
     for it in range(number):

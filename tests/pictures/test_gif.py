@@ -48,7 +48,6 @@ LEFT = {
     "a trailer": (gif(X, behind=b"trailer"), [("trailer of 7 bytes", b"trailer")]),
     "zeros": (gif(X, behind=bytes(7)), []),
 }
-WITHOUT = len(gif())
 BROKEN = {
     "the head": (gif()[:12], "the file ends inside the 13 bytes at 0"),
     "the colours": (gif()[:15], "the file ends without its end mark"),

@@ -17,7 +17,7 @@ from collections import Counter
 
 import pytest
 from growing import FOLDERS, FORMATS as MAKERS, IN_EACH_FORMAT, KINDS, OF_SHARED, OTHERS, Whole
-from work import COUNTED, Counting, Work, compiled
+from work import COUNTED, Work
 
 from exifnorm_pictures.cli.parser import parsers
 from exifnorm_pictures.extract.readers import FORMATS
@@ -95,13 +95,6 @@ def test_what_is_bad(law):
     calls, is_bad = LAWS[law]
     start, once, twice, four = ({"a": Work(0, int(calls(n)), *[0] * 7, b"", "")} for n in (1, 1000, 2000, 4000))
     assert bool(but_for_steps(check(start, once, twice), start, twice, four)) == is_bad
-
-
-@pytest.fixture(scope="module")
-def counting(tmp_path_factory):
-    process = Counting(compiled(tmp_path_factory.mktemp("count")))
-    yield process
-    process.close()
 
 
 class Archive:

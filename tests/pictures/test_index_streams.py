@@ -11,7 +11,6 @@ import pytest
 from hypothesis import given, settings, strategies as st
 from made_blocks import MAKE, block, with_exif
 from studio import SMALL_JPEG
-from work import Counting, compiled
 
 from exifnorm_pictures.catalogue.store import Catalogue
 from exifnorm_pictures.model.records import PictureRecord
@@ -218,9 +217,8 @@ def test_a_picture_moves_to_its_own_name_first(tmp_path):
         assert found == {p + b"/b/x": f"to {tmp_path}/p/e/q", p + b"/c/a": f"to {tmp_path}/p/e/a"}
 
 
-def test_many_copies_that_move_take_no_longer_each(tmp_path):
+def test_many_copies_that_move_take_no_longer_each(counting, tmp_path):
     """Pictures that are gone and have copies under other names, all of the same bytes."""
-    counting = Counting(compiled(tmp_path))
     picture = with_exif(SMALL_JPEG, block([MAKE]))
     works = []
     for size in (60, 120):
@@ -235,7 +233,6 @@ def test_many_copies_that_move_take_no_longer_each(tmp_path):
         os.rename(folder / "copy", folder / "p")
         works.append(counting.run(folder, *words))
         assert works[-1].out.decode().splitlines()[0] == f"{size} accepted, {size} moved since an earlier run"
-    counting.close()
     assert works[1].steps <= 2.3 * works[0].steps + 20
     assert works[1].calls <= 2.3 * works[0].calls + 3000
 

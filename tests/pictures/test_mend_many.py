@@ -19,7 +19,6 @@ PICTURES = {
     "two/accepted.jpg": jpeg(app1(exif(b"abc"))),
     "none.jpg": b"\xff\xd8" + app1(b"II*\0\xff\xff\0\0") + b"no marker" * 9,  # which no program writes to
 }
-COUNTS = {"lossless": 2, "lossy": 1, "plain": 0, "not mended": 1}
 
 
 @pytest.fixture

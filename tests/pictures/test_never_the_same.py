@@ -151,12 +151,6 @@ def texts():
 # Damage
 
 
-def with_type(octets, tag, kind, count, value, order=">"):
-    """A TIFF in which the entry of a tag has another type, count and value."""
-    at = next(at for at in range(10, len(octets), 12) if octets[at : at + 2] == struct.pack(order + "H", tag))
-    return octets[:at] + struct.pack(order + "HHII", tag, kind, count, value) + octets[at + 12 :]
-
-
 def damages():
     """A file of which a part can't be read."""
     yield Pair("no field, and no block", jpeg(app1(b"MM\0*\0\0\0\x08" + table([]))), jpeg(), SAME)

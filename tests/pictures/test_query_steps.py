@@ -3,6 +3,7 @@
 The catalogues are made by SQL, with groups of every basis. The growths of test_growth.py have few pictures each, and read them.
 """
 
+import gc
 import itertools
 import json
 import shutil
@@ -12,7 +13,6 @@ from contextlib import closing
 
 import pytest
 from test_scale import many_rows
-from work import Counting, compiled
 
 from exifnorm_pictures.catalogue import store
 from exifnorm_pictures.catalogue.store import Catalogue, NoCatalogue
@@ -96,9 +96,8 @@ def make(name, count):
 
 
 @pytest.fixture(scope="module")
-def works(tmp_path_factory):
+def works(counting, tmp_path_factory):
     """The work of each command at each size."""
-    counting = Counting(compiled(tmp_path_factory.mktemp("count")))
     found = {}
     for size in SIZES:
         folder = tmp_path_factory.mktemp(str(size))
@@ -115,7 +114,6 @@ def works(tmp_path_factory):
             work = counting.run(folder, *words.split())
             assert work.status in (0, 1, 2), (words, work.err[-2000:])
             found[words, size] = work
-    counting.close()
     return found
 
 
@@ -129,15 +127,13 @@ def test_twice_as_many_pictures_take_twice_the_steps(works, words):
     assert many <= TIMES * few + FEW
 
 
-def test_forgetting_takes_no_memory_for_each_picture(tmp_path):
-    counting = Counting(compiled(tmp_path))
+def test_forgetting_takes_no_memory_for_each_picture(counting, tmp_path):
     memory = []
     for size in (15_000, 45_000):
         make(tmp_path / str(size), size)
         work = counting.run(tmp_path, "forget", "/archive", "--catalogue", str(size), "--json")
         assert json.loads(work.out)["forgotten"] == size, work.err
         memory.append(work.memory)
-    counting.close()
     assert memory[1] < memory[0] + 100_000
 
 
@@ -160,16 +156,27 @@ def readings_of(catalogue, size):
 
 @pytest.mark.parametrize("work", [groups_of, readings_of])
 def test_no_picture_is_held_but_for_a_bit(tmp_path, work):
-    memory, counts, sizes = [], [], (3000, 12_000)
-    for size in sizes:
+    few, many = 3000, 12_000
+    for size in (few, many):
         make(tmp_path / str(size), size)
-        with Catalogue(str(tmp_path / str(size))) as catalogue:
-            tracemalloc.start()
-            counts.append(work(catalogue, size))
-            memory.append(tracemalloc.get_traced_memory()[1])
+    gc.disable()  # a collection would give back the thousands of tuples that Python keeps after the first time
+    try:
+        _, *found = (memory_of(work, tmp_path / str(size), size) for size in (many, few, many))
+    finally:
+        gc.enable()
+    (count_of_few, of_few), (count_of_many, of_many) = found
+    assert count_of_many > 3.9 * count_of_few > 1000
+    assert of_many < of_few + 2 * (many - few)
+
+
+def memory_of(work, name, size):
+    """What some work returns, and the most memory that it takes."""
+    with Catalogue(str(name)) as catalogue:
+        tracemalloc.start()
+        try:
+            return work(catalogue, size), tracemalloc.get_traced_memory()[1]
+        finally:
             tracemalloc.stop()
-    assert counts[1] > 3.9 * counts[0] > 1000
-    assert memory[1] < memory[0] + 5 * (sizes[1] - sizes[0])  # Python keeps the memory of two thousand tuples
 
 
 @pytest.mark.parametrize("at_once", [1, 7, 1000])

@@ -12,7 +12,6 @@ import pytest
 from made_files import A, app1, app1_xmp, jpeg, xmp
 from test_groups import FILES, with_short_note
 from test_query_steps import SIZES, TIMES, make
-from work import Counting, compiled
 
 from exifnorm_pictures.catalogue import shards
 from exifnorm_pictures.catalogue.store import NUMBERS, Catalogue
@@ -362,9 +361,8 @@ OVER_SHARDS = (
 
 
 @pytest.fixture(scope="module")
-def costs(tmp_path_factory):
+def costs(counting, tmp_path_factory):
     """The steps of SQLite of each command, over three catalogues and over one with the same pictures, at each size."""
-    counting = Counting(compiled(tmp_path_factory.mktemp("count")))
     known = {}
     for size in SIZES:
         folder = tmp_path_factory.mktemp(str(size))
@@ -379,7 +377,6 @@ def costs(tmp_path_factory):
                 work = counting.run(folder, *words.format(name).split())
                 assert work.status in (0, 1, 2), (words, work.err[-2000:])
                 known[words, name, size] = work
-    counting.close()
     return known
 
 
