@@ -1,6 +1,6 @@
 import type { JpegBlock, JpegPart, Kind, Resource, Unread } from "./exifnorm.js";
 
-export { HeadRefused, LIMIT, NormalTooLong, NotRead, OutOfMemory, PictureRefused, Refused, TooMany, XmpRefused, xmpProperties } from "./exifnorm.js";
+export { HeadRefused, LIMIT, NormalTooLong, NotRead, OutOfMemory, PictureRefused, Refused, TooMany, XmpNotRead, XmpRefused, xmpProperties } from "./exifnorm.js";
 export type { JpegBlock, JpegPart, Kind, Resource, Unread, XmpList, XmpProperty, XmpResource, XmpStructure, XmpText, XmpValue } from "./exifnorm.js";
 
 /** The calls over one compiled module: those of exifnorm.js. */
@@ -17,6 +17,8 @@ export class Engine {
   compare(first: Uint8Array, second: Uint8Array): boolean;
   jpegBlocks(picture: Uint8Array, most?: number): JpegBlock[];
   jpegSame(first: Uint8Array, second: Uint8Array): boolean;
+  jpegSameBlocks(first: Uint8Array, second: Uint8Array): boolean;
+  jpegXmp(picture: Uint8Array): Uint8Array | null;
   jpegUnread(picture: Uint8Array): Unread | null;
   jpegParts(picture: Uint8Array, most?: number): JpegPart[];
   photoshopResources(bytes: Uint8Array, most?: number): Resource[];

@@ -17,7 +17,7 @@ const KINDS = ["", "exif", "iptc"], PART_KINDS = ["", "exif", "photoshop", "xmp"
 const IPTC = 0x0404; // Photoshop's resource
 
 // sizes of its structs in bytes; a size_t has 8
-const PART = 32, BLOCK = 24, RESOURCE = 24, NAME = 32;
+const PART = 32, BLOCK = 24, RESOURCE = 24, UNREAD = 16, NAME = 32;
 const ANSWER = 64, FAULT = 32; // what a call sets besides its output: the result at 0, the fault at 32
 const FEW_ROWS = 64;
 const MOST_KEPT = 1 << 26; // a module with more memory is replaced after the call: it can't return memory to the system
@@ -57,6 +57,15 @@ export class PictureRefused extends Refused {
   }
 }
 
+/** A JPEG has a second packet of XMP, or extended XMP, at this offset: its first packet is not all of its XMP. */
+export class XmpNotRead extends Error {
+  constructor(offset) {
+    super(`a second packet of XMP or extended XMP at ${offset} is not read`);
+    this.name = new.target.name;
+    this.offset = offset;
+  }
+}
+
 /** A packet of XMP has no normal form: its first fault. */
 export class XmpRefused extends Refused {
   /** Whether the packet may have a meaning all the same, in a form of RDF/XML that isn't read here. */
@@ -65,7 +74,7 @@ export class XmpRefused extends Refused {
   }
 }
 
-/** Two JPEGs have the same Exif and IPTC as far as they are read, and one has a place that isn't read: the first one. */
+/** Two JPEGs have the same metadata as far as they are read, and one has a place that isn't read. */
 export class NotRead extends Error {
   constructor(side, unread) {
     const where = `${unread.start}${unread.joined ? " of its joined blocks" : ""}`;
@@ -391,15 +400,36 @@ export class Engine {
     });
   }
 
+  /** The packet of XMP, as a copy. */
+  jpegXmp(picture) {
+    return this.#call((packet, fault) => {
+      const bytes = this.#copyIn(picture), place = this.#allocate(UNREAD);
+      const status = this.#exports.exifnorm_jpeg_xmp(...bytes, packet, BigInt(place), fault);
+      if (status === NOT_READ) throw new XmpNotRead(this.#unread(place).start);
+      this.#requireHead(status, []);
+      if (this.#uint32(this.#answer) === 0) return null;
+      return this.#slice(Number(bytes[0]) + this.#size(this.#answer + 8), this.#size(this.#answer + 16));
+    });
+  }
+
   jpegSame(first, second) {
+    return this.#pair("exifnorm_jpeg_same", first, second);
+  }
+
+  jpegSameBlocks(first, second) {
+    return this.#pair("exifnorm_jpeg_same_blocks", first, second);
+  }
+
+  /** The answer of a comparison of two pictures. */
+  #pair(name, first, second) {
     return this.#call((same, faultArgument) => {
       const pictures = [...this.#copyIn(first), ...this.#copyIn(second)], place = this.#answer + 8;
-      const status = this.#exports.exifnorm_jpeg_same(...pictures, same, BigInt(place), faultArgument);
+      const status = this.#exports[name](...pictures, same, BigInt(place), faultArgument);
       if (status === NOT_READ || status === SECOND_NOT_READ) throw new NotRead(status === NOT_READ ? 1 : 2, this.#unread(place));
       if (status === REFUSED || status === SECOND_REFUSED) {
         const fault = this.#answer + FAULT, kind = KINDS[this.#uint32(fault + 4)];
-        const name = this.#causeName(this.#uint32(fault));
-        throw new PictureRefused(name, this.#size(fault + 16), status === REFUSED ? 1 : 2, kind, this.#size(fault + 8));
+        const cause = this.#causeName(this.#uint32(fault));
+        throw new PictureRefused(cause, this.#size(fault + 16), status === REFUSED ? 1 : 2, kind, this.#size(fault + 8));
       }
       this.#require(status);
       return this.#same();

@@ -110,11 +110,17 @@ export class XmpRefused extends Refused {
   get isRare(): boolean;
 }
 
-/** Two JPEGs have the same Exif and IPTC as far as they are read, and one has a place that isn't read. */
+/** A JPEG has a second packet of XMP, or extended XMP: its first packet is not all of its XMP. */
+export class XmpNotRead extends Error {
+  /** The offset in the JPEG of the second packet or of the first piece of extended XMP, whichever comes first. */
+  readonly offset: number;
+}
+
+/** Two JPEGs have the same metadata as far as they are read, and one has a place that isn't read. */
 export class NotRead extends Error {
   /** The number of the JPEG, 1 or 2; 2 only if all of the first is read. */
   readonly side: 1 | 2;
-  /** The first such place, as jpegUnread returns it. */
+  /** The place. */
   readonly unread: Unread;
 }
 
@@ -152,15 +158,26 @@ export function compare(first: Uint8Array, second: Uint8Array): boolean;
 export function jpegBlocks(picture: Uint8Array, most?: number): JpegBlock[];
 
 /**
- * Whether two JPEGs have the same Exif and IPTC: as many blocks of each kind, which mean the same, pair by pair, in their order. So two
- * JPEGs without metadata are the same. XMP, pixels, and what follows the head are not compared. Throws NotRead if they are the same as far
- * as they are read, but one has more that other programs may read; and PictureRefused, OutOfMemory.
+ * Whether two JPEGs have the same Exif, IPTC and XMP: as many blocks of each kind, which mean the same, pair by pair, in their order; and no
+ * XMP, or one packet each, with equal normal forms. So two JPEGs without metadata are the same. Pixels, and what follows the head, are not
+ * compared. Throws NotRead if they are the same as far as they are read, but one has more that other programs may read: a place that
+ * jpegUnread returns, XMP in another place, a packet that xmpNormalise refuses, a second packet, or extended XMP. Also throws
+ * PictureRefused, OutOfMemory. Which properties a packet has is tested and, unlike the rest, not proved.
  */
 export function jpegSame(first: Uint8Array, second: Uint8Array): boolean;
 
+/** Whether two JPEGs have the same Exif and IPTC, as for jpegSame: XMP is not compared. Throws NotRead, PictureRefused, OutOfMemory. */
+export function jpegSameBlocks(first: Uint8Array, second: Uint8Array): boolean;
+
 /**
- * The first place in a JPEG that other programs read as Exif or IPTC, or may, and that jpegSame doesn't, or the reverse; null if there is
- * none, so that jpegSame reads all of it. Throws HeadRefused, OutOfMemory.
+ * The packet of XMP in a JPEG's head, which xmpNormalise reads; null if there is none. XMP in other places isn't looked for. Throws
+ * XmpNotRead if there is a second packet or extended XMP; HeadRefused, OutOfMemory.
+ */
+export function jpegXmp(picture: Uint8Array): Uint8Array | null;
+
+/**
+ * The first place in a JPEG that other programs read as Exif or IPTC, or may, and that jpegSameBlocks doesn't, or the reverse; null if there
+ * is none, so that jpegSameBlocks reads all of it. Throws HeadRefused, OutOfMemory.
  */
 export function jpegUnread(picture: Uint8Array): Unread | null;
 

@@ -14,7 +14,9 @@ export const photoshopResources = (bytes, most) => engine.photoshopResources(byt
 export const jpegBlocks = (picture, most) => engine.jpegBlocks(picture, most);
 export const jpegUnread = (picture) => engine.jpegUnread(picture);
 export const jpegSame = (first, second) => engine.jpegSame(first, second);
+export const jpegSameBlocks = (first, second) => engine.jpegSameBlocks(first, second);
+export const jpegXmp = (picture) => engine.jpegXmp(picture);
 export const xmpCheck = (packet) => engine.xmpCheck(packet);
 export const xmpNormalise = (packet) => engine.xmpNormalise(packet);
 export const version = () => engine.version();
-export { HeadRefused, LIMIT, NormalTooLong, NotRead, OutOfMemory, PictureRefused, Refused, TooMany, XmpRefused, xmpProperties } from "./engine.js";
+export { HeadRefused, LIMIT, NormalTooLong, NotRead, OutOfMemory, PictureRefused, Refused, TooMany, XmpNotRead, XmpRefused, xmpProperties } from "./engine.js";

@@ -346,7 +346,7 @@ function verdict(first, second) {
   const xmp = xmpVerdict([first, second]);
   let isPartly = xmp !== "same";
   try {
-    if (!engine.jpegSame(first.bytes, second.bytes)) return "different";
+    if (!engine.jpegSameBlocks(first.bytes, second.bytes)) return "different";
   } catch (error) {
     if (error instanceof PictureRefused) return "refused";
     if (!(error instanceof NotRead)) throw error;

@@ -28,6 +28,7 @@ async function answer(name, blocks) {
     return [error.name, error.message, ...(isHead ? [error.parts.map(ofPart), await Promise.all(error.blocks.map(ofBlock))] : [])];
   }
   if (["normalise", "show", "captions", "xmpNormalise"].includes(name)) return digest(value);
+  if (name === "jpegXmp" && value) return digest(value);
   if (name === "jpegBlocks") return Promise.all(value.map(ofBlock));
   if (name === "jpegParts") return value.map(ofPart);
   if (name === "photoshopResources") return value.map(({ number, start, size }) => [number, start, size]);

@@ -4,7 +4,7 @@ import { Engine, load } from "./engine.js";
 
 const bytes: Uint8Array = new Uint8Array(2), kind: "exif" | "iptc" = exifnorm.check(bytes), limit: 16777216 = exifnorm.LIMIT;
 const texts: string[] = [exifnorm.show(bytes), exifnorm.captions(bytes), exifnorm.version()], form: Uint8Array = exifnorm.normalise(bytes);
-const same: boolean = exifnorm.compare(bytes, form) && exifnorm.jpegSame(bytes, form);
+const same: boolean = exifnorm.compare(bytes, form) && exifnorm.jpegSame(bytes, form) && exifnorm.jpegSameBlocks(bytes, form);
 const numbers: number[] = exifnorm.jpegParts(bytes, 5).map((part) => part.marker + part.start + part.size);
 numbers.push(...exifnorm.photoshopResources(bytes).map((resource) => resource.number), exifnorm.jpegUnread(bytes)?.start ?? limit);
 const blocks: [exifnorm.Kind, Uint8Array][] = exifnorm.jpegBlocks(bytes).map(({ kind, data }) => [kind, data]);
@@ -14,7 +14,7 @@ function textsOf(value: exifnorm.XmpValue): string[] {
   return value.kind === "structure" ? value.properties.flatMap((property) => textsOf(property.value)) : value.members.flatMap(textsOf);
 }
 exifnorm.xmpCheck(bytes);
-const packet: Uint8Array = exifnorm.xmpNormalise(bytes);
+const packet: Uint8Array = exifnorm.xmpNormalise(exifnorm.jpegXmp(bytes) ?? bytes);
 texts.push(...exifnorm.xmpProperties(packet).flatMap(({ namespace, name, value }) => [namespace, name, ...textsOf(value)]));
 try {
   const engine: Engine = await load(bytes);
@@ -24,6 +24,7 @@ try {
   else if (error instanceof exifnorm.HeadRefused) numbers.push(error.parts.length, ...error.blocks.map(({ data }) => data.length));
   else if (error instanceof exifnorm.XmpRefused) texts.push(error.isRare ? error.cause : error.message);
   else if (error instanceof exifnorm.Refused) texts.push(error.cause, `${error.offset} ${error.side ?? 0}`);
+  else if (error instanceof exifnorm.XmpNotRead) numbers.push(error.offset);
   else if (error instanceof exifnorm.NotRead) numbers.push(error.side, error.unread.start);
   else if (error instanceof exifnorm.TooMany) numbers.push(error.most);
   else if (error instanceof exifnorm.NormalTooLong || error instanceof exifnorm.OutOfMemory) texts.push(error.message);

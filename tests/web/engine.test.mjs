@@ -36,6 +36,13 @@ test("errors have a cause, an offset, and what else belongs to them", () => {
   });
   const more = bytes("ffd8 ffe1000a 457869660001 4d4d ffd9");
   assert.throws(() => exifnorm.jpegSame(bytes("ffd8 ffd9"), more), { name: "NotRead", side: 2, unread: { joined: false, start: 6 } });
+  assert.throws(() => exifnorm.jpegSameBlocks(bytes("ffd8 ffd9"), more), { name: "NotRead", side: 2 });
+  const segment = `ffe10022 ${Buffer.from("http://ns.adobe.com/xap/1.0/\0<x/").toString("hex")}`, [one, two] = [1, 2].map((count) => bytes(`ffd8 ${segment.repeat(count)} ffd9`));
+  assert.throws(() => exifnorm.jpegXmp(two), { name: "XmpNotRead", offset: 71 });
+  assert.throws(() => exifnorm.jpegXmp(ONE), { name: "HeadRefused", cause: "JpegNoStart" });
+  assert.deepEqual([exifnorm.jpegXmp(one), exifnorm.jpegXmp(bytes("ffd8 ffd9"))], [encoded("<x/"), null]);
+  assert.throws(() => exifnorm.jpegSame(one, one), { name: "NotRead", side: 1, unread: { joined: false, start: 35 } });
+  assert.equal(exifnorm.jpegSameBlocks(one, two), true);
   assert.throws(() => exifnorm.jpegParts(bytes("ffd8 ff01 ff01 ffd9"), 2), { name: "TooMany", most: 2 });
   assert.equal(exifnorm.jpegParts(bytes("ffd8 ff01 ff01 ffd9"), 3).length, 3);
   for (const wrong of ["text", null, [1, 2], new Uint16Array(2)]) assert.throws(() => exifnorm.check(wrong), TypeError);

@@ -24,6 +24,7 @@ from packets import PACKET
 from small_blocks import long_form
 from small_packets import small_packets
 from test_jpeg_same import exif, iptc, picture
+from test_jpeg_xmp import packet as xmp_segment
 
 HERE = Path(__file__).resolve().parent
 pytestmark = pytest.mark.xdist_group("web")
@@ -72,13 +73,15 @@ CALLS = {
     "jpegBlocks": lambda bytes_: digests(exifnorm.jpeg_blocks(bytes_)),
     "jpegUnread": lambda bytes_: exifnorm.jpeg_unread(bytes_) and list(exifnorm.jpeg_unread(bytes_)),
     "jpegSame": exifnorm.jpeg_same,
+    "jpegSameBlocks": exifnorm.jpeg_same_blocks,
+    "jpegXmp": lambda bytes_: digest(found) if (found := exifnorm.jpeg_xmp(bytes_)) is not None else None,
     "photoshopResources": lambda bytes_: [list(resource) for resource in exifnorm.photoshop_resources(bytes_)],
     "xmpCheck": lambda packet: exifnorm.xmp_normal(packet) and None,
     "xmpNormalise": lambda packet: digest(exifnorm.xmp_normal(packet)),
     "xmpProperties": properties,
 }
 OF_BLOCK, OF_BLOCKS = ("check", "normalise", "show", "captions"), ("compare",)
-OF_PICTURE, OF_PICTURES = ("jpegParts", "jpegBlocks", "jpegUnread"), ("jpegSame",)
+OF_PICTURE, OF_PICTURES = ("jpegParts", "jpegBlocks", "jpegUnread", "jpegXmp"), ("jpegSame", "jpegSameBlocks")
 OF_PACKET = ("xmpCheck", "xmpNormalise", "xmpProperties")
 
 
@@ -89,6 +92,8 @@ def native(name, blocks):
         return ["NotRead", answer.side, *answer.unread] if isinstance(answer, exifnorm.NotRead) else answer
     except exifnorm.HeadRefused as why:
         return ["HeadRefused", str(why), [list(part) for part in why.parts], digests(why.blocks)]
+    except exifnorm.XmpNotRead as why:
+        return ["XmpNotRead", str(why)]
     except exifnorm.XmpRefused as why:
         return ["XmpRefused", f"{why.cause} at {why.offset}", why.is_rare]
     except (exifnorm.Refused, exifnorm.NormalTooLong) as why:
@@ -101,6 +106,7 @@ def pictures(blocks):
     samples = [path.read_bytes() for path in sorted(TOP.glob("samples/*/*/*.jpg"))]
     small = [block for block in blocks if len(block) < 30_000]
     found = [picture(exif(block), iptc(other)) for block, other in zip(small, reversed(small))]
+    found += [picture(xmp_segment(it)) for it in small_packets()] + [picture(xmp_segment(b"<x/>"), xmp_segment(b"<x/>"))]
     return samples + found + [changed(chance.choice(samples)[:20_000], chance) for _ in range(300)]
 
 
