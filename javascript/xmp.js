@@ -8,7 +8,7 @@ const RDF = "http://www.w3.org/1999/02/22-rdf-syntax-ns#";
 const HEAD = `<x:xmpmeta xmlns:x="adobe:ns:meta/"><rdf:RDF xmlns:rdf="${RDF}"><rdf:Description rdf:about="">`;
 const TAIL = "</rdf:Description></rdf:RDF></x:xmpmeta>";
 const CONTAINERS = ["Bag", "Seq", "Alt"];
-const MOST_NESTED = 200; // elements: a packet has at most 100, so that a form has few more
+const MOST_NESTED = 100; // elements of a form in one another
 const CHARACTERS = { "&amp;": "&", "&lt;": "<", "&gt;": ">", "&#13;": "\r" };
 
 const utf8 = new TextDecoder("utf-8", { fatal: true, ignoreBOM: true });

@@ -139,6 +139,7 @@ OF_PACKETS: Dict[str, Tuple[str, str]] = {
     "XmpRareResource": ("A resource is no absolute URI of ASCII.", _RARE),
     "XmpRareRepeated": ("A property stands twice in one place.", _RARE),
     "XmpRareLength": (f"The normal form would be longer than {LIMIT:,} bytes.", _RARE),
+    "XmpRareDepth": ("More than 100 elements would be nested in one another in the normal form.", _RARE),
 }
 """The causes of a refusal of a packet of XMP. Those of a rare packet begin with XmpRare."""
 

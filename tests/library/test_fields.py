@@ -418,14 +418,14 @@ def test_what_is_no_form_of_xmp_has_the_properties_before_the_fault(sanitized, f
 
 
 def test_the_deepest_structures(way, sanitized, folder):
-    """As many as a packet may have inside one another."""
-    deep = b"<d:a r:parseType='Resource'>" * 97 + b"<d:b d:c='1'/>" + b"</d:a>" * 97
+    """As many as a form may have inside one another."""
+    deep = b"<d:a r:parseType='Resource'>" * 95 + b"<d:b d:c='1'/>" + b"</d:a>" * 95
     packet = small_packets()[0].replace(b"<d:a>Vase</d:a>", deep)
     form = exifnorm.xmp_normal(packet)
     *lines, end = run(sanitized, "xmp", write_forms(folder / "form", [form])).splitlines()
-    assert [rows_of_line(it)[0] for it in lines] == [*range(99)] and end == "whole"
+    assert [rows_of_line(it)[0] for it in lines] == [*range(97)] and end == "whole"
     (found,) = exifnorm.xmp_properties(packet)
-    assert [it[0] for it in rows_of(found.value)] == [*range(99)]
+    assert [it[0] for it in rows_of(found.value)] == [*range(97)]
 
 
 IS = """

@@ -155,7 +155,7 @@ def test_causes_of_xmp_have_names_and_sentences():
     assert {number: _library.library().cause_name(number) for number in names} == names
     assert sorted(names.values()) == sorted(OF_PACKETS)
     assert {name for number, name in names.items() if number > 250} == {it for it in OF_PACKETS if it.startswith("XmpRare")}
-    assert {_library.library().cause_name(number) for number in (200, 213, 250, 262)} == {""}
+    assert {_library.library().cause_name(number) for number in (200, 213, 250, 263)} == {""}
 
 
 def test_python_has_the_same_numbers_and_structs_of_jpegs():

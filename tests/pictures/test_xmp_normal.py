@@ -144,15 +144,6 @@ def test_spelling():
     assert exifnorm.xmp_normal(packet).decode() == head + inside + "</rdf:Description></rdf:RDF></x:xmpmeta>"
 
 
-@pytest.mark.parametrize("inside", ["", "<dc:b dc:c='1'/>", "<dc:b><rdf:Description dc:c='1'/></dc:b>"])
-def test_forms_of_deep_packets_are_packets(inside):
-    """A form has an element for each attribute, and x:xmpmeta: it is no deeper than may be, unless the packet has more than 98 elements."""
-    structures = 96 - len(re.findall("<[a-zA-Z]", inside))
-    deep = "<dc:a rdf:parseType='Resource'>" * structures + inside + "</dc:a>" * structures
-    packet = ElementTree.tostring(ElementTree.fromstring(xmp(deep)).find(f".//{RDF}RDF"))
-    assert isinstance(check(packet), bytes)
-
-
 LI = "<rdf:li>{}</rdf:li>"
 
 
@@ -161,6 +152,9 @@ def long_form():
     packet = xmp("".join(f"<q:a{it}/>" for it in range(1000)))
     return packet.replace(b"xmlns:dc=", b"xmlns:q='http://" + b"q" * 50000 + b"/' xmlns:dc=", 1)
 
+
+DEEP = xmp("<dc:a rdf:parseType='Resource'>" * 96 + "<dc:a dc:b=''/>" + "</dc:a>" * 96)
+"""100 elements in one another, of which the innermost one has an attribute."""
 
 REFUSED = {
     "XmpBadCharacter": (b"<a>\xff</a>", 3),
@@ -185,6 +179,7 @@ REFUSED = {
     "XmpRareResource": (xmp("<dc:a rdf:resource='relative'/>"), None),
     "XmpRareRepeated": (xmp("<dc:a>1</dc:a><dc:a>2</dc:a>"), None),
     "XmpRareLength": (long_form(), exifnorm.LIMIT),
+    "XmpRareDepth": (DEEP, DEEP.rindex(b"<dc:a ")),
     "XmpTooLong": (b" " * (exifnorm.LIMIT + 1), exifnorm.LIMIT),
 }
 

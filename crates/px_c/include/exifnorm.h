@@ -402,7 +402,8 @@ enum {
     EXIFNORM_XMP_RARE_LANGUAGE = 258,    /* a language that is none, or has more than 100 characters */
     EXIFNORM_XMP_RARE_RESOURCE = 259,    /* a resource that is no absolute URI of ASCII */
     EXIFNORM_XMP_RARE_REPEATED = 260,    /* a property stands twice in one place */
-    EXIFNORM_XMP_RARE_LENGTH = 261       /* the normal form would be longer than EXIFNORM_LIMIT */
+    EXIFNORM_XMP_RARE_LENGTH = 261,      /* the normal form would be longer than EXIFNORM_LIMIT */
+    EXIFNORM_XMP_RARE_DEPTH = 262        /* in the normal form an element would be inside 100 others */
 };
 
 /* Judges a packet of XMP: whether it has a normal form, as exifnorm_xmp_normalise writes it.

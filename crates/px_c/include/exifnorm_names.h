@@ -4,7 +4,7 @@
  *         printf("%s:%s\n", exifnorm_field_group(&field), exifnorm_field_name(&field));      IFD0:Artist
  *
  * The names and the groups are those that ExifTool and the command exifnorm-pictures print. All texts are ASCII, are in the program
- * itself, and end with a zero byte. A header alone, for C99 and C++11; a program that doesn't need its 7,465 bytes of texts leaves it out.
+ * itself, and end with a zero byte. A header alone, for C99 and C++11; a program that doesn't need its 7,539 bytes of texts leaves it out.
  */
 #ifndef EXIFNORM_NAMES_H
 #define EXIFNORM_NAMES_H
@@ -202,6 +202,7 @@ static inline const char *exifnorm_cause_text(uint32_t cause) {
     case EXIFNORM_XMP_RARE_RESOURCE: return "A resource is no absolute URI of ASCII.";
     case EXIFNORM_XMP_RARE_REPEATED: return "A property stands twice in one place.";
     case EXIFNORM_XMP_RARE_LENGTH: return "The normal form would be longer than 16,777,216 bytes.";
+    case EXIFNORM_XMP_RARE_DEPTH: return "More than 100 elements would be nested in one another in the normal form.";
     default: return "";
     }
 }

@@ -41,6 +41,7 @@ xmp_rare_name n =
     else if n == 259 then codes "XmpRareResource"
     else if n == 260 then codes "XmpRareRepeated"
     else if n == 261 then codes "XmpRareLength"
+    else if n == 262 then codes "XmpRareDepth"
     else []
 
 -- of a block, or of a packet of XMP

@@ -9,7 +9,7 @@ use Rattle.px_xmp_forms.specs.declared.faults.Cause.TheVariants.{DocumentType, O
 use Rattle.px_xmp_forms.specs.declared.faults.Cause.TheVariants.{NoRoot, TooDeep, NoRdf, SeveralSubjects}
 use Rattle.px_xmp_forms.specs.declared.faults.Cause.TheVariants.{RareEncoding, RareName, RareNamespace, RareCount}
 use Rattle.px_xmp_forms.specs.declared.faults.Cause.TheVariants.{RareElement, RareAttribute, RareText, RareLanguage}
-use Rattle.px_xmp_forms.specs.declared.faults.Cause.TheVariants.{RareResource, RareRepeated, RareLength}
+use Rattle.px_xmp_forms.specs.declared.faults.Cause.TheVariants.{RareResource, RareRepeated, RareLength, RareDepth}
 use Rattle.px_xmp_forms.specs.Causes.{is_rare}
 use Rattle.px_xmp_forms.specs.Forms.{IsNormal}
 use Rattle.px_c.specs.declared.faults.ExifnormFault.{ExifnormFault}
@@ -39,6 +39,7 @@ xmp_cause RareLanguage = 258
 xmp_cause RareResource = 259
 xmp_cause RareRepeated = 260
 xmp_cause RareLength = 261
+xmp_cause RareDepth = 262
 
 -- a normal packet is put into the caller's buffer, or the buffer is too small
 abbrev pub PutsXmp : Given → List ℕ → List ℕ → Type 0

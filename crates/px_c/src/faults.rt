@@ -9,7 +9,7 @@ use px_bytes::Cause;
 #[repr(C)]
 #[derive(Clone, Copy, Drop)]
 pub struct ExifnormFault {
-    /// The number of a `Cause`, 1 to 19; of a packet of XMP 201 to 212, and 251 to 261.
+    /// The number of a `Cause`, 1 to 19; of a packet of XMP 201 to 212, and 251 to 262.
     pub cause: u32,
     /// The byte offset, at most `LIMIT`.
     pub place: u32,

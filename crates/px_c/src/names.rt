@@ -54,6 +54,7 @@ fn xmp_rare_name(number: u32) -> &'static [u8]
         259 => b"XmpRareResource",
         260 => b"XmpRareRepeated",
         261 => b"XmpRareLength",
+        262 => b"XmpRareDepth",
         _ => b"",
     }
 }

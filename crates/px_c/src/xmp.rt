@@ -39,6 +39,7 @@ fn xmp_cause(cause: Cause) -> u32
         Cause::RareResource => 259,
         Cause::RareRepeated => 260,
         Cause::RareLength => 261,
+        Cause::RareDepth => 262,
     }
 }
 

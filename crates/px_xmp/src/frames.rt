@@ -1,6 +1,12 @@
 // The elements that are open.
 use px_xmp_forms::{Container, Content, Label};
 
+// The root of a normal form, rdf:RDF and rdf:Description.
+const SUBJECT_DEPTH: usize = 3;
+
+// The most elements of a normal form that are in one another.
+pub(crate) const DEPTH_LIMIT: usize = 100;
+
 // What the content of a property or a member is, as far as it was read.
 #[derive(Clone, Copy, Debug, PartialEq, Eq)]
 pub(crate) enum Filling {
@@ -41,9 +47,24 @@ pub(crate) struct Frame<'a> {
     pub(crate) role: Role<'a>,
     pub(crate) place: usize,
     pub(crate) language: &'a [u8],
+    // The number of elements of the normal form around what is inside it.
+    pub(crate) depth: usize,
 }
 
 impl<'a> Role<'a> {
+    // The number of elements of the normal form around what is inside it, if so many are around it. The form has a root around
+    // rdf:RDF, one rdf:Description in it, and none for a node.
+    pub(crate) fn depth(self, outer: usize) -> usize {
+        match self {
+            Role::Root(_) => outer,
+            Role::Rdf => SUBJECT_DEPTH,
+            Role::Subject => outer,
+            Role::Node => outer,
+            Role::Container(_) => outer.saturating_add(1),
+            Role::Value(_, _) => outer.saturating_add(1),
+        }
+    }
+
     // Whether it has an output of its own.
     pub(crate) fn has_output(self) -> bool {
         match self {

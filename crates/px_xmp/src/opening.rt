@@ -3,7 +3,7 @@ ghost use Rattle.std.specs.Prelude.{◌≡◌};
 ghost use Rattle.px_xmp_forms.specs.Allocations.{CountsAllocFailureInPacket};
 
 use crate::attributes::{language_of, next_plain};
-use crate::frames::{Filling, Frame, Opened, Role};
+use crate::frames::{DEPTH_LIMIT, Filling, Frame, Opened, Role};
 use crate::names::Named;
 use crate::reader::Reader;
 use px_bytes::Memory;
@@ -14,7 +14,7 @@ use px_xmp_marks::Attribute;
 const PARSE_TYPE: &[u8] = b"Resource";
 
 impl<'a> Reader<'a> {
-    // Adds the property that an attribute is.
+    // Adds the property that an attribute is, which is an element of the normal form.
     fn put_property(
         &mut self,
         memory: &mut Memory,
@@ -25,10 +25,13 @@ impl<'a> Reader<'a> {
         ensures scope { self.new.scope ≡ self.old.scope }
         ensures memory { CountsAllocFailureInPacket result memory.old memory.new }
     {
-        match name.property() {
-            Some(label) => self.output.put_attribute(memory, label, value, origin),
-            None => Err(Cause::RareAttribute.at(origin.place)),
+        let Some(label) = name.property() else {
+            return Err(Cause::RareAttribute.at(origin.place));
+        };
+        if self.depth() >= DEPTH_LIMIT {
+            return Err(Cause::RareDepth.at(origin.place));
         }
+        self.output.put_attribute(memory, label, value, origin)
     }
 
     // Reads an attribute of rdf:Description.

@@ -8,7 +8,7 @@ ghost use Rattle.px_xmp.specs.Reading.{kind_view, IsReadAs};
 ghost use Rattle.px_xmp.specs.calls.Listed.{AreListed};
 ghost use Rattle.px_xmp_forms.specs.Allocations.{CountsAllocFailureInPacket};
 
-use crate::frames::{Filling, Frame, Role};
+use crate::frames::{DEPTH_LIMIT, Filling, Frame, Role};
 use crate::marks::{MarkKind, Text};
 use crate::scope::Scope;
 use px_bytes::Memory;
@@ -49,6 +49,14 @@ impl<'a> Reader<'a> {
         Some(self.frames[n - 1])
     }
 
+    // The number of elements of the normal form around what is inside the innermost element.
+    pub(crate) fn depth(&self) -> usize {
+        match self.innermost() {
+            Some(frame) => frame.depth,
+            None => 0,
+        }
+    }
+
     // Opens an element.
     pub(crate) fn push(
         &mut self,
@@ -60,6 +68,10 @@ impl<'a> Reader<'a> {
         ensures scope { self.new.scope ≡ self.old.scope }
         ensures memory { CountsAllocFailureInPacket result memory.old memory.new }
     {
+        let depth = role.depth(self.depth());
+        if depth > DEPTH_LIMIT {
+            return Err(Cause::RareDepth.at(place));
+        }
         if role.has_output() {
             self.output.begin(memory)?;
         }
@@ -67,6 +79,7 @@ impl<'a> Reader<'a> {
             role,
             place,
             language,
+            depth,
         };
         memory.push(&mut self.frames, frame)?;
         Ok(())

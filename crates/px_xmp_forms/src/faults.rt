@@ -54,6 +54,8 @@ pub enum Cause {
     RareRepeated,
     /// Rare: the normal form would be longer than `LIMIT`. The offset is `LIMIT`.
     RareLength,
+    /// Rare: in the normal form an element would be inside 100 others.
+    RareDepth,
 }
 
 impl Cause {
@@ -79,7 +81,8 @@ impl Cause {
             | Cause::RareLanguage
             | Cause::RareResource
             | Cause::RareRepeated
-            | Cause::RareLength => true,
+            | Cause::RareLength
+            | Cause::RareDepth => true,
             _ => false,
         }
     }

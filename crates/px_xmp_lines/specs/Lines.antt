@@ -8,7 +8,7 @@ use Rattle.px_xmp_forms.specs.declared.faults.Cause.TheVariants.{DocumentType, O
 use Rattle.px_xmp_forms.specs.declared.faults.Cause.TheVariants.{NoRoot, TooDeep, NoRdf, SeveralSubjects}
 use Rattle.px_xmp_forms.specs.declared.faults.Cause.TheVariants.{RareEncoding, RareName, RareNamespace, RareCount}
 use Rattle.px_xmp_forms.specs.declared.faults.Cause.TheVariants.{RareElement, RareAttribute, RareText, RareLanguage}
-use Rattle.px_xmp_forms.specs.declared.faults.Cause.TheVariants.{RareResource, RareRepeated, RareLength}
+use Rattle.px_xmp_forms.specs.declared.faults.Cause.TheVariants.{RareResource, RareRepeated, RareLength, RareDepth}
 
 -- the first octet that may not precede a packet's document is `<`
 abbrev pub begins_mark : List ℕ → Bool
@@ -48,3 +48,4 @@ cause_name RareLanguage = codes "XmpRareLanguage"
 cause_name RareResource = codes "XmpRareResource"
 cause_name RareRepeated = codes "XmpRareRepeated"
 cause_name RareLength = codes "XmpRareLength"
+cause_name RareDepth = codes "XmpRareDepth"

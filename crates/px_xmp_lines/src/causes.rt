@@ -32,5 +32,6 @@ pub fn cause_name(cause: Cause) -> &'static [u8]
         Cause::RareResource => b"XmpRareResource",
         Cause::RareRepeated => b"XmpRareRepeated",
         Cause::RareLength => b"XmpRareLength",
+        Cause::RareDepth => b"XmpRareDepth",
     }
 }

@@ -60,7 +60,7 @@ static struct answer normalise(const unsigned char *packet, size_t length, size_
 static int is_cause_of(uint32_t cause, uint32_t status) {
     if (status == EXIFNORM_REFUSED)
         return cause >= EXIFNORM_XMP_TOO_LONG && cause <= EXIFNORM_XMP_SEVERAL_SUBJECTS;
-    return status == EXIFNORM_RARE && cause >= EXIFNORM_XMP_RARE_ENCODING && cause <= EXIFNORM_XMP_RARE_LENGTH;
+    return status == EXIFNORM_RARE && cause >= EXIFNORM_XMP_RARE_ENCODING && cause <= EXIFNORM_XMP_RARE_DEPTH;
 }
 
 /* Whether a call without a form has the fault of xmp_check, and sets nothing else. */
