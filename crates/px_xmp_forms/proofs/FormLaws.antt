@@ -1,10 +1,10 @@
 -- Content in a row, and its normal form.
-use Rattle.std.proofs.Common.{◌≡◌, ◌++◌, ◌∙◌, ◌==◌, ◌||◌, refl, ℕ, Bool, true, false, List, [], ◌∷◌, codes, sym, ap, append_assoc, append-nil}
+use Rattle.std.proofs.Common.{◌≡◌, ◌++◌, ◌∙◌, ◌==◌, ◌||◌, refl, ℕ, Bool, true, false, List, [], ◌∷◌, codes, sym, ap, append_assoc}
 use Rattle.std.proofs.Common.{◌≤◌, length, subst, arith}
 use Rattle.std.proofs.lemmas.Bool.{eqb-false}
 use Rattle.std.proofs.lemmas.Grind.{flat_map-append}
 use Rattle.px_xmp_text.specs.Texts.{normal_text, normal_octet}
-use Rattle.px_xmp_text.specs.Values.{Label, Simple, Compound, Content, IsLabel, IsSimple, IsContent, Without}
+use Rattle.px_xmp_text.specs.Values.{Label, Simple, Compound, Content, IsLabel, IsContent, Without}
 use Rattle.px_xmp_text.specs.Values.{Property, Item, Literal, Uri, Structure, Bag, Seq, Alt, End, Flat, Nested}
 use Rattle.px_xmp_text.specs.Values.{opening_tag, end_tag, simple, compound_start, compound_end, written, packet_end, normal_packet}
 use Rattle.px_xmp_forms.specs.Forms.{IsForm, IsTextForm, IsNormal, has, language_octets}
@@ -80,7 +80,7 @@ written_more (Nested l s inner rest) k =
 
 -- ---- content in a row
 
-pub in_row : Content → Content → Content
+unfoldable pub in_row : Content → Content → Content
 in_row End d = d
 in_row (Flat l p rest) d = Flat l p (in_row rest d)
 in_row (Nested l s inner rest) d = Nested l s inner (in_row rest d)
@@ -206,3 +206,15 @@ nested_written l s z o a b d e f hl hz eo ea eb ed ee ef =
     ∙ ap (λ (w : List ℕ). w ++ z) (eb ∙ ap (λ (w : List ℕ). w ++ compound_start s []) (ea
     ∙ ap (λ (w : List ℕ). w ++ opening_tag l []) eo)))) in
     subst P (sym whole) (form_nested l s z hl hz)
+
+-- the packet of properties, as it is appended to nothing
+pub packet_is : (a b d e x p : List ℕ) (c : Content) → a ≡ []
+    → b ≡ a ++ codes "<x:xmpmeta xmlns:x=\"adobe:ns:meta/\"><rdf:RDF xmlns:rdf=\"http://www.w3.org/1999/02/22-rdf-syntax-ns#\">"
+    → d ≡ b ++ codes "<rdf:Description rdf:about=\"\">" → e ≡ d ++ p → x ≡ e ++ packet_end → p ≡ written c [] → x ≡ normal_packet c
+packet_is a b d e x p c ea eb ed ee ex ec =
+    ex ∙ ap (λ (z : List ℕ). z ++ packet_end) (ee ∙ ap (λ (z : List ℕ). d ++ z) ec) ∙ append_assoc d (written c []) packet_end
+    ∙ ap (λ (z : List ℕ). d ++ z) (sym (written_more c packet_end))
+    ∙ ap (λ (z : List ℕ). z ++ written c packet_end) (ed ∙ ap (λ (z : List ℕ). z ++ codes "<rdf:Description rdf:about=\"\">")
+    (eb ∙ ap (λ (z : List ℕ). z ++ codes "<x:xmpmeta xmlns:x=\"adobe:ns:meta/\"><rdf:RDF xmlns:rdf=\"http://www.w3.org/1999/02/22-rdf-syntax-ns#\">") ea))
+    ∙ append_assoc (codes "<x:xmpmeta xmlns:x=\"adobe:ns:meta/\"><rdf:RDF xmlns:rdf=\"http://www.w3.org/1999/02/22-rdf-syntax-ns#\">")
+    (codes "<rdf:Description rdf:about=\"\">") (written c packet_end)

@@ -1,1 +1,5 @@
 pub mod FormLaws
+pub mod EntryLaws
+pub mod ElementLaws
+pub mod OutputLaws
+pub mod BlankLaws

@@ -1,6 +1,7 @@
 -- What is written is the normal form of content, as px_xmp_text defines it.
-use Rattle.std.specs.Prelude.{◌≡◌, ◌++◌, ◌==◌, ◌||◌, ℕ, Bool, false, List, [], ◌∷◌, codes}
-use Rattle.px_xmp_text.specs.Texts.{normal_text}
+use Rattle.std.specs.Prelude.{◌≡◌, ◌≢◌, ◌++◌, ◌==◌, ◌||◌, ◌&&◌, ℕ, Bool, true, false, List, [], ◌∷◌, codes, Some}
+use Rattle.px_xmp_text.specs.Texts.{text_of, normal_text}
+use Rattle.px_xmp_text.specs.declared.pieces.TextKind.TheVariants.{AttributeValue}
 use Rattle.px_xmp_text.specs.Values.{Content, IsContent, written, normal_packet}
 
 -- these octets are the normal form of properties or members
@@ -24,3 +25,17 @@ has d (o ∷ x) = (o == d) || has d x
 abbrev pub language_octets : List ℕ → List ℕ
 language_octets [] = 62 ∷ []
 language_octets (o ∷ y) = 32 ∷ 120 ∷ (codes "ml:lang=\"" ++ (o ∷ (y ++ 34 ∷ 62 ∷ [])))
+
+abbrev pub is_space : ℕ → Bool
+is_space o = (o == 32) || (o == 9) || (o == 10) || (o == 13)
+
+-- a text is white space, or nothing
+abbrev pub is_white : List ℕ → Bool
+is_white [] = true
+is_white (o ∷ t) = is_space o && is_white t
+
+-- two values of attributes have one text, or none; or each has a text, and these differ
+abbrev pub IsSameText : List ℕ → List ℕ → Bool → Type 0
+IsSameText a b true = text_of AttributeValue a ≡ text_of AttributeValue b
+IsSameText a b false =
+    (s : List ℕ) × (t : List ℕ) × (text_of AttributeValue a ≡ Some s) × (text_of AttributeValue b ≡ Some t) × (s ≢ t)

@@ -1,6 +1,8 @@
 // Octets and texts, appended to a form.
-ghost use Rattle.std.specs.Prelude.{◌≡◌, ◌++◌, List, ℕ, Some, OnOk};
+ghost use Rattle.std.specs.Prelude.{◌≡◌, ◌≤◌, ◌++◌, ◌∷◌, length, List, ℕ, Some, OnOk, IfOk};
 ghost use Rattle.px_xmp_text.specs.Texts.{text_of, normal_text};
+ghost use Rattle.px_xmp_forms.specs.Forms.{is_space, is_white, IsSameText};
+ghost use Rattle.px_xmp_forms.specs.calls.Blanks.{BeginsWithSpace};
 ghost use Rattle.px_xmp_forms.specs.Allocations.{CountsAllocFailureInPacket};
 
 use crate::faults::{Cause, Refusal};
@@ -65,11 +67,13 @@ pub fn append_text(
 
 /// Whether two values of attributes have the same text.
 pub fn same_text(memory: &mut Memory, a: &[u8], b: &[u8]) -> Result<bool, Refusal>
+    ensures value { IfOk result (λ same. IsSameText a.now b.now same) }
     ensures memory { CountsAllocFailureInPacket result memory.old memory.new }
 {
     if a == b {
         return Ok(true);
     }
+    px_xmp_text::laws::normal_is_injective();
     let mut first = memory.list();
     append_text(memory, &mut first, a, TextKind::AttributeValue)?;
     let mut second = memory.list();
@@ -78,22 +82,38 @@ pub fn same_text(memory: &mut Memory, a: &[u8], b: &[u8]) -> Result<bool, Refusa
 }
 
 // Whether an octet is white space.
-fn is_space(octet: u8) -> bool {
+fn is_space(octet: u8) -> bool
+    ensures { result ≡ is_space octet }
+{
     octet == b' ' || octet == b'\t' || octet == b'\n' || octet == b'\r'
 }
 
+// The number of octets of the white space character at the start of a form. It is 0 if there is none.
+fn space_len(form: &[u8]) -> usize
+    requires { 1 ≤ length form.now }
+    ensures within { result ≤ length form.now }
+    ensures value { (o : ℕ) (t : List ℕ) → form.now ≡ normal_text (o ∷ t) → BeginsWithSpace form.now o t result }
+{
+    if is_space(form[0]) {
+        return 1;
+    }
+    if form.starts_with(b"&#13;") {
+        return 5;
+    }
+    0
+}
+
 /// Whether the normal form of a text is white space, or nothing.
-pub fn is_blank(form: &[u8]) -> bool {
+pub fn is_blank(form: &[u8]) -> bool
+    ensures { (t : List ℕ) → form.now ≡ normal_text t → result ≡ is_white t }
+{
     let mut rest = form;
     while !rest.is_empty() {
-        if is_space(rest[0]) {
-            rest = rest.split_at(1).1;
-        } else {
-            if !rest.starts_with(b"&#13;") {
-                return false;
-            }
-            rest = rest.split_at(5).1;
+        let len = space_len(rest);
+        if len == 0 {
+            return false;
         }
+        rest = rest.split_at(len).1;
     }
     true
 }

@@ -1,8 +1,13 @@
 // The elements of the normal form: a property or a member with its value.
-ghost use Rattle.std.specs.Prelude.{◌≡◌, ◌≤◌, ◌++◌, ℕ, List, length, OnOk};
-ghost use Rattle.px_xmp_text.specs.Values.{IsLabel, Without};
+ghost use Rattle.std.specs.Prelude.{◌≡◌, ◌≤◌, ◌++◌, [], ℕ, List, length, OnOk, IfOk};
+ghost use Rattle.std.specs.Str.{str_to_ascii_lowercase};
+ghost use Rattle.px_xmp_text.specs.Texts.{normal_text};
+ghost use Rattle.px_xmp_text.specs.Values.{IsLabel, IsContent, Without, Literal, Uri, written};
+ghost use Rattle.px_xmp_text.specs.Values as values;
+ghost use Rattle.px_xmp_forms.specs.Entries.{Plain, Inside};
+ghost use Rattle.px_xmp_forms.specs.Outputs.{IsElement, value_of};
 ghost use Rattle.px_xmp_forms.specs.Forms.{language_octets};
-ghost use Rattle.px_xmp_forms.specs.Labels.{label_view};
+ghost use Rattle.px_xmp_forms.specs.Labels.{label_view, compound_view};
 ghost use Rattle.px_xmp_forms.specs.Allocations.{CountsAllocFailureInPacket};
 
 use crate::appending::{LIMIT, append, reserve};
@@ -34,6 +39,7 @@ fn element_size(label: Label, more: usize) -> usize {
 
 // A language in lower case.
 fn lower(memory: &mut Memory, language: &[u8]) -> Result<Vec<u8>, Refusal>
+    ensures value { IfOk result (λ v. v.items ≡ str_to_ascii_lowercase language.now) }
     ensures memory { CountsAllocFailureInPacket result memory.old memory.new }
 {
     let mut octets = memory.list();
@@ -57,7 +63,8 @@ fn append_attribute(memory: &mut Memory, out: &mut Vec<u8>, language: &[u8]) -> 
 
 // Appends the attribute for a language in lower case, if there is one, and the end of the start tag.
 fn append_language(memory: &mut Memory, out: &mut Vec<u8>, language: &[u8]) -> Result<(), Refusal>
-    ensures items { OnOk result ((y : List ℕ) × Without 34 y × (out.new.items ≡ out.old.items ++ language_octets y)) }
+    ensures items { OnOk result (out.new.items ≡ out.old.items ++ language_octets (str_to_ascii_lowercase language.now)) }
+    ensures can { OnOk result (Without 34 (str_to_ascii_lowercase language.now)) }
     ensures memory { CountsAllocFailureInPacket result memory.old memory.new }
 {
     let octets = lower(memory, language)?;
@@ -79,6 +86,8 @@ fn literal_element(
     text: &TextForm,
 ) -> Result<Element, Refusal>
     requires { IsLabel (label_view label) }
+    ensures value { (t : List ℕ) → text.now ≡ normal_text t →
+        IfOk result (λ x. IsElement x (label_view label.entry) (Plain (Literal (str_to_ascii_lowercase language.now) t))) }
     ensures memory { CountsAllocFailureInPacket result memory.old memory.new }
 {
     let mut octets = memory.list();
@@ -86,7 +95,7 @@ fn literal_element(
     let size = element_size(label, language.len().saturating_add(content.len()));
     reserve(memory, &mut octets, size)?;
     append_label(memory, &mut octets, label)?;
-    let label_len = octets.len();
+    let label_len = octets.as_slice().len();
     append_language(memory, &mut octets, language)?;
     append(memory, &mut octets, content)?;
     append_label_end(memory, &mut octets, label)?;
@@ -99,6 +108,7 @@ fn literal_element(
 // The element of a resource.
 fn resource_element(memory: &mut Memory, label: Label, uri: &TextForm) -> Result<Element, Refusal>
     requires { IsLabel (label_view label) }
+    ensures value { (t : List ℕ) → uri.now ≡ normal_text t → IfOk result (λ x. IsElement x (label_view label.entry) (Plain (Uri t))) }
     ensures memory { CountsAllocFailureInPacket result memory.old memory.new }
 {
     let uri = uri.octets();
@@ -108,7 +118,7 @@ fn resource_element(memory: &mut Memory, label: Label, uri: &TextForm) -> Result
     let mut octets = memory.list();
     reserve(memory, &mut octets, element_size(label, uri.len()))?;
     append_label(memory, &mut octets, label)?;
-    let label_len = octets.len();
+    let label_len = octets.as_slice().len();
     append(memory, &mut octets, b" rdf:resource=\"")?;
     append(memory, &mut octets, uri)?;
     append(memory, &mut octets, b"\"/>")?;
@@ -126,13 +136,15 @@ fn nested_element(
     inner: &Piece,
 ) -> Result<Element, Refusal>
     requires { IsLabel (label_view label) }
+    ensures value { (c : values.Content) → inner.now ≡ written c [] → IsContent c →
+        IfOk result (λ x. IsElement x (label_view label.entry) (Inside (compound_view container) c)) }
     ensures memory { CountsAllocFailureInPacket result memory.old memory.new }
 {
     let mut octets = memory.list();
     let content = inner.octets();
     reserve(memory, &mut octets, element_size(label, content.len()))?;
     append_label(memory, &mut octets, label)?;
-    let label_len = octets.len();
+    let label_len = octets.as_slice().len();
     append_start(memory, &mut octets, container)?;
     append(memory, &mut octets, content)?;
     append_stop(memory, &mut octets, container)?;
@@ -151,6 +163,8 @@ pub(crate) fn write_element(
     text: &TextForm,
     inner: &Piece,
 ) -> Result<Element, Refusal>
+    ensures value { (t : List ℕ) (c : values.Content) → text.now ≡ normal_text t → inner.now ≡ written c [] → IsContent c →
+        IfOk result (λ x. IsElement x (label_view label.entry) (value_of content.entry t c)) }
     ensures memory { CountsAllocFailureInPacket result memory.old memory.new }
 {
     if !is_label(label) {

@@ -1,9 +1,12 @@
 // Properties and members, and their order.
-ghost use Rattle.std.specs.Prelude.{◌≡◌, Some, refl, bytes_eq};
+ghost use Rattle.std.specs.Prelude.{◌≡◌, ◌⊎◌, [], List, Some, refl, bytes_eq, take, IfOk, MatchOption};
 ghost use Rattle.std.specs.Cmp.Lexicographic.{slice_cmp, nat_list_eq_equiv, nat_list_cmp_total, texts_ties, texts_po};
 ghost use Rattle.std.specs.Cmp.{on_equiv, on_total, on_po, on_per, partial_equiv_from_equiv};
 ghost use Rattle.std.specs.List.Sorted.{IsPermutation, IsSorted};
 ghost use Rattle.std.specs.Ordering.{nat_cmp};
+ghost use Rattle.px_xmp_text.specs.Values.{written};
+ghost use Rattle.px_xmp_forms.specs.Entries.{Entry, entry_octets, row, AreDistinct, IsRepeated};
+ghost use Rattle.px_xmp_forms.specs.Outputs.{AreItems};
 ghost use Rattle.px_xmp_forms.specs.Allocations.{CountsAllocFailureInPacket};
 
 use crate::appending::{append, reserve};
@@ -30,7 +33,9 @@ impl Item {
     }
 
     // The octets that have its name.
-    fn name(&self) -> &[u8] {
+    fn name(&self) -> &[u8]
+        ensures { result.now ≡ take self.now.element.label_len self.now.element.piece }
+    {
         let octets = self.octets();
         octets.split_at(self.element.label_len.min(octets.len())).0
     }
@@ -85,7 +90,9 @@ pub(crate) fn sort_items(items: Vec<Item>) -> Vec<Item>
 }
 
 // The lesser place.
-fn earlier(place: Option<usize>, other: usize) -> Option<usize> {
+fn earlier(place: Option<usize>, other: usize) -> Option<usize>
+    ensures { MatchOption result ⊥ (λ p. (place ≡ Some p) ⊎ (p ≡ other)) }
+{
     match place {
         Some(place) => Some(place.min(other)),
         None => Some(other),
@@ -93,7 +100,10 @@ fn earlier(place: Option<usize>, other: usize) -> Option<usize> {
 }
 
 // The first place where a name stands again, of items in order.
-pub(crate) fn first_repeated(items: &[Item]) -> Option<usize> {
+pub(crate) fn first_repeated(items: &[Item]) -> Option<usize>
+    ensures { (es : List Entry) → AreItems items.now es → IsSorted (λ a b. slice_cmp nat_cmp (entry_octets a) (entry_octets b)) es →
+        MatchOption result (AreDistinct es) (IsRepeated es) }
+{
     let mut place = None;
     for n in 1..items.len() {
         if items[n - 1].name() == items[n].name() {
@@ -114,6 +124,7 @@ fn items_len(items: &[Item]) -> usize {
 
 // The items in a row.
 pub(crate) fn join_items(memory: &mut Memory, items: &[Item]) -> Result<Piece, Refusal>
+    ensures value { (es : List Entry) → AreItems items.now es → IfOk result (λ p. p ≡ written (row es) []) }
     ensures memory { CountsAllocFailureInPacket result memory.old memory.new }
 {
     let mut joined = memory.list();

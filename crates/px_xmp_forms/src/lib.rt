@@ -1,6 +1,6 @@
 //! The parts of the normal form of an XMP packet: labels, texts, resources, structures and containers, and properties and
-//! members in order. How a packet is read into them is found elsewhere. Whatever the calls put into the output, what is
-//! written is the normal packet of a list of properties, as px_xmp_text defines it.
+//! members in order. How a packet is read into them is found elsewhere. What is written is the normal packet, as px_xmp_text
+//! defines it, of the properties that the calls have put into the output.
 //!
 //! Each call that allocates takes the caller's `Memory`.
 #![tactic(auto)]

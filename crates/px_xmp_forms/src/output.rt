@@ -1,7 +1,16 @@
 // The output: of each element that is open what was read of it.
-ghost use Rattle.std.specs.Prelude.{◌≡◌, ◌≤◌, length, IfOk};
+ghost use Rattle.std.specs.Prelude.{◌≡◌, ◌≤◌, ◌∷◌, [], ℕ, List, Some, length, drop, IfOk, OnOk, MatchOption};
 ghost use Rattle.px_bytes.specs.Parts.{limit};
+ghost use Rattle.px_xmp_text.specs.Texts.{text_of, normal_text};
+ghost use Rattle.px_xmp_text.specs.Values.{End, IsContent, written, normal_packet};
+ghost use Rattle.px_xmp_text.specs.declared.pieces.TextKind.TheVariants.{AttributeValue};
 ghost use Rattle.px_xmp_forms.specs.Forms.{IsNormal};
+ghost use Rattle.px_xmp_forms.specs.Entries.{Entry, row};
+ghost use Rattle.px_xmp_forms.specs.Outputs.{State, Open, Has, IsItem, AreItems, IsLevel};
+ghost use Rattle.px_xmp_forms.specs.Outputs.{nothing, begun, changed, with_text, with_inner, with_entry};
+ghost use Rattle.px_xmp_forms.specs.Outputs.{attribute_entry, element_ended, node_ended, properties_ended};
+ghost use Rattle.px_xmp_forms.specs.Outputs.{PutsText, JoinsMembers, JoinsProperties};
+ghost use Rattle.px_xmp_text.specs.Values as values;
 ghost use Rattle.px_xmp_forms.specs.Allocations.{CountsAllocFailureInPacket};
 
 use crate::appending::{LIMIT, append, is_blank, reserve};
@@ -21,7 +30,9 @@ const DESCRIPTION: &[u8] = b"<rdf:Description rdf:about=\"\">";
 const TAIL: &[u8] = b"</rdf:Description></rdf:RDF></x:xmpmeta>";
 
 // The octets from an offset on.
-fn tail(octets: &[u8], start: usize) -> &[u8] {
+fn tail(octets: &[u8], start: usize) -> &[u8]
+    ensures { result.now ≡ drop start octets.now }
+{
     octets.split_at(start.min(octets.len())).1
 }
 
@@ -40,6 +51,8 @@ fn attribute_item(
     value: &[u8],
     origin: Origin,
 ) -> Result<Item, Refusal>
+    ensures value { IfOk result (λ x. (t : List ℕ) × (text_of AttributeValue value.now ≡ Some t)
+        × IsItem x (attribute_entry label.entry origin.entry t)) }
     ensures memory { CountsAllocFailureInPacket result memory.old memory.new }
 {
     let none = Piece::new(memory);
@@ -61,15 +74,36 @@ pub struct Output {
 
 impl Output {
     /// Nothing.
-    pub fn new(memory: &Memory) -> Output {
+    pub fn new(memory: &Memory) -> Output
+        ensures { Has result (record { opened = []; properties = End }) }
+    {
         Output {
             levels: memory.list(),
             properties: Piece::new(memory),
         }
     }
 
+    // The innermost element, which is no longer open.
+    fn pop(&mut self) -> Option<Level>
+        ensures { (s : State) → Has self.old s → MatchOption result (Has self.new s × (s.opened ≡ []))
+            (λ x. (o : Open) × (os : List Open) × (s.opened ≡ o ∷ os) × IsLevel x o
+            × Has self.new (record { opened = os; properties = s.properties })) }
+    {
+        self.levels.pop()
+    }
+
+    // Opens an element.
+    fn push(&mut self, memory: &mut Memory, level: Level) -> Result<(), Refusal>
+        ensures value { (s : State) (o : Open) → Has self.old s → IsLevel level o → OnOk result (Has self.new (begun o s)) }
+        ensures memory { CountsAllocFailureInPacket result memory.old memory.new }
+    {
+        memory.push(&mut self.levels, level)?;
+        Ok(())
+    }
+
     /// Begins an element that has properties, members or a value.
     pub fn begin(&mut self, memory: &mut Memory) -> Result<(), Refusal>
+        ensures value { (s : State) → Has self.old s → OnOk result (Has self.new (begun nothing s)) }
         ensures memory { CountsAllocFailureInPacket result memory.old memory.new }
     {
         let level = Level {
@@ -77,8 +111,7 @@ impl Output {
             inner: Piece::new(memory),
             items: memory.list(),
         };
-        memory.push(&mut self.levels, level)?;
-        Ok(())
+        self.push(memory, level)
     }
 
     /// Appends a text. Returns whether it is more than white space.
@@ -88,9 +121,11 @@ impl Output {
         octets: &[u8],
         kind: TextKind,
     ) -> Result<bool, Refusal>
+        ensures value { (s : State) → Has self.old s →
+            IfOk result (λ more. (after : State) × Has self.new after × PutsText kind octets.now s more after) }
         ensures memory { CountsAllocFailureInPacket result memory.old memory.new }
     {
-        let Some(level) = self.levels.pop() else {
+        let Some(level) = self.pop() else {
             return Ok(false);
         };
         let before = level.text.octets().len();
@@ -101,15 +136,17 @@ impl Output {
             inner: level.inner,
             items: level.items,
         };
-        memory.push(&mut self.levels, level)?;
+        self.push(memory, level)?;
         Ok(!is_blank)
     }
 
     // Puts another text in place of that of the innermost element.
     fn replace_text(&mut self, memory: &mut Memory, text: TextForm) -> Result<(), Refusal>
+        ensures value { (s : State) (t : List ℕ) → Has self.old s → text ≡ normal_text t
+            → OnOk result (Has self.new (changed (with_text t) s)) }
         ensures memory { CountsAllocFailureInPacket result memory.old memory.new }
     {
-        let Some(level) = self.levels.pop() else {
+        let Some(level) = self.pop() else {
             return Ok(());
         };
         let level = Level {
@@ -117,12 +154,12 @@ impl Output {
             inner: level.inner,
             items: level.items,
         };
-        memory.push(&mut self.levels, level)?;
-        Ok(())
+        self.push(memory, level)
     }
 
     /// Removes the text of the innermost element.
     pub fn remove_text(&mut self, memory: &mut Memory) -> Result<(), Refusal>
+        ensures value { (s : State) → Has self.old s → OnOk result (Has self.new (changed (with_text []) s)) }
         ensures memory { CountsAllocFailureInPacket result memory.old memory.new }
     {
         let text = TextForm::new(memory);
@@ -131,6 +168,8 @@ impl Output {
 
     /// Puts a resource into the innermost element.
     pub fn put_resource(&mut self, memory: &mut Memory, uri: &[u8]) -> Result<(), Refusal>
+        ensures value { (s : State) → Has self.old s →
+            OnOk result ((t : List ℕ) × (text_of AttributeValue uri.now ≡ Some t) × Has self.new (changed (with_text t) s)) }
         ensures memory { CountsAllocFailureInPacket result memory.old memory.new }
     {
         let text = TextForm::new(memory).followed_by(memory, uri, TextKind::AttributeValue)?;
@@ -139,9 +178,10 @@ impl Output {
 
     // Adds an item to the innermost element.
     fn put_item(&mut self, memory: &mut Memory, item: Item) -> Result<(), Refusal>
+        ensures value { (s : State) (e : Entry) → Has self.old s → IsItem item e → OnOk result (Has self.new (changed (with_entry e) s)) }
         ensures memory { CountsAllocFailureInPacket result memory.old memory.new }
     {
-        let Some(level) = self.levels.pop() else {
+        let Some(level) = self.pop() else {
             return Ok(());
         };
         let mut items = level.items;
@@ -151,8 +191,7 @@ impl Output {
             inner: level.inner,
             items,
         };
-        memory.push(&mut self.levels, level)?;
-        Ok(())
+        self.push(memory, level)
     }
 
     /// Adds a property that is an attribute.
@@ -163,6 +202,8 @@ impl Output {
         value: &[u8],
         origin: Origin,
     ) -> Result<(), Refusal>
+        ensures value { (s : State) → Has self.old s → OnOk result ((t : List ℕ) × (text_of AttributeValue value.now ≡ Some t)
+            × Has self.new (changed (with_entry (attribute_entry label.entry origin.entry t)) s)) }
         ensures memory { CountsAllocFailureInPacket result memory.old memory.new }
     {
         let item = attribute_item(memory, label, value, origin)?;
@@ -171,9 +212,11 @@ impl Output {
 
     // Puts what is inside the innermost element.
     fn put_inner(&mut self, memory: &mut Memory, inner: Piece) -> Result<(), Refusal>
+        ensures value { (s : State) (c : values.Content) → Has self.old s → inner ≡ written c [] → IsContent c →
+            OnOk result (Has self.new (changed (with_inner c) s)) }
         ensures memory { CountsAllocFailureInPacket result memory.old memory.new }
     {
-        let Some(level) = self.levels.pop() else {
+        let Some(level) = self.pop() else {
             return Ok(());
         };
         let level = Level {
@@ -181,56 +224,63 @@ impl Output {
             inner,
             items: level.items,
         };
-        memory.push(&mut self.levels, level)?;
-        Ok(())
+        self.push(memory, level)
+    }
+
+    // Joins the items of an element, and opens it again.
+    fn push_joined(
+        &mut self,
+        memory: &mut Memory,
+        text: TextForm,
+        items: Vec<Item>,
+    ) -> Result<(), Refusal>
+        ensures value { (s : State) (t : List ℕ) (es : List Entry) → Has self.old s → text ≡ normal_text t → AreItems items.items es →
+            OnOk result (Has self.new (begun (record { text = t; inner = row es; entries = [] }) s)) }
+        ensures memory { CountsAllocFailureInPacket result memory.old memory.new }
+    {
+        let level = Level {
+            text,
+            inner: join_items(memory, items.as_slice())?,
+            items: memory.list(),
+        };
+        self.push(memory, level)
     }
 
     /// Joins the properties of the innermost element, sorted. `Content`: two have one name.
     pub fn join_properties(&mut self, memory: &mut Memory) -> Result<(), Refusal>
+        ensures value { (s : State) → Has self.old s → OnOk result ((after : State) × Has self.new after × JoinsProperties s after) }
         ensures memory { CountsAllocFailureInPacket result memory.old memory.new }
     {
-        let Some(level) = self.levels.pop() else {
+        let Some(level) = self.pop() else {
             return Ok(());
         };
         let items = sort_items(level.items);
         if let Some(place) = first_repeated(items.as_slice()) {
             return Err(Cause::RareRepeated.at(place));
         }
-        let level = Level {
-            text: level.text,
-            inner: join_items(memory, items.as_slice())?,
-            items: memory.list(),
-        };
-        memory.push(&mut self.levels, level)?;
-        Ok(())
+        self.push_joined(memory, level.text, items)
     }
 
     /// Joins the members of the innermost element. Those of a bag are sorted.
     pub fn join_members(&mut self, memory: &mut Memory, is_bag: bool) -> Result<(), Refusal>
+        ensures value { (s : State) → Has self.old s → OnOk result ((after : State) × Has self.new after × JoinsMembers is_bag s after) }
         ensures memory { CountsAllocFailureInPacket result memory.old memory.new }
     {
-        let Some(level) = self.levels.pop() else {
+        let Some(level) = self.pop() else {
             return Ok(());
         };
-        let items = if is_bag {
-            sort_items(level.items)
-        } else {
-            level.items
-        };
-        let level = Level {
-            text: level.text,
-            inner: join_items(memory, items.as_slice())?,
-            items: memory.list(),
-        };
-        memory.push(&mut self.levels, level)?;
-        Ok(())
+        if is_bag {
+            return self.push_joined(memory, level.text, sort_items(level.items));
+        }
+        self.push_joined(memory, level.text, level.items)
     }
 
     /// Ends a node, whose joined properties or members are inside the element around it.
     pub fn end_node(&mut self, memory: &mut Memory) -> Result<(), Refusal>
+        ensures value { (s : State) → Has self.old s → OnOk result (Has self.new (node_ended s)) }
         ensures memory { CountsAllocFailureInPacket result memory.old memory.new }
     {
-        let Some(level) = self.levels.pop() else {
+        let Some(level) = self.pop() else {
             return Ok(());
         };
         self.put_inner(memory, level.inner)
@@ -244,9 +294,10 @@ impl Output {
         content: Content,
         place: usize,
     ) -> Result<(), Refusal>
+        ensures value { (s : State) → Has self.old s → OnOk result (Has self.new (element_ended label.entry content.entry place s)) }
         ensures memory { CountsAllocFailureInPacket result memory.old memory.new }
     {
-        let Some(level) = self.levels.pop() else {
+        let Some(level) = self.pop() else {
             return Ok(());
         };
         let element = write_element(memory, label, content, &level.text, &level.inner)?;
@@ -254,14 +305,17 @@ impl Output {
     }
 
     /// Ends the element whose joined properties are those of the packet.
-    pub fn end_properties(&mut self) {
-        if let Some(level) = self.levels.pop() {
+    pub fn end_properties(&mut self)
+        ensures { (s : State) → Has self.old s → Has self.new (properties_ended s) }
+    {
+        if let Some(level) = self.pop() {
             self.properties = level.inner;
         }
     }
 
     /// The whole form of the packet. `Content`: it is too long.
     pub fn whole(&self, memory: &mut Memory) -> Result<Vec<u8>, Refusal>
+        ensures value { (s : State) → Has self.now s → IfOk result (λ form. form.items ≡ normal_packet s.properties) }
         ensures normal { IfOk result (λ form. IsNormal form.items) }
         ensures bound { IfOk result (λ form. length form.items ≤ limit) }
         ensures memory { CountsAllocFailureInPacket result memory.old memory.new }

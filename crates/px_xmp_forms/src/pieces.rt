@@ -1,5 +1,6 @@
 // Octets that are a normal form: of a text, or of properties or members.
-ghost use Rattle.std.specs.Prelude.{◌≡◌};
+ghost use Rattle.std.specs.Prelude.{◌≡◌, ◌++◌, [], ℕ, List, Some, IfOk};
+ghost use Rattle.px_xmp_text.specs.Texts.{text_of, normal_text};
 ghost use Rattle.px_xmp_forms.specs.Forms.{IsForm, IsTextForm};
 ghost use Rattle.px_xmp_forms.specs.Allocations.{CountsAllocFailureInPacket};
 
@@ -28,7 +29,9 @@ impl Model for TextForm {
 
 impl TextForm {
     // That of the empty text.
-    pub(crate) fn new(memory: &Memory) -> TextForm {
+    pub(crate) fn new(memory: &Memory) -> TextForm
+        ensures { result ≡ [] }
+    {
         TextForm {
             octets: memory.list(),
         }
@@ -36,7 +39,8 @@ impl TextForm {
 
     // Its octets.
     pub(crate) fn octets(&self) -> &[u8]
-        ensures { IsTextForm result.now }
+        ensures form { IsTextForm result.now }
+        ensures value { result.now ≡ self.now }
     {
         self.octets.as_slice()
     }
@@ -48,6 +52,7 @@ impl TextForm {
         octets: &[u8],
         kind: TextKind,
     ) -> Result<TextForm, Refusal>
+        ensures value { IfOk result (λ f. (t : List ℕ) × (text_of kind octets.now ≡ Some t) × (f ≡ self ++ normal_text t)) }
         ensures memory { CountsAllocFailureInPacket result memory.old memory.new }
     {
         let mut form = self.octets;
@@ -75,7 +80,9 @@ impl Model for Piece {
 
 impl Piece {
     // None.
-    pub(crate) fn new(memory: &Memory) -> Piece {
+    pub(crate) fn new(memory: &Memory) -> Piece
+        ensures { result ≡ [] }
+    {
         Piece {
             octets: memory.list(),
         }
@@ -84,6 +91,7 @@ impl Piece {
     // These octets.
     pub(crate) fn of(octets: Vec<u8>) -> Piece
         requires { IsForm octets.items }
+        ensures { result ≡ octets.items }
     {
         Piece { octets }
     }

@@ -1,0 +1,25 @@
+use Rattle.std.proofs.Common.{Bool, sym, subst, refl}
+use Rattle.std.proofs.lemmas.Result.{on_ok_weaker}
+use Rattle.px_xmp_forms.specs.Entries.{Sorts}
+use Rattle.px_xmp_forms.specs.Outputs.{State, SortsIf, begun, with_joined}
+use Rattle.px_xmp_forms.proofs.EntryLaws.{items_moved, items_sorted}
+use Rattle.px_xmp_forms.proofs.OutputLaws.{joins_first}
+use Rattle.px_xmp_forms.proofs.output.Output.join_members.Goals as goal
+
+pub returns-then-is_bag-clause-value : goal.returns-then-is_bag-clause-value
+returns-then-is_bag-clause-value c s h =
+    let (o, os, f, l, r) = c.in-Some.ensures s h in
+    let rest : State = record { opened = os; properties = s.properties } in
+    let (fs, p, are) = items_moved c.in-Some.level.items.items c.sort_items.result.items o.entries c.sort_items.ensures.permutation l.entries in
+    let sorts : Sorts o.entries fs = record { same = p; order = items_sorted c.sort_items.result.items fs are c.sort_items.ensures.sorted } in
+    let if_bag = subst (λ (b : Bool). SortsIf b o.entries fs) (sym c.if-is_bag.true) sorts in
+    on_ok_weaker c.push_joined.result (λ k. (begun (with_joined fs o) rest, k, (joins_first c.args.is_bag s.opened o os fs f if_bag, refl)))
+    (c.push_joined.ensures.value rest o.text fs r l.text are)
+
+pub returns-clause-value : goal.returns-clause-value
+returns-clause-value c s h =
+    let (o, os, f, l, r) = c.in-Some.ensures s h in
+    let rest : State = record { opened = os; properties = s.properties } in
+    let if_bag = subst (λ (b : Bool). SortsIf b o.entries o.entries) (sym c.if-is_bag.false) refl in
+    on_ok_weaker c.push_joined-2.result (λ k. (begun (with_joined o.entries o) rest, k, (joins_first c.args.is_bag s.opened o os o.entries f if_bag, refl)))
+    (c.push_joined-2.ensures.value rest o.text o.entries r l.text l.entries)

@@ -1,0 +1,16 @@
+use Rattle.std.proofs.Common.{[], List, sym, subst}
+use Rattle.px_xmp_forms.specs.Entries.{row}
+use Rattle.px_xmp_forms.specs.Outputs.{AreItems}
+use Rattle.px_xmp_forms.specs.declared.items.Item.{Item}
+use Rattle.px_xmp_forms.proofs.EntryLaws.{items_can}
+use Rattle.px_xmp_forms.proofs.output.Output.push_joined.Goals as goal
+
+pub returns-clause-value : goal.returns-clause-value
+returns-clause-value c s t es h e a =
+    let are = subst (λ (xs : List Item). AreItems xs es) (sym c.as_slice.ensures.value) a in
+    c.push.ensures.value s (record { text = t; inner = row es; entries = [] }) h (record {
+      text = e;
+      inner = c.in_ok-join_items.ensures.value es are;
+      can = items_can _ es a;
+      entries = subst (λ (xs : List Item). AreItems xs []) (sym c.list.ensures.items) tt;
+    })
