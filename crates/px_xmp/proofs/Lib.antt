@@ -2,3 +2,4 @@ pub mod PacketLaws
 pub mod MarkLaws
 pub mod TagLaws
 pub mod RowLaws
+pub mod JudgedLaws

@@ -1,5 +1,5 @@
 //! The laws of packets. Each is the contract of a function that computes nothing.
-ghost use Rattle.px_xmp.specs.Laws.{KindsAreRead};
+ghost use Rattle.px_xmp.specs.Laws.{KindsAreRead, ScopesAreJudged};
 
 /// Each mark of a document is read as what it is, and with its length.
 pub fn kinds_are_read()
@@ -12,3 +12,8 @@ pub fn kinds_are_read()
     px_xmp_marks::laws::comments_are_read();
     px_xmp_marks::laws::instructions_are_read();
 }
+
+/// What is in scope in an element is what `px_xmp_spaces` judges.
+pub fn scopes_are_judged()
+    ensures { ScopesAreJudged }
+{}
