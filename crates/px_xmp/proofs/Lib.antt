@@ -3,3 +3,4 @@ pub mod MarkLaws
 pub mod TagLaws
 pub mod RowLaws
 pub mod JudgedLaws
+pub mod NodeLaws

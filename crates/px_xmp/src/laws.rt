@@ -1,5 +1,5 @@
 //! The laws of packets. Each is the contract of a function that computes nothing.
-ghost use Rattle.px_xmp.specs.Laws.{KindsAreRead, ScopesAreJudged};
+ghost use Rattle.px_xmp.specs.Laws.{KindsAreRead, OneReading, ScopesAreJudged};
 
 /// Each mark of a document is read as what it is, and with its length.
 pub fn kinds_are_read()
@@ -17,3 +17,10 @@ pub fn kinds_are_read()
 pub fn scopes_are_judged()
     ensures { ScopesAreJudged }
 {}
+
+/// Octets are one row of nodes.
+pub fn one_reading()
+    ensures { OneReading }
+{
+    kinds_are_read();
+}
