@@ -269,8 +269,8 @@ pub extern "C" fn exifnorm_jpeg_blocks(
 ///
 /// `NOT_READ`: what is read is the same, and `unread` is a place of the first picture that isn't read: as `exifnorm_jpeg_same_blocks`
 /// stores it, or else of XMP in an APP1 segment by another mark or in Photoshop's resource 0x0424, of a packet that is wrong or
-/// rare, of a second packet, or of extended XMP. `SECOND_NOT_READ`: there is none in the first, and `unread` is that of the second. `REFUSED`,
-/// `SECOND_REFUSED` and `NO_MEMORY`, and what a status changes, are as for `exifnorm_jpeg_same_blocks`.
+/// rare, of a second packet, or of extended XMP. `SECOND_NOT_READ`: there is none in the first, and `unread` is that of the second.
+/// `REFUSED`, `SECOND_REFUSED` and `NO_MEMORY`, and what a status changes, are as for `exifnorm_jpeg_same_blocks`.
 #[unsafe(no_mangle)]
 pub extern "C" fn exifnorm_jpeg_same(
     alloc: Global,
