@@ -1,5 +1,8 @@
-"""Options together, over a small part of the made museum. Each pair of options that may stand together, by the parser, stands in some run, and each
-run is made in every form of output: the forms say the same, whatever the options. Pairs that exclude each other are refused, and both are named."""
+"""Options together, over a small part of the made museum.
+
+The parser says which options may stand together. Each pair of those is in at least one run. Each run is made in every form of output, and
+all forms must say the same. A pair of options that exclude each other must be refused, with the names of both.
+"""
 
 import contextlib
 import csv
