@@ -3,3 +3,4 @@ pub mod EntryLaws
 pub mod ElementLaws
 pub mod OutputLaws
 pub mod BlankLaws
+pub mod EndLaws

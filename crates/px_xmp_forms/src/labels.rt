@@ -2,6 +2,7 @@
 ghost use Rattle.std.specs.Prelude.{◌≡◌, ◌++◌, [], true, OnOk};
 ghost use Rattle.px_xmp_text.specs.Values.{opening_tag, end_tag, compound_start, compound_end, IsLabel};
 ghost use Rattle.px_xmp_forms.specs.Forms.{has};
+ghost use Rattle.px_xmp_forms.specs.Labels.{label_of};
 ghost use Rattle.px_xmp_forms.specs.Labels.{label_view, property_view, local_octets, container_view, compound_view, container_octets};
 ghost use Rattle.px_xmp_forms.specs.Allocations.{CountsAllocFailureInPacket};
 
@@ -45,7 +46,9 @@ pub struct Property<'a> {
 
 impl<'a> Property<'a> {
     /// The name with a namespace and a local name.
-    pub fn new(space: &'a [u8], local: &'a [u8]) -> Property<'a> {
+    pub fn new(space: &'a [u8], local: &'a [u8]) -> Property<'a>
+        ensures { property_view result ≡ label_of space.now local.now }
+    {
         let (space, head) = split_space(space);
         Property { space, head, local }
     }

@@ -1,5 +1,7 @@
 // Namespaces, and the URIs of resources.
-ghost use Rattle.std.specs.Prelude.{◌≡◌, ◌≤◌, ◌++◌, length};
+ghost use Rattle.std.specs.Prelude.{◌≡◌, ◌≤◌, ◌++◌, ◌&&◌, ◌||◌, true, nat_le, length, take, drop};
+ghost use Rattle.px_xmp_forms.specs.Labels.{is_name_start, is_name_char, are_name_chars, name_at_end, before_name};
+ghost use Rattle.px_xmp_forms.specs.calls.Ends.{before_start};
 
 /// The namespace of RDF.
 pub const RDF: &[u8] = b"http://www.w3.org/1999/02/22-rdf-syntax-ns#";
@@ -11,21 +13,29 @@ const XML: &[u8] = b"http://www.w3.org/XML/1998/namespace";
 
 const XMLNS: &[u8] = b"http://www.w3.org/2000/xmlns/";
 
-pub(crate) fn is_letter(octet: u8) -> bool {
+pub(crate) fn is_letter(octet: u8) -> bool
+    ensures { result ≡ ((nat_le 97 octet && nat_le octet 122) || (nat_le 65 octet && nat_le octet 90)) }
+{
     (b'a' <= octet && octet <= b'z') || (b'A' <= octet && octet <= b'Z')
 }
 
-pub(crate) fn is_digit(octet: u8) -> bool {
+pub(crate) fn is_digit(octet: u8) -> bool
+    ensures { result ≡ (nat_le 48 octet && nat_le octet 57) }
+{
     b'0' <= octet && octet <= b'9'
 }
 
 // Whether a name can begin with an octet.
-fn is_name_start(octet: u8) -> bool {
+fn is_name_start(octet: u8) -> bool
+    ensures { result ≡ is_name_start octet }
+{
     is_letter(octet) || octet == b'_'
 }
 
 // Whether a name can contain an octet.
-fn is_name_char(octet: u8) -> bool {
+fn is_name_char(octet: u8) -> bool
+    ensures { result ≡ is_name_char octet }
+{
     is_name_start(octet) || is_digit(octet) || octet == b'-' || octet == b'.'
 }
 
@@ -49,7 +59,10 @@ fn is_no_uri_char(octet: u8) -> bool {
 
 // The offset after the last octet that no name can contain.
 fn last_part(space: &[u8]) -> usize
-    ensures { result ≤ length space.now }
+    ensures within { result ≤ length space.now }
+    ensures chars { are_name_chars (drop result space.now) ≡ true }
+    ensures name { name_at_end space.now ≡ name_at_end (drop result space.now) }
+    ensures before { before_name space.now ≡ take result space.now ++ before_name (drop result space.now) }
 {
     let mut start = space.len();
     while start > 0 {
@@ -63,7 +76,8 @@ fn last_part(space: &[u8]) -> usize
 
 // The number of octets before the first that a name can begin with.
 fn before_name(octets: &[u8]) -> usize
-    ensures { result ≤ length octets.now }
+    ensures value { result ≡ before_start octets.now }
+    ensures within { result ≤ length octets.now }
 {
     for (n, octet) in octets.iter().enumerate() {
         if is_name_start(*octet) {
@@ -75,7 +89,9 @@ fn before_name(octets: &[u8]) -> usize
 
 /// A namespace, before the longest name at its end, and this name, which is empty if there is none.
 pub fn split_space<'a>(space: &'a [u8]) -> (&'a [u8], &'a [u8])
-    ensures { result.0.now ++ result.1.now ≡ space.now }
+    ensures joined { result.0.now ++ result.1.now ≡ space.now }
+    ensures before { result.0.now ≡ before_name space.now }
+    ensures name { result.1.now ≡ name_at_end space.now }
 {
     let start = last_part(space);
     let size = start + before_name(space.split_at(start).1);
