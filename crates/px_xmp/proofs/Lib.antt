@@ -4,3 +4,6 @@ pub mod TagLaws
 pub mod RowLaws
 pub mod JudgedLaws
 pub mod NodeLaws
+pub mod OrderLaws
+pub mod MeaningLaws
+pub mod DocumentLaws

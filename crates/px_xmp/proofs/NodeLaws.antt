@@ -190,4 +190,4 @@ nodes_once law (Element tag place inner more) (Element mark site content others)
     )
 
 pub one_reading : KindsAreRead → OneReading
-one_reading law x a b e f = (nodes_once law a b [] 0 x [] [] e f (inl refl) (inl refl)).0
+one_reading law x at a b e f = (nodes_once law a b [] at x [] [] e f (inl refl) (inl refl)).0

@@ -1,5 +1,6 @@
--- The laws of marks and of what is in scope.
-use Rattle.std.specs.Prelude.{◌≡◌, ℕ, Some, List, [], ◌++◌, length, Ok}
+-- The laws of marks, of what is in scope, and of meaning.
+use Rattle.std.specs.Prelude.{◌≡◌, ◌↔◌, ℕ, Some, List, [], ◌++◌, length, Ok}
+use Rattle.px_xmp_text.specs.Values.{Content, IsContent, normal_packet}
 use Rattle.px_xmp_marks.specs.Reading.{Named, Attr}
 use Rattle.px_xmp_spaces.specs.Scopes.{Item}
 use Rattle.px_xmp_spaces.specs.Tags.{opened}
@@ -7,6 +8,7 @@ use Rattle.px_xmp.specs.Marks.{Mark, IsKind}
 use Rattle.px_xmp.specs.Tags.{inside}
 use Rattle.px_xmp.specs.Reading.{Read, IsReadAs, read}
 use Rattle.px_xmp.specs.Nodes.{Nodes, AreNodes}
+use Rattle.px_xmp.specs.Meaning.{Means, HasMeaning}
 
 -- Each mark is read, whatever follows it.
 abbrev pub KindsAreRead : Type 0
@@ -18,6 +20,23 @@ abbrev pub ScopesAreJudged : Type 0
 ScopesAreJudged = (n : Named) (attributes : List Attr) (scope inner : List Item) → opened n attributes scope ≡ Ok inner
     → inside scope attributes ≡ inner
 
--- Octets are one row of nodes.
+-- Octets at an offset are one row of nodes.
 abbrev pub OneReading : Type 0
-OneReading = (x : List ℕ) (a b : Nodes) → AreNodes a [] 0 x [] → AreNodes b [] 0 x [] → a ≡ b
+OneReading = (x : List ℕ) (at : ℕ) (a b : Nodes) → AreNodes a [] at x [] → AreNodes b [] at x [] → a ≡ b
+
+-- Nodes mean one thing that a normal form can have.
+abbrev pub NodesMeanOnce : Type 0
+NodesMeanOnce = (nodes : Nodes) (a b : Content) → Means nodes a → Means nodes b → IsContent a → IsContent b → a ≡ b
+
+-- A document means one thing that a normal form can have.
+abbrev pub OneMeaning : Type 0
+OneMeaning = (x : List ℕ) (start : ℕ) (a b : Content) → HasMeaning x start a → HasMeaning x start b → IsContent a → IsContent b → a ≡ b
+
+-- two documents, each at an offset of its packet, mean one thing
+abbrev pub MeanTheSame : List ℕ → ℕ → List ℕ → ℕ → Type 0
+MeanTheSame x m y n = (c : Content) × IsContent c × HasMeaning x m c × HasMeaning y n c
+
+-- Documents mean the same exactly if the normal packets of what they mean are the same.
+abbrev pub FormsDecideMeaning : Type 0
+FormsDecideMeaning = (x y : List ℕ) (m n : ℕ) (a b : Content) → HasMeaning x m a → HasMeaning y n b → IsContent a → IsContent b
+    → (normal_packet a ≡ normal_packet b) ↔ MeanTheSame x m y n

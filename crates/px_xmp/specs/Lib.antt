@@ -4,5 +4,6 @@ pub mod Names
 pub mod Tags
 pub mod Nodes
 pub mod Reading
+pub mod Meaning
 pub mod Laws
 pub mod calls

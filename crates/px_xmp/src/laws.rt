@@ -1,5 +1,5 @@
 //! The laws of packets. Each is the contract of a function that computes nothing.
-ghost use Rattle.px_xmp.specs.Laws.{KindsAreRead, OneReading, ScopesAreJudged};
+ghost use Rattle.px_xmp.specs.Laws.{FormsDecideMeaning, KindsAreRead, NodesMeanOnce, OneMeaning, OneReading, ScopesAreJudged};
 
 /// Each mark of a document is read as what it is, and with its length.
 pub fn kinds_are_read()
@@ -23,4 +23,28 @@ pub fn one_reading()
     ensures { OneReading }
 {
     kinds_are_read();
+}
+
+/// The nodes of a document mean one thing that a normal form can have.
+pub fn nodes_mean_once()
+    ensures { NodesMeanOnce }
+{
+    px_xmp_text::laws::packet_is_injective();
+}
+
+/// A document means one thing that a normal form can have.
+pub fn one_meaning()
+    ensures { OneMeaning }
+{
+    px_xmp_marks::laws::declarations_are_read();
+    one_reading();
+    nodes_mean_once();
+}
+
+/// Two documents mean the same exactly if the normal packets of what they mean are the same.
+pub fn forms_decide_meaning()
+    ensures { FormsDecideMeaning }
+{
+    px_xmp_text::laws::packet_is_injective();
+    one_meaning();
 }
