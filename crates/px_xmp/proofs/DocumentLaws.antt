@@ -6,7 +6,7 @@ use Rattle.px_xmp_marks.specs.Declarations.{Declared, declaration, DeclarationsA
 use Rattle.px_xmp_document.specs.Document.{IsSplit, order_mark_len}
 use Rattle.px_xmp.specs.Nodes.{Nodes, AreNodes}
 use Rattle.px_xmp.specs.Meaning.{Means, HasMeaning}
-use Rattle.px_xmp.specs.Laws.{OneReading, NodesMeanOnce, OneMeaning, FormsDecideMeaning}
+use Rattle.px_xmp.specs.Laws.{OneReading, NodesMeanOnce, OneMeaning, FormsDecide}
 
 some_declared : (p q : Declared) → Some p ≡ Some q → p ≡ q
 some_declared p q h = cc
@@ -34,9 +34,9 @@ one_meaning law reading once x start a b h k can could =
     let nodes : h.nodes ≡ k.nodes = reading h.tree (start + (length x - length h.tree)) h.nodes k.nodes h.row moved in
     once h.nodes a b h.means (subst (λ (z : Nodes). Means z b) (sym nodes) k.means) can could
 
-pub forms_decide_meaning : PacketIsInjective → OneMeaning → FormsDecideMeaning
-forms_decide_meaning law once x y m n a b h k can could = (
-  (λ e. (a, can, h, subst (λ (z : Content). HasMeaning y n z) (sym ((law a b can could).0 e)) k)),
+pub forms_decide : PacketIsInjective → OneMeaning → FormsDecide
+forms_decide law once x y m n f g (a, can, h, e) (b, could, k, d) = (
+  (λ same. (a, can, h, subst (λ (z : Content). HasMeaning y n z) (sym ((law a b can could).0 (sym e ∙ same ∙ d))) k)),
   (λ s. (let (c, writable, first, second) = s in
-      ap normal_packet (once x m a c h first can writable ∙ once y n c b second k writable could))),
+      e ∙ ap normal_packet (once x m a c h first can writable ∙ once y n c b second k writable could) ∙ sym d)),
 )

@@ -32,11 +32,14 @@ NodesMeanOnce = (nodes : Nodes) (a b : Content) → Means nodes a → Means node
 abbrev pub OneMeaning : Type 0
 OneMeaning = (x : List ℕ) (start : ℕ) (a b : Content) → HasMeaning x start a → HasMeaning x start b → IsContent a → IsContent b → a ≡ b
 
--- two documents, each at an offset of its packet, mean one thing
+-- these octets are the normal form of what a document means, at an offset of its packet
+abbrev pub IsFormOf : List ℕ → ℕ → List ℕ → Type 0
+IsFormOf x start form = (c : Content) × IsContent c × HasMeaning x start c × (form ≡ normal_packet c)
+
+-- two documents mean one thing
 abbrev pub MeanTheSame : List ℕ → ℕ → List ℕ → ℕ → Type 0
 MeanTheSame x m y n = (c : Content) × IsContent c × HasMeaning x m c × HasMeaning y n c
 
--- Documents mean the same exactly if the normal packets of what they mean are the same.
-abbrev pub FormsDecideMeaning : Type 0
-FormsDecideMeaning = (x y : List ℕ) (m n : ℕ) (a b : Content) → HasMeaning x m a → HasMeaning y n b → IsContent a → IsContent b
-    → (normal_packet a ≡ normal_packet b) ↔ MeanTheSame x m y n
+-- Documents mean the same exactly if their forms are the same.
+abbrev pub FormsDecide : Type 0
+FormsDecide = (x y : List ℕ) (m n : ℕ) (f g : List ℕ) → IsFormOf x m f → IsFormOf y n g → (f ≡ g) ↔ MeanTheSame x m y n

@@ -1,5 +1,5 @@
 //! The laws of packets. Each is the contract of a function that computes nothing.
-ghost use Rattle.px_xmp.specs.Laws.{FormsDecideMeaning, KindsAreRead, NodesMeanOnce, OneMeaning, OneReading, ScopesAreJudged};
+ghost use Rattle.px_xmp.specs.Laws.{FormsDecide, KindsAreRead, NodesMeanOnce, OneMeaning, OneReading, ScopesAreJudged};
 
 /// Each mark of a document is read as what it is, and with its length.
 pub fn kinds_are_read()
@@ -41,9 +41,9 @@ pub fn one_meaning()
     nodes_mean_once();
 }
 
-/// Two documents mean the same exactly if the normal packets of what they mean are the same.
-pub fn forms_decide_meaning()
-    ensures { FormsDecideMeaning }
+/// Two documents mean the same exactly if their normal forms are the same.
+pub fn forms_decide()
+    ensures { FormsDecide }
 {
     px_xmp_text::laws::packet_is_injective();
     one_meaning();
