@@ -1,10 +1,10 @@
 // A packet: its document, and what is around it.
-ghost use Rattle.std.specs.Prelude.{◌≡◌, ◌≤◌, List, length, take, drop, true, IfOk, OnOk};
+ghost use Rattle.std.specs.Prelude.{◌≡◌, ◌≤◌, ℕ, Option, List, length, take, drop, true, IfOk, OnOk};
 ghost use Rattle.px_xmp.specs.Marks.{Mark, AreRow};
 ghost use Rattle.px_xmp.specs.Tags.{scope_after_all};
 ghost use Rattle.px_bytes.specs.Parts.{limit};
 ghost use Rattle.px_xmp_marks.specs.Declarations.{every};
-ghost use Rattle.px_xmp_document.specs.Document.{IsFile};
+ghost use Rattle.px_xmp_document.specs.Document.{IsSplit, order_mark_len, IsFile};
 ghost use Rattle.px_xmp_forms.specs.Forms.{IsNormal};
 ghost use Rattle.px_xmp_forms.specs.Allocations.{CountsAllocFailureInPacket};
 ghost use Rattle.px_xmp.specs.Packet.{is_padding, is_around, IsPacket};
@@ -168,8 +168,11 @@ fn read_document<'a>(
 
 // The length of the XML declaration at the start.
 fn declaration_len(document: &[u8]) -> usize
-    ensures { result ≤ length document.now }
+    ensures parts { (e : Option (List ℕ)) × IsSplit document.now (take result document.now) e (drop result document.now) }
+    ensures within { result ≤ length document.now }
 {
+    px_xmp_marks::laws::declarations_are_read();
+    px_xmp_marks::laws::only_declarations_are_read();
     match read_declaration(document) {
         Some(declaration) => declaration.size,
         None => 0,
@@ -248,16 +251,24 @@ fn first_crowded(octets: &[u8]) -> Option<usize> {
     None
 }
 
+// The length of the byte order mark at the start.
+fn order_mark_len(document: &[u8]) -> usize
+    ensures value { result ≡ order_mark_len document.now }
+    ensures within { result ≤ length document.now }
+{
+    if document.starts_with(b"\xEF\xBB\xBF") {
+        return 3;
+    }
+    0
+}
+
 // The length of the byte order mark and the declaration at the start.
 fn head_len(document: &[u8]) -> usize
-    ensures { result ≤ length document.now }
+    ensures parts { (d : List ℕ) × (e : Option (List ℕ))
+        × IsSplit (drop (order_mark_len document.now) document.now) d e (drop result document.now) }
+    ensures within { result ≤ length document.now }
 {
-    let mark = if document.starts_with(b"\xEF\xBB\xBF") {
-        3
-    } else {
-        0
-    };
-    let mark = mark.min(document.len());
+    let mark = order_mark_len(document);
     mark + declaration_len(document.split_at(mark).1)
 }
 
