@@ -159,10 +159,11 @@ export function jpegBlocks(picture: Uint8Array, most?: number): JpegBlock[];
 
 /**
  * Whether two JPEGs have the same Exif, IPTC and XMP: as many blocks of each kind, which mean the same, pair by pair, in their order; and no
- * XMP, or one packet each, with equal normal forms. So two JPEGs without metadata are the same. Pixels, and what follows the head, are not
- * compared. Throws NotRead if they are the same as far as they are read, but one has more that other programs may read: a place that
- * jpegUnread returns, XMP in another place, a packet that xmpNormalise refuses, a second packet, or extended XMP. Also throws
- * PictureRefused, OutOfMemory. Which properties a packet has is tested and, unlike the rest, not proved.
+ * XMP, or one packet each, with equal normal forms together with its extended XMP. So two JPEGs without metadata are the same. Pixels, and
+ * what follows the head, are not compared. Throws NotRead if they are the same as far as they are read, but one has more that other programs
+ * may read: a place that jpegUnread returns, XMP in another place, a packet that xmpNormalise refuses, a second packet, or extended XMP that
+ * is missing or can't be joined to the packet. Also throws PictureRefused, OutOfMemory. Which properties a packet has is tested and, unlike
+ * the rest, not proved.
  */
 export function jpegSame(first: Uint8Array, second: Uint8Array): boolean;
 

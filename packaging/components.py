@@ -81,7 +81,8 @@ def crate_of(kit: Path, name: str) -> Crate:
     folder = kit / "rattle" / name
     page = folder / "README.md"
     said = page.read_text(encoding="utf-8") if page.exists() else ""
-    version = re.search(rf"Rust crate `{name}` (\d+\.\d+\.\d+)", said)
+    spelt = "-?".join(name)  # md5 is a port of md-5
+    version = re.search(rf"Rust crate `{spelt}` (\d+\.\d+\.\d+)", said)
     files = sorted(folder.glob("LICENSE*"))
     return Crate(name, version[1] if version else UNKNOWN, licence_of(files), files)
 

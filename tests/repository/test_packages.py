@@ -341,7 +341,14 @@ class TestArchive:
     """What `make dist` writes, with any umask, time zone, locale and times of files. That two folders give the same bytes is seen with those
     of `make release`."""
 
-    KIT_CRATES = {"byteorder": "MIT", "clap": "Apache-2.0 OR MIT", "hex": "Apache-2.0 OR MIT", "itoa": "MIT", "thiserror": "MIT"}
+    KIT_CRATES = {
+        "byteorder": "MIT",
+        "clap": "Apache-2.0 OR MIT",
+        "hex": "Apache-2.0 OR MIT",
+        "itoa": "MIT",
+        "md5": "Apache-2.0 OR MIT",
+        "thiserror": "MIT",
+    }
 
     @pytest.fixture(scope="class", autouse=True)
     def archive(self, request: pytest.FixtureRequest, session_folder: Path, library: Path) -> None:
@@ -420,7 +427,7 @@ class TestArchive:
         packages = {it["name"]: it for it in found["packages"]}
         assert packages["exifnorm"]["versionInfo"] == VERSION
         assert packages["exifnorm"]["licenseDeclared"] == "MIT OR Apache-2.0"
-        named = set(re.findall(r"\b(?!px_|staticlib)[a-z_]+\b", (TOP / "crates.txt").read_text(encoding="utf-8")))
+        named = set(re.findall(r"\b(?!px_|staticlib)[a-z][a-z0-9_]*\b", (TOP / "crates.txt").read_text(encoding="utf-8")))
         assert named == set(self.KIT_CRATES)
         assert {it: packages[it]["licenseDeclared"] for it in named} == self.KIT_CRATES
         standard = set(packages) - named - {"exifnorm"}

@@ -288,7 +288,8 @@ struct exifnorm_unread_part {
 /* Compares the Exif, the IPTC and the XMP of two JPEG pictures. They have the same if
  *
  * - they have the same Exif and IPTC, as exifnorm_jpeg_same_blocks compares them;
- * - neither has XMP; or each has one packet (exifnorm_jpeg_xmp), and these have equal normal forms (exifnorm_xmp_normalise);
+ * - neither has XMP; or each has one packet (exifnorm_jpeg_xmp), and these have equal normal forms (exifnorm_xmp_normalise), together with
+ *   their extended XMP if they have any;
  * - nothing in them is left unread.
  *
  * So two pictures without metadata have the same. Pixels, and what follows the head, are not compared. The first bytes of a file may be
@@ -302,8 +303,8 @@ struct exifnorm_unread_part {
  * - one that exifnorm_jpeg_unread returns;
  * - XMP that ExifTool reads too: in a segment APP1 without a known mark that begins with "http", or with "XMP" and a zero, or has
  *   "<?xpacket" or "<exif:" in it; or else in Photoshop's resource 0x0424;
- * - a packet that is wrong or rare: exifnorm_xmp_check says why;
- * - a second packet, or extended XMP.
+ * - a packet that is wrong or rare: exifnorm_xmp_check says why; or that names extended XMP which is missing;
+ * - a second packet, or extended XMP that can't be joined to the packet (docs/FORMAT.md, "The head of a JPEG"), whichever comes first.
  *
  *   DONE             same is set: 1 if the pictures have the same, 0 if they don't.
  *   NOT_READ         they have the same, as far as they are read; unread is a place in the first picture.

@@ -1,2 +1,5 @@
+pub mod Counts
+pub mod Extension
+pub mod Joined
 pub mod Xmp
 pub mod Same

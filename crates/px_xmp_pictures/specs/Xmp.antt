@@ -10,6 +10,7 @@ use Rattle.px_pictures.specs.declared.faults.PictureSide.TheVariants.{First, Sec
 use Rattle.px_pictures.specs.Xmp.{IsOtherXmp}
 use Rattle.px_xmp.specs.Packet.{IsPacket}
 use Rattle.px_xmp_forms.specs.Forms.{IsNormal}
+use Rattle.px_xmp_pictures.specs.Joined.{NamesNone, IsJoined}
 use Rattle.px_xmp_pictures.specs.declared.reading.ReadXmp.{ReadXmp}
 use Rattle.px_xmp_pictures.specs.declared.reading.ReadXmp.TheVariants.{Absent, Form, NotRead}
 
@@ -19,14 +20,17 @@ use Rattle.px_xmp_pictures.specs.declared.reading.ReadXmp.TheVariants.{Absent, F
 abbrev pub IsOnlyPacket : Picture → ℕ → ℕ → Type 0
 IsOnlyPacket p start size = (xmp_of p.octets p.parts ≡ found.Packet start size) × IsPacket (range p.octets start size)
 
--- at an offset is a second packet or extended XMP, or the only packet, which has no normal form
+-- at an offset is a second packet or extended XMP, or the only packet, which has no normal form or names extended XMP
 abbrev pub IsLeft : Picture → ℕ → Type 0
 IsLeft p start = (xmp_of p.octets p.parts ≡ found.NotRead start) ⊎ ((size : ℕ) × (xmp_of p.octets p.parts ≡ found.Packet start size))
 
--- the picture has no XMP; or one packet, which has a normal form; or XMP at this place that isn't read
+-- the picture has no XMP; or one packet, alone or with extended XMP, and its normal form, which names no other; or, at this place, XMP that
+-- isn't read
 abbrev pub IsXmp : Picture → ReadXmp → Type 0
 IsXmp p Absent = IsOtherXmp p.octets None × (xmp_of p.octets p.parts ≡ found.Absent)
-IsXmp p (Form form) = IsOtherXmp p.octets None × IsNormal form.items × ((start size : ℕ) × IsOnlyPacket p start size)
+IsXmp p (Form form) =
+    IsOtherXmp p.octets None × IsNormal form.items × NamesNone form.items
+    × (((start size : ℕ) × IsOnlyPacket p start size) ⊎ IsJoined p)
 IsXmp p (NotRead u) = IsOtherXmp p.octets (Some u) ⊎ (IsOtherXmp p.octets None × (u.joined ≡ false) × IsLeft p u.start)
 
 -- the same of the picture b, which has a head

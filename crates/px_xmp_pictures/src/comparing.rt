@@ -93,11 +93,13 @@ fn joint(blocks: Comparison, xmp: Comparison) -> Comparison
 }
 
 /// Compares the Exif, IPTC and XMP of two pictures. `Different`: their Exif or IPTC is different by `compare_metadata_in`, or the XMP of
-/// both is read, and only one has any, or their packets have different normal forms. `Same`: none of this, and all is read. Otherwise
-/// `NotRead`, with a place of the first picture, or of the second if all of the first is read: that of `compare_metadata_in`, or else
-/// that of XMP in another place (`other_xmp`), or of a packet that is wrong or rare, or of a second packet or extended XMP.
+/// both is read, and only one has any, or their packets, joined with their extended XMP, have different normal forms. `Same`: none of
+/// this, and all is read. Otherwise `NotRead`, with a place of the first picture, or of the second if all of the first is read: that of
+/// `compare_metadata_in`, or else that of XMP in another place (`other_xmp`), or of a packet that is wrong or rare or whose extended
+/// XMP is missing, or, if there is a second packet or extended XMP that isn't joined, of whichever comes first.
 ///
-/// Allocates what `compare_metadata_in` does, the joined bytes of one picture at a time again, and two forms. Errors as for
+/// Allocates what `compare_metadata_in` does, the joined bytes of one picture at a time again, and two forms; and of a picture with
+/// extended XMP 32 bytes for each piece, the joined pieces, and the forms of both packets and of both together. Errors as for
 /// `compare_metadata_in`.
 pub fn compare_all_in(
     memory: &mut Memory,

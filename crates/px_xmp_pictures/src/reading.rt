@@ -1,23 +1,25 @@
 // The XMP of one picture.
-ghost use Rattle.std.specs.Prelude.{◌≡◌, false, IfOk, IfErr};
-ghost use Rattle.px_jpeg.specs.Head.{HasHead};
+ghost use Rattle.std.specs.Prelude.{◌≡◌, ℕ, false, IfOk, IfErr};
 ghost use Rattle.px_pictures.specs.declared.faults.MetadataFault.TheVariants as fault;
-ghost use Rattle.px_pictures.specs.Faults.{IsHeadFault, CountsAllocFailureInMetadata, CountsAllocFailureInPicture};
+ghost use Rattle.px_pictures.specs.Faults.{IsHeadFault, CountsAllocFailureInMetadata, CountsAllocFailureInMetadataBy};
+ghost use Rattle.px_pictures.specs.Faults.{CountsAllocFailureInPicture};
 ghost use Rattle.px_pictures.specs.Metadata.{Blocks, HasBlocks};
 ghost use Rattle.px_xmp_pictures.specs.Xmp.{IsXmp, HasXmp};
+ghost use Rattle.px_xmp_pictures.specs.Counts.{CountsAllocFailureOfXmp};
 ghost use Rattle.px_xmp_pictures.specs.declared.reading.ReadXmp.TheVariants.{NotRead};
 
+use crate::joining::{joined_form, only_form};
+use crate::unjoined::Unjoined;
 use px_bytes::Memory;
-use px_jpeg::FoundXmp;
+use px_jpeg::{FoundXmp, Front, find_xmp, read_head};
 use px_pictures::{Metadata, MetadataFault, PictureFault, PictureSide, Unread, metadata_of_in};
-use px_xmp::{Refusal, normal_form_in};
 
 // What is known of the XMP of a picture.
 #[derive(Drop)]
 pub(crate) enum ReadXmp {
     // There is none.
     Absent,
-    // There is one packet, with this normal form.
+    // There is one packet. With the extended XMP, if there is any, it has this normal form.
     Form(Vec<u8>),
     // At this place is XMP that isn't read.
     NotRead(Unread),
@@ -33,27 +35,38 @@ fn not_read(start: usize) -> ReadXmp
     })
 }
 
+// What is known of XMP at an offset that has no form.
+fn left_at(why: Unjoined, start: usize) -> Result<ReadXmp, MetadataFault>
+    ensures left { IfOk result (λ x. x ≡ NotRead (record { joined = false; start = start })) }
+    ensures fault { IfErr result (λ e. e ≡ fault.OutOfMemory) }
+    ensures memory { (old new : ℕ) → CountsAllocFailureOfXmp why old new → CountsAllocFailureInMetadataBy result old new }
+{
+    match why {
+        Unjoined::NotRead => Ok(not_read(start)),
+        Unjoined::OutOfMemory => Err(MetadataFault::OutOfMemory),
+    }
+}
+
 // The XMP of a picture.
-fn xmp_in(memory: &mut Memory, found: &Metadata) -> Result<ReadXmp, MetadataFault>
-    ensures read { IfOk result (IsXmp found.now) }
-    ensures head { HasHead found.now.octets found.now.parts }
+fn xmp_in(memory: &mut Memory, found: &Metadata, front: &Front) -> Result<ReadXmp, MetadataFault>
+    requires { found.now.octets ≡ front.now.octets }
+    ensures read { IfOk result (IsXmp front.now) }
     ensures fault { IfErr result (λ e. e ≡ fault.OutOfMemory) }
     ensures memory { CountsAllocFailureInMetadata result memory.old memory.new }
 {
-    let packet = found.xmp();
     if let Some(place) = found.other_xmp() {
         return Ok(ReadXmp::NotRead(place));
     }
-    match packet {
+    match find_xmp(front) {
         FoundXmp::Absent => Ok(ReadXmp::Absent),
-        FoundXmp::NotRead { start } => Ok(not_read(start)),
-        FoundXmp::Packet { start, size } => {
-            match normal_form_in(memory, found.range(start, size)) {
-                Ok(form) => Ok(ReadXmp::Form(form)),
-                Err(Refusal::Content { .. }) => Ok(not_read(start)),
-                Err(Refusal::OutOfMemory) => Err(MetadataFault::OutOfMemory),
-            }
-        }
+        FoundXmp::NotRead { start } => match joined_form(memory, front) {
+            Ok(form) => Ok(ReadXmp::Form(form)),
+            Err(why) => left_at(why, start),
+        },
+        FoundXmp::Packet { start, size } => match only_form(memory, front, start, size) {
+            Ok(form) => Ok(ReadXmp::Form(form)),
+            Err(why) => left_at(why, start),
+        },
     }
 }
 
@@ -68,11 +81,18 @@ pub(crate) fn read_xmp(
     ensures fault { IfErr result (λ e. (e.side ≡ side) × IsHeadFault bytes.now memory.new.failed_allocations e.fault) }
     ensures memory { CountsAllocFailureInPicture result memory.old memory.new }
 {
+    let front = match read_head(bytes) {
+        Ok(head) => head.front(),
+        Err(fault) => {
+            let fault = MetadataFault::Head(fault);
+            return Err(PictureFault { side, fault });
+        }
+    };
     let found = match metadata_of_in(memory, bytes) {
         Ok(found) => found,
         Err(fault) => return Err(PictureFault { side, fault }),
     };
-    let xmp = xmp_in(memory, &found);
+    let xmp = xmp_in(memory, &found, &front);
     drop(found);
     match xmp {
         Ok(xmp) => Ok(xmp),

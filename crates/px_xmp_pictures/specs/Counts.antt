@@ -1,0 +1,25 @@
+-- What a call that reads XMP states of failed allocations.
+use Rattle.std.specs.Prelude.{◌≡◌, ◌+◌, ℕ, Result, Ok, Err}
+use Rattle.px_bytes.specs.Allocations.{MemoryCounts}
+use Rattle.px_xmp_forms.specs.declared.faults.Refusal.{Refusal}
+use Rattle.px_xmp_forms.specs.declared.faults.Refusal.TheVariants as refusal
+use Rattle.px_xmp_pictures.specs.declared.unjoined.Unjoined.{Unjoined}
+use Rattle.px_xmp_pictures.specs.declared.unjoined.Unjoined.TheVariants.{NotRead, OutOfMemory}
+
+-- a packet that is refused isn't read
+abbrev pub unjoined : Refusal → Unjoined
+unjoined (refusal.Content cause place) = NotRead
+unjoined refusal.OutOfMemory = OutOfMemory
+
+-- OutOfMemory means one failed allocation; any other result means none: `old` and `new` are the counts
+abbrev pub CountsAllocFailureOfXmp : Unjoined → ℕ → ℕ → Type 0
+CountsAllocFailureOfXmp NotRead old new = new ≡ old
+CountsAllocFailureOfXmp OutOfMemory old new = new ≡ old + 1
+
+abbrev pub CountsAllocFailureInXmpBy : {X : Type 0} → Result X Unjoined → ℕ → ℕ → Type 0
+CountsAllocFailureInXmpBy (Ok x) old new = new ≡ old
+CountsAllocFailureInXmpBy (Err e) old new = CountsAllocFailureOfXmp e old new
+
+-- the same, with the counts of a memory
+abbrev pub CountsAllocFailureInXmp : {X : Type 0} → Result X Unjoined → MemoryCounts → MemoryCounts → Type 0
+CountsAllocFailureInXmp r old new = CountsAllocFailureInXmpBy r old.failed_allocations new.failed_allocations

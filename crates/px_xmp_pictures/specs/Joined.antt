@@ -1,0 +1,64 @@
+-- The packet of XMP of a picture with the properties of its extended XMP. XMP part 3, 1.1.3.1: the property HasExtendedXMP of
+-- http://ns.adobe.com/xmp/note/ has the name of the extended XMP.
+use Rattle.std.specs.Prelude.{◌≡◌, ℕ, false, None, List, [], ◌∷◌, ◌++◌, codes}
+use Rattle.px_jpeg.specs.declared.pieces.Piece.{Piece}
+use Rattle.px_jpeg.specs.Head.{Picture}
+use Rattle.px_jpeg.specs.Pieces.{pieces, range}
+use Rattle.px_pictures.specs.Xmp.{has_part}
+use Rattle.px_xmp.specs.Packet.{IsPacket}
+use Rattle.px_xmp_forms.specs.Forms.{IsNormal}
+use Rattle.px_xmp_text.specs.Values.{packet_end}
+use Rattle.px_xmp_pictures.specs.Extension.{packets, extension_pieces, IsExtension}
+
+-- what precedes the properties of a normal packet
+abbrev pub packet_start : List ℕ
+packet_start =
+    codes "<x:xmpmeta xmlns:x=\"adobe:ns:meta/\"><rdf:RDF xmlns:rdf=\"http://www.w3.org/1999/02/22-rdf-syntax-ns#\">"
+    ++ codes "<rdf:Description rdf:about=\"\">"
+
+-- how a normal packet begins HasExtendedXMP, with any value
+abbrev pub label : List ℕ
+label = codes "<p:HasExtendedXMP xmlns:p=\"http://ns.adobe.com/xmp/note/\""
+
+-- how it begins one that is a text without a language, and ends it
+abbrev pub name_start : List ℕ
+name_start = codes "<p:HasExtendedXMP xmlns:p=\"http://ns.adobe.com/xmp/note/\">"
+
+abbrev pub name_end : List ℕ
+name_end = codes "</p:HasExtendedXMP>"
+
+-- there is no HasExtendedXMP in a normal packet, neither as a property of the picture nor inside another one
+abbrev pub NamesNone : List ℕ → Type 0
+NamesNone form = has_part label form ≡ false
+
+-- the pieces of the picture b, which have this name, are a packet, and this is a normal packet
+pub record HasExtension (b : List ℕ) (ps : List Piece) (name form : List ℕ) : Type 0 where
+  pub octets : List ℕ
+  pub extension : IsExtension b ps name octets
+  pub packet : IsPacket octets
+  pub normal : IsNormal form
+
+-- A packet is a normal one with the properties of the extended XMP in place of the property that names it. What precedes that property is
+-- a packet by itself with the end of one: so it is a property of the picture, and not one inside another.
+pub record IsJoinedPacket (b : List ℕ) (ps : List Piece) (form whole : List ℕ) : Type 0 where
+  pub name : List ℕ
+  pub front : List ℕ
+  pub back : List ℕ
+  pub named : form ≡ front ++ (name_start ++ (name ++ (name_end ++ back)))
+  pub outermost : IsPacket (front ++ packet_end)
+  pub other : List ℕ
+  pub extended : HasExtension b ps name other
+  pub properties : List ℕ
+  pub all : other ≡ packet_start ++ properties ++ packet_end
+  pub joined : whole ≡ front ++ properties ++ back
+
+-- the picture has one packet, and that is joined with its extended XMP
+pub record IsJoined (p : Picture) : Type 0 where
+  pub packet : Piece
+  pub only : packets (pieces p.octets None p.parts) ≡ packet ∷ []
+  pub document : IsPacket (range p.octets packet.start packet.size)
+  pub form : List ℕ
+  pub normal : IsNormal form
+  pub whole : List ℕ
+  pub joined : IsJoinedPacket p.octets (extension_pieces (pieces p.octets None p.parts)) form whole
+  pub is_packet : IsPacket whole
