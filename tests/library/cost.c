@@ -1,7 +1,9 @@
 /* What one call of the library costs: cost CALL FILE, where CALL is check, normalise, show, captions, compare (with itself), jpeg_parts,
  * photoshop_resources, jpeg_same or jpeg_same_blocks (with itself), jpeg_unread, jpeg_xmp, xmp_check or xmp_normalise. It prints the most bytes that the call has allocated at once, the number of its allocations, how many of these made
  * something longer, the bytes that they asked for, and the length of the output. test_costs.py runs it, also under callgrind, which counts the
- * instructions of the call. */
+ * instructions of the call.
+ *
+ * cost CALL FILE NUMBER lets the allocation with this number fail, from 1 on, and prints the status and the bytes that are not freed. */
 #include "fuzz/memory.h"
 #include <exifnorm.h>
 #include <stdio.h>
@@ -68,7 +70,7 @@ static uint32_t called(const char *name, struct block block, void *out, size_t r
 }
 
 int main(int count, char **words) {
-    if (count != 3)
+    if (count != 3 && count != 4)
         return 2;
     struct block block = read_file(words[2]);
     size_t room = TIMES * block.length + BESIDE, before, written = 0;
@@ -76,9 +78,13 @@ int main(int count, char **words) {
     if (!out)
         return 2;
     before = memory.live;
-    start_counting(0);
+    start_counting(count == 4 ? atol(words[3]) : 0);
     uint32_t status = called(words[1], block, out, room, &written);
     stop_counting();
+    if (count == 4) {
+        printf("%u %zu\n", (unsigned)status, memory.live - before);
+        return 0;
+    }
     printf("%zu %zu %zu %zu %zu\n", memory.peak - before, memory.taken, memory.grown, memory.asked, written);
     free(out);
     free(block.bytes);

@@ -1,6 +1,7 @@
 """What calls of the built library cost, in numbers that don't depend on the machine: the bytes that they allocate at most, the number of
 their allocations, and the instructions that valgrind counts, for orders that are made to be slow beside the usual one."""
 
+import hashlib
 import re
 from collections import Counter, namedtuple
 from random import Random
@@ -22,6 +23,7 @@ LONG = 300_000  # DataSets, of which a text takes long to make
 STRIP = {"check": (18, 52), "normalise": (181, 216), "compare": (152, 220)}
 SAME, SORTED = 1.3, 3.0  # how often the instructions of the usual order an unusual one takes, and one that has to be sorted
 PIECE = 8192  # bytes of the output buffer
+DONE, NO_MEMORY = 0, 4
 
 Counts = namedtuple("Counts", "peak allocations growths asked written")
 
@@ -37,6 +39,11 @@ class Costs:
         asked for, and the length of the output."""
         self.path.write_bytes(block)
         return Counts(*map(int, run(self.program, call, self.path).split()))
+
+    def refused(self, call, block, number):
+        """The status of a call of which this allocation fails, and the bytes that it doesn't free."""
+        self.path.write_bytes(block)
+        return tuple(map(int, run(self.program, call, self.path, str(number)).split()))
 
     def instructions(self, call, block):
         """Those of the call alone."""
@@ -252,7 +259,57 @@ def test_memory_of_packets(costs, octets, most):
         assert costs.counts(call, octets).peak <= most * len(octets), call
 
 
+# Pictures with extended XMP in so many pieces of one octet, and others that aren't read.
+PIECES = 5_000
+EXTENDED = packet([f"<d:a>{'x' * (PIECES - len(packet(['<d:a></d:a>'])))}</d:a>"])
+NAME = hashlib.md5(EXTENDED, usedforsecurity=False).hexdigest().upper().encode("ascii")
+
+
+def extended(octets, *, of=PIECES, name=NAME, offset=0):
+    """A segment with a piece of extended XMP."""
+    return segment(0xE1, b"http://ns.adobe.com/xmp/extension/\0" + name + of.to_bytes(4, "big") + offset.to_bytes(4, "big") + octets)
+
+
+def with_pieces(pieces):
+    """A picture with a packet that names the extended XMP."""
+    pointer = f"<n:HasExtendedXMP xmlns:n='http://ns.adobe.com/xmp/note/'>{NAME.decode('ascii')}</n:HasExtendedXMP>"
+    return picture(segment(0xE1, b"http://ns.adobe.com/xap/1.0/\0" + packet(["<d:b>text</d:b>", pointer])), *pieces)
+
+
+OCTETS = [extended(EXTENDED[at : at + 1], offset=at) for at in range(PIECES)]
+HOSTILE = {
+    "pieces that have one offset": [extended(b"<")] * PIECES,
+    "pieces of other extensions": [extended(b"<", name=b"%032X" % it, offset=it) for it in range(PIECES)],
+    "pieces that overlap": [extended(EXTENDED[at : at + 2], offset=at) for at in range(PIECES)],
+    "pieces of four gigabytes": [extended(EXTENDED[at : at + 1], of=0xFFFFFFFF, offset=at) for at in range(PIECES)],
+    "pieces behind one another": [extended(b"<", offset=1 << 30 | it) for it in range(PIECES)],
+    "pieces of no octets": [extended(b"")] * PIECES,
+}
+
+
+def test_memory_of_extended_xmp(costs):
+    """In proportion to the picture, whatever the pieces say."""
+    for name, pieces in {"usual": OCTETS, "one piece": [extended(EXTENDED)], **HOSTILE}.items():
+        octets = with_pieces(pieces)
+        assert costs.counts("jpeg_same", octets).peak <= 10 * len(EXTENDED) + 64 * len(pieces) + SMALL, name
+
+
+def test_each_allocation_of_extended_xmp_fails(costs):
+    """The call says that memory is short, and frees what it has."""
+    octets = with_pieces([extended(EXTENDED[4:], offset=4), extended(EXTENDED[:4])])
+    count = costs.counts("jpeg_same", octets).allocations
+    assert count > 10
+    for number in range(1, count + 2):
+        assert costs.refused("jpeg_same", octets, number) == (DONE if number > count else NO_MEMORY, 0), number
+
+
 # ---- instructions
+
+
+def test_instructions_of_extended_xmp_in_another_order(costs):
+    shuffled = Random(1).sample(OCTETS, PIECES)
+    blocks = {"usual": OCTETS, "descending": OCTETS[::-1], "random": shuffled, **HOSTILE}
+    costs.see_that_orders_are_alike("jpeg_same", {name: with_pieces(it) for name, it in blocks.items()}, SORTED)
 
 
 @pytest.mark.parametrize("make, parts", [(packet, PROPERTIES), (bag, MEMBERS)], ids=["properties", "a bag"])

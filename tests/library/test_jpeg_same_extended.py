@@ -7,12 +7,13 @@ from random import Random
 import pytest
 
 import exifnorm
+from commands import run
+from compiling import need
 from exifnorm import NotRead, Unread
 from small_blocks import ONE
-from test_jpeg_same import COMMENT, compared, exif, iptc, name, picture, see, segment
+from test_jpeg_same import CAPTION, COMMENT, SCAN, compared, exif, iptc, name, picture, see, segment
 from test_jpeg_same_xmp import judged
 from test_jpeg_xmp import EXTENSION, packet
-from test_jpeg_same import CAPTION
 
 __all__ = ["compared", "name", "see"]  # fixtures
 PAIRS = 1_200
@@ -101,6 +102,22 @@ def test_more_than_one_segment_has_room_for(see):
     see(first, picture(whole(other, TITLE), *pieces_of(other, *CUTS)), False)
 
 
+@pytest.mark.parametrize("name", ["jpeg_same"], indirect=True)
+def test_as_exiftool_writes_it(see, folder):
+    """It puts what is too long for the packet into extended XMP."""
+    need("exiftool")
+    file, text = folder / "a.jpg", folder / "a.txt"
+    file.write_bytes(picture(COMMENT, end=SCAN + b"\xff\xd9"))
+    text.write_bytes(b"All rights. " * 8_000)
+    run("exiftool", "-config", "", "-q", f"-XMP-dc:Rights<={text}", "-XMP-dc:Format=a", "-XMP-dc:Subject=b", "-XMP-dc:Subject=a", file)
+    written = file.read_bytes()
+    assert written.count(EXTENSION) == 2
+    rights = b"<d:rights><r:Alt><r:li xml:lang='x-default'>" + text.read_bytes() + b"</r:li></r:Alt></d:rights>"
+    for extension, kept in ((rdf(rights), [TITLE, BAG]), (rdf(rights, SAME_BAG, TITLE), [])):
+        see(written, picture(whole(extension, *kept), *pieces_of(extension, *CUTS)), True)
+        see(written, picture(whole(extension, *kept, SOURCE), *pieces_of(extension, *CUTS)), False)
+
+
 # ---- extended XMP that isn't read
 
 A, B, C = pieces_of(MORE, 50, 100)
@@ -165,7 +182,7 @@ LEFT = {
 @pytest.mark.parametrize("name", ["jpeg_same"], indirect=True)
 @pytest.mark.parametrize("some, data", LEFT.values(), ids=LEFT)
 def test_not_read(see, some, data):
-    """It is neither the same nor different, whatever the other picture has; and the command says no more."""
+    """It is neither the same nor different, whatever the other picture has, unless Exif or IPTC differ."""
     start = some.index(EXTENSION) + len(EXTENSION) if data is None else some.index(data)
     place = Unread(False, start)
     see(some, some, NotRead(1, place))

@@ -337,6 +337,15 @@ static void judge_unread(Place expected_place) {
     holds(LAW_FREED, memory.live == live);
 }
 
+/* Whether a picture may have extended XMP, which is joined to its packet. */
+static int has_extension(const unsigned char *bytes, size_t length) {
+    static const char mark[] = "http://ns.adobe.com/xmp/extension/"; /* and a zero */
+    for (size_t at = 0; at + sizeof mark <= length; at++)
+        if (!memcmp(bytes + at, mark, sizeof mark))
+            return 1;
+    return 0;
+}
+
 /* The same with XMP: a picture whose XMP isn't read is never the same, and none is different from itself. */
 static void judge_same_with_xmp(Place place, PictureFault expected_fault) {
     Place found_place = {UNSET, UNSET, UNSET}, of_xmp = found_place;
@@ -354,7 +363,7 @@ static void judge_same_with_xmp(Place place, PictureFault expected_fault) {
     else if (place.found)
         holds(LAW_SAME_XMP, status == EXIFNORM_NOT_READ && is_place(found_place, place) && same == UNSET);
     else if (status == EXIFNORM_DONE)
-        holds(LAW_SAME_XMP, is_read && same == 1 && found_place.found == UNSET && fault.cause == UNSET);
+        holds(LAW_SAME_XMP, (is_read || has_extension(bytes, head.length)) && same == 1 && found_place.found == UNSET && fault.cause == UNSET);
     else
         holds(LAW_SAME_XMP, status == EXIFNORM_NOT_READ && found_place.found == 1 && same == UNSET && fault.cause == UNSET);
 }
