@@ -47,6 +47,7 @@ LOWERED = [*wasm.FEATURES, "--memory64-lowering", "--strip-debug", "--strip-prod
 BASES = 1 << 16, 1 << 17  # where the constants of the two modules begin
 MOST_BEFORE = 4096  # bytes that an address may be before the first constant, as that of a table whose first index is above 0
 WIDTH = 8  # bytes of an address
+LEVELS = 101  # elements of a packet of XMP that are read inside one another: px_xmp_tree refuses one inside 100 others
 
 
 class Failed(Exception):
@@ -199,7 +200,8 @@ def functions_of(lines: list[str]) -> str:
 def stack_of(text: str) -> int:
     """The bytes of stack that the deepest call needs, from the frames of the functions and the calls among them.
 
-    No function may call itself, at any depth. A function takes its frame from the stack at its beginning.
+    Functions that call each other read elements inside one another, so each of them is in at most LEVELS calls that have not returned. A
+    function takes its frame from the stack at its beginning.
     """
     frames, called = {}, {}
     for head, body in re.findall(r"(?ms)^static \w+ (w2c_\w+)\([^;{]*\{\n(.*?)^\}", text):
@@ -208,13 +210,29 @@ def stack_of(text: str) -> int:
             raise Failed(f"it isn't known how much of the stack {head} uses")
         frames[head] = int(frame[1]) if frame else 0
         called[head] = {it for it in re.findall(r"\b(w2c_\w+)\(stack", body)}
+    depths: dict[frozenset[str], int] = {}
 
-    def depth(name: str, above: tuple[str, ...]) -> int:
-        if name in above:
-            raise Failed(f"{name} calls itself")
-        return frames[name] + max((depth(it, (*above, name)) for it in called[name]), default=0)
+    def depth(name: str) -> int:
+        """Of a function with those that call it and that it calls, at any depth."""
+        cycle = frozenset(it for it in reached[name] if name in reached[it]) | {name}
+        if cycle not in depths:
+            own = sum(frames[it] for it in cycle) * (LEVELS if name in reached[name] else 1)
+            depths[cycle] = own + max((depth(it) for it in set().union(*(called[it] for it in cycle)) - cycle), default=0)
+        return depths[cycle]
 
-    return max(depth(it, ()) for it in frames)
+    reached = {name: reached_from(name, called) for name in called}
+    return max(depth(it) for it in frames)
+
+
+def reached_from(name: str, called: dict[str, set[str]]) -> set[str]:
+    """The functions that a function calls, at any depth."""
+    found: set[str] = set()
+    left = set(called[name])
+    while left:
+        it = left.pop()
+        found.add(it)
+        left |= called[it] - found
+    return found
 
 
 # ---- what is written

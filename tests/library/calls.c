@@ -16,7 +16,7 @@
 #include <stdlib.h>
 #include <string.h>
 
-enum { FILLER = 0xA5, BEHIND = 16, THREADS = 16, STACK = 256 * 1024 };
+enum { FILLER = 0xA5, BEHIND = 16, THREADS = 16, STACK = 512 * 1024 };
 
 struct text {
     uint32_t status, length;

@@ -58,7 +58,7 @@ class TestInC:
 
     def test_large_blocks(self, calls, jobs):
         """With the stack of which exifnorm.h states that it is enough."""
-        judge("sh", "-c", 'ulimit -s 256 && exec "$@"', "sh", calls, "once", jobs["large"])
+        judge("sh", "-c", 'ulimit -s 512 && exec "$@"', "sh", calls, "once", jobs["large"])
 
     def test_sixteen_threads(self, calls, jobs):
         judge(calls, "threads", jobs["small"])

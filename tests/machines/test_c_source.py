@@ -172,10 +172,19 @@ def test_the_stack_is_that_of_the_deepest_call() -> None:
     assert c_source.stack_of("\n".join(sum(functions, [])) + "\n") == 3 * 32
 
 
-def test_a_function_that_calls_itself_is_refused() -> None:
-    text = "static void w2c_a(u64 *stack) {\n  w2c_b(stack);\n}\nstatic void w2c_b(u64 *stack) {\n  w2c_a(stack);\n}\n"
-    with pytest.raises(c_source.Failed, match="calls itself"):
-        c_source.stack_of(text)
+def test_functions_that_call_each_other_take_their_frames_for_each_element() -> None:
+    """The frames of all in the cycle, and once those of what calls it and of what it calls."""
+    names = {"w2c_a": ["w2c_b"], "w2c_b": ["w2c_c"], "w2c_c": ["w2c_b", "w2c_d"], "w2c_d": []}
+    functions = [
+        [f"static void {name}(u64 *stack) {{", *FRAME, *(f"  {below}(stack, w2c_j0);" for below in called), "}"]
+        for name, called in names.items()
+    ]
+    assert c_source.stack_of("\n".join(sum(functions, [])) + "\n") == (1 + 2 * c_source.LEVELS + 1) * 32
+
+
+def test_a_function_that_calls_itself_takes_its_frame_for_each_element() -> None:
+    functions = ["static void w2c_a(u64 *stack) {", *FRAME, "  w2c_a(stack, w2c_j0);", "}"]
+    assert c_source.stack_of("\n".join(functions) + "\n") == c_source.LEVELS * 32
 
 
 def test_a_frame_of_unknown_size_is_refused() -> None:

@@ -31,7 +31,7 @@
  *              doesn't name is unchanged.
  *   Memory     The calls use malloc, realloc and free. A failed allocation returns EXIFNORM_NO_MEMORY, and ends no process.
  *   Limits     A block has at most EXIFNORM_LIMIT bytes, and so has a normal form. The bytes of a picture have no limit. A stack of
- *              256 KiB is enough.
+ *              512 KiB is enough.
  */
 #ifndef EXIFNORM_H
 #define EXIFNORM_H

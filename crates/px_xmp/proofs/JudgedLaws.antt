@@ -1,12 +1,12 @@
 -- What is in scope is what px_xmp_spaces judges.
-use Rattle.std.proofs.Common.{◌≡◌, ◌&&◌, ℕ, Bool, true, false, not, nat_le, nat_lt, if◌then◌else◌, Option, Some, None, List, [], ◌∷◌, length, Result, Ok, Err, refl, sym, ap, ◌∙◌}
-use Rattle.px_xmp_marks.specs.Reading.{Named, Attr}
+use Rattle.std.proofs.Common.{◌≡◌, ◌&&◌, ℕ, Bool, true, false, not, nat_le, nat_lt, if◌then◌else◌, Option, Some, None, List, [], ◌∷◌, length, Result, Ok, Err, refl, ap, ◌∙◌}
+use Rattle.px_xmp_marks.specs.Reading.{Attr}
 use Rattle.px_xmp_marks.specs.Declarations.{every}
 use Rattle.px_xmp_spaces.specs.declared.faults.Cause.{Cause}
 use Rattle.px_xmp_spaces.specs.declared.faults.Cause.TheVariants.{RareSpace, Reserved, TooMany, Undeclared, ManyAttributes, SameName}
 use Rattle.px_xmp_spaces.specs.Scopes.{Item, Element, Declaration, limit}
 use Rattle.px_xmp_spaces.specs.Bindings.{declared_prefix, is_plain, is_reserved, with_declaration, or_same, with_attribute, with_attributes, and_then}
-use Rattle.px_xmp_spaces.specs.Tags.{is_element_bound, are_bound, attribute_limit, are_unique, judged, opened}
+use Rattle.px_xmp_spaces.specs.Tags.{is_element_bound, are_bound, attribute_limit, are_unique, judged}
 use Rattle.px_xmp.specs.Tags.{with_prefix, declared, inside}
 use Rattle.px_xmp.specs.Laws.{ScopesAreJudged}
 

@@ -1,7 +1,10 @@
 pub mod PacketLaws
 pub mod MarkLaws
 pub mod TagLaws
-pub mod RowLaws
+pub mod StepLaws
+pub mod WhiteLaws
+pub mod OpeningLaws
+pub mod ContentLaws
 pub mod JudgedLaws
 pub mod NodeLaws
 pub mod OrderLaws

@@ -1,11 +1,11 @@
 -- Each mark is read as what it is.
-use Rattle.std.proofs.Common.{◌≡◌, ◌≤◌, ◌+◌, ◌==◌, ◌&&◌, ℕ, Bool, true, false, not, is_none, if◌then◌else◌, codes, suc}
-use Rattle.std.proofs.Common.{Option, Some, None, option_map, List, [], ◌∷◌, ◌++◌, length, take, refl, sym, ap, subst, ◌∙◌, inl, inr, arith}
+use Rattle.std.proofs.Common.{◌≡◌, ◌+◌, ◌==◌, ◌&&◌, ℕ, Bool, true, false, not, is_none, if◌then◌else◌, codes, suc}
+use Rattle.std.proofs.Common.{Option, Some, None, option_map, List, [], ◌∷◌, ◌++◌, length, take, refl, sym, ap, ◌∙◌, inl, inr, arith}
 use Rattle.std.proofs.lemmas.List.{take_at, length-append}
 use Rattle.std.proofs.lemmas.Bool.{ne_eqb}
 use Rattle.px_xmp_text.specs.Texts.{first_fault}
 use Rattle.px_xmp_text.specs.declared.pieces.TextKind.TheVariants.{CharacterData, CdataSection, AttributeValue}
-use Rattle.px_xmp_marks.specs.Reading.{Named, Attr, ncname, name, begins_with, Start, start_tag, End, end_tag}
+use Rattle.px_xmp_marks.specs.Reading.{Named, ncname, name, Start, start_tag, End, end_tag}
 use Rattle.px_xmp_marks.specs.Grammar.{closing}
 use Rattle.px_xmp_marks.specs.Laws.{StartTagsAreRead, EndTagsAreRead}
 use Rattle.px_xmp_marks.specs.Sections.{find, section, SectionsAreRead}
@@ -14,7 +14,7 @@ use Rattle.px_xmp_marks.specs.Instructions.{instruction, InstructionsAreRead}
 use Rattle.px_xmp_marks.specs.Marks.{data_len, text_len, or_else, tag_len, other_len, mark_len, IsText, EndsText, MarksAreRead}
 use Rattle.px_xmp.specs.Marks as marks
 use Rattle.px_xmp.specs.Laws.{KindsAreRead}
-use Rattle.px_xmp.specs.Reading.{What, Tag, End as Ended, Words, Other, Read, or_read, data_read, section_read, comment_read, instruction_read, other_read, tag_read, read, IsReadAs}
+use Rattle.px_xmp.specs.Reading.{Tag, End as Ended, Words, Other, Read, or_read, data_read, section_read, comment_read, instruction_read, other_read, tag_read, read}
 
 some_same : {A : Type 0} (p q : A) → Some p ≡ Some q → p ≡ q
 some_same p q h = cc

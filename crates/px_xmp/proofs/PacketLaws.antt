@@ -1,5 +1,5 @@
 -- What is around a document, and the document, are the packet.
-use Rattle.std.proofs.Common.{◌≡◌, ◌+◌, ◌++◌, ◌∙◌, inl, inr, ℕ, Option, Some, None, List, [], take, drop, refl, sym, ap, subst, append_assoc}
+use Rattle.std.proofs.Common.{◌≡◌, ◌+◌, ◌++◌, ◌∙◌, inl, inr, ℕ, Option, Some, None, List, take, drop, refl, sym, ap, subst, append_assoc}
 use Rattle.std.proofs.lemmas.List.{take-append-drop, take_at, drop-drop}
 use Rattle.px_xmp_marks.specs.Declarations.{Declared, declaration, IsDeclaration, DeclarationsAreRead, OnlyDeclarationsAreRead}
 use Rattle.px_xmp_document.specs.Document.{IsSplit, order_mark_len}

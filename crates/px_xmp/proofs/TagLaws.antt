@@ -1,15 +1,10 @@
 -- The attributes of a tag, one after another.
-use Rattle.std.proofs.Common.{◌≡◌, ℕ, Bool, true, false, if◌then◌else◌, Option, Some, None, MatchOption, List, [], ◌∷◌, map, Result, Ok, Err, OnOk, sym, ap, subst, refl, ◌∙◌}
-use Rattle.px_xmp_marks.specs.Reading.{Named, Attr, Next, next_attribute, name_view}
+use Rattle.std.proofs.Common.{◌≡◌, ℕ, Bool, true, false, if◌then◌else◌, Option, Some, None, MatchOption, List, [], ◌∷◌, map, sym, ap, subst, refl, ◌∙◌}
+use Rattle.px_xmp_marks.specs.Reading.{Attr, Next, next_attribute}
 use Rattle.px_xmp_marks.specs.Laws.{AttributesInOrder}
 use Rattle.px_xmp_spaces.specs.Scopes.{Item, Element, ended}
 use Rattle.px_xmp_spaces.specs.Bindings.{declared_prefix}
-use Rattle.px_xmp.specs.Tags.{with_prefix, declared, names_language, language_after, is_plain, plain, field_of, fields_in, inside, scope_after}
-use Rattle.px_xmp.specs.Marks.{Mark, Start}
-use Rattle.px_xmp.specs.Reading.{kind_view, IsReadAs}
-use Rattle.px_xmp.specs.declared.marks.MarkKind.{MarkKind}
-use Rattle.px_xmp.specs.declared.marks.MarkKind.TheVariants as kinds
-use Rattle.px_xmp_marks.specs.declared.tags.StartTag.{StartTag}
+use Rattle.px_xmp.specs.Tags.{with_prefix, declared, names_language, language_after, is_plain, plain, field_of, fields_in, inside}
 use Rattle.px_xmp.specs.calls.Listed.{AreListed, ArePlain, IsNextPlain, first_after, or_rest}
 
 -- n is the first attribute, and others follow it
@@ -104,20 +99,3 @@ ended_declared (a ∷ more) scope = ended_declared more _ ∙ ended_prefix (decl
 -- after an element what is in scope is what was so before it
 pub ended_inside : (outer : List Item) (attributes : List Attr) → ended (inside outer attributes) ≡ outer
 ended_inside outer attributes = ended_declared attributes (Element ∷ outer)
-
--- what is in scope after a start tag, or the tag of an empty element
-pub start_after : (scope : List Item) (n : Named) (attributes : List Attr) (empty : Bool)
-    → (if empty then scope else inside scope attributes) ≡ scope_after (Start n attributes empty) scope
-start_after scope n attributes true = refl
-start_after scope n attributes false = refl
-
--- a start tag that is read leads to what is in scope after the mark that it is
-pub start_leads : (w : MarkKind) (t : StartTag) (k : Mark) (scope : List Item) (P : List Item → Type 0) → w ≡ kinds.Start t → IsReadAs (kind_view w) k
-    → ((all : List Attr) → AreListed t.rest.now all → P (if t.is_empty then scope else inside scope all)) → P (scope_after k scope)
-start_leads w t k scope P is read f =
-    let (all, l, same) = subst (λ (z : MarkKind). IsReadAs (kind_view z) k) is read in
-    subst P (start_after scope (name_view t.name) all t.is_empty ∙ sym (ap (λ (z : Mark). scope_after z scope) same)) (f all l)
-
-pub when_ok : {T E P : Type 0} (r : Result T E) → P → OnOk r P
-when_ok (Ok x) p = p
-when_ok (Err e) p = tt

@@ -1,5 +1,5 @@
 -- How a mark is read.
-use Rattle.std.specs.Prelude.{◌≡◌, ◌+◌, ◌==◌, ℕ, Bool, if◌then◌else◌, Option, Some, None, option_map, List, length, take}
+use Rattle.std.specs.Prelude.{◌≡◌, ◌+◌, ◌==◌, ℕ, if◌then◌else◌, Option, Some, None, option_map, List, length, take}
 use Rattle.px_xmp_text.specs.declared.pieces.TextKind.{TextKind}
 use Rattle.px_xmp_text.specs.declared.pieces.TextKind.TheVariants.{CharacterData, CdataSection}
 use Rattle.px_xmp_marks.specs.Reading.{Attr, begins_with, Start, start_tag_view, start_tag, end_tag, attributes_of}
@@ -7,7 +7,6 @@ use Rattle.px_xmp_marks.specs.Sections.{section}
 use Rattle.px_xmp_marks.specs.Comments.{comment}
 use Rattle.px_xmp_marks.specs.Instructions.{instruction}
 use Rattle.px_xmp_marks.specs.Marks.{data_len}
-use Rattle.px_xmp.specs.declared.marks.Text.{Text}
 use Rattle.px_xmp.specs.declared.marks.Mark.{Mark}
 use Rattle.px_xmp.specs.declared.marks.MarkKind.{MarkKind}
 use Rattle.px_xmp.specs.declared.marks.MarkKind.TheVariants as kinds

@@ -1,10 +1,9 @@
 -- Start tags with their namespaces. Namespaces in XML 1.0, 6; XML 1.0, 2.12.
-use Rattle.std.specs.Prelude.{◌&&◌, ℕ, Bool, true, false, not, codes, if◌then◌else◌, Option, Some, None, is_none, List, [], ◌∷◌, map}
+use Rattle.std.specs.Prelude.{◌&&◌, ℕ, Bool, not, codes, if◌then◌else◌, Option, Some, None, is_none, List, [], ◌∷◌, map}
 use Rattle.px_xmp_marks.specs.Reading.{Named, Attr}
-use Rattle.px_xmp_spaces.specs.Scopes.{Item, Element, Declaration, is_same, ended}
+use Rattle.px_xmp_spaces.specs.Scopes.{Item, Element, Declaration, is_same}
 use Rattle.px_xmp_spaces.specs.Bindings.{declared_prefix}
 use Rattle.px_xmp.specs.Names.{Name, element_name, attribute_name}
-use Rattle.px_xmp.specs.Marks.{Mark, Start, End, Text, Other}
 
 -- what is in scope after attributes (Namespaces, 6.1)
 abbrev pub with_prefix : Option (List ℕ) → List ℕ → List Item → List Item
@@ -65,16 +64,3 @@ tag_of outer n attributes = record {
   fields = fields_in (inside outer attributes) attributes;
   language = language_after None attributes;
 }
-
--- what is in scope after a mark
-abbrev pub scope_after : Mark → List Item → List Item
-scope_after (Start n attributes true) scope = scope
-scope_after (Start n attributes false) scope = inside scope attributes
-scope_after End scope = ended scope
-scope_after (Text kind octets) scope = scope
-scope_after Other scope = scope
-
--- what is in scope after marks in a row
-abbrev pub scope_after_all : List Mark → List Item → List Item
-scope_after_all [] scope = scope
-scope_after_all (k ∷ more) scope = scope_after_all more (scope_after k scope)

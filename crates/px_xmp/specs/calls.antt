@@ -1,3 +1,6 @@
 pub mod Entries
 pub mod Listed
 pub mod Opening
+pub mod Steps
+pub mod Contents
+pub mod Subjects

@@ -1,10 +1,12 @@
 // Names with the namespaces that their prefixes stand for.
-ghost use Rattle.std.specs.Prelude.{◌≡◌, ◌&&◌, true, is_some, option_map};
-ghost use Rattle.px_xmp_spaces.specs.Scopes.{is_same};
-ghost use Rattle.px_xmp_forms.specs.Labels.{container_view};
+ghost use Rattle.std.specs.Prelude.{◌≡◌, option_map};
+ghost use Rattle.px_xmp_text.specs.Values.{Structure};
+ghost use Rattle.px_xmp_forms.specs.Labels.{container_view, label_view};
 ghost use Rattle.px_xmp.specs.Names.{is_rdf, is_root, is_about, is_property, container_of};
-ghost use Rattle.px_xmp.specs.calls.Opening.{name_of};
+ghost use Rattle.px_xmp.specs.Meaning.{compound_of, label_in};
+ghost use Rattle.px_xmp.specs.calls.Opening.{name_of, node_view};
 
+use crate::elements::Node;
 use px_xmp_forms::{Container, Label, META, Property, RDF};
 
 // The namespace to which the prefix xml is bound without a declaration.
@@ -63,7 +65,7 @@ impl<'a> Named<'a> {
 
     // The property of this name.
     pub(crate) fn property(&self) -> Option<Label<'a>>
-        ensures { is_some result ≡ is_property (name_of self.now) }
+        ensures { option_map label_view result ≡ label_in Structure (name_of self.now) }
     {
         if !self.is_property() {
             return None;
@@ -85,5 +87,18 @@ impl<'a> Named<'a> {
             return Some(Container::Alt);
         }
         None
+    }
+
+    // The element of this name that has properties or members.
+    pub(crate) fn node(&self) -> Option<Node>
+        ensures { option_map node_view result ≡ compound_of (name_of self.now) }
+    {
+        if self.is_rdf(b"Description") {
+            return Some(Node::Description);
+        }
+        match self.container() {
+            Some(container) => Some(Node::Container(container)),
+            None => None,
+        }
     }
 }

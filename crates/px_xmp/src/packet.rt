@@ -1,7 +1,5 @@
 // A packet: its document, and what is around it.
 ghost use Rattle.std.specs.Prelude.{◌≡◌, ◌≤◌, ℕ, Option, List, length, take, drop, true, IfOk, OnOk};
-ghost use Rattle.px_xmp.specs.Marks.{Mark, AreRow};
-ghost use Rattle.px_xmp.specs.Tags.{scope_after_all};
 ghost use Rattle.px_bytes.specs.Parts.{limit};
 ghost use Rattle.px_xmp_marks.specs.Declarations.{every};
 ghost use Rattle.px_xmp_document.specs.Document.{IsSplit, order_mark_len, IsFile};
@@ -10,8 +8,8 @@ ghost use Rattle.px_xmp_forms.specs.Allocations.{CountsAllocFailureInPacket};
 ghost use Rattle.px_xmp.specs.Packet.{is_padding, is_around, IsPacket};
 
 use crate::causes::cause_of;
-use crate::marks::read_mark;
 use crate::reader::Reader;
+use crate::subject::Subject;
 use px_bytes::Memory;
 use px_xmp_document::first_fault;
 use px_xmp_forms::{Cause, LIMIT, Refusal};
@@ -123,47 +121,6 @@ fn is_wide(packet: &[u8]) -> bool {
         || packet.starts_with(b"<\x00")
         || packet.starts_with(b"\x00<")
         || packet.starts_with(b"\x00\x00\x00<")
-}
-
-// Reads the marks of a document without a declaration, which begins at an offset of the packet.
-fn read_marks<'a>(
-    memory: &mut Memory,
-    reader: &mut Reader<'a>,
-    octets: &'a [u8],
-    start: usize,
-) -> Result<(), Refusal>
-    ensures scope { (ks : List Mark) → AreRow ks octets.now → OnOk result (reader.new.scope ≡ scope_after_all ks reader.old.scope) }
-    ensures memory { CountsAllocFailureInPacket result memory.old memory.new }
-{
-    crate::laws::kinds_are_read();
-    let mut at = 0;
-    while at < octets.len() {
-        let place = start.saturating_add(at);
-        let Some(mark) = read_mark(octets.split_at(at).1) else {
-            return Err(Cause::BadMarkup.at(place));
-        };
-        reader.read(memory, mark.kind, place)?;
-        at += mark.size;
-    }
-    Ok(())
-}
-
-// Reads a document that begins at an offset of the packet.
-fn read_document<'a>(
-    memory: &mut Memory,
-    reader: &mut Reader<'a>,
-    document: &'a [u8],
-    start: usize,
-) -> Result<(), Refusal>
-    ensures memory { CountsAllocFailureInPacket result memory.old memory.new }
-{
-    let size = declaration_len(document);
-    read_marks(
-        memory,
-        reader,
-        document.split_at(size).1,
-        start.saturating_add(size),
-    )
 }
 
 // The length of the XML declaration at the start.
@@ -286,9 +243,14 @@ fn document_form(memory: &mut Memory, document: &[u8], start: usize) -> Result<V
     if let Some(fault) = first_fault(document) {
         return Err(cause_of(document, fault).at(start.saturating_add(fault.offset)));
     }
-    let mut reader = Reader::new(memory);
-    read_document(memory, &mut reader, document, start)?;
-    if let Some(place) = reader.other_subject() {
+    let octets = document.split_at(head).1;
+    let mut reader = Reader::new(memory, octets, start.saturating_add(head));
+    let mut subject = Subject {
+        value: None,
+        other: None,
+    };
+    reader.read_document(memory, &mut subject)?;
+    if let Some(place) = subject.other {
         return Err(Cause::SeveralSubjects.at(place));
     }
     reader.output.whole(memory)

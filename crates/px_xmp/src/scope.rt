@@ -11,7 +11,7 @@ ghost use Rattle.px_xmp.specs.calls.Listed.{AreListed, first_after, or_rest};
 ghost use Rattle.px_xmp.specs.calls.Opening.{name_of, IsDeclared, IsOpened};
 
 use crate::attributes::{declared_prefix, is_plain, names_language};
-use crate::frames::Opened;
+use crate::elements::Opened;
 use crate::names::{Named, XML};
 use px_bytes::Memory;
 use px_xmp_forms::{Cause, Refusal, is_rare_space};
@@ -212,6 +212,8 @@ impl<'a> Scope<'a> {
         ensures scope { (all : List Attr) → AreListed tag.entry.rest.now all → OnOk result (self.new ≡ inside self.old all) }
         ensures tag { (all : List Attr) → AreListed tag.entry.rest.now all
             → IfOk result (λ o. IsOpened self.new o (tag_of self.old (name_view tag.entry.name) all)) }
+        ensures empty { IfOk result (λ o. o.is_empty ≡ tag.entry.is_empty) }
+        ensures place { IfOk result (λ o. o.place ≡ place) }
         ensures memory { CountsAllocFailureInPacket result memory.old memory.new }
     {
         let declared = self.open(memory, tag.rest, place)?;
@@ -220,6 +222,7 @@ impl<'a> Scope<'a> {
             attributes: declared.attributes,
             language: declared.language,
             place,
+            is_empty: tag.is_empty,
         })
     }
 
@@ -231,6 +234,7 @@ impl<'a> Scope<'a> {
     }
 
     // Ends the innermost element: what it declares is no longer in scope.
+    #[inline(never)]
     pub(crate) fn close(&mut self)
         ensures { self.new ≡ ended self.old }
     {

@@ -11,11 +11,13 @@ AreListed x attributes = option_map (λ r. r.0) (attributes_of x) ≡ Some attri
 abbrev pub ArePlain : List ℕ → List Attr → Type 0
 ArePlain x attributes = (more : List Attr) × AreListed x more × (plain more ≡ plain attributes)
 
--- the first attribute that declares nothing, with others after it; or none
+-- the first attribute that declares nothing, with others after it
+abbrev pub IsNextOf : Next → List Attr → Type 0
+IsNextOf n attributes = (more : List Attr) × AreListed n.rest more × (plain attributes ≡ n.attribute ∷ plain more)
+
+-- the same, or none
 abbrev pub IsNextPlain : Option Next → List Attr → Type 0
-IsNextPlain r attributes =
-    MatchOption r (plain attributes ≡ [])
-    (λ n. (more : List Attr) × AreListed n.rest more × (plain attributes ≡ n.attribute ∷ plain more))
+IsNextPlain r attributes = MatchOption r (plain attributes ≡ []) (λ n. IsNextOf n attributes)
 
 -- the first of some octets that begin with an attribute that declares nothing
 abbrev pub first_after : Option (List ℕ) → Bool → List ℕ → Option (List ℕ)

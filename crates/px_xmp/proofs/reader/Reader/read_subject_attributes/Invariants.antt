@@ -1,11 +1,11 @@
 use Rattle.std.proofs.Common.{◌≡◌, length}
-use Rattle.px_xmp.proofs.reader.Reader.read_value_attributes.Given as goal
+use Rattle.px_xmp.proofs.reader.Reader.read_subject_attributes.Given as goal
 
 abbrev pub invariant-loop-next : goal.invariant-loop-next
 invariant-loop-next l = record {
-  scope : l.self.scope ≡ l.fn.self.scope;
+  source : l.self.source ≡ l.fn.self.source;
   failed_allocations : l.memory.failed_allocations ≡ l.fn.memory.failed_allocations;
 }
 
 abbrev pub decreases-loop-next : goal.decreases-loop-next
-decreases-loop-next l = length l.rest
+decreases-loop-next l = length l.left

@@ -1,0 +1,140 @@
+-- Attributes that are properties, one after another.
+use Rattle.std.proofs.Common.{◌≡◌, ◌+◌, ℕ, Option, Some, None, option_map, is_some, Bool, true, false, not, nat_eq, List, [], ◌∷◌, ◌++◌, length, refl, sym, ap, subst, ◌∙◌, append_assoc, append-nil, map}
+use Rattle.std.specs.Cmp.Lexicographic.{pointwise, same_text}
+use Rattle.px_xmp_text.specs.Texts.{text_of}
+use Rattle.px_xmp_text.specs.declared.pieces.TextKind.TheVariants.{AttributeValue}
+use Rattle.px_xmp_text.specs.Values.{Label, Structure}
+use Rattle.px_xmp_marks.specs.Reading.{Attr, Next, next_view}
+use Rattle.px_xmp_marks.specs.declared.listing.NextAttribute.{NextAttribute}
+use Rattle.px_xmp_spaces.specs.Scopes.{Item}
+use Rattle.px_xmp_forms.specs.Entries.{Entry}
+use Rattle.px_xmp_forms.specs.Outputs.{State, Open, Has, changed, with_entry, first_changed}
+use Rattle.px_xmp_forms.specs.declared.output.Output.{Output}
+use Rattle.px_xmp.specs.Names.{Name, attribute_name}
+use Rattle.px_xmp.specs.Tags.{Field, field_of, fields_in, plain}
+use Rattle.px_xmp.specs.Meaning.{label_in, AreAttributes}
+use Rattle.px_xmp.specs.calls.Listed.{AreListed, IsNextPlain}
+use Rattle.px_xmp.specs.calls.Contents.{with_entries, attribute, PropertyPut, PropertiesPut}
+
+-- entries were put of the first fields, and the attributes that are left have the others
+pub record PropertiesLeft (n : Option NextAttribute) (scope : List Item) (all : List Attr) (l : List ℕ) (place : ℕ) (s : State) (output : Output) : Type 0 where
+  pub fields : List Field
+  pub entries : List Entry
+  pub more : List Attr
+  pub found : IsNextPlain (option_map next_view n) more
+  pub whole : fields_in scope all ≡ fields ++ fields_in scope more
+  pub are : AreAttributes l place fields entries
+  pub has : Has output (changed (with_entries entries) s)
+
+-- how many octets are left, with one for the attribute
+abbrev pub left_len : Option NextAttribute → ℕ
+left_len None = 0
+left_len (Some n) = length n.rest.now + 1
+
+-- ---- entries, one after another
+
+pub no_entries : (s : State) → changed (with_entries []) s ≡ s
+no_entries s = ap (λ (z : List Open). record { opened = z; properties = s.properties }) (by_opened s.opened)
+  where
+    by_opened : (os : List Open) → first_changed (with_entries []) os ≡ os
+    by_opened [] = refl
+    by_opened (o ∷ os) = ap (λ (z : List Entry). record { text = o.text; inner = o.inner; entries = z } ∷ os) (append-nil o.entries)
+
+pub entry_after : (s : State) (es : List Entry) (e : Entry) → changed (with_entry e) (changed (with_entries es) s) ≡ changed (with_entries (es ++ e ∷ [])) s
+entry_after s es e = ap (λ (z : List Open). record { opened = z; properties = s.properties }) (by_opened s.opened)
+  where
+    by_opened : (os : List Open) → first_changed (with_entry e) (first_changed (with_entries es) os) ≡ first_changed (with_entries (es ++ e ∷ [])) os
+    by_opened [] = refl
+    by_opened (o ∷ os) =
+        ap (λ (z : List Entry). record { text = o.text; inner = o.inner; entries = z } ∷ os) (append_assoc o.entries es (e ∷ []))
+
+entries_after : (s : State) (es fs : List Entry) → changed (with_entries fs) (changed (with_entries es) s) ≡ changed (with_entries (es ++ fs)) s
+entries_after s es fs = ap (λ (z : List Open). record { opened = z; properties = s.properties }) (by_opened s.opened)
+  where
+    by_opened : (os : List Open) → first_changed (with_entries fs) (first_changed (with_entries es) os) ≡ first_changed (with_entries (es ++ fs)) os
+    by_opened [] = refl
+    by_opened (o ∷ os) = ap (λ (z : List Entry). record { text = o.text; inner = o.inner; entries = z } ∷ os) (append_assoc o.entries es fs)
+
+-- ---- attributes, one after another
+
+attribute_after : (l : List ℕ) (place : ℕ) (fs : List Field) (es : List Entry) (f : Field) (label : Label) (t : List ℕ) → AreAttributes l place fs es
+    → label_in Structure f.name ≡ Some label → text_of AttributeValue f.value ≡ Some t
+    → AreAttributes l place (fs ++ f ∷ []) (es ++ attribute label place l t ∷ [])
+attribute_after l place [] es f label t e named says =
+    (label, t, [], named, says, ap (λ (z : List Entry). z ++ attribute label place l t ∷ []) e, refl)
+attribute_after l place (g ∷ fs) es f label t (other, u, more, h, i, e, r) named says = (
+  other,
+  u,
+  more ++ attribute label place l t ∷ [],
+  h,
+  i,
+  ap (λ (z : List Entry). z ++ attribute label place l t ∷ []) e,
+  attribute_after l place fs more f label t r named says,
+)
+
+-- nothing was put yet
+pub properties_begin : (n : Option NextAttribute) (scope : List Item) (all : List Attr) (l : List ℕ) (place : ℕ) (s : State) (output : Output)
+    → IsNextPlain (option_map next_view n) all → Has output s → PropertiesLeft n scope all l place s output
+properties_begin n scope all l place s output found has =
+    record {
+      fields = [];
+      entries = [];
+      more = all;
+      found = found;
+      whole = refl;
+      are = refl;
+      has = subst (λ (z : State). Has output z) (sym (no_entries s)) has;
+    }
+
+-- one more was put
+pub properties_next : (m n : Option NextAttribute) (x : NextAttribute) (scope : List Item) (all : List Attr) (l : List ℕ) (place : ℕ) (s : State)
+    (before after : Output) (name : Name) → m ≡ Some x → (left : PropertiesLeft m scope all l place s before)
+    → ((rest : List Attr) → AreListed x.rest.now rest → IsNextPlain (option_map next_view n) rest)
+    → name ≡ attribute_name scope (next_view x).attribute.name
+    → PropertyPut name (next_view x).attribute.value l place (changed (with_entries left.entries) s) after
+    → PropertiesLeft n scope all l place s after
+properties_next m n x scope all l place s before after name is left next named put =
+    let (more, listed, same) = subst (λ (z : Option NextAttribute). IsNextPlain (option_map next_view z) left.more) is left.found in
+    let f = field_of scope (next_view x).attribute in
+    record {
+      fields = left.fields ++ f ∷ [];
+      entries = left.entries ++ attribute put.label place l put.text ∷ [];
+      more = more;
+      found = next more listed;
+      whole = left.whole ∙ ap (λ (z : List Attr). left.fields ++ map (field_of scope) z) same
+          ∙ sym (append_assoc left.fields (f ∷ []) (fields_in scope more));
+      are = attribute_after l place left.fields left.entries f put.label put.text left.are
+          (ap (λ (z : Name). label_in Structure z) (sym named) ∙ put.named) put.says;
+      has = subst (λ (z : State). Has after z) (entry_after s left.entries (attribute put.label place l put.text)) put.has;
+    }
+
+-- all were put
+pub properties_end : (n : Option NextAttribute) (scope : List Item) (all : List Attr) (l : List ℕ) (place : ℕ) (s : State) (output : Output)
+    → n ≡ None → PropertiesLeft n scope all l place s output → PropertiesPut (fields_in scope all) l place s output
+properties_end n scope all l place s output is left =
+    let none : plain left.more ≡ [] = subst (λ (z : Option NextAttribute). IsNextPlain (option_map next_view z) left.more) is left.found in
+    let whole : fields_in scope all ≡ left.fields =
+    left.whole ∙ ap (λ (z : List Attr). left.fields ++ map (field_of scope) z) none ∙ append-nil left.fields in
+    record {
+      entries = left.entries;
+      are = subst (λ (z : List Field). AreAttributes l place z left.entries) (sym whole) left.are;
+      has = left.has;
+    }
+
+-- the only attribute that declares nothing
+pub only_field : (scope : List Item) (all more : List Attr) (n : Next) → plain all ≡ n.attribute ∷ plain more → plain more ≡ []
+    → fields_in scope all ≡ field_of scope n.attribute ∷ []
+only_field scope all more n same none =
+    ap (λ (z : List Attr). map (field_of scope) z) same ∙ ap (λ (z : List Attr). field_of scope n.attribute ∷ map (field_of scope) z) none
+
+pub none_after : (n : Option NextAttribute) (more : List Attr) → is_some n ≡ false → IsNextPlain (option_map next_view n) more → plain more ≡ []
+none_after None more e next = next
+none_after (Some x) more e next = absurd (cc)
+
+-- two lists of octets that are not found to be different
+pub same_octets : (x y : List ℕ) → not (pointwise nat_eq x y) ≡ false → x ≡ y
+same_octets x y h = same_text x y (sym (by_not (pointwise nat_eq x y) h))
+  where
+    by_not : (b : Bool) → not b ≡ false → b ≡ true
+    by_not true e = refl
+    by_not false e = absurd (cc)

@@ -1,0 +1,42 @@
+// The subject of a packet.
+ghost use Rattle.std.specs.Prelude.{◌≡◌, OnOk};
+ghost use Rattle.px_xmp_forms.specs.Allocations.{CountsAllocFailureInPacket};
+ghost use Rattle.px_xmp.specs.calls.Subjects.{NamesOf};
+
+use px_bytes::Memory;
+use px_xmp_forms::{Refusal, same_text};
+
+// What the attributes rdf:about name.
+#[derive(Clone, Copy, Debug, PartialEq, Eq)]
+pub(crate) struct Subject<'a> {
+    // The value of the first one that names a subject.
+    pub(crate) value: Option<&'a [u8]>,
+    // The first place that names another.
+    pub(crate) other: Option<usize>,
+}
+
+impl<'a> Subject<'a> {
+    // Notes the subject that an attribute names.
+    pub(crate) fn put(
+        &mut self,
+        memory: &mut Memory,
+        value: &'a [u8],
+        place: usize,
+    ) -> Result<(), Refusal>
+        ensures names { OnOk result (NamesOf self.old self.new value.now) }
+        ensures memory { CountsAllocFailureInPacket result memory.old memory.new }
+    {
+        if value.is_empty() || self.other.is_some() {
+            return Ok(());
+        }
+        match self.value {
+            None => self.value = Some(value),
+            Some(subject) => {
+                if !same_text(memory, subject, value)? {
+                    self.other = Some(place);
+                }
+            }
+        }
+        Ok(())
+    }
+}
