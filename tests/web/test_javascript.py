@@ -24,6 +24,7 @@ from packets import PACKET
 from small_blocks import long_form
 from small_packets import small_packets
 from test_jpeg_same import exif, iptc, picture
+from test_jpeg_same_extended import LEFT, SAME as EXTENDED
 from test_jpeg_xmp import packet as xmp_segment
 
 HERE = Path(__file__).resolve().parent
@@ -107,6 +108,7 @@ def pictures(blocks):
     small = [block for block in blocks if len(block) < 30_000]
     found = [picture(exif(block), iptc(other)) for block, other in zip(small, reversed(small))]
     found += [picture(xmp_segment(it)) for it in small_packets()] + [picture(xmp_segment(b"<x/>"), xmp_segment(b"<x/>"))]
+    found += [*EXTENDED.values(), *(some for some, _ in LEFT.values())]
     return samples + found + [changed(chance.choice(samples)[:20_000], chance) for _ in range(300)]
 
 
