@@ -10,3 +10,4 @@ pub mod NodeLaws
 pub mod OrderLaws
 pub mod MeaningLaws
 pub mod DocumentLaws
+pub mod RootLaws

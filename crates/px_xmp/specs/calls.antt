@@ -3,4 +3,4 @@ pub mod Listed
 pub mod Opening
 pub mod Steps
 pub mod Contents
-pub mod Subjects
+pub mod Roots

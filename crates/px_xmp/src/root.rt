@@ -1,6 +1,15 @@
 // Reads the root of a document, and rdf:RDF. XMP part 1, 7.
-ghost use Rattle.std.specs.Prelude.{◌≡◌, ◌≤◌, length, OnOk};
+ghost use Rattle.std.specs.Prelude.{◌≡◌, ◌≤◌, ◌<◌, ℕ, List, [], None, length, OnOk};
+ghost use Rattle.px_xmp_text.specs.Values.{End};
+ghost use Rattle.px_xmp_marks.specs.Reading.{Attr, next_view};
 ghost use Rattle.px_xmp_forms.specs.Allocations.{CountsAllocFailureInPacket};
+ghost use Rattle.px_xmp_forms.specs.Outputs.{State, Has};
+ghost use Rattle.px_xmp.specs.Tags.{Tag, field_of, fields_in};
+ghost use Rattle.px_xmp.specs.calls.Listed.{AreListed};
+ghost use Rattle.px_xmp.specs.calls.Opening.{IsOpened};
+ghost use Rattle.px_xmp.specs.calls.Steps.{IsLeft};
+ghost use Rattle.px_xmp.specs.calls.Roots.{AttributeRead, AttributesRead, SubjectRead, SubjectsRead};
+ghost use Rattle.px_xmp.specs.calls.Roots.{RdfRead, AroundRead, RootRead, DocumentRead};
 
 use crate::attributes::next_plain;
 use crate::elements::{Around, Node, Opened, SUBJECT_DEPTH};
@@ -9,9 +18,31 @@ use crate::reader::Reader;
 use crate::subject::Subject;
 use px_bytes::Memory;
 use px_xmp_forms::{Cause, Refusal};
+use px_xmp_marks::NextAttribute;
 
 impl<'a> Reader<'a> {
-    // Reads the attributes of rdf:Description in rdf:RDF: properties, and the name of the subject.
+    // Reads an attribute of rdf:Description in rdf:RDF: a property, or the name of the subject.
+    fn read_subject_attribute(
+        &mut self,
+        memory: &mut Memory,
+        subject: &mut Subject<'a>,
+        next: NextAttribute<'a>,
+        around: Around<'a>,
+    ) -> Result<(), Refusal>
+        ensures source { self.new.source ≡ self.old.source }
+        ensures value { (s : State) → Has self.old.output s → OnOk result
+            (AttributeRead (field_of self.old.source.scope (next_view next.entry).attribute) around.entry.language.now around.entry.place s
+            subject.old subject.new self.new.output) }
+        ensures memory { CountsAllocFailureInPacket result memory.old memory.new }
+    {
+        let name = self.source.scope.attribute(next.attribute.name);
+        if name.is_about() {
+            return subject.put(memory, next.attribute.value, around.place);
+        }
+        put_property(memory, &mut self.output, name, next.attribute.value, around)
+    }
+
+    // Reads the attributes of rdf:Description in rdf:RDF.
     fn read_subject_attributes(
         &mut self,
         memory: &mut Memory,
@@ -20,17 +51,15 @@ impl<'a> Reader<'a> {
         around: Around<'a>,
     ) -> Result<(), Refusal>
         ensures source { self.new.source ≡ self.old.source }
+        ensures value { (s : State) (all : List Attr) → Has self.old.output s → AreListed attributes.now all → OnOk result
+            (AttributesRead (fields_in self.old.source.scope all) around.entry.language.now around.entry.place s
+            subject.old subject.new self.new.output) }
         ensures memory { CountsAllocFailureInPacket result memory.old memory.new }
     {
-        let mut left = attributes;
-        while let Some(next) = next_plain(left) {
-            let name = self.source.scope.attribute(next.attribute.name);
-            if name.is_about() {
-                subject.put(memory, next.attribute.value, around.place)?;
-            } else {
-                put_property(memory, &mut self.output, name, next.attribute.value, around)?;
-            }
-            left = next.rest;
+        let mut found = next_plain(attributes);
+        while let Some(next) = found {
+            self.read_subject_attribute(memory, subject, next, around)?;
+            found = next_plain(next.rest);
         }
         Ok(())
     }
@@ -44,6 +73,10 @@ impl<'a> Reader<'a> {
         outer: Around<'a>,
     ) -> Result<(), Refusal>
         ensures shorter { OnOk result (length self.new.source.rest.now ≤ length self.old.source.rest.now) }
+        ensures read { (s : State) (t : Tag) → Has self.old.output s → IsLeft self.old.source.at self.old.source.rest.now
+            → IsOpened self.old.source.scope opened.entry t → OnOk result
+            (SubjectRead opened.entry t outer.entry.language.now self.old.source self.new.source subject.old subject.new s
+            self.new.output) }
         ensures memory { CountsAllocFailureInPacket result memory.old memory.new }
     {
         if !opened.name.is_rdf(b"Description") {
@@ -66,6 +99,9 @@ impl<'a> Reader<'a> {
         opened: Opened<'a>,
         around: Around<'a>,
     ) -> Result<(), Refusal>
+        ensures read { (s : State) → Has self.old.output s → IsLeft self.old.source.at self.old.source.rest.now → OnOk result
+            (SubjectsRead opened.entry.is_empty around.entry.language.now self.old.source self.new.source subject.old subject.new s
+            self.new.output) }
         ensures memory { CountsAllocFailureInPacket result memory.old memory.new }
     {
         if opened.is_empty {
@@ -86,8 +122,14 @@ impl<'a> Reader<'a> {
         subject: &mut Subject<'a>,
         opened: Opened<'a>,
     ) -> Result<(), Refusal>
+        ensures read { (t : Tag) → Has self.old.output (record { opened = []; properties = End })
+            → IsLeft self.old.source.at self.old.source.rest.now → IsOpened self.old.source.scope opened.entry t → OnOk result
+            (RdfRead opened.entry t self.old.source self.new.source subject.new self.new.output) }
         ensures memory { CountsAllocFailureInPacket result memory.old memory.new }
     {
+        if !opened.name.is_rdf(b"RDF") {
+            return Err(Cause::NoRdf.at(opened.place));
+        }
         if next_plain(opened.attributes).is_some() {
             return Err(Cause::RareAttribute.at(opened.place));
         }
@@ -108,23 +150,20 @@ impl<'a> Reader<'a> {
     }
 
     // Reads the content of the root around rdf:RDF.
-    fn read_inside(
+    fn read_around(
         &mut self,
         memory: &mut Memory,
         subject: &mut Subject<'a>,
-        opened: Opened<'a>,
+        place: usize,
     ) -> Result<(), Refusal>
+        ensures read { Has self.old.output (record { opened = []; properties = End })
+            → IsLeft self.old.source.at self.old.source.rest.now → OnOk result
+            (AroundRead self.old.source self.new.source subject.new self.new.output) }
         ensures memory { CountsAllocFailureInPacket result memory.old memory.new }
     {
-        if opened.is_empty {
-            return Err(Cause::NoRdf.at(opened.place));
-        }
         let Some(inner) = self.source.next_tag(memory, Cause::NoRdf)? else {
-            return Err(Cause::NoRdf.at(opened.place));
+            return Err(Cause::NoRdf.at(place));
         };
-        if !inner.name.is_rdf(b"RDF") {
-            return Err(Cause::NoRdf.at(inner.place));
-        }
         self.read_rdf(memory, subject, inner)?;
         match self.source.next_tag(memory, Cause::NoRdf)? {
             Some(second) => Err(Cause::NoRdf.at(second.place)),
@@ -139,15 +178,18 @@ impl<'a> Reader<'a> {
         subject: &mut Subject<'a>,
         opened: Opened<'a>,
     ) -> Result<(), Refusal>
+        ensures read { (t : Tag) → Has self.old.output (record { opened = []; properties = End })
+            → IsLeft self.old.source.at self.old.source.rest.now → IsOpened self.old.source.scope opened.entry t → OnOk result
+            (RootRead opened.entry t self.old.source self.new.source subject.new self.new.output) }
         ensures memory { CountsAllocFailureInPacket result memory.old memory.new }
     {
-        if opened.name.is_rdf(b"RDF") {
+        if !opened.name.is_root() {
             return self.read_rdf(memory, subject, opened);
         }
-        if !opened.name.is_root() {
+        if opened.is_empty {
             return Err(Cause::NoRdf.at(opened.place));
         }
-        self.read_inside(memory, subject, opened)?;
+        self.read_around(memory, subject, opened.place)?;
         self.source.scope.close();
         Ok(())
     }
@@ -158,6 +200,9 @@ impl<'a> Reader<'a> {
         memory: &mut Memory,
         subject: &mut Subject<'a>,
     ) -> Result<(), Refusal>
+        ensures read { Has self.old.output (record { opened = []; properties = End })
+            → IsLeft self.old.source.at self.old.source.rest.now → subject.old.value ≡ None → subject.old.other ≡ None
+            → OnOk result (subject.new.other ≡ None → DocumentRead self.old.source self.new.output) }
         ensures memory { CountsAllocFailureInPacket result memory.old memory.new }
     {
         let place = self.source.at;

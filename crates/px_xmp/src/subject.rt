@@ -1,7 +1,7 @@
 // The subject of a packet.
 ghost use Rattle.std.specs.Prelude.{◌≡◌, OnOk};
 ghost use Rattle.px_xmp_forms.specs.Allocations.{CountsAllocFailureInPacket};
-ghost use Rattle.px_xmp.specs.calls.Subjects.{NamesOf};
+ghost use Rattle.px_xmp.specs.calls.Roots.{IsAbout, Keeps};
 
 use px_bytes::Memory;
 use px_xmp_forms::{Refusal, same_text};
@@ -23,7 +23,7 @@ impl<'a> Subject<'a> {
         value: &'a [u8],
         place: usize,
     ) -> Result<(), Refusal>
-        ensures names { OnOk result (NamesOf self.old self.new value.now) }
+        ensures value { OnOk result (Keeps self.old self.new (IsAbout value.now)) }
         ensures memory { CountsAllocFailureInPacket result memory.old memory.new }
     {
         if value.is_empty() || self.other.is_some() {

@@ -1,0 +1,21 @@
+use Rattle.std.proofs.Common.{Option, List, ℕ, [], refl, sym, ap, ◌∙◌}
+use Rattle.px_xmp_text.specs.Values.{End}
+use Rattle.px_xmp_forms.specs.Outputs.{State, begun, changed, nothing}
+use Rattle.px_xmp.specs.Tags.{inherited}
+use Rattle.px_xmp.specs.calls.Contents.{with_entries}
+use Rattle.px_xmp.proofs.OpeningLaws.{none_after}
+use Rattle.px_xmp.proofs.RootLaws.{no_fields, rdf_row, rdf_done}
+use Rattle.px_xmp.proofs.reader.Reader.read_rdf.Goals as goal
+
+pub returns-clause-read : goal.returns-clause-read
+returns-clause-read c t has left (name, language, all, listed, fields) =
+    let empty : State = record { opened = []; properties = End } in
+    let sub = c.in_ok-read_subjects.ensures.read (begun nothing empty) (c.in_ok-begin.ensures.value empty has) left in
+    let (after, now, joins) = c.in_ok-join_properties.ensures.value (changed (with_entries sub.entries) (begun nothing empty)) sub.has in
+    let (content, line, put) = rdf_row sub.entries after c.join_properties.new.self c.end_properties.new.self joins now c.end_properties.ensures in
+    let none = none_after c.next_plain.result all (sym c.is_some.ensures ∙ c.if-is_some.false) (c.next_plain.ensures.value all listed) in
+    rdf_done c.args.opened t c.in-Some.around.language.now c.args.self.now.source c.read_subjects.new.self.source _ c.args.subject.now
+    c.read_subjects.new.subject (begun nothing empty) c.read_subjects.new.self.output c.end_properties.new.self content
+    (sym c.is_rdf.ensures ∙ c.if-not-is_rdf.false) name
+    (c.in-Some.ensures.language ∙ ap (λ (z : Option (List ℕ)). inherited [] z) language)
+    (sym fields ∙ no_fields c.args.self.now.source.scope all none) refl refl c.close.ensures sub line put
