@@ -15,7 +15,7 @@ abbrev declared_as : Option (List ℕ) → List ℕ → Declared
 declared_as e d = record { encoding = e; size = length d }
 
 -- what follows the declaration
-tree_once : DeclarationsAreRead → (x d c y z : List ℕ) (e f : Option (List ℕ)) → IsSplit x d e y → IsSplit x c f z → y ≡ z
+pub tree_once : DeclarationsAreRead → (x d c y z : List ℕ) (e f : Option (List ℕ)) → IsSplit x d e y → IsSplit x c f z → y ≡ z
 tree_once law x d c y z e f (w, inl h) (v, inl k) =
     let same : declared_as e d ≡ declared_as f c = some_declared (declared_as e d) (declared_as f c)
     (sym (law d y e h) ∙ ap declaration (sym w ∙ v) ∙ law c z f k) in

@@ -11,3 +11,4 @@ pub mod OrderLaws
 pub mod MeaningLaws
 pub mod DocumentLaws
 pub mod RootLaws
+pub mod FormedLaws

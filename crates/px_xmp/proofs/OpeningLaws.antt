@@ -48,7 +48,7 @@ entry_after s es e = ap (λ (z : List Open). record { opened = z; properties = s
     by_opened (o ∷ os) =
         ap (λ (z : List Entry). record { text = o.text; inner = o.inner; entries = z } ∷ os) (append_assoc o.entries es (e ∷ []))
 
-entries_after : (s : State) (es fs : List Entry) → changed (with_entries fs) (changed (with_entries es) s) ≡ changed (with_entries (es ++ fs)) s
+pub entries_after : (s : State) (es fs : List Entry) → changed (with_entries fs) (changed (with_entries es) s) ≡ changed (with_entries (es ++ fs)) s
 entries_after s es fs = ap (λ (z : List Open). record { opened = z; properties = s.properties }) (by_opened s.opened)
   where
     by_opened : (os : List Open) → first_changed (with_entries fs) (first_changed (with_entries es) os) ≡ first_changed (with_entries (es ++ fs)) os

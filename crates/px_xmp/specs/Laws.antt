@@ -8,6 +8,7 @@ use Rattle.px_xmp.specs.Marks.{Mark, IsKind}
 use Rattle.px_xmp.specs.Tags.{inside}
 use Rattle.px_xmp.specs.Reading.{Read, IsReadAs, read}
 use Rattle.px_xmp.specs.Nodes.{Nodes, AreNodes}
+use Rattle.px_xmp.specs.Packet.{IsPacket}
 use Rattle.px_xmp.specs.Meaning.{Means, HasMeaning}
 
 -- Each mark is read, whatever follows it.
@@ -35,6 +36,10 @@ OneMeaning = (x : List ℕ) (start : ℕ) (a b : Content) → HasMeaning x start
 -- these octets are the normal form of what a document means, at an offset of its packet
 abbrev pub IsFormOf : List ℕ → ℕ → List ℕ → Type 0
 IsFormOf x start form = (c : Content) × IsContent c × HasMeaning x start c × (form ≡ normal_packet c)
+
+-- these octets are the normal form of what the document of a packet means
+abbrev pub IsFormOfPacket : List ℕ → List ℕ → Type 0
+IsFormOfPacket x form = (p : IsPacket x) × IsFormOf p.document (length p.before) form
 
 -- two documents mean one thing
 abbrev pub MeanTheSame : List ℕ → ℕ → List ℕ → ℕ → Type 0

@@ -4,9 +4,10 @@
 //! Three layers judge a packet, and the first layer with a fault decides: the length, the document (`px_xmp_document`), and
 //! RDF. A fault of RDF is the first from the left; that a packet has several subjects is reported last.
 //!
-//! It is proved that a packet with a form is a document, what each mark of a document is, which namespace each name has, that
-//! a form is the normal packet of a list of properties, and that each property that is read has the value that RDF/XML and XMP
-//! give it. Which properties the packet as a whole has, and its first fault of RDF, are tested, and no contract states them.
+//! It is proved that a packet with a form is a document, that this document has a meaning by the productions of RDF/XML that
+//! XMP has, and that the form is the normal packet of this meaning. So two packets with equal forms mean the same, and with
+//! different forms don't. That each packet with a meaning in the usual forms is accepted, and which fault of RDF is the first,
+//! are tested, and no contract states them.
 #![tactic(auto)]
 
 mod attributes;

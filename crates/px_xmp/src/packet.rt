@@ -1,11 +1,12 @@
 // A packet: its document, and what is around it.
-ghost use Rattle.std.specs.Prelude.{◌≡◌, ◌≤◌, ℕ, Option, List, length, take, drop, true, IfOk, OnOk};
+ghost use Rattle.std.specs.Prelude.{◌≡◌, ◌≤◌, ◌+◌, ℕ, Option, List, length, take, drop, true, IfOk, OnOk};
 ghost use Rattle.px_bytes.specs.Parts.{limit};
 ghost use Rattle.px_xmp_marks.specs.Declarations.{every};
 ghost use Rattle.px_xmp_document.specs.Document.{IsSplit, order_mark_len, IsFile};
 ghost use Rattle.px_xmp_forms.specs.Forms.{IsNormal};
 ghost use Rattle.px_xmp_forms.specs.Allocations.{CountsAllocFailureInPacket};
 ghost use Rattle.px_xmp.specs.Packet.{is_padding, is_around, IsPacket};
+ghost use Rattle.px_xmp.specs.Laws.{IsFormOf, IsFormOfPacket};
 
 use crate::causes::cause_of;
 use crate::reader::Reader;
@@ -232,6 +233,7 @@ fn head_len(document: &[u8]) -> usize
 // The normal form of a document that begins at an offset of the packet.
 fn document_form(memory: &mut Memory, document: &[u8], start: usize) -> Result<Vec<u8>, Refusal>
     ensures document { OnOk result (IsFile document.now) }
+    ensures form { start + length document.now ≤ limit → IfOk result (λ form. IsFormOf document.now start form.items) }
     ensures memory { CountsAllocFailureInPacket result memory.old memory.new }
     ensures normal { IfOk result (λ form. IsNormal form.items) }
     ensures bound { IfOk result (λ form. length form.items ≤ limit) }
@@ -243,6 +245,7 @@ fn document_form(memory: &mut Memory, document: &[u8], start: usize) -> Result<V
     if let Some(fault) = first_fault(document) {
         return Err(cause_of(document, fault).at(start.saturating_add(fault.offset)));
     }
+    px_xmp_marks::laws::declarations_are_read();
     let octets = document.split_at(head).1;
     let mut reader = Reader::new(memory, octets, start.saturating_add(head));
     let mut subject = Subject {
@@ -256,12 +259,13 @@ fn document_form(memory: &mut Memory, document: &[u8], start: usize) -> Result<V
     reader.output.whole(memory)
 }
 
-/// The normal form of a packet.
+/// The normal form of a packet: that of what its document means.
 ///
 /// `Content`: the first fault, of the length, the document or RDF. If `Cause::is_rare`, the packet may have a meaning, which
 /// this crate does not read. `OutOfMemory`, exactly if an allocation failed in this call.
 pub fn normal_form_in(memory: &mut Memory, packet: &[u8]) -> Result<Vec<u8>, Refusal>
     ensures packet { OnOk result (IsPacket packet.now) }
+    ensures form { IfOk result (λ form. IsFormOfPacket packet.now form.items) }
     ensures memory { CountsAllocFailureInPacket result memory.old memory.new }
     ensures normal { IfOk result (λ form. IsNormal form.items) }
     ensures bound { IfOk result (λ form. length form.items ≤ limit) }
