@@ -1,14 +1,14 @@
 // Attributes that are there once. XML 1.0, 3.1.
 ghost use Rattle.std.specs.Prelude.{◌≡◌, ◌↔◌, ℕ, true, false, Some, option_map, List, map, ◌++◌, IsTrue, MatchOption};
-ghost use Rattle.px_xmp_marks.specs.Reading.{Attr, name_view, attributes_of, start_tag, start_tag_view};
+ghost use Rattle.px_xmp_marks.specs.Reading.{Attr, name_view, attribute_view, attributes_of, start_tag, start_tag_view};
 ghost use Rattle.px_xmp_marks.specs.Marks.{IsMark};
 ghost use Rattle.px_xmp_attributes.specs.Distinct.{IsAmong, AreDistinct, AreRepeated, HasDistinct, HasRepeated, IsDistinctRow};
 ghost use Rattle.px_xmp_attributes.specs.Faults.{IsFault};
 ghost use Rattle.px_xmp_attributes.specs.calls.Listed.{AreListed};
-ghost use Rattle.px_xmp_attributes.specs.calls.Names.{are_same, is_among, has_twice};
+ghost use Rattle.px_xmp_attributes.specs.calls.Names.{are_same, is_among, has_twice, names_of};
 
 use crate::faults::{Cause, Fault};
-use px_xmp_marks::{Name, StartTag, next_attribute, read_mark, read_names};
+use px_xmp_marks::{Attribute, Name, StartTag, next_attribute, read_mark, read_names};
 
 // The names of so many attributes are stored in one space for all tags, which few tags exceed: a larger one costs more to clear
 // than small documents cost to read.
@@ -78,6 +78,38 @@ fn has_twice(names: &[Name]) -> bool
         }
     }
     false
+}
+
+// Whether one of some attributes has a certain name.
+fn is_name_of(attributes: &[Attribute], name: Name) -> bool
+    ensures { result ≡ is_among (name_view name.entry) (names_of (map attribute_view attributes.now)) }
+{
+    for other in attributes {
+        if is_same(name, other.name) {
+            return true;
+        }
+    }
+    false
+}
+
+// Whether two of some attributes have one name.
+fn have_repeated(attributes: &[Attribute]) -> bool
+    ensures { result ≡ has_twice (names_of (map attribute_view attributes.now)) }
+{
+    for (n, attribute) in attributes.iter().enumerate() {
+        if is_name_of(attributes.split_at(n + 1).1, attribute.name) {
+            return true;
+        }
+    }
+    false
+}
+
+/// Whether one of some attributes is there twice, by the name that is written. It allocates nothing. XML 1.0, 3.1.
+pub fn are_repeated(attributes: &[Attribute]) -> bool
+    ensures repeated { result ≡ true → AreRepeated (map attribute_view attributes.now) }
+    ensures distinct { result ≡ false → AreDistinct (map attribute_view attributes.now) }
+{
+    have_repeated(attributes)
 }
 
 // Whether a tag has an attribute twice. The names are stored in the space for them.

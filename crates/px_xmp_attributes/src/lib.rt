@@ -6,5 +6,5 @@ mod attributes;
 mod faults;
 pub mod laws;
 
-pub use attributes::first_fault;
+pub use attributes::{are_repeated, first_fault};
 pub use faults::{Cause, Fault};

@@ -1,3 +1,4 @@
 pub mod DocumentLaws
 pub mod ElementLaws
 pub mod TreeLaws
+pub mod WalkLaws

@@ -1,14 +1,11 @@
 -- A tree is marks in a row.
-use Rattle.std.proofs.Common.{◌≡◌, ℕ, false, true, List, [], ◌∷◌, ◌++◌, refl, inl, inr}
-use Rattle.px_xmp_marks.specs.Marks.{IsMark, AreMarks, IsRow, RowOrFault}
+use Rattle.std.proofs.Common.{ℕ, false, true, List, [], ◌∷◌, refl, inl, inr}
+use Rattle.px_xmp_marks.specs.Marks.{IsMark, AreMarks, RowOrFault}
 use Rattle.px_xmp_tree.specs.Kinds.{Kind, Opening, Closing, Alone, Misc, Data, IsKind, AreKinds}
-use Rattle.px_xmp_tree.specs.Nesting.{IsTree}
-use Rattle.px_xmp_attributes.specs.declared.faults.Cause.{Cause}
 use Rattle.px_xmp_attributes.specs.declared.faults.Cause.TheVariants.{NoMark, AttributeTwice}
-use Rattle.px_xmp_attributes.specs.Faults.{IsFault}
 use Rattle.px_xmp_document.specs.Laws.{AttributesAreTwice}
 
-kind_mark : (k : Kind) (x y : List ℕ) → IsKind k x y → IsMark x y
+pub kind_mark : (k : Kind) (x y : List ℕ) → IsKind k x y → IsMark x y
 kind_mark (Opening n) x y (a, i) = inl (n, a, false, i)
 kind_mark (Closing n) x y i = inr (inl (n, i))
 kind_mark (Alone n) x y (a, i) = inl (n, a, true, i)

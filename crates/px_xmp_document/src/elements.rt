@@ -3,11 +3,16 @@ ghost use Rattle.std.specs.Prelude.{MatchOption};
 ghost use Rattle.px_xmp_document.specs.Elements.{AreElements, IsElementFault};
 
 use crate::faults::{Cause, Fault};
+use crate::walk::are_elements;
 
 // The first fault of the elements. None: they are nested, with distinct attributes, and their prefixes are declared.
 pub(crate) fn element_fault(octets: &[u8]) -> Option<Fault>
     ensures { MatchOption result (AreElements octets.now) (λ f. IsElementFault octets.now f.cause f.offset) }
 {
+    // one walk finds whether anything is wrong; what it is, the walks of the layers find
+    if are_elements(octets) {
+        return None;
+    }
     if let Some(fault) = px_xmp_tree::first_fault(octets) {
         return Some(Fault {
             cause: Cause::Nesting(fault.cause),

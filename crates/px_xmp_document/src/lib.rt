@@ -6,6 +6,7 @@ mod document;
 mod elements;
 mod faults;
 pub mod laws;
+mod walk;
 
 pub use document::first_fault;
 pub use faults::{Cause, Fault};

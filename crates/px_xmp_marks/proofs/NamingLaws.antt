@@ -1,5 +1,5 @@
 -- The names of attributes, stored one after another.
-use Rattle.std.proofs.Common.{◌≡◌, ◌<◌, ◌+◌, Some, None, Option, option_map, MatchOption, List, [], ◌∷◌, ◌++◌, ℕ, length, take, set, map, refl, sym, ap, subst, ◌∙◌, arith, append_assoc, append-nil, length-append, ◌≤◌}
+use Rattle.std.proofs.Common.{◌≡◌, ◌<◌, ◌+◌, Some, None, Option, option_map, MatchOption, List, [], ◌∷◌, ◌++◌, ℕ, length, take, set, map, sym, ap, subst, ◌∙◌, arith, append_assoc, append-nil, length-append}
 use Rattle.std.proofs.lemmas.List.{take_more_set, map-append, length-map, length-take-le}
 use Rattle.px_xmp_marks.specs.Reading.{Attr, Named, Next, attributes_of, next_attribute, name_view}
 use Rattle.px_xmp_marks.specs.Laws.{AttributesInOrder}

@@ -14,6 +14,7 @@ mod marks;
 mod names;
 mod naming;
 mod sections;
+mod stored;
 mod tags;
 
 pub use attributes::{Attribute, read_attribute};
@@ -25,4 +26,5 @@ pub use marks::{Mark, first_bad_mark, mark_len, read_mark};
 pub use names::{Name, read_name};
 pub use naming::read_names;
 pub use sections::read_section;
+pub use stored::{StoredTag, read_stored_tag};
 pub use tags::{EndTag, StartTag, read_end_tag, read_start_tag};

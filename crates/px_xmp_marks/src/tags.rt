@@ -59,7 +59,7 @@ fn attributes_len(octets: &[u8]) -> Option<usize>
 
 // The length of the end of a start tag, which is 2 if the element is empty.
 #[tactic(auto, unfolding(crate::specs::Reading::tag_end))]
-fn tag_end_len(octets: &[u8]) -> Option<usize>
+pub(crate) fn tag_end_len(octets: &[u8]) -> Option<usize>
     ensures value { option_map (λ n. (n == 2, n)) result ≡ tag_end octets.now }
     ensures within { IfSome result (λ n. (1 ≤ n) × (n ≤ length octets.now)) }
 {

@@ -1,8 +1,7 @@
 -- A tag is judged by the stored names of its attributes as by the attributes.
-use Rattle.std.proofs.Common.{◌≡◌, ◌≤◌, ◌<◌, ◌&&◌, ◌||◌, Bool, true, false, cond, not, nat_lt, List, [], ◌∷◌, map, length, Result, Ok, Err, refl, sym, ap, ◌∙◌, arith, inl, inr}
-use Rattle.std.proofs.lemmas.Bool.{cases_Bool, lt-ltb, le-ltb}
+use Rattle.std.proofs.Common.{◌≡◌, ◌≤◌, ◌<◌, ◌&&◌, ◌||◌, Bool, true, false, cond, not, nat_lt, List, [], ◌∷◌, map, length, Ok, Err, refl, sym, ap, ◌∙◌}
+use Rattle.std.proofs.lemmas.Bool.{lt-ltb, le-ltb}
 use Rattle.px_xmp_marks.specs.Reading.{Named, Attr}
-use Rattle.px_xmp_spaces.specs.declared.faults.Cause.{Cause}
 use Rattle.px_xmp_spaces.specs.declared.faults.Cause.TheVariants.{Undeclared, ManyAttributes, SameName}
 use Rattle.px_xmp_spaces.specs.Scopes.{Item}
 use Rattle.px_xmp_spaces.specs.Tags.{attribute_limit, is_attribute_bound, is_element_bound, are_bound, clash, is_among, are_unique, judged}

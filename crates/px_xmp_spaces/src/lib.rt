@@ -7,7 +7,9 @@ mod faults;
 pub mod laws;
 mod scopes;
 mod spaces;
+mod stored;
 mod tags;
 
 pub use faults::{Cause, Fault};
+pub use scopes::Scope;
 pub use spaces::first_fault;

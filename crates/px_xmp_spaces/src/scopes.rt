@@ -54,9 +54,9 @@ fn find<'a>(entries: &[Entry<'a>], len: usize, prefix: &[u8]) -> Option<&'a [u8]
     built_in(prefix)
 }
 
-// The open elements, and what they declare.
+/// The open elements, and what they declare: what a prefix is bound to.
 #[derive(Drop)]
-pub(crate) struct Scope<'a> {
+pub struct Scope<'a> {
     entries: [Entry<'a>; LIMIT],
     len: usize,
 }
@@ -74,7 +74,8 @@ impl<'a> Model for Scope<'a> {
 }
 
 impl<'a> Scope<'a> {
-    pub(crate) fn new() -> Self
+    /// No element is open. It allocates nothing.
+    pub fn new() -> Self
         ensures { result ≡ [] }
     {
         Scope {
@@ -108,8 +109,8 @@ impl<'a> Scope<'a> {
         Some(self.entries[self.len])
     }
 
-    // Ends the innermost element: what it declares is no longer in scope.
-    pub(crate) fn end(&mut self)
+    /// Ends the innermost element, if one is open: what it declares is no longer in scope. It allocates nothing.
+    pub fn end(&mut self)
         ensures { self.new ≡ ended self.old }
     {
         while let Some(entry) = self.pop() {

@@ -107,7 +107,7 @@ impl<'a> Scope<'a> {
     }
 
     // Binds what an attribute declares.
-    fn declare_by(&mut self, attribute: Attribute<'a>) -> Option<Cause>
+    pub(crate) fn declare_by(&mut self, attribute: Attribute<'a>) -> Option<Cause>
         ensures { Gives result self.new (with_attribute (attribute_view attribute.entry) self.old) }
     {
         match declared_prefix(attribute.name) {
@@ -132,14 +132,14 @@ impl<'a> Scope<'a> {
     }
 
     // Whether an attribute's prefix is bound, if it has one.
-    fn is_attribute_bound(&self, name: Name) -> bool
+    pub(crate) fn is_attribute_bound(&self, name: Name) -> bool
         ensures { result ≡ is_attribute_bound self.now (name_view name.entry) }
     {
         name.prefix.is_empty() || self.space_of(name.prefix).is_some()
     }
 
     // Whether an element's prefix is bound, if it has one.
-    fn is_element_bound(&self, name: Name) -> bool
+    pub(crate) fn is_element_bound(&self, name: Name) -> bool
         ensures { result ≡ is_element_bound self.now (name_view name.entry) }
     {
         name.prefix != XMLNS && self.is_attribute_bound(name)
@@ -171,7 +171,7 @@ impl<'a> Scope<'a> {
     }
 
     // Whether two attributes have one local name in one namespace.
-    fn clash(&self, a: Name, b: Name) -> bool
+    pub(crate) fn clash(&self, a: Name, b: Name) -> bool
         ensures { result ≡ clash self.now (name_view a.entry) (name_view b.entry) }
     {
         a.local == b.local && are_same_spaces(self.attribute_space(a), self.attribute_space(b))

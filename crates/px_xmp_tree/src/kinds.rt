@@ -1,6 +1,6 @@
 // The kinds of marks. XML 1.0, 2.8, 3 and 3.1.
-ghost use Rattle.std.specs.Prelude.{◌≡◌, ◌≤◌, length, option_map, IfSome};
-ghost use Rattle.px_xmp_marks.specs.Reading.{is_space, name_view};
+ghost use Rattle.std.specs.Prelude.{◌≡◌, ◌≤◌, length, option_map, None, IfSome};
+ghost use Rattle.px_xmp_marks.specs.Reading.{is_space, name_view, start_tag, end_tag};
 ghost use Rattle.px_xmp_marks.specs.Declarations.{every};
 ghost use Rattle.px_xmp_tree.specs.Kinds.{kind_view, mark_view, start_kind, other_kind, mark};
 
@@ -49,8 +49,8 @@ fn are_spaces(octets: &[u8]) -> bool
     true
 }
 
-// The kind of a start tag.
-fn start_kind<'a>(is_empty: bool, name: Name<'a>) -> MarkKind<'a>
+/// The kind of a start tag, or of the tag of an empty element, with this name. It allocates nothing.
+pub fn start_kind<'a>(is_empty: bool, name: Name<'a>) -> MarkKind<'a>
     ensures { kind_view result ≡ start_kind is_empty (name_view name.entry) }
 {
     if is_empty {
@@ -74,6 +74,23 @@ fn other_kind<'a>(octets: &'a [u8], size: usize) -> MarkKind<'a>
         return MarkKind::Misc;
     }
     MarkKind::Data
+}
+
+/// The mark at the start of some octets that begin with no tag. None if they begin with no mark. It allocates nothing.
+#[tactic(auto, unfolding(crate::specs::Kinds::mark))]
+pub fn read_other_mark<'a>(octets: &'a [u8]) -> Option<Mark<'a>>
+    requires start { start_tag octets.now ≡ None }
+    requires end { end_tag octets.now ≡ None }
+    ensures value { option_map mark_view result ≡ mark octets.now }
+    ensures within { IfSome result (λ m. (1 ≤ m.size) × (m.size ≤ length octets.now)) }
+{
+    let Some(size) = mark_len(octets) else {
+        return None;
+    };
+    Some(Mark {
+        kind: other_kind(octets, size),
+        size,
+    })
 }
 
 /// The mark at the start of some octets. None if they begin with none. It allocates nothing.

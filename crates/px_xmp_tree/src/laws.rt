@@ -1,6 +1,7 @@
 //! The laws of nested elements. Each is the contract of a function that computes nothing.
 ghost use Rattle.px_xmp_tree.specs.Kinds.{KindsAreRead, OnlyKindsAreRead};
 ghost use Rattle.px_xmp_tree.specs.Laws.{OneFault};
+ghost use Rattle.px_xmp_tree.specs.calls.Steps.{StepsLead};
 
 /// A mark of the grammar, before a rest, is what `mark` reads: its kind and its length.
 pub fn kinds_are_read()
@@ -28,3 +29,8 @@ pub fn one_fault()
 {
     kinds_are_read();
 }
+
+/// A mark that is passed leads on: after the marks that led to the place before it, it leads to the place after it.
+pub fn steps_lead()
+    ensures { StepsLead }
+{}

@@ -10,5 +10,6 @@ mod nesting;
 mod tree;
 
 pub use faults::{Cause, Fault};
-pub use kinds::{Mark, MarkKind, read_mark};
+pub use kinds::{Mark, MarkKind, read_mark, read_other_mark, start_kind};
+pub use nesting::Nesting;
 pub use tree::first_fault;

@@ -83,9 +83,9 @@ fn is_same(a: Name, b: Name) -> bool
     a.size == b.size && a.prefix == b.prefix && a.local == b.local
 }
 
-// A place among marks.
+/// A place among marks: the elements that are open there, or the end of the root.
 #[derive(Drop)]
-pub(crate) struct Nesting<'a> {
+pub struct Nesting<'a> {
     names: Stack<'a>,
     has_ended: bool,
 }
@@ -100,7 +100,8 @@ impl<'a> Model for Nesting<'a> {
 }
 
 impl<'a> Nesting<'a> {
-    pub(crate) fn new(octets: &'a [u8]) -> Self
+    /// The place before all marks. The octets are any that live as long as the names. It allocates nothing.
+    pub fn new(octets: &'a [u8]) -> Self
         ensures { result ≡ Among [] }
     {
         Nesting {
@@ -169,8 +170,8 @@ impl<'a> Nesting<'a> {
         None
     }
 
-    // Passes a mark, or returns what is wrong with it here.
-    pub(crate) fn pass(&mut self, kind: MarkKind<'a>) -> Option<Cause>
+    /// Passes a mark, or returns what is wrong with it here: then the place is of no use. It allocates nothing.
+    pub fn pass(&mut self, kind: MarkKind<'a>) -> Option<Cause>
         ensures { MatchOption result (Step (kind_view kind.entry) self.old self.new) (λ c. IsWrong (kind_view kind.entry) self.old c) }
     {
         match kind {
@@ -182,8 +183,8 @@ impl<'a> Nesting<'a> {
         }
     }
 
-    // What is wrong with an end here.
-    pub(crate) fn cut(&self) -> Option<Cause>
+    /// What is wrong with an end here: the root has not begun, or not ended. None: nothing. It allocates nothing.
+    pub fn cut(&self) -> Option<Cause>
         ensures { MatchOption result (self.now ≡ After) (λ c. IsCut self.now c) }
     {
         if self.has_ended {

@@ -1,7 +1,7 @@
 -- Names that are there twice, as a test of stored names.
-use Rattle.std.specs.Prelude.{◌==◌, ◌&&◌, ◌||◌, Bool, false, nat_eq, List, [], ◌∷◌}
+use Rattle.std.specs.Prelude.{◌==◌, ◌&&◌, ◌||◌, Bool, false, nat_eq, List, [], ◌∷◌, map}
 use Rattle.std.specs.Cmp.Lexicographic.{pointwise}
-use Rattle.px_xmp_marks.specs.Reading.{Named}
+use Rattle.px_xmp_marks.specs.Reading.{Named, Attr}
 
 abbrev pub are_same : Named → Named → Bool
 are_same n m = (n.size == m.size) && pointwise nat_eq n.local m.local && pointwise nat_eq n.prefix m.prefix
@@ -14,3 +14,6 @@ is_among n (m ∷ more) = are_same n m || is_among n more
 abbrev pub has_twice : List Named → Bool
 has_twice [] = false
 has_twice (n ∷ more) = is_among n more || has_twice more
+
+abbrev pub names_of : List Attr → List Named
+names_of attributes = map (λ a. a.name) attributes

@@ -1,8 +1,8 @@
 -- How a mark leads from one place to the next.
-use Rattle.std.specs.Prelude.{◌≡◌, ◌<◌, List, [], ◌∷◌, length}
+use Rattle.std.specs.Prelude.{◌≡◌, ◌<◌, List, [], ◌∷◌, ◌++◌, length}
 use Rattle.px_xmp_marks.specs.Reading.{Named}
 use Rattle.px_xmp_tree.specs.Kinds.{Kind, Opening, Closing, Alone, Misc, Data}
-use Rattle.px_xmp_tree.specs.Nesting.{limit, Place, Among, After}
+use Rattle.px_xmp_tree.specs.Nesting.{limit, Place, Among, After, LeadTo}
 
 -- the place after an element that was inside these
 abbrev pub ended : List Named → Place
@@ -22,3 +22,7 @@ Step Misc p q = q ≡ p
 Step Data (Among []) q = ⊥
 Step Data (Among (m ∷ outer)) q = q ≡ Among (m ∷ outer)
 Step Data After q = ⊥
+
+-- A mark leads on from the place to which others lead.
+abbrev pub StepsLead : Type 0
+StepsLead = (k : Kind) (p q : Place) (ks : List Kind) → LeadTo p ks → Step k p q → LeadTo q (ks ++ k ∷ [])

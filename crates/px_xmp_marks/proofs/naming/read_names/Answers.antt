@@ -1,4 +1,4 @@
-use Rattle.std.proofs.Common.{refl, sym, ap, ◌∙◌, arith, length}
+use Rattle.std.proofs.Common.{refl, sym, ◌∙◌, arith}
 use Rattle.std.proofs.lemmas.List.{length-set}
 use Rattle.px_xmp_marks.specs.Reading.{next_view}
 use Rattle.px_xmp_marks.proofs.NamingLaws.{name_more, names_many, names_all}

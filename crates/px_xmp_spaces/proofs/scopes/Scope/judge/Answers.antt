@@ -1,6 +1,6 @@
-use Rattle.std.proofs.Common.{◌≡◌, ◌≤◌, List, Option, true, map, length, take, sym, ap, subst, ◌∙◌, arith}
-use Rattle.std.proofs.lemmas.List.{length-map, length-take-le}
-use Rattle.px_xmp_marks.specs.Reading.{Attr, Named, name_view}
+use Rattle.std.proofs.Common.{◌≡◌, true, map, length, sym, ap, subst, ◌∙◌, arith}
+use Rattle.std.proofs.lemmas.List.{length-map}
+use Rattle.px_xmp_marks.specs.Reading.{Attr, name_view}
 use Rattle.px_xmp_spaces.specs.Tags.{is_element_bound, judged}
 use Rattle.px_xmp_spaces.specs.calls.Passing.{Gives}
 use Rattle.px_xmp_spaces.proofs.TagNameLaws.{names_of, few_judged, many_judged}

@@ -1,0 +1,10 @@
+use Rattle.std.proofs.Common.{map, sym, ◌∙◌}
+use Rattle.px_xmp_marks.specs.Reading.{attribute_view}
+use Rattle.px_xmp_attributes.proofs.NameLaws.{twice_from, once_from}
+use Rattle.px_xmp_attributes.proofs.attributes.are_repeated.Goals as goal
+
+pub returns-clause-repeated : goal.returns-clause-repeated
+returns-clause-repeated c t = twice_from (map attribute_view c.args.attributes.now) (sym c.have_repeated.ensures ∙ t)
+
+pub returns-clause-distinct : goal.returns-clause-distinct
+returns-clause-distinct c f = once_from (map attribute_view c.args.attributes.now) (sym c.have_repeated.ensures ∙ f)

@@ -1,0 +1,113 @@
+// Tags whose attributes are stored, which need not be read again.
+ghost use Rattle.std.specs.Prelude.{◌≡◌, ◌≤◌, length, map};
+ghost use Rattle.px_xmp_marks.specs.Reading.{name_view, attribute_view};
+ghost use Rattle.px_xmp_spaces.specs.Bindings.{with_attributes};
+ghost use Rattle.px_xmp_spaces.specs.Tags.{attribute_limit, are_bound, is_among, are_unique, judged, opened, passed};
+ghost use Rattle.px_xmp_spaces.specs.calls.Passing.{Gives, start_piece};
+
+use crate::faults::Cause;
+use crate::scopes::{Entry, Scope};
+use px_xmp_marks::{Attribute, Name};
+
+impl<'a> Scope<'a> {
+    // Binds what attributes declare.
+    fn declare_each(&mut self, attributes: &[Attribute<'a>]) -> Option<Cause>
+        ensures { Gives result self.new (with_attributes (map attribute_view attributes.now) self.old) }
+    {
+        for attribute in attributes {
+            if let Some(cause) = self.declare_by(*attribute) {
+                return Some(cause);
+            }
+        }
+        None
+    }
+
+    // Whether the prefixes of attributes are bound.
+    fn is_each_bound(&self, attributes: &[Attribute]) -> bool
+        ensures { result ≡ are_bound self.now (map attribute_view attributes.now) }
+    {
+        for attribute in attributes {
+            if !self.is_attribute_bound(attribute.name) {
+                return false;
+            }
+        }
+        true
+    }
+
+    // Whether a name has a local name and a namespace in common with that of one of some attributes.
+    fn is_name_of(&self, attributes: &[Attribute], name: Name) -> bool
+        ensures { result ≡ is_among self.now (name_view name.entry) (map attribute_view attributes.now) }
+    {
+        for other in attributes {
+            if self.clash(name, other.name) {
+                return true;
+            }
+        }
+        false
+    }
+
+    // Whether no two of some attributes have both in common.
+    fn is_each_unique(&self, attributes: &[Attribute]) -> bool
+        ensures { result ≡ are_unique self.now (map attribute_view attributes.now) }
+    {
+        for (n, attribute) in attributes.iter().enumerate() {
+            if self.is_name_of(attributes.split_at(n + 1).1, attribute.name) {
+                return false;
+            }
+        }
+        true
+    }
+
+    // What is wrong with the names of a tag.
+    fn judge_each(&self, name: Name, attributes: &[Attribute]) -> Option<Cause>
+        requires { length attributes.now ≤ attribute_limit }
+        ensures { Gives result self.now (judged (name_view name.entry) (map attribute_view attributes.now) self.now) }
+    {
+        if !self.is_element_bound(name) {
+            return Some(Cause::Undeclared);
+        }
+        if !self.is_each_bound(attributes) {
+            return Some(Cause::Undeclared);
+        }
+        if !self.is_each_unique(attributes) {
+            return Some(Cause::SameName);
+        }
+        None
+    }
+
+    // Begins an element.
+    fn open_stored(&mut self, name: Name<'a>, attributes: &[Attribute<'a>]) -> Option<Cause>
+        requires { length attributes.now ≤ attribute_limit }
+        ensures { Gives result self.new (opened (name_view name.entry) (map attribute_view attributes.now) self.old) }
+    {
+        if self.is_full() {
+            return Some(Cause::TooMany);
+        }
+        self.put(Entry::Element);
+        if let Some(cause) = self.declare_each(attributes) {
+            return Some(cause);
+        }
+        self.judge_each(name, attributes)
+    }
+
+    /// Passes a start tag, or the tag of an empty element, with this name and these attributes, no more than 256; or returns
+    /// what is wrong with it here: then the scope is of no use. It allocates nothing. Namespaces in XML 1.0, 3, 5 and 6.
+    pub fn pass_tag(
+        &mut self,
+        is_empty: bool,
+        name: Name<'a>,
+        attributes: &[Attribute<'a>],
+    ) -> Option<Cause>
+        requires { length attributes.now ≤ attribute_limit }
+        ensures { Gives result self.new
+            (passed (start_piece is_empty (name_view name.entry) (map attribute_view attributes.now)) self.old) }
+    {
+        if let Some(cause) = self.open_stored(name, attributes) {
+            return Some(cause);
+        }
+        if is_empty {
+            self.end();
+        }
+        None
+    }
+}
