@@ -1,13 +1,15 @@
 -- A walk over elements in which nothing is wrong.
-use Rattle.std.proofs.Common.{◌≡◌, ℕ, Bool, true, false, Some, None, option_map, List, [], ◌∷◌, ◌++◌, drop, Ok, refl, sym, ap, subst, ◌∙◌}
+use Rattle.std.proofs.Common.{◌≡◌, ◌≤◌, ℕ, Bool, true, false, Option, Some, None, option_map, IfSome, List, [], ◌∷◌, ◌++◌, length, drop, Ok, refl, sym, ap, subst, ◌∙◌, inl, inr}
 use Rattle.std.specs.List.{AllByRecursion}
-use Rattle.std.proofs.lemmas.List.{drop_at}
+use Rattle.std.proofs.lemmas.List.{drop_at, drop_all}
 use Rattle.px_xmp_marks.specs.Reading.{Named, Attr, attributes_of, Start, start_tag, End, end_tag}
 use Rattle.px_xmp_marks.specs.Grammar.{IsStartTag}
 use Rattle.px_xmp_marks.specs.Laws.{HasAttributes, StartTagsAreRead, OnlyStartTagsAreRead, EndTagsAreRead, OnlyEndTagsAreRead}
 use Rattle.px_xmp_marks.specs.Marks.{IsMark, AreMarks}
 use Rattle.px_xmp_tree.specs.Kinds.{Kind, Closing, IsKind, AreKinds, Marked, mark, start_kind, OnlyKindsAreRead}
 use Rattle.px_xmp_tree.specs.Nesting.{Place, Among, After, LeadTo}
+use Rattle.px_xmp_tree.specs.declared.faults.Cause.{Cause}
+use Rattle.px_xmp_tree.specs.Faults.{IsWrong, IsFaulty, IsCut, IsFault as IsTreeFault}
 use Rattle.px_xmp_tree.specs.calls.Steps.{Step, StepsLead}
 use Rattle.px_xmp_attributes.specs.Distinct.{AreDistinct, HasDistinct}
 use Rattle.px_xmp_spaces.specs.Pieces.{Piece, Closing as ClosingPiece, Other, IsPiece, ArePieces}
@@ -177,3 +179,41 @@ one_more law x y n p q s u b g =
 
 pub all_passed : (x : List ℕ) (s : List Item) → Before x [] After s → AreElements x
 all_passed x s b = ((b.kinds, b.are_kinds, b.lead), (b.marks, b.are_marks, b.distinct), (b.pieces, s, b.are_pieces, b.leads))
+
+-- ---- what is wrong with the nesting
+
+tag_wrong : OnlyStartTagsAreRead → (x : List ℕ) (t : Start) (p : Place) (c : Cause) → start_tag x ≡ Some t
+    → IsWrong (start_kind t.is_empty t.name) p c → IsFaulty p x c
+tag_wrong only x t p c e wrong =
+    let (m, rest, read, whole, size, holds, is) = only x t e in
+    inr (inl (start_kind t.is_empty t.name, (m, rest, tag_kind t.is_empty t.name read m rest is, whole), wrong))
+
+pub end_wrong : OnlyEndTagsAreRead → (x : List ℕ) (t : End) (p : Place) (c : Cause) → end_tag x ≡ Some t → IsWrong (Closing t.name) p c
+    → IsFaulty p x c
+end_wrong only x t p c e wrong =
+    let (m, rest, whole, size, is) = only x t e in inr (inl (Closing t.name, (m, rest, is, whole), wrong))
+
+pub other_wrong : OnlyKindsAreRead → (x : List ℕ) (k : Marked) (p : Place) (c : Cause) → mark x ≡ Some k → IsWrong k.kind p c → IsFaulty p x c
+other_wrong only x k p c e wrong =
+    let (m, rest, whole, size, is) = only x k e in inr (inl (k.kind, (m, rest, is, whole), wrong))
+
+-- the same of what is found or not
+pub tag_wrongs : OnlyStartTagsAreRead → (x : List ℕ) (t : Start) (p : Place) → start_tag x ≡ Some t → (e : Option Cause)
+    → IfSome e (λ (c : Cause). IsWrong (start_kind t.is_empty t.name) p c) → IfSome e (λ (c : Cause). IsFaulty p x c)
+tag_wrongs only x t p e None wrong = wrong
+tag_wrongs only x t p e (Some c) wrong = tag_wrong only x t p c e wrong
+
+pub wrong_here : (x : List ℕ) (at : ℕ) (p : Place) (s : List Item) (c : Cause) → at ≤ length x → Before x (drop at x) p s
+    → IsFaulty p (drop at x) c → IsTreeFault x c at
+wrong_here x at p s c within b wrong = record {
+  within = within;
+  before = b.kinds;
+  place = p;
+  marked = b.are_kinds;
+  leads = b.lead;
+  wrong = wrong;
+}
+
+pub cut_here : (x : List ℕ) (at : ℕ) (p : Place) (s : List Item) (c : Cause) → at ≤ length x → length x ≤ at → Before x (drop at x) p s
+    → IsCut p c → IsTreeFault x c at
+cut_here x at p s c within end b cut = wrong_here x at p s c within b (inl (drop_all at x end, cut))

@@ -3,16 +3,12 @@ ghost use Rattle.std.specs.Prelude.{MatchOption};
 ghost use Rattle.px_xmp_document.specs.Elements.{AreElements, IsElementFault};
 
 use crate::faults::{Cause, Fault};
-use crate::walk::are_elements;
+use crate::walk::walk;
 
-// The first fault of the elements. None: they are nested, with distinct attributes, and their prefixes are declared.
-pub(crate) fn element_fault(octets: &[u8]) -> Option<Fault>
+// The first fault of the elements, by a walk for the nesting, one for the attributes and one for the prefixes.
+fn layered_fault(octets: &[u8]) -> Option<Fault>
     ensures { MatchOption result (AreElements octets.now) (λ f. IsElementFault octets.now f.cause f.offset) }
 {
-    // one walk finds whether anything is wrong; what it is, the walks of the layers find
-    if are_elements(octets) {
-        return None;
-    }
     if let Some(fault) = px_xmp_tree::first_fault(octets) {
         return Some(Fault {
             cause: Cause::Nesting(fault.cause),
@@ -31,5 +27,20 @@ pub(crate) fn element_fault(octets: &[u8]) -> Option<Fault>
             offset: fault.offset,
         }),
         None => None,
+    }
+}
+
+// The first fault of the elements. None: they are nested, with distinct attributes, and their prefixes are declared. One walk is
+// enough unless attributes or prefixes are wrong.
+pub(crate) fn element_fault(octets: &[u8]) -> Option<Fault>
+    ensures { MatchOption result (AreElements octets.now) (λ f. IsElementFault octets.now f.cause f.offset) }
+{
+    match walk(octets) {
+        Ok(()) => None,
+        Err(Some(fault)) => Some(Fault {
+            cause: Cause::Nesting(fault.cause),
+            offset: fault.offset,
+        }),
+        Err(None) => layered_fault(octets),
     }
 }

@@ -1,7 +1,9 @@
-// One walk over the elements, in which each tag is read once. It says only that nothing is wrong.
-ghost use Rattle.std.specs.Prelude.{◌≡◌, ◌≤◌, None, Some, true, length, map, take, option_map, IfSome};
+// One walk over the elements, in which each tag is read once. It finds that nothing is wrong, or the first fault of the nesting if
+// nothing else is wrong before it.
+ghost use Rattle.std.specs.Prelude.{◌≡◌, ◌≤◌, None, Some, length, map, take, option_map, MatchOption, IfSome, IfOk, IfErr, IsOk};
 ghost use Rattle.px_xmp_marks.specs.Reading.{attribute_view, attributes_of, name_view, start_tag, end_tag, start_tag_view};
-ghost use Rattle.px_xmp_tree.specs.Kinds.{Closing};
+ghost use Rattle.px_xmp_tree.specs.Kinds.{Closing, start_kind};
+ghost use Rattle.px_xmp_tree.specs.Faults.{IsWrong, IsFaulty, IsFault as IsTreeFault};
 ghost use Rattle.px_xmp_tree.specs.calls.Steps.{Step};
 ghost use Rattle.px_xmp_spaces.specs.Scopes.{ended};
 ghost use Rattle.px_xmp_document.specs.Elements.{AreElements};
@@ -10,7 +12,7 @@ ghost use Rattle.px_xmp_document.specs.calls.Walks.{GoesOn, PassesTag};
 use px_xmp_attributes::are_repeated;
 use px_xmp_marks::{Attribute, EndTag, Name, StoredTag, read_end_tag, read_stored_tag};
 use px_xmp_spaces::Scope;
-use px_xmp_tree::{MarkKind, Nesting, read_other_mark, start_kind};
+use px_xmp_tree::{Cause, Fault, MarkKind, Nesting, read_other_mark, start_kind};
 
 // So many attributes of a tag are stored in one space for all tags, which few tags exceed: a larger one costs more to clear than
 // small documents cost to read.
@@ -33,67 +35,68 @@ fn no_attribute<'a>(octets: &'a [u8]) -> Attribute<'a> {
     }
 }
 
-// Passes a start tag with these attributes. False: something is wrong.
+// Passes a start tag with these attributes, or returns what is wrong with its nesting. None: something else is wrong.
 fn pass_tag<'a>(
     stored: StoredTag<'a>,
     attributes: &[Attribute<'a>],
     nesting: &mut Nesting<'a>,
     scope: &mut Scope<'a>,
-) -> bool
+) -> Result<(), Option<Cause>>
     requires { length attributes.now ≤ 256 }
-    ensures { result ≡ true
+    ensures passed { IsOk result
         → PassesTag (start_tag_view stored.entry.tag) (map attribute_view attributes.now) nesting.old nesting.new scope.old scope.new }
+    ensures wrong { IfErr result (λ e. IfSome e (λ c.
+        IsWrong (start_kind stored.entry.tag.is_empty (name_view stored.entry.tag.name)) nesting.old c)) }
 {
     let tag = stored.tag;
-    if are_repeated(attributes) {
-        return false;
+    if let Some(cause) = nesting.pass(start_kind(tag.is_empty, tag.name)) {
+        return Err(Some(cause));
     }
-    if let Some(_) = nesting.pass(start_kind(tag.is_empty, tag.name)) {
-        return false;
+    if are_repeated(attributes) {
+        return Err(None);
     }
     match scope.pass_tag(tag.is_empty, tag.name, attributes) {
-        Some(_) => false,
-        None => true,
+        Some(_) => Err(None),
+        None => Ok(()),
     }
 }
 
-// Passes an end tag. False: something is wrong.
-fn pass_end<'a>(tag: EndTag<'a>, nesting: &mut Nesting<'a>, scope: &mut Scope<'a>) -> bool
-    ensures step { result ≡ true → Step (Closing (name_view tag.entry.name)) nesting.old nesting.new }
+// Passes an end tag, or returns what is wrong with it.
+fn pass_end<'a>(tag: EndTag<'a>, nesting: &mut Nesting<'a>, scope: &mut Scope<'a>) -> Option<Cause>
+    ensures step { MatchOption result (Step (Closing (name_view tag.entry.name)) nesting.old nesting.new)
+        (λ c. IsWrong (Closing (name_view tag.entry.name)) nesting.old c) }
     ensures scope { scope.new ≡ ended scope.old }
 {
     scope.end();
-    match nesting.pass(MarkKind::Closing(tag.name)) {
-        Some(_) => false,
-        None => true,
-    }
+    nesting.pass(MarkKind::Closing(tag.name))
 }
 
-// Passes the start tag at the start, with this space for its attributes. Returns its length. None: something is wrong, or the
-// tag has more attributes.
+// Passes the start tag at the start, with this space for its attributes. Returns its length, or what is wrong with its nesting.
+// None: something else is wrong, or the tag has more attributes.
 fn pass_stored<'a>(
     octets: &'a [u8],
     stored: StoredTag<'a>,
     space: &[Attribute<'a>],
     nesting: &mut Nesting<'a>,
     scope: &mut Scope<'a>,
-) -> Option<usize>
+) -> Result<usize, Option<Cause>>
     requires few { length space.now ≤ 256 }
     requires tag { Some (start_tag_view stored.tag) ≡ start_tag octets.now }
     requires within { (1 ≤ stored.tag.size) × (stored.tag.size ≤ length octets.now) }
     requires stored { stored.len ≤ length space.now
         → option_map (λ r. r.0) (attributes_of stored.tag.rest.now) ≡ Some (map attribute_view (take stored.len space.now)) }
-    ensures { IfSome result (λ n. GoesOn octets.now n nesting.old nesting.new scope.old scope.new) }
+    ensures passed { IfOk result (λ n. GoesOn octets.now n nesting.old nesting.new scope.old scope.new) }
+    ensures wrong { IfErr result (λ e. IfSome e (λ c. IsFaulty nesting.old octets.now c)) }
 {
     px_xmp_marks::laws::start_tags_are_read();
     px_xmp_marks::laws::only_start_tags_are_read();
     if stored.len > space.len() {
-        return None;
+        return Err(None);
     }
-    if pass_tag(stored, space.split_at(stored.len).0, nesting, scope) {
-        return Some(stored.tag.size);
+    match pass_tag(stored, space.split_at(stored.len).0, nesting, scope) {
+        Ok(()) => Ok(stored.tag.size),
+        Err(wrong) => Err(wrong),
     }
-    None
 }
 
 // Passes the start tag at the start, with a large space for its attributes.
@@ -102,55 +105,65 @@ fn pass_large<'a>(
     octets: &'a [u8],
     nesting: &mut Nesting<'a>,
     scope: &mut Scope<'a>,
-) -> Option<usize>
-    ensures { IfSome result (λ n. GoesOn octets.now n nesting.old nesting.new scope.old scope.new) }
+) -> Result<usize, Option<Cause>>
+    ensures passed { IfOk result (λ n. GoesOn octets.now n nesting.old nesting.new scope.old scope.new) }
+    ensures wrong { IfErr result (λ e. IfSome e (λ c. IsFaulty nesting.old octets.now c)) }
 {
     let mut space = [no_attribute(octets); MANY];
     match read_stored_tag(octets, &mut space) {
         Some(stored) => pass_stored(octets, stored, &space, nesting, scope),
-        None => None,
+        None => Err(None),
     }
 }
 
-// Passes the mark at the start, which is no start tag.
+// Passes the mark at the start, which is no start tag. Returns its length, or what is wrong with its nesting.
 fn pass_other<'a>(
     octets: &'a [u8],
     nesting: &mut Nesting<'a>,
     scope: &mut Scope<'a>,
-) -> Option<usize>
-    requires { start_tag octets.now ≡ None }
-    ensures { IfSome result (λ n. GoesOn octets.now n nesting.old nesting.new scope.old scope.new) }
+) -> Result<usize, Cause>
+    requires some { 1 ≤ length octets.now }
+    requires start { start_tag octets.now ≡ None }
+    ensures passed { IfOk result (λ n. GoesOn octets.now n nesting.old nesting.new scope.old scope.new) }
+    ensures wrong { IfErr result (λ c. IsFaulty nesting.old octets.now c) }
 {
     px_xmp_marks::laws::start_tags_are_read();
     px_xmp_marks::laws::end_tags_are_read();
     px_xmp_marks::laws::only_end_tags_are_read();
+    px_xmp_tree::laws::kinds_are_read();
     px_xmp_tree::laws::only_kinds_are_read();
     if let Some(tag) = read_end_tag(octets) {
-        if pass_end(tag, nesting, scope) {
-            return Some(tag.size);
+        match pass_end(tag, nesting, scope) {
+            Some(cause) => return Err(cause),
+            None => return Ok(tag.size),
         }
-        return None;
     }
     let Some(mark) = read_other_mark(octets) else {
-        return None;
+        return Err(nesting.unread(octets));
     };
-    if let Some(_) = nesting.pass(mark.kind) {
-        return None;
+    match nesting.pass(mark.kind) {
+        Some(cause) => Err(cause),
+        None => Ok(mark.size),
     }
-    Some(mark.size)
 }
 
-// Passes the mark at the start, with a space for the attributes of a tag. Returns its length. None: something is wrong.
+// Passes the mark at the start, with a space for the attributes of a tag. Returns its length, or what is wrong with its nesting.
+// None: something else is wrong.
 fn pass<'a>(
     octets: &'a [u8],
     space: &mut [Attribute<'a>; STORED],
     nesting: &mut Nesting<'a>,
     scope: &mut Scope<'a>,
-) -> Option<usize>
-    ensures { IfSome result (λ n. GoesOn octets.now n nesting.old nesting.new scope.old scope.new) }
+) -> Result<usize, Option<Cause>>
+    requires { 1 ≤ length octets.now }
+    ensures passed { IfOk result (λ n. GoesOn octets.now n nesting.old nesting.new scope.old scope.new) }
+    ensures wrong { IfErr result (λ e. IfSome e (λ c. IsFaulty nesting.old octets.now c)) }
 {
     let Some(stored) = read_stored_tag(octets, space) else {
-        return pass_other(octets, nesting, scope);
+        return match pass_other(octets, nesting, scope) {
+            Ok(size) => Ok(size),
+            Err(cause) => Err(Some(cause)),
+        };
     };
     if stored.len > STORED {
         return pass_large(octets, nesting, scope);
@@ -158,9 +171,10 @@ fn pass<'a>(
     pass_stored(octets, stored, space, nesting, scope)
 }
 
-// Whether nothing is wrong with elements. If it is false, `element_fault` finds what is wrong.
-pub(crate) fn are_elements(octets: &[u8]) -> bool
-    ensures { result ≡ true → AreElements octets.now }
+// Whether nothing is wrong with elements. `Err`: the first fault of their nesting, or None, if something else is wrong before it.
+pub(crate) fn walk(octets: &[u8]) -> Result<(), Option<Fault>>
+    ensures right { IsOk result → AreElements octets.now }
+    ensures wrong { IfErr result (λ e. IfSome e (λ f. IsTreeFault octets.now f.cause f.offset)) }
 {
     px_xmp_tree::laws::steps_lead();
     let mut nesting = Nesting::new(octets);
@@ -168,14 +182,16 @@ pub(crate) fn are_elements(octets: &[u8]) -> bool
     let mut space = [no_attribute(octets); STORED];
     let mut at = 0;
     while at < octets.len() {
-        let rest = octets.split_at(at).1;
-        let Some(size) = pass(rest, &mut space, &mut nesting, &mut scope) else {
-            return false;
-        };
-        at += size;
+        match pass(octets.split_at(at).1, &mut space, &mut nesting, &mut scope) {
+            Ok(size) => at += size,
+            Err(wrong) => match wrong {
+                Some(cause) => return Err(Some(Fault { cause, offset: at })),
+                None => return Err(None),
+            },
+        }
     }
     match nesting.cut() {
-        Some(_) => false,
-        None => true,
+        Some(cause) => Err(Some(Fault { cause, offset: at })),
+        None => Ok(()),
     }
 }

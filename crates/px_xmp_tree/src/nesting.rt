@@ -196,8 +196,8 @@ impl<'a> Nesting<'a> {
         Some(Cause::NoEnd)
     }
 
-    // What is wrong with octets here that begin with no mark.
-    pub(crate) fn unread(&self, octets: &[u8]) -> Cause
+    /// What is wrong with octets here that begin with no mark: a document type begins, or nothing is known. It allocates nothing.
+    pub fn unread(&self, octets: &[u8]) -> Cause
         ensures { result ≡ unread self.now octets.now }
     {
         if self.has_ended {

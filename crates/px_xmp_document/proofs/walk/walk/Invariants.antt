@@ -1,6 +1,6 @@
 use Rattle.std.proofs.Common.{◌≤◌, ◌-◌, length, drop}
 use Rattle.px_xmp_document.proofs.WalkLaws.{Before}
-use Rattle.px_xmp_document.proofs.walk.are_elements.Given as goal
+use Rattle.px_xmp_document.proofs.walk.walk.Given as goal
 
 -- what was read leads to this place and this scope
 abbrev pub invariant-loop-at : goal.invariant-loop-at
