@@ -1,7 +1,7 @@
 -- A walk over elements in which nothing is wrong.
 use Rattle.std.proofs.Common.{◌≡◌, ◌≤◌, ℕ, Bool, true, false, Option, Some, None, option_map, IfSome, List, [], ◌∷◌, ◌++◌, length, drop, Ok, refl, sym, ap, subst, ◌∙◌, inl, inr}
 use Rattle.std.specs.List.{AllByRecursion}
-use Rattle.std.proofs.lemmas.List.{drop_at, drop_all}
+use Rattle.std.proofs.lemmas.List.{drop_at}
 use Rattle.px_xmp_marks.specs.Reading.{Named, Attr, attributes_of, Start, start_tag, End, end_tag}
 use Rattle.px_xmp_marks.specs.Grammar.{IsStartTag}
 use Rattle.px_xmp_marks.specs.Laws.{HasAttributes, StartTagsAreRead, OnlyStartTagsAreRead, EndTagsAreRead, OnlyEndTagsAreRead}
@@ -9,7 +9,7 @@ use Rattle.px_xmp_marks.specs.Marks.{IsMark, AreMarks}
 use Rattle.px_xmp_tree.specs.Kinds.{Kind, Closing, IsKind, AreKinds, Marked, mark, start_kind, OnlyKindsAreRead}
 use Rattle.px_xmp_tree.specs.Nesting.{Place, Among, After, LeadTo}
 use Rattle.px_xmp_tree.specs.declared.faults.Cause.{Cause}
-use Rattle.px_xmp_tree.specs.Faults.{IsWrong, IsFaulty, IsCut, IsFault as IsTreeFault}
+use Rattle.px_xmp_tree.specs.Faults.{IsWrong, IsFaulty, IsFault as IsTreeFault}
 use Rattle.px_xmp_tree.specs.calls.Steps.{Step, StepsLead}
 use Rattle.px_xmp_attributes.specs.Distinct.{AreDistinct, HasDistinct}
 use Rattle.px_xmp_spaces.specs.Pieces.{Piece, Closing as ClosingPiece, Other, IsPiece, ArePieces}
@@ -213,7 +213,3 @@ wrong_here x at p s c within b wrong = record {
   leads = b.lead;
   wrong = wrong;
 }
-
-pub cut_here : (x : List ℕ) (at : ℕ) (p : Place) (s : List Item) (c : Cause) → at ≤ length x → length x ≤ at → Before x (drop at x) p s
-    → IsCut p c → IsTreeFault x c at
-cut_here x at p s c within end b cut = wrong_here x at p s c within b (inl (drop_all at x end, cut))

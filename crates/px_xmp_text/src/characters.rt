@@ -4,6 +4,7 @@ ghost use Rattle.std.specs.Str.{StartsWithNoChar};
 ghost use Rattle.px_xmp_text.specs.References.{is_char};
 ghost use Rattle.px_xmp_text.specs.Characters.{AreCharacters, IsFirstBad};
 ghost use Rattle.px_xmp_text.specs.calls.Forbidden.{IsForbidden};
+ghost use Rattle.px_xmp_text.specs.calls.Usual.{is_usual, are_usual};
 
 /// Whether XML allows the character with this number. XML 1.0, 2.2.
 pub fn is_char(number: u32) -> bool
@@ -32,8 +33,30 @@ fn text_at_start(octets: &[u8]) -> &str
     }
 }
 
-// The offset of the first character that XML does not allow.
-fn first_forbidden(text: &str) -> Option<usize>
+// Whether an octet is in no character that XML forbids, after another octet.
+fn is_usual(last: u8, octet: u8) -> bool
+    ensures { result ≡ is_usual last octet }
+{
+    (octet >= 0x20 || octet == b'\t' || octet == b'\n' || octet == b'\r')
+        && !(last == 0xEF && octet == 0xBF)
+}
+
+// Whether each octet is so.
+fn are_usual(octets: &[u8]) -> bool
+    ensures { result ≡ are_usual 0 octets.now }
+{
+    // without an end before the last octet, so that many are looked at at once
+    let mut all = true;
+    let mut last = 0;
+    for octet in octets {
+        all &= is_usual(last, *octet);
+        last = *octet;
+    }
+    all
+}
+
+// The offset of the first character that XML does not allow, by a look at each character.
+fn search_forbidden(text: &str) -> Option<usize>
     ensures { MatchOption result (AreCharacters text.now) (IsForbidden text.now) }
 {
     for (at, character) in text.char_indices() {
@@ -42,6 +65,16 @@ fn first_forbidden(text: &str) -> Option<usize>
         }
     }
     None
+}
+
+// The offset of the first character that XML does not allow. Most texts have none, which a look at each octet shows.
+fn first_forbidden(text: &str) -> Option<usize>
+    ensures { MatchOption result (AreCharacters text.now) (IsForbidden text.now) }
+{
+    if are_usual(text.as_bytes()) {
+        return None;
+    }
+    search_forbidden(text)
 }
 
 /// The offset of the first place where no character that XML allows is, in UTF-8. None: the octets are such characters. It
