@@ -43,7 +43,7 @@ ATTRIBUTES = re.compile(r' "(?:frame-pointer|probe-stack|stack-probe-size|target
 FLAGS = [f"--target={TRIPLE}", "-mbulk-memory", "--no-default-config", "-O2", "-c"]
 LIBRARY = ["-ffunction-sections", "-fdata-sections", "-mllvm", "-no-trap-after-noreturn", "-mllvm", "-trap-unreachable", "-x", "ir"]
 # Four times what the deepest call needs, which reads a packet of XMP. It is below the data, so that an overflow is a trap.
-STACK = 262144
+STACK = 327680
 LINKED = ["-mwasm64", "--no-entry", "--gc-sections", "--stack-first", "--fatal-warnings", "-z", f"stack-size={STACK}"]
 NAMES = ["exifnorm.wasm", "exifnorm64.wasm"]
 HOST = ["exifnorm_malloc", "exifnorm_free", "exifnorm_allocations"]

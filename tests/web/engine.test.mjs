@@ -152,7 +152,7 @@ test("memory that isn't there is an error, and the next call works", () => {
 });
 
 test("the deepest calls need less than half of the stack", () => {
-  const STACK = 131_072, inner = "<d:b r:parseType='Resource'>".repeat(95) + "<d:a d:b='1'/>" + "</d:b>".repeat(95);
+  const STACK = 327_680, inner = "<d:b r:parseType='Resource'>".repeat(95) + "<d:a d:b='1'/>" + "</d:b>".repeat(95);
   const most = packet(`${inner}<d:c>${"<!-- c -->".repeat(9)}</d:c><d:d ${Array.from({ length: 250 }, (_, i) => `d:b${i}=''`).join(" ")}/>`);
   for (const [name, bytes] of [["exifnorm_check", ONE], ["exifnorm_xmp_check", most]]) {
     const { exports } = new WebAssembly.Instance(WASM);
