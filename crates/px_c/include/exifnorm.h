@@ -11,11 +11,12 @@
  * with XMP, and exifnorm_jpeg_same_blocks without.
  *
  * Whether two blocks of Exif or IPTC mean the same is proved. Whether two JPEGs have the same Exif and IPTC is proved of
- * exifnorm_jpeg_same_blocks, and exifnorm_jpeg_same returns nothing else of these. Where the packets of XMP are is proved, and which properties
- * a packet has is tested. How blocks are found in other formats, and groups of pictures, are tested. It is proved of each call which status but
- * EXIFNORM_NO_MEMORY it returns for which input, what it sets, and what stays unchanged; and that exifnorm_check doesn't return
- * EXIFNORM_NO_MEMORY for a block of DataSets. What this page says otherwise of EXIFNORM_NO_MEMORY, and of copies, of the stack, of
- * threads, of ownership, and that EXIFNORM_NAME_ROOM is enough, is tested. That texts are ASCII is read in their definitions, and tested.
+ * exifnorm_jpeg_same_blocks, and exifnorm_jpeg_same returns nothing else of these. Where the packets of XMP are is proved, and that a form
+ * is that of what its packet means; which packets are read is tested. How blocks are found in other formats, and groups of pictures, are
+ * tested. It is proved of each call which status but EXIFNORM_NO_MEMORY it returns for which input, what it sets, and what stays unchanged;
+ * and that exifnorm_check doesn't return EXIFNORM_NO_MEMORY for a block of DataSets. What this page says otherwise of EXIFNORM_NO_MEMORY,
+ * and of copies, of the stack, of threads, of ownership, and that EXIFNORM_NAME_ROOM is enough, is tested. That texts are ASCII is read in
+ * their definitions, and tested.
  *
  * For every call:
  *
@@ -423,8 +424,8 @@ uint32_t exifnorm_xmp_check(const unsigned char *packet, size_t packet_length, /
  * x:xmptk and the padding make no difference. Extended XMP is a packet of its own. The place of a fault is the byte offset in the packet
  * of the tag or the text that has it.
  *
- * Which form a packet has is tested and, unlike that of a block, not proved. It is proved that the call ends and is safe for any bytes,
- * and that it returns NO_MEMORY exactly if an allocation failed.
+ * It is proved that the form is that of what the packet means; which packets have one is tested and, unlike which blocks, not proved. It
+ * is also proved that the call ends and is safe for any bytes, and that it returns NO_MEMORY exactly if an allocation failed.
  *
  *   DONE             out begins with the form; written is its length. The rest of out is unchanged.
  *   REFUSED          the packet is wrong; fault is set.

@@ -426,8 +426,8 @@ pub extern "C" fn exifnorm_xmp_check(alloc: Global, packet: &[u8], fault: &mut E
     xmp_check_in(&mut Memory::new(alloc), packet, fault)
 }
 
-/// Writes the normal form of a packet of XMP to the start of `out`, and its length to `written`. Which form a packet has is
-/// tested, and no contract states it. Allocates the form, and the values of the elements that are open.
+/// Writes the normal form of a packet of XMP to the start of `out`, and its length to `written`: that of what the packet means.
+/// Which packets have one is tested, and no contract states it. Allocates the form, and the values of the elements that are open.
 ///
 /// `REFUSED`: the packet is wrong, and `fault` is its first fault. `RARE`: it may have a meaning, which this library doesn't
 /// read, and `fault` is where. `TOO_LITTLE_ROOM`: `out` is shorter than the form, whose length is in `written`. `NO_MEMORY`:
@@ -443,10 +443,10 @@ pub extern "C" fn exifnorm_xmp_normalise(
 ) -> u32
     ensures known { (result ≡ status.done) ⊎ (result ≡ status.refused) ⊎ (result ≡ status.rare) ⊎ (result ≡ status.no_memory)
         ⊎ (result ≡ status.too_little_room) }
-    ensures done { result ≡ status.done → PutsXmp (Whole written.new) out.old out.new }
+    ensures done { result ≡ status.done → PutsXmp packet.now (Whole written.new) out.old out.new }
     ensures refused { result ≡ status.refused → RefusesXmp fault.new }
     ensures rare { result ≡ status.rare → LeavesXmp fault.new }
-    ensures short { result ≡ status.too_little_room → PutsXmp (Needs written.new) out.old out.new }
+    ensures short { result ≡ status.too_little_room → PutsXmp packet.now (Needs written.new) out.old out.new }
     ensures out { result ≢ status.done → out.new ≡ out.old }
     ensures written { result ≢ status.done → result ≢ status.too_little_room → written.new ≡ written.old }
     ensures fault { result ≢ status.refused → result ≢ status.rare → fault.new ≡ fault.old }

@@ -85,10 +85,10 @@ pub(crate) fn xmp_normalise_in(
 ) -> u32
     ensures known { (result ≡ status.done) ⊎ (result ≡ status.refused) ⊎ (result ≡ status.rare) ⊎ (result ≡ status.no_memory)
         ⊎ (result ≡ status.too_little_room) }
-    ensures done { result ≡ status.done → PutsXmp (Whole written.new) out.old out.new }
+    ensures done { result ≡ status.done → PutsXmp packet.now (Whole written.new) out.old out.new }
     ensures refused { result ≡ status.refused → RefusesXmp fault.new }
     ensures rare { result ≡ status.rare → LeavesXmp fault.new }
-    ensures short { result ≡ status.too_little_room → PutsXmp (Needs written.new) out.old out.new }
+    ensures short { result ≡ status.too_little_room → PutsXmp packet.now (Needs written.new) out.old out.new }
     ensures out { result ≢ status.done → out.new ≡ out.old }
     ensures written { result ≢ status.done → result ≢ status.too_little_room → written.new ≡ written.old }
     ensures fault { result ≢ status.refused → result ≢ status.rare → fault.new ≡ fault.old }

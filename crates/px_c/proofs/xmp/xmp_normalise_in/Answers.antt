@@ -1,0 +1,20 @@
+use Rattle.std.proofs.Common.{List, ℕ, subst}
+use Rattle.px_engine.specs.Slices.{IsPut}
+use Rattle.px_engine.specs.declared.normal.Given.TheVariants.{Whole, Needs}
+use Rattle.px_c.proofs.xmp.xmp_normalise_in.Goals as goal
+
+pub returns-in-Ok-clause-done : goal.returns-in-Ok-clause-done
+returns-in-Ok-clause-done c is = (
+  c.in-Ok.form.items,
+  c.in-Ok.ensures.form,
+  c.in-Ok.ensures.bound,
+  subst (λ (z : List ℕ). IsPut (Whole c.give.new.written) z c.args.out.now c.give.new.out) c.as_slice.ensures.value (c.give.ensures.done is),
+)
+
+pub returns-in-Ok-clause-short : goal.returns-in-Ok-clause-short
+returns-in-Ok-clause-short c is = (
+  c.in-Ok.form.items,
+  c.in-Ok.ensures.form,
+  c.in-Ok.ensures.bound,
+  subst (λ (z : List ℕ). IsPut (Needs c.give.new.written) z c.args.out.now c.give.new.out) c.as_slice.ensures.value (c.give.ensures.short is),
+)
