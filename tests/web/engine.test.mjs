@@ -189,6 +189,6 @@ test("the heap frees and grows: nothing overlaps, and its memory is in proportio
   assert.equal(Number(allocations()), chunks.length);
   assert.ok(memory.buffer.byteLength < 4 * most + 32 * PAGE, `${memory.buffer.byteLength} bytes for ${most}`);
   while (chunks.length) giveBack();
-  const whole = memory.buffer.byteLength, start = malloc(BigInt(whole - (1 << 20)));
+  const whole = memory.buffer.byteLength, start = malloc(BigInt(whole - (5 << 18)));
   assert.ok(start > 0n && memory.buffer.byteLength === whole, "an empty heap is whole again");
 });
