@@ -6,7 +6,7 @@ use Rattle.px_jpeg.specs.Head.{Picture}
 use Rattle.px_jpeg.specs.Pieces.{pieces, range}
 use Rattle.px_pictures.specs.Xmp.{has_part}
 use Rattle.px_xmp.specs.Packet.{IsPacket}
-use Rattle.px_xmp_forms.specs.Forms.{IsNormal}
+use Rattle.px_xmp.specs.Laws.{IsFormOfPacket}
 use Rattle.px_xmp_text.specs.Values.{packet_end}
 use Rattle.px_xmp_pictures.specs.Extension.{packets, extension_pieces, IsExtension}
 
@@ -31,12 +31,11 @@ name_end = codes "</p:HasExtendedXMP>"
 abbrev pub NamesNone : List ℕ → Type 0
 NamesNone form = has_part label form ≡ false
 
--- the pieces of the picture b, which have this name, are a packet, and this is a normal packet
+-- the pieces of the picture b, which have this name, are a packet, and this is its normal form
 pub record HasExtension (b : List ℕ) (ps : List Piece) (name form : List ℕ) : Type 0 where
   pub octets : List ℕ
   pub extension : IsExtension b ps name octets
-  pub packet : IsPacket octets
-  pub normal : IsNormal form
+  pub packet : IsFormOfPacket octets form
 
 -- A packet is a normal one with the properties of the extended XMP in place of the property that names it. What precedes that property is
 -- a packet by itself with the end of one: so it is a property of the picture, and not one inside another.
@@ -52,13 +51,12 @@ pub record IsJoinedPacket (b : List ℕ) (ps : List Piece) (form whole : List �
   pub all : other ≡ packet_start ++ properties ++ packet_end
   pub joined : whole ≡ front ++ properties ++ back
 
--- the picture has one packet, and that is joined with its extended XMP
-pub record IsJoined (p : Picture) : Type 0 where
+-- the picture has one packet, and that is joined with its extended XMP; this is the normal form of both
+pub record IsJoined (p : Picture) (joint : List ℕ) : Type 0 where
   pub packet : Piece
   pub only : packets (pieces p.octets None p.parts) ≡ packet ∷ []
-  pub document : IsPacket (range p.octets packet.start packet.size)
   pub form : List ℕ
-  pub normal : IsNormal form
+  pub document : IsFormOfPacket (range p.octets packet.start packet.size) form
   pub whole : List ℕ
   pub joined : IsJoinedPacket p.octets (extension_pieces (pieces p.octets None p.parts)) form whole
-  pub is_packet : IsPacket whole
+  pub is_packet : IsFormOfPacket whole joint

@@ -1,4 +1,4 @@
--- The XMP of two pictures. Which properties a packet has, and so which normal form, no definition states.
+-- The XMP of two pictures.
 use Rattle.std.specs.Prelude.{◌≡◌, ◌⊎◌, ℕ, false, Some, None, List}
 use Rattle.px_jpeg.specs.declared.packets.FoundXmp.TheVariants as found
 use Rattle.px_jpeg.specs.Head.{HasHead, Picture}
@@ -8,7 +8,7 @@ use Rattle.px_pictures.specs.declared.faults.Comparison.{Comparison}
 use Rattle.px_pictures.specs.declared.faults.Comparison.TheVariants as answer
 use Rattle.px_pictures.specs.declared.faults.PictureSide.TheVariants.{First, Second}
 use Rattle.px_pictures.specs.Xmp.{IsOtherXmp}
-use Rattle.px_xmp.specs.Packet.{IsPacket}
+use Rattle.px_xmp.specs.Laws.{IsFormOfPacket}
 use Rattle.px_xmp_forms.specs.Forms.{IsNormal}
 use Rattle.px_xmp_pictures.specs.Joined.{NamesNone, IsJoined}
 use Rattle.px_xmp_pictures.specs.declared.reading.ReadXmp.{ReadXmp}
@@ -16,9 +16,10 @@ use Rattle.px_xmp_pictures.specs.declared.reading.ReadXmp.TheVariants.{Absent, F
 
 -- ---- one picture
 
--- a packet that is read begins at an offset: it is the picture's only XMP by its own marks, and a document
-abbrev pub IsOnlyPacket : Picture → ℕ → ℕ → Type 0
-IsOnlyPacket p start size = (xmp_of p.octets p.parts ≡ found.Packet start size) × IsPacket (range p.octets start size)
+-- a packet that is read begins at an offset: it is the picture's only XMP by its own marks, and this is the normal form of its document
+abbrev pub IsOnlyPacket : Picture → List ℕ → ℕ → ℕ → Type 0
+IsOnlyPacket p form start size =
+    (xmp_of p.octets p.parts ≡ found.Packet start size) × IsFormOfPacket (range p.octets start size) form
 
 -- at an offset is a second packet or extended XMP, or the only packet, which has no normal form or names extended XMP
 abbrev pub IsLeft : Picture → ℕ → Type 0
@@ -30,7 +31,7 @@ abbrev pub IsXmp : Picture → ReadXmp → Type 0
 IsXmp p Absent = IsOtherXmp p.octets None × (xmp_of p.octets p.parts ≡ found.Absent)
 IsXmp p (Form form) =
     IsOtherXmp p.octets None × IsNormal form.items × NamesNone form.items
-    × (((start size : ℕ) × IsOnlyPacket p start size) ⊎ IsJoined p)
+    × (((start size : ℕ) × IsOnlyPacket p form.items start size) ⊎ IsJoined p form.items)
 IsXmp p (NotRead u) = IsOtherXmp p.octets (Some u) ⊎ (IsOtherXmp p.octets None × (u.joined ≡ false) × IsLeft p u.start)
 
 -- the same of the picture b, which has a head

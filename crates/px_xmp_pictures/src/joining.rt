@@ -4,10 +4,12 @@ ghost use Rattle.px_bytes.specs.Allocations.{CountsAllocFailure};
 ghost use Rattle.px_jpeg.specs.Pieces.{pieces, range};
 ghost use Rattle.px_pictures.specs.Xmp.{has_part};
 ghost use Rattle.px_xmp.specs.Packet.{IsPacket};
+ghost use Rattle.px_xmp.specs.Laws.{IsFormOfPacket};
 ghost use Rattle.px_xmp_forms.specs.Forms.{IsNormal};
 ghost use Rattle.px_xmp_text.specs.Values.{packet_end};
 ghost use Rattle.px_xmp_pictures.specs.Extension.{extension_pieces, IsExtension};
-ghost use Rattle.px_xmp_pictures.specs.Joined.{packet_start, name_start, name_end, NamesNone, HasExtension, IsJoinedPacket, IsJoined};
+ghost use Rattle.px_xmp_pictures.specs.Joined.{packet_start, name_start, name_end, NamesNone};
+ghost use Rattle.px_xmp_pictures.specs.Joined.{HasExtension, IsJoinedPacket, IsJoined};
 ghost use Rattle.px_xmp_pictures.specs.Counts.{CountsAllocFailureInXmp};
 
 use crate::digests::is_name_of;
@@ -198,7 +200,7 @@ fn joined_packet(memory: &mut Memory, front: &Front, form: &[u8]) -> Result<Vec<
 
 // The form of a packet that names no extended XMP.
 fn plain_form(memory: &mut Memory, packet: &[u8]) -> Result<Vec<u8>, Unjoined>
-    ensures packet { OnOk result (IsPacket packet.now) }
+    ensures form { IfOk result (λ form. IsFormOfPacket packet.now form.items) }
     ensures normal { IfOk result (λ form. IsNormal form.items) }
     ensures none { IfOk result (λ form. NamesNone form.items) }
     ensures memory { CountsAllocFailureInXmp result memory.old memory.new }
@@ -217,8 +219,7 @@ fn packet_form(
     start: usize,
     size: usize,
 ) -> Result<Vec<u8>, Unjoined>
-    ensures packet { OnOk result (IsPacket (range front.now.octets start size)) }
-    ensures normal { IfOk result (λ form. IsNormal form.items) }
+    ensures form { IfOk result (λ form. IsFormOfPacket (range front.now.octets start size) form.items) }
     ensures memory { CountsAllocFailureInXmp result memory.old memory.new }
 {
     let form = normal_form_in(memory, range(front.bytes(), start, size))?;
@@ -232,7 +233,7 @@ pub(crate) fn only_form(
     start: usize,
     size: usize,
 ) -> Result<Vec<u8>, Unjoined>
-    ensures packet { OnOk result (IsPacket (range front.now.octets start size)) }
+    ensures form { IfOk result (λ form. IsFormOfPacket (range front.now.octets start size) form.items) }
     ensures normal { IfOk result (λ form. IsNormal form.items) }
     ensures none { IfOk result (λ form. NamesNone form.items) }
     ensures memory { CountsAllocFailureInXmp result memory.old memory.new }
@@ -243,7 +244,7 @@ pub(crate) fn only_form(
 
 // The form of the only packet of a picture with the properties of its extended XMP.
 pub(crate) fn joined_form(memory: &mut Memory, front: &Front) -> Result<Vec<u8>, Unjoined>
-    ensures joined { OnOk result (IsJoined front.now) }
+    ensures joined { IfOk result (λ form. IsJoined front.now form.items) }
     ensures normal { IfOk result (λ form. IsNormal form.items) }
     ensures none { IfOk result (λ form. NamesNone form.items) }
     ensures memory { CountsAllocFailureInXmp result memory.old memory.new }

@@ -1,9 +1,8 @@
 //! Whether two JPEG pictures have the same Exif, IPTC and XMP. Exif and IPTC are compared by px_pictures, and XMP by the normal
 //! forms of px_xmp. Extended XMP is joined to the packet that names it. It opens no file.
 //!
-//! What is proved of Exif and IPTC is what px_pictures proves. Of XMP it is proved where the packets are, that a packet with a form is a
-//! document, which pieces of extended XMP are joined and to what, and that the answer is that of two forms. Which properties a packet
-//! has is tested.
+//! What is proved of Exif and IPTC is what px_pictures proves. Of XMP it is proved where the packets are, which pieces of extended XMP
+//! are joined and to what, and that the answer is that of the normal forms of what the packets mean. Which packets are read is tested.
 #![tactic(auto)]
 
 mod comparing;

@@ -1,7 +1,15 @@
-use Rattle.std.proofs.Common.{subst, None, inr}
+use Rattle.std.proofs.Common.{subst, sym, None, inl, inr, ◌∙◌}
 use Rattle.px_pictures.specs.Xmp.{IsOtherXmp}
 use Rattle.px_xmp_pictures.proofs.reading.xmp_in.Goals as goal
 
 pub returns-in-Ok-clause-read : goal.returns-in-Ok-clause-read
 returns-in-Ok-clause-read c =
     (subst (λ y. IsOtherXmp y None) c.requires c.in_default.ensures, c.in-Ok.ensures.normal, c.in-Ok.ensures.none, inr c.in-Ok.ensures.joined)
+
+pub returns-in-Ok-only_form-clause-read : goal.returns-in-Ok-only_form-clause-read
+returns-in-Ok-only_form-clause-read c = (
+  subst (λ y. IsOtherXmp y None) c.requires c.in_default.ensures,
+  c.in-Ok-only_form.ensures.normal,
+  c.in-Ok-only_form.ensures.none,
+  inl (c.in-Packet.start, c.in-Packet.size, (sym c.find_xmp.ensures ∙ c.in-Packet.is, c.in-Ok-only_form.ensures.form)),
+)
