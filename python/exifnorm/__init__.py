@@ -2,7 +2,7 @@
 
 A block is an Exif block, perhaps after the six bytes ``Exif\\0\\0`` that precede it in a JPEG file, or a block of IPTC-NAA IIM
 DataSets. `jpeg_blocks` takes the blocks out of a JPEG's bytes, and `jpeg_xmp` the packet of XMP; `jpeg_same` compares the Exif, IPTC and XMP
-of two. `xmp_normal` returns the normal form of a packet, and `xmp_properties` its properties, which is tested and not proved. No
+of two. `xmp_normal` returns the normal form of a packet, and `xmp_properties` its properties. No
 picture file is opened. Two blocks have the same normal form, byte for byte, exactly if they mean the same. A block that breaks the
 rules raises `Refused`, with the first fault and its byte offset; it is never repaired.
 
@@ -19,8 +19,9 @@ can run in several threads at once.
     >>> exifnorm.fields(block)
     [Field(directory='main', tag=274, type='SHORT', values=(6,))]
 
-The functions call the library libexifnorm. Of its answers two are proved: whether two blocks of Exif or IPTC mean the same, and whether
-two JPEGs have the same Exif and IPTC (`jpeg_same_blocks`). Which properties a packet of XMP has is tested. The Python code that makes these calls, and objects of what they return, is tested.
+The functions call the library libexifnorm. Of its answers three are proved: whether two blocks of Exif or IPTC mean the same, whether two
+JPEGs have the same Exif and IPTC (`jpeg_same_blocks`), and that the normal form of a packet of XMP is that of what the packet means. Which
+packets of XMP have a form is tested. The Python code that makes these calls, and objects of what they return, is tested.
 """
 
 from ._calls import Block, digest, kind, normal, same, show, version
