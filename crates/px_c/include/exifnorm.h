@@ -294,8 +294,8 @@ struct exifnorm_unread_part {
  * - nothing in them is left unread.
  *
  * So two pictures without metadata have the same. Pixels, and what follows the head, are not compared. The first bytes of a file may be
- * enough, as for exifnorm_jpeg_parts. What is read of Exif and IPTC is proved, and so are the places of packets and that a form is a normal
- * packet; which properties a packet has is tested.
+ * enough, as for exifnorm_jpeg_parts. What is read of Exif and IPTC is proved, and so are the places of packets and that the forms are
+ * those of what they mean; which packets are read is tested.
  *
  * A known difference comes first: in Exif or IPTC; or in XMP, if all XMP of both pictures is read and one has none, or the forms differ.
  * Otherwise, if something is not read, the pictures may differ there. Then the status is NOT_READ or SECOND_NOT_READ, and same is unchanged.
