@@ -633,7 +633,7 @@ self.addEventListener("afterprint", () => { for (const node of closed) node.open
 /** What the foot of the page says of its engine. */
 function about(version) {
   if (version.includes("unproved")) return `exifnorm ${version}, compiled without its proofs: for tests alone.`;
-  return `exifnorm ${version}. The engine is the library that is proved for x86-64 Linux, compiled for WebAssembly. Whether Exif and IPTC are the same is proved; what XMP means is tested, and so is the page itself.`;
+  return `exifnorm ${version}. The engine is the library that is proved for x86-64 Linux, compiled for WebAssembly. Whether Exif and IPTC are the same is proved, and what a packet of XMP means that is read; the page itself is tested.`;
 }
 
 ask("version").then((version) => {
