@@ -1,5 +1,7 @@
 -- Which causes leave a packet to another reader.
-use Rattle.std.specs.Prelude.{Bool, true, false}
+use Rattle.std.specs.Prelude.{◌≡◌, Bool, true, false, ⊤, Result, Ok, Err}
+use Rattle.px_xmp_forms.specs.declared.faults.Refusal.{Refusal}
+use Rattle.px_xmp_forms.specs.declared.faults.Refusal.TheVariants.{Content, OutOfMemory}
 use Rattle.px_xmp_forms.specs.declared.faults.Cause.{Cause}
 use Rattle.px_xmp_forms.specs.declared.faults.Cause.TheVariants.{RareEncoding, RareName, RareNamespace, RareCount}
 use Rattle.px_xmp_forms.specs.declared.faults.Cause.TheVariants.{RareElement, RareAttribute, RareText, RareLanguage}
@@ -20,3 +22,15 @@ is_rare RareRepeated = true
 is_rare RareLength = true
 is_rare RareDepth = true
 is_rare cause = false
+
+-- a call says of no packet that it is wrong
+abbrev pub IsRare : {X : Type 0} → Result X Refusal → Type 0
+IsRare (Ok x) = ⊤
+IsRare (Err (Content cause place)) = is_rare cause ≡ true
+IsRare (Err OutOfMemory) = ⊤
+
+-- if a call says that a packet is wrong, this is so
+abbrev pub IfWrong : {X : Type 0} → Result X Refusal → Type 0 → Type 0
+IfWrong (Ok x) P = ⊤
+IfWrong (Err (Content cause place)) P = is_rare cause ≡ false → P
+IfWrong (Err OutOfMemory) P = ⊤

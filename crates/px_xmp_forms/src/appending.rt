@@ -4,6 +4,7 @@ ghost use Rattle.px_xmp_text.specs.Texts.{text_of, normal_text};
 ghost use Rattle.px_xmp_forms.specs.Forms.{is_space, is_white, IsSameText};
 ghost use Rattle.px_xmp_forms.specs.calls.Blanks.{BeginsWithSpace};
 ghost use Rattle.px_xmp_forms.specs.Allocations.{CountsAllocFailureInPacket};
+ghost use Rattle.px_xmp_forms.specs.Causes.{IsRare};
 
 use crate::faults::{Cause, Refusal};
 use px_bytes::Memory;
@@ -24,6 +25,7 @@ fn has_space(len: usize, more: usize) -> bool {
 pub(crate) fn reserve(memory: &mut Memory, out: &mut Vec<u8>, more: usize) -> Result<(), Refusal>
     ensures items { OnOk result (out.new.items ≡ out.old.items) }
     ensures memory { CountsAllocFailureInPacket result memory.old memory.new }
+    ensures rare { IsRare result }
 {
     memory.reserve(out, more.min(MOST))?;
     Ok(())
@@ -33,6 +35,7 @@ pub(crate) fn reserve(memory: &mut Memory, out: &mut Vec<u8>, more: usize) -> Re
 pub fn append(memory: &mut Memory, out: &mut Vec<u8>, octets: &[u8]) -> Result<(), Refusal>
     ensures items { OnOk result (out.new.items ≡ out.old.items ++ octets.now) }
     ensures memory { CountsAllocFailureInPacket result memory.old memory.new }
+    ensures rare { IsRare result }
 {
     if !has_space(out.len(), octets.len()) {
         return Err(Cause::RareLength.at(LIMIT));
@@ -41,7 +44,8 @@ pub fn append(memory: &mut Memory, out: &mut Vec<u8>, octets: &[u8]) -> Result<(
     Ok(())
 }
 
-/// Appends the normal form of the text of octets. `Content`: they have none, or the form is too long.
+/// Appends the normal form of the text of octets. `Content`: they have none, or the form is too long. A document without a fault
+/// has no octets without a text, so that this says of no packet that it is wrong.
 pub fn append_text(
     memory: &mut Memory,
     out: &mut Vec<u8>,
@@ -50,13 +54,14 @@ pub fn append_text(
 ) -> Result<(), Refusal>
     ensures items { OnOk result ((t : List ℕ) × (text_of kind octets.now ≡ Some t) × (out.new.items ≡ out.old.items ++ normal_text t)) }
     ensures memory { CountsAllocFailureInPacket result memory.old memory.new }
+    ensures rare { IsRare result }
 {
     px_xmp_text::laws::fault_or_text();
     if octets.len() > LIMIT {
-        return Err(Cause::TooLong.at(LIMIT));
+        return Err(Cause::RareLength.at(LIMIT));
     }
     if first_fault(octets, kind).is_some() {
-        return Err(Cause::BadReference.at(0));
+        return Err(Cause::RareText.at(0));
     }
     append_normal_in(memory, out, octets, kind)?;
     if out.len() > MOST {
@@ -69,6 +74,7 @@ pub fn append_text(
 pub fn same_text(memory: &mut Memory, a: &[u8], b: &[u8]) -> Result<bool, Refusal>
     ensures value { IfOk result (λ same. IsSameText a.now b.now same) }
     ensures memory { CountsAllocFailureInPacket result memory.old memory.new }
+    ensures rare { IsRare result }
 {
     if a == b {
         return Ok(true);

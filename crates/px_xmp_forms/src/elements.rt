@@ -9,6 +9,7 @@ ghost use Rattle.px_xmp_forms.specs.Outputs.{IsElement, value_of};
 ghost use Rattle.px_xmp_forms.specs.Forms.{language_octets};
 ghost use Rattle.px_xmp_forms.specs.Labels.{label_view, compound_view};
 ghost use Rattle.px_xmp_forms.specs.Allocations.{CountsAllocFailureInPacket};
+ghost use Rattle.px_xmp_forms.specs.Causes.{IsRare};
 
 use crate::appending::{LIMIT, append, reserve};
 use crate::faults::{Cause, Refusal};
@@ -41,6 +42,7 @@ fn element_size(label: Label, more: usize) -> usize {
 fn lower(memory: &mut Memory, language: &[u8]) -> Result<Vec<u8>, Refusal>
     ensures value { IfOk result (λ v. v.items ≡ str_to_ascii_lowercase language.now) }
     ensures memory { CountsAllocFailureInPacket result memory.old memory.new }
+    ensures rare { IsRare result }
 {
     let mut octets = memory.list();
     reserve(memory, &mut octets, language.len())?;
@@ -55,6 +57,7 @@ fn append_attribute(memory: &mut Memory, out: &mut Vec<u8>, language: &[u8]) -> 
     requires { 1 ≤ length language.now }
     ensures items { OnOk result (out.new.items ≡ out.old.items ++ language_octets language.now) }
     ensures memory { CountsAllocFailureInPacket result memory.old memory.new }
+    ensures rare { IsRare result }
 {
     append(memory, out, b" xml:lang=\"")?;
     append(memory, out, language)?;
@@ -66,6 +69,7 @@ fn append_language(memory: &mut Memory, out: &mut Vec<u8>, language: &[u8]) -> R
     ensures items { OnOk result (out.new.items ≡ out.old.items ++ language_octets (str_to_ascii_lowercase language.now)) }
     ensures can { OnOk result (Without 34 (str_to_ascii_lowercase language.now)) }
     ensures memory { CountsAllocFailureInPacket result memory.old memory.new }
+    ensures rare { IsRare result }
 {
     let octets = lower(memory, language)?;
     let language = octets.as_slice();
@@ -89,6 +93,7 @@ fn literal_element(
     ensures value { (t : List ℕ) → text.now ≡ normal_text t →
         IfOk result (λ x. IsElement x (label_view label.entry) (Plain (Literal (str_to_ascii_lowercase language.now) t))) }
     ensures memory { CountsAllocFailureInPacket result memory.old memory.new }
+    ensures rare { IsRare result }
 {
     let mut octets = memory.list();
     let content = text.octets();
@@ -110,6 +115,7 @@ fn resource_element(memory: &mut Memory, label: Label, uri: &TextForm) -> Result
     requires { IsLabel (label_view label) }
     ensures value { (t : List ℕ) → uri.now ≡ normal_text t → IfOk result (λ x. IsElement x (label_view label.entry) (Plain (Uri t))) }
     ensures memory { CountsAllocFailureInPacket result memory.old memory.new }
+    ensures rare { IsRare result }
 {
     let uri = uri.octets();
     if has(uri, b'"') {
@@ -139,6 +145,7 @@ fn nested_element(
     ensures value { (c : values.Content) → inner.now ≡ written c [] → IsContent c →
         IfOk result (λ x. IsElement x (label_view label.entry) (Inside (compound_view container) c)) }
     ensures memory { CountsAllocFailureInPacket result memory.old memory.new }
+    ensures rare { IsRare result }
 {
     let mut octets = memory.list();
     let content = inner.octets();
@@ -166,6 +173,7 @@ pub(crate) fn write_element(
     ensures value { (t : List ℕ) (c : values.Content) → text.now ≡ normal_text t → inner.now ≡ written c [] → IsContent c →
         IfOk result (λ x. IsElement x (label_view label.entry) (value_of content.entry t c)) }
     ensures memory { CountsAllocFailureInPacket result memory.old memory.new }
+    ensures rare { IsRare result }
 {
     if !is_label(label) {
         return Err(Cause::RareNamespace.at(LIMIT));

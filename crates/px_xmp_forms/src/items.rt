@@ -8,6 +8,7 @@ ghost use Rattle.px_xmp_text.specs.Values.{written};
 ghost use Rattle.px_xmp_forms.specs.Entries.{Entry, entry_octets, row, AreDistinct, IsRepeated};
 ghost use Rattle.px_xmp_forms.specs.Outputs.{AreItems};
 ghost use Rattle.px_xmp_forms.specs.Allocations.{CountsAllocFailureInPacket};
+ghost use Rattle.px_xmp_forms.specs.Causes.{IsRare};
 
 use crate::appending::{append, reserve};
 use crate::elements::Element;
@@ -126,6 +127,7 @@ fn items_len(items: &[Item]) -> usize {
 pub(crate) fn join_items(memory: &mut Memory, items: &[Item]) -> Result<Piece, Refusal>
     ensures value { (es : List Entry) → AreItems items.now es → IfOk result (λ p. p ≡ written (row es) []) }
     ensures memory { CountsAllocFailureInPacket result memory.old memory.new }
+    ensures rare { IsRare result }
 {
     let mut joined = memory.list();
     reserve(memory, &mut joined, items_len(items))?;

@@ -5,6 +5,7 @@ ghost use Rattle.px_xmp_forms.specs.Forms.{has};
 ghost use Rattle.px_xmp_forms.specs.Labels.{label_of};
 ghost use Rattle.px_xmp_forms.specs.Labels.{label_view, property_view, local_octets, container_view, compound_view, container_octets};
 ghost use Rattle.px_xmp_forms.specs.Allocations.{CountsAllocFailureInPacket};
+ghost use Rattle.px_xmp_forms.specs.Causes.{IsRare};
 
 use crate::appending::append;
 use crate::faults::Refusal;
@@ -106,6 +107,7 @@ pub(crate) fn label_size(label: Label) -> usize {
 fn append_local(memory: &mut Memory, out: &mut Vec<u8>, name: Property) -> Result<(), Refusal>
     ensures items { OnOk result (out.new.items ≡ out.old.items ++ local_octets name.entry) }
     ensures memory { CountsAllocFailureInPacket result memory.old memory.new }
+    ensures rare { IsRare result }
 {
     append(memory, out, name.head)?;
     append(memory, out, name.local)
@@ -115,6 +117,7 @@ fn append_local(memory: &mut Memory, out: &mut Vec<u8>, name: Property) -> Resul
 fn append_property(memory: &mut Memory, out: &mut Vec<u8>, name: Property) -> Result<(), Refusal>
     ensures items { OnOk result (out.new.items ≡ out.old.items ++ opening_tag (property_view name.entry) []) }
     ensures memory { CountsAllocFailureInPacket result memory.old memory.new }
+    ensures rare { IsRare result }
 {
     append(memory, out, b"<p:")?;
     append_local(memory, out, name)?;
@@ -131,6 +134,7 @@ pub(crate) fn append_label(
 ) -> Result<(), Refusal>
     ensures items { OnOk result (out.new.items ≡ out.old.items ++ opening_tag (label_view label.entry) []) }
     ensures memory { CountsAllocFailureInPacket result memory.old memory.new }
+    ensures rare { IsRare result }
 {
     match label {
         Label::Property(name) => append_property(memory, out, name),
@@ -146,6 +150,7 @@ fn append_property_end(
 ) -> Result<(), Refusal>
     ensures items { OnOk result (out.new.items ≡ out.old.items ++ end_tag (property_view name.entry) []) }
     ensures memory { CountsAllocFailureInPacket result memory.old memory.new }
+    ensures rare { IsRare result }
 {
     append(memory, out, b"</p:")?;
     append_local(memory, out, name)?;
@@ -160,6 +165,7 @@ pub(crate) fn append_label_end(
 ) -> Result<(), Refusal>
     ensures items { OnOk result (out.new.items ≡ out.old.items ++ end_tag (label_view label.entry) []) }
     ensures memory { CountsAllocFailureInPacket result memory.old memory.new }
+    ensures rare { IsRare result }
 {
     match label {
         Label::Property(name) => append_property_end(memory, out, name),
@@ -175,6 +181,7 @@ fn append_container(
 ) -> Result<(), Refusal>
     ensures items { OnOk result (out.new.items ≡ out.old.items ++ compound_start (container_view container) []) }
     ensures memory { CountsAllocFailureInPacket result memory.old memory.new }
+    ensures rare { IsRare result }
 {
     append(memory, out, b"><")?;
     append(memory, out, container.name())
@@ -188,6 +195,7 @@ fn append_container_end(
 ) -> Result<(), Refusal>
     ensures items { OnOk result (out.new.items ≡ out.old.items ++ compound_end (container_view container) []) }
     ensures memory { CountsAllocFailureInPacket result memory.old memory.new }
+    ensures rare { IsRare result }
 {
     append(memory, out, b"</")?;
     append(memory, out, container.name())
@@ -201,6 +209,7 @@ pub(crate) fn append_start(
 ) -> Result<(), Refusal>
     ensures items { OnOk result (out.new.items ≡ out.old.items ++ compound_start (compound_view container) []) }
     ensures memory { CountsAllocFailureInPacket result memory.old memory.new }
+    ensures rare { IsRare result }
 {
     match container {
         Some(container) => append_container(memory, out, container),
@@ -216,6 +225,7 @@ pub(crate) fn append_stop(
 ) -> Result<(), Refusal>
     ensures items { OnOk result (out.new.items ≡ out.old.items ++ compound_end (compound_view container) []) }
     ensures memory { CountsAllocFailureInPacket result memory.old memory.new }
+    ensures rare { IsRare result }
 {
     match container {
         Some(container) => append_container_end(memory, out, container),

@@ -12,6 +12,7 @@ ghost use Rattle.px_xmp_forms.specs.Outputs.{attribute_entry, element_ended, nod
 ghost use Rattle.px_xmp_forms.specs.Outputs.{PutsText, JoinsMembers, JoinsProperties};
 ghost use Rattle.px_xmp_text.specs.Values as values;
 ghost use Rattle.px_xmp_forms.specs.Allocations.{CountsAllocFailureInPacket};
+ghost use Rattle.px_xmp_forms.specs.Causes.{IsRare};
 
 use crate::appending::{LIMIT, append, is_blank, reserve};
 use crate::elements::write_element;
@@ -54,6 +55,7 @@ fn attribute_item(
     ensures value { IfOk result (λ x. (t : List ℕ) × (text_of AttributeValue value.now ≡ Some t)
         × IsItem x (attribute_entry label.entry origin.entry t)) }
     ensures memory { CountsAllocFailureInPacket result memory.old memory.new }
+    ensures rare { IsRare result }
 {
     let none = Piece::new(memory);
     let text = TextForm::new(memory).followed_by(memory, value, TextKind::AttributeValue)?;
@@ -96,6 +98,7 @@ impl Output {
     fn push(&mut self, memory: &mut Memory, level: Level) -> Result<(), Refusal>
         ensures value { (s : State) (o : Open) → Has self.old s → IsLevel level o → OnOk result (Has self.new (begun o s)) }
         ensures memory { CountsAllocFailureInPacket result memory.old memory.new }
+        ensures rare { IsRare result }
     {
         memory.push(&mut self.levels, level)?;
         Ok(())
@@ -105,6 +108,7 @@ impl Output {
     pub fn begin(&mut self, memory: &mut Memory) -> Result<(), Refusal>
         ensures value { (s : State) → Has self.old s → OnOk result (Has self.new (begun nothing s)) }
         ensures memory { CountsAllocFailureInPacket result memory.old memory.new }
+        ensures rare { IsRare result }
     {
         let level = Level {
             text: TextForm::new(memory),
@@ -124,6 +128,7 @@ impl Output {
         ensures value { (s : State) → Has self.old s →
             IfOk result (λ more. (after : State) × Has self.new after × PutsText kind octets.now s more after) }
         ensures memory { CountsAllocFailureInPacket result memory.old memory.new }
+        ensures rare { IsRare result }
     {
         let Some(level) = self.pop() else {
             return Ok(false);
@@ -145,6 +150,7 @@ impl Output {
         ensures value { (s : State) (t : List ℕ) → Has self.old s → text ≡ normal_text t
             → OnOk result (Has self.new (changed (with_text t) s)) }
         ensures memory { CountsAllocFailureInPacket result memory.old memory.new }
+        ensures rare { IsRare result }
     {
         let Some(level) = self.pop() else {
             return Ok(());
@@ -161,6 +167,7 @@ impl Output {
     pub fn remove_text(&mut self, memory: &mut Memory) -> Result<(), Refusal>
         ensures value { (s : State) → Has self.old s → OnOk result (Has self.new (changed (with_text []) s)) }
         ensures memory { CountsAllocFailureInPacket result memory.old memory.new }
+        ensures rare { IsRare result }
     {
         let text = TextForm::new(memory);
         self.replace_text(memory, text)
@@ -171,6 +178,7 @@ impl Output {
         ensures value { (s : State) → Has self.old s →
             OnOk result ((t : List ℕ) × (text_of AttributeValue uri.now ≡ Some t) × Has self.new (changed (with_text t) s)) }
         ensures memory { CountsAllocFailureInPacket result memory.old memory.new }
+        ensures rare { IsRare result }
     {
         let text = TextForm::new(memory).followed_by(memory, uri, TextKind::AttributeValue)?;
         self.replace_text(memory, text)
@@ -180,6 +188,7 @@ impl Output {
     fn put_item(&mut self, memory: &mut Memory, item: Item) -> Result<(), Refusal>
         ensures value { (s : State) (e : Entry) → Has self.old s → IsItem item e → OnOk result (Has self.new (changed (with_entry e) s)) }
         ensures memory { CountsAllocFailureInPacket result memory.old memory.new }
+        ensures rare { IsRare result }
     {
         let Some(level) = self.pop() else {
             return Ok(());
@@ -205,6 +214,7 @@ impl Output {
         ensures value { (s : State) → Has self.old s → OnOk result ((t : List ℕ) × (text_of AttributeValue value.now ≡ Some t)
             × Has self.new (changed (with_entry (attribute_entry label.entry origin.entry t)) s)) }
         ensures memory { CountsAllocFailureInPacket result memory.old memory.new }
+        ensures rare { IsRare result }
     {
         let item = attribute_item(memory, label, value, origin)?;
         self.put_item(memory, item)
@@ -215,6 +225,7 @@ impl Output {
         ensures value { (s : State) (c : values.Content) → Has self.old s → inner ≡ written c [] → IsContent c →
             OnOk result (Has self.new (changed (with_inner c) s)) }
         ensures memory { CountsAllocFailureInPacket result memory.old memory.new }
+        ensures rare { IsRare result }
     {
         let Some(level) = self.pop() else {
             return Ok(());
@@ -237,6 +248,7 @@ impl Output {
         ensures value { (s : State) (t : List ℕ) (es : List Entry) → Has self.old s → text ≡ normal_text t → AreItems items.items es →
             OnOk result (Has self.new (begun (record { text = t; inner = row es; entries = [] }) s)) }
         ensures memory { CountsAllocFailureInPacket result memory.old memory.new }
+        ensures rare { IsRare result }
     {
         let level = Level {
             text,
@@ -250,6 +262,7 @@ impl Output {
     pub fn join_properties(&mut self, memory: &mut Memory) -> Result<(), Refusal>
         ensures value { (s : State) → Has self.old s → OnOk result ((after : State) × Has self.new after × JoinsProperties s after) }
         ensures memory { CountsAllocFailureInPacket result memory.old memory.new }
+        ensures rare { IsRare result }
     {
         let Some(level) = self.pop() else {
             return Ok(());
@@ -265,6 +278,7 @@ impl Output {
     pub fn join_members(&mut self, memory: &mut Memory, is_bag: bool) -> Result<(), Refusal>
         ensures value { (s : State) → Has self.old s → OnOk result ((after : State) × Has self.new after × JoinsMembers is_bag s after) }
         ensures memory { CountsAllocFailureInPacket result memory.old memory.new }
+        ensures rare { IsRare result }
     {
         let Some(level) = self.pop() else {
             return Ok(());
@@ -279,6 +293,7 @@ impl Output {
     pub fn end_node(&mut self, memory: &mut Memory) -> Result<(), Refusal>
         ensures value { (s : State) → Has self.old s → OnOk result (Has self.new (node_ended s)) }
         ensures memory { CountsAllocFailureInPacket result memory.old memory.new }
+        ensures rare { IsRare result }
     {
         let Some(level) = self.pop() else {
             return Ok(());
@@ -296,6 +311,7 @@ impl Output {
     ) -> Result<(), Refusal>
         ensures value { (s : State) → Has self.old s → OnOk result (Has self.new (element_ended label.entry content.entry place s)) }
         ensures memory { CountsAllocFailureInPacket result memory.old memory.new }
+        ensures rare { IsRare result }
     {
         let Some(level) = self.pop() else {
             return Ok(());
@@ -319,6 +335,7 @@ impl Output {
         ensures normal { IfOk result (λ form. IsNormal form.items) }
         ensures bound { IfOk result (λ form. length form.items ≤ limit) }
         ensures memory { CountsAllocFailureInPacket result memory.old memory.new }
+        ensures rare { IsRare result }
     {
         let mut form = memory.list();
         let properties = self.properties.octets();

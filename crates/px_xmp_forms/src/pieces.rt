@@ -3,6 +3,7 @@ ghost use Rattle.std.specs.Prelude.{◌≡◌, ◌++◌, [], ℕ, List, Some, If
 ghost use Rattle.px_xmp_text.specs.Texts.{text_of, normal_text};
 ghost use Rattle.px_xmp_forms.specs.Forms.{IsForm, IsTextForm};
 ghost use Rattle.px_xmp_forms.specs.Allocations.{CountsAllocFailureInPacket};
+ghost use Rattle.px_xmp_forms.specs.Causes.{IsRare};
 
 use crate::appending::append_text;
 use crate::faults::Refusal;
@@ -54,6 +55,7 @@ impl TextForm {
     ) -> Result<TextForm, Refusal>
         ensures value { IfOk result (λ f. (t : List ℕ) × (text_of kind octets.now ≡ Some t) × (f ≡ self ++ normal_text t)) }
         ensures memory { CountsAllocFailureInPacket result memory.old memory.new }
+        ensures rare { IsRare result }
     {
         let mut form = self.octets;
         append_text(memory, &mut form, octets, kind)?;
