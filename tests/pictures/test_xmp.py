@@ -14,7 +14,7 @@ from attacks import rare_text
 from exifnorm_pictures.model.budgets import Budget, TooLong, TooMuch
 from exifnorm_pictures.xmp import CAUSES, by_rdflib, reader, reading, tree
 from exifnorm_pictures.xmp.packets import Unreadable, rdf_of
-from exifnorm_pictures.xmp.reading import check_repeated
+from exifnorm_pictures.xmp.repeated import check_repeated
 from hypothesis import assume, given, settings
 from made_files import SPACES, title, xmp
 from packets import packets
@@ -133,7 +133,8 @@ class Packets(unittest.TestCase):
 
         for inside in (
             "<xmp:d><rdf:Description rdf:about='http://x/' xmp:a='7'/></xmp:d>",
-            "<xmp:d><rdf:Description rdf:about='' xmp:a='7'/></xmp:d>",
+            "<xmp:d><rdf:Seq rdf:about=''/></xmp:d>",
+            "<xmp:d><rdf:Description about='' xmp:a='7'/></xmp:d>",
             "<xmp:d rdf:nodeID='n'/>",
             "<xmp:d rdf:datatype='http://t/'>1</xmp:d>",
             "text",
@@ -362,6 +363,14 @@ class BesideRdflib(unittest.TestCase):
         own = self.read(reader.statements, packet)
         if own is not None:
             self.assertEqual(own[1:], self.read(by_rdflib.statements, packet)[1:])
+
+    def test_statements_about_the_picture_in_a_value(self):
+        """As IDimager writes the steps of a history. With one step all are read, with two none: both say when the picture was changed."""
+        step = "<rdf:li xml:lang='en'><rdf:Description rdf:about='' xmp:when='{}'><xmp:by>a</xmp:by></rdf:Description></rdf:li>"
+        for steps, due in (("1", None), ("11", None), ("12", "Repeated")):
+            packet = xmp(f"<xmp:History><rdf:Seq>{''.join(map(step.format, steps))}</rdf:Seq></xmp:History>", "xmp:Rating='1'")
+            own, other = (self.read(call, packet) for call in (reader.statements, by_rdflib.statements))
+            self.assertEqual((own[1:], cause(packet)), (other[1:], due))
 
     @settings(max_examples=60)
     @given(packets(), packets())

@@ -7,9 +7,8 @@ from xml.etree import ElementTree
 
 from ..model.budgets import Budget, TooMuch
 from .packets import Unreadable
-from .tree import RDF, Literal, Node, Uri, Statement, Statements, Value
+from .tree import PICTURE, RDF, Literal, Node, Uri, Statement, Statements, Value
 
-_BASE = "this:base"
 _MARKUP = {f"{RDF}XMLLiteral", f"{RDF}HTML"}  # datatypes whose values rdflib parses again
 
 
@@ -50,7 +49,7 @@ def _parse(graph: Any, octets: bytes, budget: Budget) -> None:
 
     from .joined import Joined
 
-    source = create_input_source(data=octets, publicID=_BASE)
+    source = create_input_source(data=octets, publicID=PICTURE)
     parser = create_parser(source, graph)
     parser.setContentHandler(Joined(parser.getContentHandler(), budget))
     parser.parse(source)
@@ -76,7 +75,7 @@ class _Tree:
     def statements(self) -> Statements:
         """The statements about the picture, which may have no name, an empty one, or one name everywhere."""
         names = {str(it).rstrip("/#") for it in self._tops if isinstance(it, self._rdflib.URIRef)}
-        if len(names - {_BASE, ""}) > 1:
+        if len(names - {PICTURE, ""}) > 1:
             raise Unreadable("SeveralSubjects")
         statements = tuple(self._statement(*it) for top in self._tops for it in self._by_subject[top])
         if len(self._reached) + len(self._tops) < len(self._by_subject):

@@ -9,7 +9,8 @@ from xml.etree.ElementTree import Element
 
 from ..model.budgets import CACHED, LANGUAGE
 from .packets import Unreadable
-from .tree import MEMBER, RDF, TYPE, Literal, Node, Uri, Statement, Statements, Value
+from .repeated import check_repeated
+from .tree import MEMBER, PICTURE, RDF, TYPE, Literal, Node, Uri, Statement, Statements, Value
 
 _R = f"{{{RDF}}}"
 _XML = "{http://www.w3.org/XML/1998/namespace}"
@@ -34,14 +35,18 @@ def statements(root: Element) -> Statements:
     if set(root.attrib) - {_LANG} or _says(root.text):
         raise Unusual
     every: List[Statement] = []
+    inner: List[Statements] = []
     subjects = set()
     for node in root:
         if node.tag != _DESCRIPTION or _says(node.tail):
             raise Unusual
         subjects.add(node.get(_ABOUT, node.get("about", "")))
-        every += _node(node, _language(root, ""))
+        every += _node(node, _language(root, ""), inner)
     if len(subjects - {""}) > 1:
         raise Unreadable("SeveralSubjects")
+    if inner:
+        every += [it for some in inner for it in some]
+        check_repeated(tuple(every))  # in RDF the statements about one subject have no order, wherever they stand
     return tuple(every)
 
 
@@ -76,8 +81,8 @@ def _made_uri(name: str) -> str:
 _cached_uri = functools.lru_cache(maxsize=4096)(_made_uri)
 
 
-def _node(node: Element, language: str) -> List[Statement]:
-    """The statements of a node element: its type, its attributes, and its property elements."""
+def _node(node: Element, language: str, inner: List[Statements]) -> List[Statement]:
+    """The statements of a node element: its type, its attributes, and its property elements. Those about the picture in a value go to `inner`."""
     if node.tag not in _NODES or _says(node.text):
         raise Unusual
     language = _language(node, language)
@@ -89,10 +94,10 @@ def _node(node: Element, language: str) -> List[Statement]:
             statements.append(Statement(TYPE, _resource(text)))
         elif name not in (_LANG, _ABOUT, "about"):
             statements.append(Statement(_uri(name), Literal(text, language)))
-    return statements + _properties(node, language)
+    return statements + _properties(node, language, inner)
 
 
-def _properties(node: Element, language: str) -> List[Statement]:
+def _properties(node: Element, language: str, inner: List[Statements]) -> List[Statement]:
     statements: List[Statement] = []
     number = 0
     for element in node:
@@ -105,7 +110,7 @@ def _properties(node: Element, language: str) -> List[Statement]:
             predicate = _uri(element.tag)
         if MEMBER.match(predicate) and element.tag != _LI:
             raise Unusual
-        statements.append(Statement(predicate, _value(element, _language(element, language))))
+        statements.append(Statement(predicate, _value(element, _language(element, language), inner)))
     return statements
 
 
@@ -115,15 +120,15 @@ def _resource(uri: str) -> Uri:
     return Uri(uri)
 
 
-def _value(element: Element, language: str) -> Value:
+def _value(element: Element, language: str, inner: List[Statements]) -> Value:
     """The value of a property element."""
     own = {name: text for name, text in element.attrib.items() if name != _LANG}
     if not own:
-        return _content(element, language)
+        return _content(element, language, inner)
     if own == {_PARSE_TYPE: "Resource"}:
         if _says(element.text):
             raise Unusual
-        return Node(tuple(_properties(element, language)))
+        return Node(tuple(_properties(element, language, inner)))
     if len(element) or _says(element.text):
         raise Unusual
     if list(own) == [_RESOURCE]:
@@ -131,12 +136,20 @@ def _value(element: Element, language: str) -> Value:
     return _by_attributes(own, language)
 
 
-def _content(element: Element, language: str) -> Value:
+def _content(element: Element, language: str, inner: List[Statements]) -> Value:
     if not len(element):
         return Literal(element.text or "", language)
-    if len(element) > 1 or _says(element.text) or _says(element[0].tail) or _ABOUT in element[0].attrib or "about" in element[0].attrib:
+    node = element[0]
+    if len(element) > 1 or _says(element.text) or _says(node.tail) or "about" in node.attrib:
         raise Unusual
-    return Node(tuple(_node(element[0], language)))
+    if _ABOUT not in node.attrib:
+        return Node(tuple(_node(node, language, inner)))
+    if node.tag != _DESCRIPTION or node.attrib[_ABOUT]:
+        raise Unusual
+    inner.append(
+        tuple(_node(node, language, inner))
+    )  # a lenient form, of IDimager: in RDF/XML (2.2) these are statements about the picture
+    return Uri(PICTURE)
 
 
 def _by_attributes(own: Dict[str, str], language: str) -> Node:

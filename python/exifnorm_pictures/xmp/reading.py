@@ -8,7 +8,8 @@ from typing import Dict, Mapping, Optional, Set, Tuple, Union
 from ..model.budgets import RARE_ELEMENTS, Budget, TooLong, TooMuch
 from . import by_rdflib, reader
 from .packets import Unreadable, rdf_of, spend
-from .tree import TYPE, Literal, Node, Statements, Value, digest_of_statements, key_of
+from .repeated import check_repeated
+from .tree import Literal, Statements, digest_of_statements
 
 NOTE = "http://ns.adobe.com/xmp/note/HasExtendedXMP"
 
@@ -77,17 +78,6 @@ def _parsed(packet: bytes, budget: Budget) -> Statements:
         parsed = by_rdflib.statements(root, budget)
     check_repeated(parsed)  # rdflib doesn't keep the order
     return parsed
-
-
-def check_repeated(statements: Statements) -> None:
-    """Raises `Unreadable` if a property stands twice with different values: their order decides which one a reader shows, and isn't known."""
-    seen: Dict[str, Value] = {}
-    for predicate, value in statements:
-        other = seen.setdefault(predicate, value)
-        if other is not value and predicate != TYPE and other != value and key_of(other) != key_of(value):
-            raise Unreadable("Repeated")
-        if isinstance(value, Node):
-            check_repeated(value.statements)
 
 
 def _named(statements: Statements) -> Tuple[str, ...]:

@@ -10,6 +10,7 @@ from ..model.xmp_values import Literal, Uri
 
 RDF = "http://www.w3.org/1999/02/22-rdf-syntax-ns#"
 TYPE = RDF + "type"
+PICTURE = "this:base"  # the URI of the picture, in a packet that gives it no name
 CONTAINERS = {RDF + "Bag": "Bag", RDF + "Seq": "Seq", RDF + "Alt": "Alt"}
 MEMBER = re.compile(re.escape(RDF) + r"_([0-9]+)\Z")
 
@@ -43,6 +44,7 @@ Statements = Tuple[Statement, ...]
 __all__ = [
     "CONTAINERS",
     "MEMBER",
+    "PICTURE",
     "RDF",
     "TYPE",
     "Literal",
