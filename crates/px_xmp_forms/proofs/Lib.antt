@@ -4,3 +4,5 @@ pub mod ElementLaws
 pub mod OutputLaws
 pub mod BlankLaws
 pub mod EndLaws
+pub mod LanguageLaws
+pub mod UriLaws

@@ -1,4 +1,6 @@
 pub mod Causes
+pub mod Languages
+pub mod Uris
 pub mod Labels
 pub mod Allocations
 pub mod Forms

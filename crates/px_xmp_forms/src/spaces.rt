@@ -1,5 +1,8 @@
 // Namespaces, and the URIs of resources.
-ghost use Rattle.std.specs.Prelude.{◌≡◌, ◌≤◌, ◌++◌, ◌&&◌, ◌||◌, true, nat_le, length, take, drop};
+ghost use Rattle.std.specs.Prelude.{◌≡◌, ◌≤◌, ◌++◌, ◌&&◌, ◌||◌, ◌==◌, true, not, nat_eq, codes, length, take, drop};
+ghost use Rattle.std.specs.List.{list_all, starts_with};
+ghost use Rattle.px_xmp_forms.specs.Languages.{is_letter, is_digit};
+ghost use Rattle.px_xmp_forms.specs.Uris.{is_excluded, is_uri_octet, are_uri_octets, is_scheme_octet, is_scheme, IsAbsolute};
 ghost use Rattle.px_xmp_forms.specs.Labels.{is_name_start, is_name_char, are_name_chars, name_at_end, before_name};
 ghost use Rattle.px_xmp_forms.specs.calls.Ends.{before_start};
 
@@ -14,13 +17,13 @@ const XML: &[u8] = b"http://www.w3.org/XML/1998/namespace";
 const XMLNS: &[u8] = b"http://www.w3.org/2000/xmlns/";
 
 pub(crate) fn is_letter(octet: u8) -> bool
-    ensures { result ≡ ((nat_le 97 octet && nat_le octet 122) || (nat_le 65 octet && nat_le octet 90)) }
+    ensures { result ≡ is_letter octet }
 {
     (b'a' <= octet && octet <= b'z') || (b'A' <= octet && octet <= b'Z')
 }
 
 pub(crate) fn is_digit(octet: u8) -> bool
-    ensures { result ≡ (nat_le 48 octet && nat_le octet 57) }
+    ensures { result ≡ is_digit octet }
 {
     b'0' <= octet && octet <= b'9'
 }
@@ -40,12 +43,16 @@ fn is_name_char(octet: u8) -> bool
 }
 
 // Whether a URI can contain an octet, which is no quotation mark.
-fn is_uri_char(octet: u8) -> bool {
-    b'!' <= octet && octet <= b'~' && !is_no_uri_char(octet)
+fn is_uri_octet(octet: u8) -> bool
+    ensures { result ≡ is_uri_octet octet }
+{
+    b'!' <= octet && octet <= b'~' && !is_excluded(octet)
 }
 
 // Whether URIs do not contain an octet of ASCII.
-fn is_no_uri_char(octet: u8) -> bool {
+fn is_excluded(octet: u8) -> bool
+    ensures { result ≡ is_excluded octet }
+{
     octet == b'<'
         || octet == b'>'
         || octet == b'"'
@@ -101,7 +108,7 @@ pub fn split_space<'a>(space: &'a [u8]) -> (&'a [u8], &'a [u8])
 // Whether each octet can be in a namespace that this reader compares.
 fn are_space_chars(space: &[u8]) -> bool {
     for octet in space {
-        if !is_uri_char(*octet) || *octet == b'&' || *octet == b'\'' {
+        if !is_uri_octet(*octet) || *octet == b'&' || *octet == b'\'' {
             return false;
         }
     }
@@ -132,27 +139,51 @@ fn scheme_len(uri: &[u8]) -> usize
     uri.len()
 }
 
-// Whether octets are a scheme. RFC 3986, 3.1.
-fn is_scheme(octets: &[u8]) -> bool {
-    if octets.is_empty() || !is_letter(octets[0]) {
-        return false;
-    }
+// Whether a scheme can contain an octet.
+fn is_scheme_octet(octet: u8) -> bool
+    ensures { result ≡ is_scheme_octet octet }
+{
+    is_letter(octet) || is_digit(octet) || octet == b'+' || octet == b'.' || octet == b'-'
+}
+
+// Whether a scheme can contain each octet.
+fn are_scheme_octets(octets: &[u8]) -> bool
+    ensures { result ≡ list_all is_scheme_octet octets.now }
+{
     for octet in octets {
-        let is_mark = *octet == b'+' || *octet == b'.' || *octet == b'-';
-        if !is_letter(*octet) && !is_digit(*octet) && !is_mark {
+        if !is_scheme_octet(*octet) {
             return false;
         }
     }
     true
 }
 
+// Whether octets are a scheme. RFC 3986, 3.1.
+fn is_scheme(octets: &[u8]) -> bool
+    ensures { result ≡ is_scheme octets.now }
+{
+    match octets.split_first() {
+        Some((first, rest)) => is_letter(*first) && are_scheme_octets(rest),
+        None => false,
+    }
+}
+
+// Whether an octet is no ampersand, or begins the reference of one.
+fn is_no_stray(octet: u8, octets: &[u8]) -> bool
+    ensures { result ≡ (not (octet == 38) || starts_with nat_eq octets.now (codes "&amp;")) }
+{
+    octet != b'&' || octets.starts_with(b"&amp;")
+}
+
 // Whether octets are those of a URI as the value of an attribute has them, in which `&` is `&amp;`.
-fn are_uri_chars(octets: &[u8]) -> bool {
+fn are_uri_octets(octets: &[u8]) -> bool
+    ensures { result ≡ are_uri_octets octets.now }
+{
     for (n, octet) in octets.iter().enumerate() {
-        if !is_uri_char(*octet) {
+        if !is_uri_octet(*octet) {
             return false;
         }
-        if *octet == b'&' && !octets.split_at(n).1.starts_with(b"&amp;") {
+        if !is_no_stray(*octet, octets.split_at(n).1) {
             return false;
         }
     }
@@ -160,7 +191,12 @@ fn are_uri_chars(octets: &[u8]) -> bool {
 }
 
 /// Whether the value of an attribute is an absolute URI of ASCII.
-pub fn is_absolute(value: &[u8]) -> bool {
+pub fn is_absolute(value: &[u8]) -> bool
+    ensures { result ≡ true → IsAbsolute value.now }
+{
     let (scheme, rest) = value.split_at(scheme_len(value));
-    is_scheme(scheme) && !rest.is_empty() && are_uri_chars(rest)
+    if !rest.starts_with(b":") {
+        return false;
+    }
+    is_scheme(scheme) && are_uri_octets(value)
 }
