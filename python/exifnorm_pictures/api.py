@@ -170,6 +170,8 @@ class Comparison(NamedTuple):
     - `proved`: the proved answer of `exifnorm.jpeg_same_blocks` for the Exif and IPTC in the heads of two JPEGs: "same", "different", or "not wholly
       read" (the same as far as they were read). None if there is no answer: a file is gone or is no JPEG, its head is damaged, or a block is
       refused
+    - `proved_with_xmp`: the same of `exifnorm.jpeg_same`, for Exif, IPTC and XMP. "not wholly read" also if the library doesn't read a packet
+      of XMP that is read here, as one in a rare form
 
     A comparison has no truth value, because it has three results. Test `comparison.same is True`.
     """
@@ -180,6 +182,7 @@ class Comparison(NamedTuple):
     differences: Tuple[Difference, ...]
     picture: str
     proved: Optional[str]
+    proved_with_xmp: Optional[str] = None
 
     def __bool__(self) -> bool:
         raise TypeError("a comparison has three results: look at .same, which is True, False or None")
@@ -200,11 +203,13 @@ def compare(before: Union[Picture, Source], after: Union[Picture, Source], *, as
     are_files = all(it.origin.path for it in pair)
     with Session() as session:
         comparison = two_pictures.compare(first, second, session if ask_exiftool and are_files else None, heads=(head, other_head))
-    compared, proved = comparison.compared, comparison.proved and str(comparison.proved)
+    compared = comparison.compared
+    proved, with_xmp = (it and str(it) for it in comparison.proved)
     if comparison.is_identical:
-        return Comparison(True, str(Result.SAME), "the two files are identical, byte for byte", (), str(Coded.SAME), proved)
+        return Comparison(True, str(Result.SAME), "the two files are identical, byte for byte", (), str(Coded.SAME), proved, with_xmp)
     differences = tuple(map(_difference, compared.changes))
-    return Comparison(compared.result.decided, str(compared.result), compared.note, differences, str(compared.picture), proved)
+    picture = str(compared.picture)
+    return Comparison(compared.result.decided, str(compared.result), compared.note, differences, picture, proved, with_xmp)
 
 
 def _with_pixels(picture: Picture) -> PictureRecord:

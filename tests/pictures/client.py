@@ -32,7 +32,8 @@ def main(before: str, after: str) -> None:
     comparison = pictures.compare(picture, after)
     same: Optional[bool] = comparison.same
     proved: Optional[str] = comparison.proved
-    assert proved == ("same" if same else "different")
+    with_xmp: Optional[str] = comparison.proved_with_xmp
+    assert proved == ("same" if same else "different") and with_xmp in (proved, "different")
     print(comparison.result if same else f"{comparison.result}: {', '.join(it.name for it in comparison.differences)}")
     print(*(type(found).__name__ for _, found in pictures.read_all([before, after], jobs=2)))
     print(*models_in_archive(before))

@@ -57,23 +57,53 @@ def is_other(result):
     return result not in (None, "same", "absent")
 
 
-def test_the_proved_comparison_says_the_same(folder):
-    """Of all pairs of JPEGs whose metadata are in their heads, and of the pairs above."""
-    pairs = [*itertools.product(HEADS, repeat=2), *((pair.before, pair.after) for pair in PAIRS)]
-    met = Counter()
+PACKETS = [
+    title("Vase"),
+    title("Bowl"),
+    xmp("", attributes="dc:format='Vase'"),
+    xmp("<dc:format rdf:ID='i'>Vase</dc:format>"),  # a rare form
+    title("Vase")[:-40],
+]
+HEADS_WITH_XMP = [*HEADS[-2:], *(jpeg(app1(exif(b"abc")), app1_xmp(it)) for it in PACKETS), jpeg(*(app1_xmp(it) for it in PACKETS[:2]))]
+
+
+def pairs_compared(folder, pairs):
+    """Each pair with what was read of both, and what `compare` finds."""
     for before, after in pairs:
         sides = []
         for name, octets in (("a.jpg", before), ("b.jpg", after)):
             (folder / name).write_bytes(octets)
             sides.append(read(os.fsencode(folder / name), How(1), Session()))
-        found = compare(*sides, None, heads=tuple(head_of_file(it.path) for it in sides))
+        yield before, after, sides, compare(*sides, None, heads=tuple(head_of_file(it.path) for it in sides))
+
+
+def test_the_proved_comparison_says_the_same(folder):
+    """Of all pairs of JPEGs whose metadata are in their heads, and of the pairs above."""
+    pairs = [*itertools.product(HEADS, repeat=2), *((pair.before, pair.after) for pair in PAIRS)]
+    met = Counter()
+    for before, after, sides, found in pairs_compared(folder, pairs):
         results = [it.result for it in found.compared.verdicts if it.kind in (EXIF, IPTC)]
-        met[found.proved] += 1
-        if found.proved == "different":
+        proved = found.proved.blocks
+        met[proved] += 1
+        if proved == "different":
             assert any(map(is_other, results)), (before.hex(), after.hex())
-        elif found.proved and before in HEADS and after in HEADS:
+        elif proved and before in HEADS and after in HEADS:
             assert not any(map(is_other, results)), (before.hex(), after.hex())
-            assert (found.proved == "not wholly read") <= any(it.unread for it in sides), "what isn't read is named"
+            assert (proved == "not wholly read") <= any(it.unread for it in sides), "what isn't read is named"
+    assert min(met[it] for it in ("same", "different", "not wholly read", None)) > 5, met
+
+
+def test_the_proved_comparison_with_xmp_says_the_same(folder):
+    """Of all pairs of such JPEGs with packets, and of the pairs above."""
+    pairs = [*itertools.product(HEADS_WITH_XMP, repeat=2), *((pair.before, pair.after) for pair in PAIRS)]
+    met = Counter()
+    for before, after, _, found in pairs_compared(folder, pairs):
+        results = [it.result for it in found.compared.verdicts]
+        met[found.proved.all] += 1
+        if found.proved.all == "different":
+            assert any(map(is_other, results)), (before.hex(), after.hex())
+        elif found.proved.all == "same" and before in HEADS_WITH_XMP and after in HEADS_WITH_XMP:
+            assert not any(map(is_other, results)), (before.hex(), after.hex())
     assert min(met[it] for it in ("same", "different", "not wholly read", None)) > 5, met
 
 

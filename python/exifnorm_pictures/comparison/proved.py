@@ -1,9 +1,9 @@
-"""What the library's proved comparison says of two JPEGs: whether the Exif and the IPTC in their heads mean the same (docs/FORMAT.md, 9)."""
+"""What the library's proved comparisons say of two JPEGs: whether the Exif, the IPTC and the XMP in their heads mean the same (docs/FORMAT.md, 9)."""
 
 from __future__ import annotations
 
 from contextlib import closing
-from typing import Optional
+from typing import Callable, NamedTuple, Optional, Union
 
 import exifnorm
 
@@ -15,13 +15,33 @@ from ..model.budgets import Budget, TooMuch
 from ..model.results import Result
 
 
-def answer(head: Optional[bytes], other: Optional[bytes]) -> Optional[Result]:
-    """`SAME`, `DIFFERENT`, or `NOT_WHOLLY_READ`: the same as far as it was read. None if the library has no answer: one of the two is no JPEG,
-    has a damaged head or a block that is refused, or can't be read."""
+Head = Optional[bytes]
+
+
+class Answers(NamedTuple):
+    """The answers for two JPEGs.
+
+    - `blocks`: for their Exif and IPTC
+    - `all`: for these and XMP
+
+    Each is `SAME`, `DIFFERENT`, or `NOT_WHOLLY_READ`: the same as far as it was read. None if the library has no answer: one of the two is no
+    JPEG, has a damaged head or a block that is refused, or can't be read.
+    """
+
+    blocks: Optional[Result]
+    all: Optional[Result]
+
+
+def answers(head: Head, other: Head) -> Answers:
+    """What the library says of two heads; None stands for the head of a file that is no JPEG."""
     if head is None or other is None:
-        return None
+        return Answers(None, None)
+    return Answers(_answer(exifnorm.jpeg_same_blocks, head, other), _answer(exifnorm.jpeg_same, head, other))
+
+
+def _answer(call: Callable[[bytes, bytes], Union[bool, exifnorm.NotRead]], head: bytes, other: bytes) -> Optional[Result]:
     try:
-        result = exifnorm.jpeg_same_blocks(head, other)
+        result = call(head, other)
     except exifnorm.PictureRefused:
         return None
     if isinstance(result, exifnorm.NotRead):

@@ -28,10 +28,12 @@ from . import proved
 from .changed import Compared, compared
 from .differing import FieldDifference, exact_side
 from .pairs import Pair
+from .proved import Answers
 from .wording import plain_sides
 
 
 Heads = Tuple[Optional[bytes], Optional[bytes]]
+NO_ANSWERS = Answers(None, None)
 
 
 class FieldRow(NamedTuple):
@@ -53,7 +55,7 @@ class ComparedPair:
     compared: Compared
     is_identical: bool  # whether the files have the same bytes
     has_only_fields: bool  # whether only some fields were compared, and no pictures
-    proved: Optional[Result]  # of the Exif and IPTC in the heads of two JPEGs: see `proved.answer`
+    proved: Answers  # of what is in the heads of two JPEGs
 
     @property
     def result(self) -> Result:
@@ -93,20 +95,21 @@ def compare(
     picture: PictureRecord, other: PictureRecord, session: Optional[Session], choice: Choice = EVERYTHING, heads: Heads = (None, None)
 ) -> ComparedPair:
     """Compares two pictures that were read with the digests of their files, by the fields that count. In a session ExifTool is asked for the
-    values of MakerNotes. `heads` are the heads of two JPEGs, for the proved comparison."""
+    values of MakerNotes. `heads` are the heads of two JPEGs, for the proved comparisons."""
     by_metadata = compared(Pair(os.path.basename(picture.path), picture, other, None), Fresh(), session, choice)
     is_identical = bool(picture.sha256) and picture.sha256 == other.sha256
-    answer = None if choice else _proved(by_metadata, heads)
-    return ComparedPair((picture, other), by_metadata, is_identical, bool(choice.only), answer)
+    answers = NO_ANSWERS if choice else _proved(by_metadata, heads)
+    return ComparedPair((picture, other), by_metadata, is_identical, bool(choice.only), answers)
 
 
-def _proved(comparison: Compared, heads: Heads) -> Optional[Result]:
-    """The answer of the library's proved comparison, of which the result must not say otherwise."""
-    answer = proved.answer(*heads)
-    kinds = [it.result for it in comparison.verdicts if it.kind in (EXIF, IPTC)]
-    if answer == Result.DIFFERENT and kinds and all(it in (Result.SAME, Result.ABSENT) for it in kinds):
-        raise AssertionError("the Exif or the IPTC of the two differ by the proved comparison, and are the same by the tested one")
-    return answer
+def _proved(comparison: Compared, heads: Heads) -> Answers:
+    """The answers of the library's proved comparisons, of which the result must not say otherwise."""
+    answers = proved.answers(*heads)
+    for answer, names in ((answers.blocks, (EXIF, IPTC)), (answers.all, KINDS)):
+        results = [it.result for it in comparison.verdicts if it.kind in names]
+        if answer == Result.DIFFERENT and results and all(it in (Result.SAME, Result.ABSENT) for it in results):
+            raise AssertionError(f"{' or '.join(names)} of the two differ by the proved comparison, and are the same by the tested one")
+    return answers
 
 
 # The rows of the table
