@@ -5,8 +5,7 @@ from __future__ import annotations
 import functools
 import re
 import struct
-from dataclasses import dataclass
-from typing import List, Optional
+from typing import List, NamedTuple, Optional
 
 from ._calls import Block, captions_text
 from ._reading import fields
@@ -15,8 +14,7 @@ _ESCAPE = re.compile(rb"\\([0-9a-f]{2})")
 _UTF8 = 129  # the number of the Exif type
 
 
-@dataclass(frozen=True)
-class Caption:
+class Caption(NamedTuple):
     """A labelled text of a block.
 
     - `label`: the label that the library prints, such as "title" or "keyword" of a record, and "artist" of an Exif block

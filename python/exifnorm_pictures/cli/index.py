@@ -87,12 +87,11 @@ def _keep_old(catalogue: Catalogue, arguments: argparse.Namespace) -> None:
 
 def _options(arguments: argparse.Namespace, names: List[bytes], excluded: Excluded) -> IndexOptions:
     """How the names are looked at, and what is printed of it."""
-    options = printing_options(arguments, names)
-    options.excluded = excluded
+    options = printing_options(arguments, names)._replace(excluded=excluded)
     if arguments.scheduler:
         from ..scan import cluster  # only this needs Dask
 
-        options.look = cluster.looker(arguments.scheduler, arguments.elsewhere, names)
+        return options._replace(look=cluster.looker(arguments.scheduler, arguments.elsewhere, names))
     return options
 
 

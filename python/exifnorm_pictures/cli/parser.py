@@ -3,7 +3,6 @@
 from __future__ import annotations
 
 import argparse
-import difflib
 import itertools
 import sys
 from typing import IO, Any, Callable, Dict, NoReturn, Optional, Sequence, Tuple
@@ -12,7 +11,6 @@ from ..model.found import KINDS
 from ..model.budgets import PROGRAM_SECONDS
 from ..model.texts import safe
 from .exit_codes import USAGE
-from .statuses import help_of
 
 PIXELS, FILE = "pixels", "file"  # the kinds of groups with the same coded picture, and with the same bytes
 
@@ -21,6 +19,8 @@ class _Parser(argparse.ArgumentParser):
     """A parser that ends with the status of refused arguments."""
 
     def format_help(self) -> str:
+        from .statuses import help_of  # which takes long to import, and few runs need it
+
         self.epilog = help_of(self.prog.partition(" ")[2])
         return super().format_help()
 
@@ -47,7 +47,7 @@ class _Formatter(argparse.RawDescriptionHelpFormatter):
 
     def __init__(self, prog: str) -> None:
         super().__init__(prog)
-        self._action_max_length = 2 + max(len(name) + self._indent_increment for name, *_ in _COMMANDS)
+        self._action_max_length = 2 + _LONGEST + self._indent_increment
 
 
 class _Version(argparse.Action):
@@ -121,6 +121,8 @@ def _meant(word: str, known: Sequence[str], prefix: str = "") -> str:
     >>> _meant("lst", ["list", "same"]), _meant("hist", ["history"]), _meant("recursive", ["csv"], "--")
     ('; did you mean list?', '; did you mean history?', '')
     """
+    import difflib  # which takes long to import, and few runs need it
+
     longer = [name for name in known if name.startswith(word)]
     near = longer if len(longer) == 1 else difflib.get_close_matches(word, known, 1, 0.75)
     return f"; did you mean {prefix}{near[0]}?" if near else ""
@@ -582,3 +584,4 @@ _COMMANDS: Tuple[Tuple[str, str, Callable[[argparse.ArgumentParser], None]], ...
     ("mend", "write a copy of a picture, with its refused metadata repaired", _mend_arguments),
 )
 _NAMES = tuple(name for name, *_ in _COMMANDS)
+_LONGEST = max(map(len, _NAMES))

@@ -120,8 +120,9 @@ def _read_again(folders: Sequence[bytes], arguments: argparse.Namespace, before:
         closed: List[str] = []
         # sidecars are files like all others here, each with its own digest
         how = How(arguments.jobs, False, False, True, False, arguments.limit, room, arguments.session.debug, closed_folder)
-        options = IndexOptions(folders, quiet=arguments.quiet or not sys.stderr.isatty(), how=how, print_line=closed.append)
-        options.look = looker(before)
+        options = IndexOptions(
+            folders, quiet=arguments.quiet or not sys.stderr.isatty(), how=how, print_line=closed.append, look=looker(before)
+        )
         earlier = index(options, catalogue)["unchanged"]
         if closed:
             raise NoCatalogue("; ".join(closed))

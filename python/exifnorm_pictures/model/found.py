@@ -4,8 +4,7 @@ from __future__ import annotations
 
 import hashlib
 from collections import Counter
-from dataclasses import dataclass, field
-from typing import Dict, Iterable, List, NamedTuple, Optional, Tuple
+from typing import Dict, Iterable, List, NamedTuple, Optional, Sequence, Tuple
 
 from .budgets import BLOCKS, NOT_READ, Budget
 
@@ -120,23 +119,31 @@ def each_kind(parts: Iterable[str]) -> List[str]:
     return [what if count == 1 else f"{what} ({count:,} times)" for what, count in Counter(parts).items()]
 
 
-@dataclass
 class Blocks:
     """The blocks and unread parts of a file, in the order of the file.
 
     `problem` is a `Problem` if the file could not be read at all; it then has no block.
     """
 
-    blocks: List[FoundBlock] = field(default_factory=list)
-    not_read: List[NotRead] = field(default_factory=list)
-    extractor: str = OWN  # EXIFTOOL if any block, or the result that there is none, comes from ExifTool or exiv2
-    type: str = ""  # the format's name: JPEG, PNG, WEBP, TIFF, or ExifTool's name for it
-    problem: Optional[str] = None
-    detail: str = ""
-    damage: str = ""  # where the file is cut off, if all of its metadata stands before that
-    counts: Dict[str, int] = field(default_factory=dict, repr=False)  # of blocks by name
-    has_more: bool = False  # whether ExifTool may find blocks in a part that was not read
-    budget: Budget = field(default_factory=Budget, repr=False, compare=False)
+    def __init__(
+        self,
+        blocks: Sequence[FoundBlock] = (),
+        not_read: Sequence[NotRead] = (),
+        extractor: str = OWN,
+        type: str = "",
+        problem: Optional[str] = None,
+        detail: str = "",
+        damage: str = "",
+        budget: Optional[Budget] = None,
+    ) -> None:
+        self.blocks, self.not_read = list(blocks), list(not_read)
+        self.extractor = extractor  # EXIFTOOL if any block, or the result that there is none, comes from ExifTool or exiv2
+        self.type = type  # the format's name: JPEG, PNG, WEBP, TIFF, or ExifTool's name for it
+        self.problem, self.detail = problem, detail
+        self.damage = damage  # where the file is cut off, if all of its metadata stands before that
+        self.counts: Dict[str, int] = {}  # of blocks by name
+        self.has_more = False  # whether ExifTool may find blocks in a part that was not read
+        self.budget = budget or Budget()
 
     def add(self, kind: str, data: bytes, where: str, part: str = "", extractor: str = OWN, note: Optional[int] = None) -> None:
         """Adds the next block of a kind, in the whole file or in one part of it.

@@ -7,7 +7,6 @@ import contextlib
 import os
 import sqlite3
 from collections import Counter
-from dataclasses import dataclass
 from typing import Callable, List, NamedTuple, Optional, Sequence, Set, Union
 
 from ..catalogue.store import make_rows, put_rows
@@ -21,8 +20,7 @@ LONGEST_WAIT = 2.0  # seconds until results are committed, if pictures are slow
 Lines = Callable[[PictureRecord], List[str]]  # the lines that are printed about a picture
 
 
-@dataclass(frozen=True)
-class How:
+class How(NamedTuple):
     """How pictures are looked at."""
 
     jobs: int = 0  # processes; 0 for as many as there are processors

@@ -11,7 +11,6 @@ import contextlib
 import logging
 import os
 import time
-from dataclasses import replace
 from itertools import chain, islice
 from typing import Any, Dict, Iterable, Iterator, List, Optional, Sequence
 
@@ -123,7 +122,7 @@ class _Cluster(Tasks):
     """The client of a cluster, of which each task is a chunk of pictures."""
 
     def __init__(self, scheduler: str, elsewhere: Optional[bytes], how: How) -> None:
-        super().__init__(scheduler, replace(how, room=""), TASKS)
+        super().__init__(scheduler, how._replace(room=""), TASKS)
         self.elsewhere = elsewhere
         self.suspects: List[FoundFile] = []  # the pictures of chunks at which workers died
 

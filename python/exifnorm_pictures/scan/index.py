@@ -10,11 +10,10 @@ import importlib.util
 import os
 import time
 from collections import Counter
-from dataclasses import dataclass, field
 from datetime import datetime, timezone
 from itertools import chain, islice
 from operator import itemgetter
-from typing import Callable, Dict, Iterable, Iterator, List, Optional, Sequence, Set, Tuple
+from typing import Callable, Dict, Iterable, Iterator, List, NamedTuple, Optional, Sequence, Set, Tuple
 
 from ..catalogue.store import Catalogue, Known
 from ..extract import programs
@@ -55,8 +54,7 @@ def looked(work: Iterable[FoundFile], how: How) -> Iterator[Result]:
     return in_several_processes(chain(first, files), how)
 
 
-@dataclass
-class IndexOptions:
+class IndexOptions(NamedTuple):
     """The arguments and the progress of a run."""
 
     names: Sequence[bytes]
@@ -65,26 +63,26 @@ class IndexOptions:
     how: How = How()
     print_line: Optional[PrintLine] = None  # prints a line about a picture that was looked at, once it is committed
     look: Look = looked
-    excluded: Excluded = field(default_factory=Excluded)
+    excluded: Excluded = Excluded()  # which has no pattern, and so stays as it is
     moved_line: Optional[Callable[[bytes, bytes, int], str]] = None  # makes one line for all pictures that moved with their folder
     lines: Optional[Lines] = None  # makes the lines about folders that can't be read and names without a file; that of `how` by default
     own: Sequence[str] = ()  # files that aren't looked at, besides the catalogue's
     part: Optional[Part] = None  # of the one folder that is named, of which the catalogue has no other pictures
 
 
-@dataclass
 class Work:
     """What a run has found, and what it has to look at."""
 
-    to_read: int = 0  # files that are new or changed, as far as folders are listed
-    new: bool = False  # whether the catalogue, if it knows any picture, doesn't know one of them ..
-    reread: Paths = field(default_factory=Paths)  # .. and which of them it knows
-    unlisted: List[Unlisted] = field(default_factory=list)
-    counts: "Counter[str]" = field(default_factory=Counter)
-    sidecars: Numbers = field(default_factory=Numbers)  # of XMP files that belong to pictures, and were files by themselves before
-    taken: List[int] = field(default_factory=list)  # those of them that are forgotten
-    unfinished: Numbers = field(default_factory=Numbers)  # of pictures for which a program was missing that is there now
-    seen: Numbers = field(default_factory=Numbers)  # of pictures that were found
+    def __init__(self) -> None:
+        self.to_read = 0  # files that are new or changed, as far as folders are listed
+        self.new = False  # whether the catalogue, if it knows any picture, doesn't know one of them ..
+        self.reread = Paths()  # .. and which of them it knows
+        self.unlisted: List[Unlisted] = []
+        self.counts: "Counter[str]" = Counter()
+        self.sidecars = Numbers()  # of XMP files that belong to pictures, and were files by themselves before
+        self.taken: List[int] = []  # those of them that are forgotten
+        self.unfinished = Numbers()  # of pictures for which a program was missing that is there now
+        self.seen = Numbers()  # of pictures that were found
 
 
 def index(options: IndexOptions, catalogue: Catalogue) -> "Counter[str]":

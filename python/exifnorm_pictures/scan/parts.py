@@ -8,7 +8,6 @@ import hashlib
 import os
 import re
 from collections import Counter
-from dataclasses import replace
 from typing import Dict, FrozenSet, Iterator, List, NamedTuple, Optional, Sequence, Set
 
 from ..catalogue import shards
@@ -176,7 +175,7 @@ def indexed(where: str, shard: Shard, options: IndexOptions, patterns: Sequence[
         detail = f"the folder is empty, isn't there or can't be read; its {pictures_in_words(count)} stay{'s' * (count == 1)} as before"
         return not_looked_at(shard, Problem.UNREADABLE, detail, patterns)
     excluded = Excluded(patterns)
-    options = replace(options, names=[shard.part.top], part=shard.part, excluded=excluded)
+    options = options._replace(names=[shard.part.top], part=shard.part, excluded=excluded)
     with Catalogue(file, make=True) as catalogue:
         catalogue.number_above(_number_of(shard.name) * NUMBERS)
         was_stopped = int(catalogue.was_stopped())

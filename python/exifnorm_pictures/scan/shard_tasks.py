@@ -8,7 +8,6 @@ from __future__ import annotations
 
 import os
 from collections import Counter
-from dataclasses import replace
 from itertools import islice
 from typing import Any, Iterator, Optional, Sequence, Tuple
 
@@ -34,7 +33,7 @@ class Parts(Tasks):
 
     def __init__(self, scheduler: str, where: str, again: bool, how: How, patterns: Sequence[str]) -> None:
         # the workers are the processes: each task looks at one picture after another
-        super().__init__(scheduler, replace(how, room="", jobs=1, lines=None), WAITING)
+        super().__init__(scheduler, how._replace(room="", jobs=1, lines=None), WAITING)
         self.where, self.again, self.patterns = os.path.abspath(where), again, patterns
         self.deaths: "Counter[str]" = Counter()  # how often workers died at a part, by its catalogue
 
@@ -71,7 +70,7 @@ class Parts(Tasks):
                         yield shard, outcome
 
     def _submit(self, client: Any, shard: Shard, how: How) -> None:
-        there = replace(self.how, pixels=how.pixels, sidecars=how.sidecars)
+        there = self.how._replace(pixels=how.pixels, sidecars=how.sidecars)
         self.tasks[client.submit(index_there, self.where, shard, self.again, there, self.patterns, pure=False)] = shard
 
     def _outcome(self, task: Any, shard: Shard) -> Optional[Outcome]:
