@@ -340,6 +340,7 @@ class Work(WithPictures):
                 {"exiftool"},
                 entries[1:3],
                 [FoundFile(b"/e", b"/", None)],
+                programs.told(),
             ),
         )
         base = sqlite3.connect(self.path("rows"))

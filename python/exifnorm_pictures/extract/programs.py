@@ -16,7 +16,7 @@ import shutil
 import signal
 import subprocess
 import time
-from typing import Callable, List, NamedTuple, Optional, Set, Tuple
+from typing import Callable, Dict, List, Mapping, NamedTuple, Optional, Set, Tuple
 
 from ..files import signals
 from ..model.budgets import OUTPUT, PROGRAM_BYTES
@@ -79,11 +79,26 @@ def exiftool(*words: str) -> List[str]:
     return [needed("exiftool"), "-config", "", *words]
 
 
+_told: Dict[str, str] = {}  # the versions that programs have told with an answer, by their paths
+
+
+def told() -> Dict[str, str]:
+    """The versions that programs have told in this process, by their paths."""
+    return dict(_told)
+
+
+def learn(versions: Mapping[str, str]) -> None:
+    """Keeps versions that programs have told, here or in another process: to ask ExifTool by itself takes as long as to look at a hundred pictures."""
+    _told.update(versions)
+
+
 @functools.lru_cache(maxsize=None)
 def version(program: str, seconds: float) -> Optional[str]:
-    """The version that a program prints, or nothing if it isn't installed. Raises `Failed` if it prints none."""
+    """The version that a program has told or prints, or nothing if it isn't installed. Raises `Failed` if it prints none."""
     if not is_there(program):
         return None
+    if known := _told.get(needed(program)):
+        return known
     words = exiftool("-ver") if program == "exiftool" else [needed(program), "--version"]
     output = run(words, seconds).stdout[:1000].decode("ascii", "replace").split("\n", 1)[0]
     return output.rpartition(" ")[2].strip() or None

@@ -7,9 +7,10 @@ import contextlib
 import os
 import sqlite3
 from collections import Counter
-from typing import Callable, List, NamedTuple, Optional, Sequence, Set, Union
+from typing import Callable, List, Mapping, NamedTuple, Optional, Sequence, Set, Union
 
 from ..catalogue.store import make_rows, put_rows
+from ..extract import programs
 from ..model.budgets import PROGRAM_SECONDS
 from ..model.problems import NO_BYTES
 from ..model.records import PictureRecord
@@ -48,6 +49,7 @@ class Batch(NamedTuple):
     programs: Set[str]  # the other programs that have read something of them
     unread: List[PictureRecord]  # which have no row: if they were known before, their earlier results stay
     left: Sequence[FoundFile]  # the pictures after them, which were not looked at yet
+    versions: Mapping[str, str]  # that other programs have told, by their paths
 
 
 Result = Union[PictureRecord, Batch]
@@ -62,4 +64,5 @@ def batch(file: str, entries: Sequence[PictureRecord], left: Sequence[FoundFile]
         put_rows(base, 0, 1, [it for it in entries if it.problem not in NO_BYTES] if unread else entries)
         base.execute("COMMIT")
     printed = [line for it in entries for line in lines(it)] if lines else []
-    return Batch(file, Counter(it.state for it in entries), printed, {program for it in entries for program in it.programs}, unread, left)
+    used = {program for it in entries for program in it.programs}
+    return Batch(file, Counter(it.state for it in entries), printed, used, unread, left, programs.told())

@@ -360,7 +360,7 @@ class _Looking:
         self.progress.done(self.done)
 
     def keep_versions(self, programs: Set[str]) -> None:
-        """Keeps the versions of programs that have read a picture. To ask ExifTool takes as long as to look at a hundred pictures."""
+        """Keeps the versions of programs that have read a picture."""
         new = programs - self.versions.keys()
         if new:
             self.versions.update({it: _version(it, self.options.how.seconds) for it in new})

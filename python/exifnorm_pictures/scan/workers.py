@@ -15,7 +15,7 @@ from concurrent.futures import Future, ProcessPoolExecutor, wait
 from concurrent.futures.process import BrokenProcessPool
 from contextvars import ContextVar
 from multiprocessing import util
-from typing import Deque, Iterable, Iterator, List, NamedTuple, Sequence, Set, Union
+from typing import Deque, Iterable, Iterator, List, Mapping, NamedTuple, Sequence, Set, Union
 
 from ..extract import programs
 from ..files import signals
@@ -45,6 +45,7 @@ class Few(NamedTuple):
 
     entries: Sequence[PictureRecord]
     left: Sequence[FoundFile]  # the pictures after them, which were not looked at yet
+    versions: Mapping[str, str]  # that other programs have told, by their paths
 
 
 class Task(NamedTuple):
@@ -112,7 +113,9 @@ def look_at_some(task: Task, how: How) -> Union[Batch, Few]:
         if size >= READY_BYTES or time.monotonic() > ends_at:
             break
     left = task.chunk[len(entries) :]
-    return Few(entries, left) if len(entries) < SHORT and size < READY_BYTES else batch(task.file, entries, left, how.lines)
+    if len(entries) < SHORT and size < READY_BYTES:
+        return Few(entries, left, programs.told())
+    return batch(task.file, entries, left, how.lines)
 
 
 def _look(file: FoundFile, how: How) -> PictureRecord:
@@ -156,6 +159,7 @@ def _by_processes(chunks: Iterator[Sequence[FoundFile]], how: How, files: Iterat
                     return
             result = waiting[0].result()
             waiting.popleft()
+            programs.learn(result.versions)
             unfinished[:1] = [Task(result.left, next(files))] if result.left else []
             if isinstance(result, Few):
                 yield from result.entries
