@@ -12,11 +12,12 @@ use Rattle.px_xmp_forms.specs.declared.labels.Content.TheVariants as content
 use Rattle.px_xmp_forms.specs.declared.labels.Container.{Container}
 use Rattle.px_xmp_forms.specs.declared.labels.Container.TheVariants as containers
 use Rattle.px_xmp_forms.specs.Labels.{container_view}
+use Rattle.px_xmp_forms.specs.Uris.{IsAbsolute}
 use Rattle.px_xmp.specs.Names.{Name, is_rdf}
 use Rattle.px_xmp_text.specs.Texts.{text_of}
 use Rattle.px_xmp_text.specs.declared.pieces.TextKind.TheVariants.{AttributeValue}
 use Rattle.px_xmp.specs.Marks.{Start}
-use Rattle.px_xmp.specs.Tags.{Field, Tag, tag_of, inside, inherited}
+use Rattle.px_xmp.specs.Tags.{Field, Tag, DeclaresLanguage, tag_of, inside, inherited}
 use Rattle.px_xmp.specs.Nodes.{Nodes, Nothing, Words, Element, AreNodes}
 use Rattle.px_xmp.specs.Meaning.{AreWhite, label_in, compound_of, AreEntries, IsNode, AreAttributes, Joins, IsRow}
 use Rattle.px_xmp.specs.declared.elements.Opened.{Opened}
@@ -97,7 +98,7 @@ items_next c l old a b d s before after o white label so is_white tag named valu
       are =
           entries_joined c l so.nodes (joined white (Element t o.place v.nodes Nothing)) so.entries (e ∷ []) so.are
           (entries_joined c l white (Element t o.place v.nodes Nothing) [] (e ∷ []) (white_entries c l white is_white)
-          (label, v.value, [], ap (λ (q : Name). label_in c q) (sym start.opened.0) ∙ named, refl, refl, v.is));
+          (v.declares, label, v.value, [], ap (λ (q : Name). label_in c q) (sym start.opened.0) ∙ named, refl, refl, v.is));
       scope = v.scope ∙ ap ended start.inner_is ∙ ended_inside a.scope start.attributes ∙ so.scope;
       moves = moves_on old.at a.at d.at old.rest.now a.rest.now d.rest.now so.moves
           (moves_on a.at b.at d.at a.rest.now b.rest.now d.rest.now tag.moves v.inside.moves);
@@ -130,11 +131,11 @@ items_end c l old a b s output white so is_white tag =
 -- ---- a value
 
 pub value_done : (content : Content) (o : Opened) (t : Tag) (label : Label) (outer : List ℕ) (a : Around) (old mid new : Source) (s : State)
-    (before after : Output) → a.language.now ≡ inherited outer t.language → a.place ≡ o.place
+    (before after : Output) → DeclaresLanguage t.language → a.language.now ≡ inherited outer t.language → a.place ≡ o.place
     → (r : ContentRead content o.is_empty t.fields a old mid s before) → new.rest.now ≡ mid.rest.now → new.at ≡ mid.at → new.scope ≡ ended mid.scope
     → Has after (changed (with_entry (record { label = label; value = value_of content r.element.text r.element.inner; place = a.place })) s)
     → ValueRead o t label outer old new s after
-value_done content o t label outer a old mid new s before after language place r rest at scope has =
+value_done content o t label outer a old mid new s before after declares language place r rest at scope has =
     record {
       nodes = r.nodes;
       value = value_of content r.element.text r.element.inner;
@@ -143,6 +144,7 @@ value_done content o t label outer a old mid new s before after language place r
         moves = subst (λ (q : ℕ). Moves old.at old.rest.now q new.rest.now) (sym at)
             (subst (λ (q : List ℕ). Moves old.at old.rest.now mid.at q) (sym rest) r.inside.moves);
       };
+      declares = declares;
       is = subst (λ (q : ℕ). HasValue (inherited outer t.language) q t.fields r.nodes (value_of content r.element.text r.element.inner)) place
           (subst (λ (q : List ℕ). HasValue q a.place t.fields r.nodes (value_of content r.element.text r.element.inner)) language r.is);
       scope = scope ∙ ap ended r.scope;
@@ -185,10 +187,11 @@ node_joined (nodes.Container k) s after es o os e (joins, same) =
 
 -- a description was begun
 pub description_begun : (t : Tag) (outer : List ℕ) (place : ℕ) (a : Around) (s : State) (output : Output) (all : List Field)
-    → a.language.now ≡ inherited outer t.language → a.place ≡ place → all ≡ t.fields
+    → DeclaresLanguage t.language → a.language.now ≡ inherited outer t.language → a.place ≡ place → all ≡ t.fields
     → PropertiesPut all a.language.now a.place (begun nothing s) output → NodeBegun nodes.Description t outer place a s output
-description_begun t outer place a s output all language same fields put =
+description_begun t outer place a s output all declares language same fields put =
     record {
+      declares = declares;
       language = language;
       entries = put.entries;
       are = subst (λ (z : List Field). AreAttributes (inherited outer t.language) place z put.entries) fields
@@ -228,15 +231,15 @@ content_parsed empty fields a old new s after first before output (f, only, name
     }
 
 pub content_uri : (empty : Bool) (fields : List Field) (a : Around) (old new : Source) (s : State) (output : Output)
-    → (f : Field) × (fields ≡ f ∷ []) × (is_rdf (codes "resource") f.name ≡ true)
+    → (f : Field) × (fields ≡ f ∷ []) × (is_rdf (codes "resource") f.name ≡ true) × IsAbsolute f.value
     × (t : List ℕ) × (text_of AttributeValue f.value ≡ Some t) × Has output (begun (with_text t nothing) s)
     → EndRead empty old new → ContentRead content.Resource empty fields a old new s output
-content_uri empty fields a old new s output (f, only, named, t, says, has) (all, white, within, scope) =
+content_uri empty fields a old new s output (f, only, named, absolute, t, says, has) (all, white, within, scope) =
     record {
       nodes = all;
       element = with_text t nothing;
       inside = within;
-      is = inr (inr (inr (inl (f, only, named, white, t, says, refl))));
+      is = inr (inr (inr (inl (f, only, named, absolute, white, t, says, refl))));
       scope = scope;
       has = has;
     }
@@ -330,7 +333,7 @@ content_node node inner a old mid on new s before after r read (more, more_white
         node_view node,
         n.content,
         node_after r.nodes a.language.now (Element t inner.place n.nodes more) (node_view node) n.content (r.white refl)
-            (n.named, more_white, n.attributes, n.entries, n.attributes_are, n.are, n.row),
+            (n.declares, n.named, more_white, n.attributes, n.entries, n.attributes_are, n.are, n.row),
         node_value node [] n.content,
       ));
       scope = scope ∙ back;
@@ -358,6 +361,7 @@ node_done node o t outer a old mid on new s begin before after named name same b
             (subst (λ (q : List ℕ). Moves old.at old.rest.now on.at q) (sym rest)
             (subst (λ (q : Source). Moves q.at q.rest.now on.at on.rest.now) same r.inside.moves));
       };
+      declares = b.declares;
       named = ap compound_of (sym name) ∙ named;
       attributes_are = b.are;
       are = subst (λ (q : List ℕ). AreEntries (node_view node) q r.nodes r.entries) b.language r.are;

@@ -196,7 +196,7 @@ module _ (law : PacketIsInjective) (l : List ℕ) (place : ℕ) (fields : List F
   way_is v (inl h) = ap way_of h.0
   way_is v (inr (inl h)) = ap way_of h.0
   way_is v (inr (inr (inl (f, one, named, is, es, c, p, r, e)))) = parsed_way fields f one named
-  way_is v (inr (inr (inr (inl (f, one, named, white, t, text, e))))) = uri_way fields f one named
+  way_is v (inr (inr (inr (inl (f, one, named, whole, white, t, text, e))))) = uri_way fields f one named
   way_is v (inr (inr (inr (inr (some, white, es, c, attributes, r, e))))) = described_way l place fields es some attributes
 
   apart : (v w : Value) (h : IsValue l place fields inner IsInside AreInside v) (k : IsValue l place fields inner IsInside AreInside w)
@@ -220,7 +220,7 @@ module _ (law : PacketIsInjective) (l : List ℕ) (place : ℕ) (fields : List F
       (refl, row_once law Structure es c d r (subst (λ (z : List Entry). IsRow Structure z d) (sym same) k) i j)
 
   uri_once : (v w : Value) → IsUri fields inner v → IsUri fields inner w → v ≡ w
-  uri_once v w (f, one, named, white, t, text, e) (g, other, called, blank, u, word, h) =
+  uri_once v w (f, one, named, whole, white, t, text, e) (g, other, called, all, blank, u, word, h) =
       let same : f ∷ [] ≡ g ∷ [] = sym one ∙ other in
       let values : f.value ≡ g.value = ap (λ (z : List Field). first_value z) same in
       e ∙ ap (λ (z : List ℕ). Plain (Uri z)) (some_same t u (sym text ∙ ap (text_of AttributeValue) values ∙ word)) ∙ sym h
@@ -276,7 +276,7 @@ mutual
       → CanAll es → CanAll fs → es ≡ fs
   entries_once law s l Nothing es fs e f can could = e ∙ sym f
   entries_once law s l (Words t more) es fs e f can could = entries_once law s l more es fs e.1 f.1 can could
-  entries_once law s l (Element tag place inner more) es fs (a, v, others, named, e, rest, is) (b, w, more_others, called, f, after, are) can could =
+  entries_once law s l (Element tag place inner more) es fs (declares, a, v, others, named, e, rest, is) (speaks, b, w, more_others, called, f, after, are) can could =
       let language : List ℕ = inherited l tag.language in
       let i : CanAll (entry_of a v place ∷ others) = subst CanAll e can in
       let j : CanAll (entry_of b w place ∷ more_others) = subst CanAll f could in
@@ -290,7 +290,7 @@ mutual
       → IsContent c → IsContent d → (s ≡ t) × (c ≡ d)
   node_once law l Nothing s t c d e f can could = absurd e
   node_once law l (Words u more) s t c d e f can could = node_once law l more s t c d e.1 f.1 can could
-  node_once law l (Element tag place inner more) s t c d (named, white, fs, es, p, q, r) (called, blank, gs, hs, x, y, z) can could =
+  node_once law l (Element tag place inner more) s t c d (declares, named, white, fs, es, p, q, r) (speaks, called, blank, gs, hs, x, y, z) can could =
       let language : List ℕ = inherited l tag.language in
       let same : s ≡ t = some_same s t (sym named ∙ called) in
       let fields : fs ≡ gs = has_once s language place tag.fields fs gs p
@@ -308,7 +308,7 @@ subjects_once : PacketIsInjective → (u w : Option (List ℕ)) (l : List ℕ) (
     → AreSubjects w l nodes whole → CanAll all → CanAll whole → all ≡ whole
 subjects_once law u w l Nothing all whole e f can could = e ∙ sym f
 subjects_once law u w l (Words t more) all whole e f can could = subjects_once law u w l more all whole e.1 f.1 can could
-subjects_once law u w l (Element tag place inner more) all whole (is, about, fs, es, others, p, q, r, e) (are, of, gs, hs, rest, x, y, z, f) can could =
+subjects_once law u w l (Element tag place inner more) all whole (declares, is, about, fs, es, others, p, q, r, e) (speaks, are, of, gs, hs, rest, x, y, z, f) can could =
     let language : List ℕ = inherited l tag.language in
     let i : CanAll (es ++ others) = can_append fs (es ++ others) (subst CanAll e can) in
     let j : CanAll (hs ++ rest) = can_append gs (hs ++ rest) (subst CanAll f could) in
@@ -319,7 +319,7 @@ subjects_once law u w l (Element tag place inner more) all whole (is, about, fs,
     ∙ ap (λ (k : List Entry). gs ++ (hs ++ k)) after ∙ sym f
 
 rdf_once : PacketIsInjective → (tag : Tag) (inner : Nodes) (c d : Content) → IsRdf tag inner c → IsRdf tag inner d → IsContent c → IsContent d → c ≡ d
-rdf_once law tag inner c d (is, bare, u, es, p, r) (are, plain, w, fs, q, k) can could =
+rdf_once law tag inner c d (declares, is, bare, u, es, p, r) (speaks, are, plain, w, fs, q, k) can could =
     let same : es ≡ fs = subjects_once law u w (inherited [] tag.language) inner es fs p q (row_can Structure es c r can) (row_can Structure fs d k could) in
     row_once law Structure es c d r (subst (λ (z : List Entry). IsRow Structure z d) (sym same) k) can could
 
@@ -335,6 +335,6 @@ pub nodes_mean_once : PacketIsInjective → NodesMeanOnce
 nodes_mean_once law Nothing c d e f can could = absurd e
 nodes_mean_once law (Words t more) c d e f can could = nodes_mean_once law more c d e.1 f.1 can could
 nodes_mean_once law (Element tag place inner more) c d (inl p, e) (inl q, f) can could = rdf_once law tag inner c d p q can could
-nodes_mean_once law (Element tag place inner more) c d (inl p, e) (inr q, f) can could = absurd (no_root tag.name p.0 q.0)
-nodes_mean_once law (Element tag place inner more) c d (inr p, e) (inl q, f) can could = absurd (no_root tag.name q.0 p.0)
+nodes_mean_once law (Element tag place inner more) c d (inl p, e) (inr q, f) can could = absurd (no_root tag.name p.1 q.0)
+nodes_mean_once law (Element tag place inner more) c d (inr p, e) (inl q, f) can could = absurd (no_root tag.name q.1 p.0)
 nodes_mean_once law (Element tag place inner more) c d (inr p, e) (inr q, f) can could = has_rdf_once law inner c d p.1 q.1 can could

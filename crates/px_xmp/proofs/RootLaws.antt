@@ -13,7 +13,7 @@ use Rattle.px_xmp_spaces.specs.Scopes.{Item, ended}
 use Rattle.px_xmp_forms.specs.Outputs.{State, Has, nothing, begun, changed, properties_ended, JoinsProperties}
 use Rattle.px_xmp_forms.specs.declared.output.Output.{Output}
 use Rattle.px_xmp.specs.Names.{Name, is_rdf, is_root, is_about}
-use Rattle.px_xmp.specs.Tags.{Tag, Field, field_of, fields_in, plain, inherited}
+use Rattle.px_xmp.specs.Tags.{Tag, Field, DeclaresLanguage, field_of, fields_in, plain, inherited}
 use Rattle.px_xmp.specs.Meaning.{label_in, IsRow}
 use Rattle.px_xmp.specs.declared.elements.Opened.{Opened}
 use Rattle.px_xmp.specs.declared.source.Source.{Source}
@@ -43,7 +43,8 @@ pub subjects_joined : (u : Option (List ℕ)) (l : List ℕ) (a b : Nodes) (es f
     → AreSubjects u l (joined a b) (es ++ fs)
 subjects_joined u l Nothing b es fs e f = subst (λ (q : List Entry). AreSubjects u l b (q ++ fs)) (sym e) f
 subjects_joined u l (Words t more) b es fs (e, r) f = (e, subjects_joined u l more b es fs r f)
-subjects_joined u l (Element tag place inner more) b es fs (is, about, as1, own, others, p, q, r, e) f = (
+subjects_joined u l (Element tag place inner more) b es fs (declares, is, about, as1, own, others, p, q, r, e) f = (
+  declares,
   is,
   about,
   as1,
@@ -216,18 +217,20 @@ attributes_end n scope all l place s old new output is left =
 -- ---- rdf:Description in rdf:RDF
 
 pub subject_done : (o : Opened) (t : Tag) (outer l : List ℕ) (place : ℕ) (fields : List Field) (old mid at_end new : Source) (before after : Subject)
-    (s : State) (middle output : Output) → is_rdf (codes "Description") (name_of o.name) ≡ true → name_of o.name ≡ t.name
+    (s : State) (middle output : Output) → DeclaresLanguage t.language → is_rdf (codes "Description") (name_of o.name) ≡ true
+    → name_of o.name ≡ t.name
     → l ≡ inherited outer t.language → place ≡ o.place → fields ≡ t.fields → mid ≡ old → new.rest.now ≡ at_end.rest.now → new.at ≡ at_end.at
     → new.scope ≡ ended at_end.scope → (a : AttributesRead fields l place s before after middle)
     → ItemsRead o.is_empty Structure l mid at_end (changed (with_entries a.entries) s) output
     → SubjectRead o t outer old new before after s output
-subject_done o t outer l place fields old mid at_end new before after s middle output named name language here same source rest at scope a items =
+subject_done o t outer l place fields old mid at_end new before after s middle output declares named name language here same source rest at scope a items =
     let read : ItemsRead o.is_empty Structure l old at_end (changed (with_entries a.entries) s) output =
     subst (λ (z : Source). ItemsRead o.is_empty Structure l z at_end (changed (with_entries a.entries) s) output) source items in
     record {
       nodes = read.nodes;
       attributes = a.entries;
       entries = read.entries;
+      declares = declares;
       named = ap (λ (z : Name). is_rdf (codes "Description") z) (sym name) ∙ named;
       inside = inside_kept o.is_empty read.nodes old at_end new rest at read.inside;
       attributes_are =
@@ -287,6 +290,7 @@ subjects_next l old a b d subject before after s middle output o white so is_whi
           (λ u. AreSubjects u l (joined so.nodes (joined white one)) (so.entries ++ es))
           (λ u p. subjects_joined u l so.nodes (joined white one) so.entries es p.0
           (subjects_joined u l white one [] es (white_subjects u l white is_white) (
+            v.declares,
             v.named,
             p.1,
             v.attributes,
@@ -373,11 +377,11 @@ rdf_row es after first second joins has ended_as =
     (row fs, row_is, ended_as _ now)
 
 pub rdf_done : (o : Opened) (t : Tag) (l : List ℕ) (old mid new : Source) (before after : Subject) (s : State) (middle output : Output) (c : Content)
-    → is_rdf (codes "RDF") (name_of o.name) ≡ true → name_of o.name ≡ t.name → l ≡ inherited [] t.language → t.fields ≡ []
+    → DeclaresLanguage t.language → is_rdf (codes "RDF") (name_of o.name) ≡ true → name_of o.name ≡ t.name → l ≡ inherited [] t.language → t.fields ≡ []
     → new.rest.now ≡ mid.rest.now → new.at ≡ mid.at → new.scope ≡ ended mid.scope
     → (r : SubjectsRead o.is_empty l old mid before after s middle) → IsRow Structure r.entries c
     → Has output (record { opened = []; properties = c }) → RdfRead o t old new after output
-rdf_done o t l old mid new before after s middle output c named name language none rest at scope r line has =
+rdf_done o t l old mid new before after s middle output c declares named name language none rest at scope r line has =
     record {
       nodes = r.nodes;
       content = c;
@@ -385,6 +389,7 @@ rdf_done o t l old mid new before after s middle output c named name language no
       is = λ h. (let (e, each) = r.are h in
           let (u, subject) = has_subject after in
           let (kept, are) = each u subject in (
+            declares,
             ap (λ (z : Name). is_rdf (codes "RDF") z) (sym name) ∙ named,
             none,
             u,

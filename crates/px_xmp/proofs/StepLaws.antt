@@ -126,8 +126,8 @@ pub entries_joined : (c : Compound) (l : List ℕ) (a b : Nodes) (es fs : List E
     → AreEntries c l (joined a b) (es ++ fs)
 entries_joined c l Nothing b es fs e f = subst (λ (q : List Entry). AreEntries c l b (q ++ fs)) (sym e) f
 entries_joined c l (Words t more) b es fs (e, r) f = (e, entries_joined c l more b es fs r f)
-entries_joined c l (Element tag place inner more) b es fs (label, v, others, named, e, r, is) f =
-    (label, v, others ++ fs, named, ap (λ (q : List Entry). q ++ fs) e, entries_joined c l more b others fs r f, is)
+entries_joined c l (Element tag place inner more) b es fs (declares, label, v, others, named, e, r, is) f =
+    (declares, label, v, others ++ fs, named, ap (λ (q : List Entry). q ++ fs) e, entries_joined c l more b others fs r f, is)
 
 pub white_entries : (c : Compound) (l : List ℕ) (a : Nodes) → AreWhite a → AreEntries c l a []
 white_entries c l Nothing e = refl

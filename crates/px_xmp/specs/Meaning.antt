@@ -10,8 +10,9 @@ use Rattle.px_xmp_document.specs.Document.{IsSplit, order_mark_len}
 use Rattle.px_xmp_forms.specs.Entries.{Value, Plain, Inside, Entry, row, Sorts, AreDistinct}
 use Rattle.px_xmp_forms.specs.Forms.{is_white}
 use Rattle.px_xmp_forms.specs.Labels.{label_of}
+use Rattle.px_xmp_forms.specs.Uris.{IsAbsolute}
 use Rattle.px_xmp.specs.Names.{Name, is_rdf, is_root, is_about, is_property, container_of}
-use Rattle.px_xmp.specs.Tags.{Field, Tag, inherited}
+use Rattle.px_xmp.specs.Tags.{Field, Tag, DeclaresLanguage, inherited}
 use Rattle.px_xmp.specs.Nodes.{Nodes, Nothing, Words, Element, AreNodes}
 
 -- ---- texts
@@ -83,10 +84,10 @@ IsParsed fields AreInside v =
     (f : Field) × (fields ≡ f ∷ []) × (is_rdf (codes "parseType") f.name ≡ true) × (f.value ≡ codes "Resource")
     × (es : List Entry) × (c : Content) × AreInside es × IsRow Structure es c × (v ≡ Inside Structure c)
 
--- a URI, by rdf:resource (emptyPropertyElt, 7.2.21)
+-- a URI, by rdf:resource (emptyPropertyElt, 7.2.21): an absolute one, as a packet has no base for another (RFC 3986, 5.1)
 abbrev pub IsUri : List Field → Nodes → Value → Type 0
 IsUri fields inner v =
-    (f : Field) × (fields ≡ f ∷ []) × (is_rdf (codes "resource") f.name ≡ true) × AreWhite inner
+    (f : Field) × (fields ≡ f ∷ []) × (is_rdf (codes "resource") f.name ≡ true) × IsAbsolute f.value × AreWhite inner
     × (t : List ℕ) × (text_of AttributeValue f.value ≡ Some t) × (v ≡ Plain (Uri t))
 
 -- properties that are attributes (emptyPropertyElt, 7.2.21)
@@ -108,7 +109,7 @@ abbrev mutual
   AreEntries s l Nothing es = es ≡ []
   AreEntries s l (Words t more) es = (is_white t ≡ true) × AreEntries s l more es
   AreEntries s l (Element tag place inner more) es =
-      (label : Label) × (v : Value) × (others : List Entry) × (label_in s tag.name ≡ Some label)
+      DeclaresLanguage tag.language × (label : Label) × (v : Value) × (others : List Entry) × (label_in s tag.name ≡ Some label)
       × (es ≡ record { label = label; value = v; place = place } ∷ others) × AreEntries s l more others
       × IsValue (inherited l tag.language) place tag.fields inner (IsNode (inherited l tag.language) inner)
       (AreEntries Structure (inherited l tag.language) inner) v
@@ -118,7 +119,7 @@ abbrev mutual
   IsNode l Nothing s c = ⊥
   IsNode l (Words t more) s c = (is_white t ≡ true) × IsNode l more s c
   IsNode l (Element tag place inner more) s c =
-      (compound_of tag.name ≡ Some s) × AreWhite more × (fs es : List Entry)
+      DeclaresLanguage tag.language × (compound_of tag.name ≡ Some s) × AreWhite more × (fs es : List Entry)
       × HasAttributes s (inherited l tag.language) place tag.fields fs × AreEntries s (inherited l tag.language) inner es
       × IsRow s (fs ++ es) c
 
@@ -139,14 +140,14 @@ abbrev pub AreSubjects : Option (List ℕ) → List ℕ → Nodes → List Entry
 AreSubjects u l Nothing all = all ≡ []
 AreSubjects u l (Words t more) all = (is_white t ≡ true) × AreSubjects u l more all
 AreSubjects u l (Element tag place inner more) all =
-    (is_rdf (codes "Description") tag.name ≡ true) × AreAbout u tag.fields × (fs es others : List Entry)
+    DeclaresLanguage tag.language × (is_rdf (codes "Description") tag.name ≡ true) × AreAbout u tag.fields × (fs es others : List Entry)
     × AreAttributes (inherited l tag.language) place (without_about tag.fields) fs
     × AreEntries Structure (inherited l tag.language) inner es × AreSubjects u l more others × (all ≡ fs ++ (es ++ others))
 
 -- rdf:RDF (RDF, 7.2.9), which has all properties
 abbrev pub IsRdf : Tag → Nodes → Content → Type 0
 IsRdf tag inner c =
-    (is_rdf (codes "RDF") tag.name ≡ true) × (tag.fields ≡ []) × (u : Option (List ℕ)) × (es : List Entry)
+    DeclaresLanguage tag.language × (is_rdf (codes "RDF") tag.name ≡ true) × (tag.fields ≡ []) × (u : Option (List ℕ)) × (es : List Entry)
     × AreSubjects u (inherited [] tag.language) inner es × IsRow Structure es c
 
 -- one rdf:RDF, with white space around it

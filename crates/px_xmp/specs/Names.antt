@@ -3,8 +3,9 @@
 use Rattle.std.specs.Prelude.{◌&&◌, ◌||◌, ℕ, Bool, not, codes, if◌then◌else◌, Option, Some, None, List, []}
 use Rattle.px_xmp_text.specs.Values.{Compound, Bag, Seq, Alt}
 use Rattle.px_xmp_marks.specs.Reading.{Named}
-use Rattle.px_xmp_spaces.specs.Scopes.{Item, is_same, xml_space, space_of}
+use Rattle.px_xmp_spaces.specs.Scopes.{Item, is_same, xml_space, xmlns_space, space_of}
 use Rattle.px_xmp_spaces.specs.Tags.{attribute_space}
+use Rattle.px_xmp_forms.specs.Labels.{before_name}
 
 -- an expanded name (Namespaces, 2.1): a namespace, which is empty for none, and a local name
 pub record Name : Type 0 where
@@ -40,10 +41,17 @@ is_root n = (is_same n.local (codes "xmpmeta") || is_same n.local (codes "xapmet
 abbrev pub is_about : Name → Bool
 is_about n = is_same n.local (codes "about") && (is_same n.space [] || is_same n.space rdf_space)
 
--- a property: a name in a namespace other than that of XML, and of RDF rdf:value alone (XMP part 1, 6.1 and 7.5)
+-- a namespace that has properties of any name: one that is not RDF's own or bound to a prefix by XML (Namespaces, 3)
+abbrev pub is_free : List ℕ → Bool
+is_free u = not (is_same u []) && not (is_same u rdf_space) && not (is_same u xmlns_space)
+
+-- a property: of RDF rdf:value alone, and otherwise a name in a namespace that is not XML's (XMP part 1, 6.1 and 7.5). RDF has
+-- of a property only its namespace and local name joined (RDF/XML, 6.1.2), so what precedes the name at the end of the namespace
+-- has properties
 abbrev pub is_property : Name → Bool
 is_property n =
-    not (is_same n.space []) && not (is_same n.space xml_space) && (not (is_same n.space rdf_space) || is_same n.local (codes "value"))
+    if is_same n.space rdf_space then is_same n.local (codes "value")
+    else not (is_same n.space xml_space) && is_free (before_name n.space)
 
 -- a container (XMP part 1, 7.7)
 abbrev pub container_of : Name → Option Compound

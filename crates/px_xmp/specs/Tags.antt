@@ -1,8 +1,9 @@
 -- Start tags with their namespaces. Namespaces in XML 1.0, 6; XML 1.0, 2.12.
-use Rattle.std.specs.Prelude.{◌&&◌, ℕ, Bool, not, codes, if◌then◌else◌, Option, Some, None, is_none, List, [], ◌∷◌, map}
+use Rattle.std.specs.Prelude.{◌≡◌, ◌⊎◌, ⊤, ◌&&◌, ℕ, Bool, not, codes, if◌then◌else◌, Option, Some, None, is_none, List, [], ◌∷◌, map}
 use Rattle.px_xmp_marks.specs.Reading.{Named, Attr}
 use Rattle.px_xmp_spaces.specs.Scopes.{Item, Element, Declaration, is_same}
 use Rattle.px_xmp_spaces.specs.Bindings.{declared_prefix}
+use Rattle.px_xmp_forms.specs.Languages.{IsLanguage}
 use Rattle.px_xmp.specs.Names.{Name, element_name, attribute_name}
 
 -- what is in scope after attributes (Namespaces, 6.1)
@@ -22,6 +23,11 @@ names_language n = is_same n.prefix (codes "xml") && is_same n.local (codes "lan
 abbrev pub language_after : Option (List ℕ) → List Attr → Option (List ℕ)
 language_after l [] = l
 language_after l (a ∷ more) = language_after (if names_language a.name then Some a.value else l) more
+
+-- what a tag declares, if it declares one, is a language, or nothing, which ends an outer one (XML, 2.12)
+abbrev pub DeclaresLanguage : Option (List ℕ) → Type 0
+DeclaresLanguage None = ⊤
+DeclaresLanguage (Some l) = (l ≡ []) ⊎ IsLanguage l
 
 -- the language inside an element that declares one or none, inside another
 abbrev pub inherited : List ℕ → Option (List ℕ) → List ℕ

@@ -2,7 +2,7 @@
 ghost use Rattle.std.specs.Prelude.{◌≡◌, ◌≤◌, ◌<◌, List, length, option_map, IfSome};
 ghost use Rattle.px_xmp_marks.specs.Reading.{Attr, name_view, next_view};
 ghost use Rattle.px_xmp_spaces.specs.Bindings.{declared_prefix};
-ghost use Rattle.px_xmp.specs.Tags.{names_language, is_plain, inherited};
+ghost use Rattle.px_xmp.specs.Tags.{names_language, is_plain, DeclaresLanguage, inherited};
 ghost use Rattle.px_xmp.specs.calls.Listed.{AreListed, IsNextPlain};
 
 use px_xmp_forms::is_language;
@@ -59,7 +59,8 @@ pub(crate) fn next_plain<'a>(octets: &'a [u8]) -> Option<NextAttribute<'a>>
 
 // The language of the texts in an element that declares one or none, inside another language. None: it is for another reader.
 pub(crate) fn language_of<'a>(declared: Option<&'a [u8]>, outer: &'a [u8]) -> Option<&'a [u8]>
-    ensures { IfSome result (λ l. l.now ≡ inherited outer.now (option_map (λ d. d.now) declared.entry)) }
+    ensures declares { IfSome result (λ l. DeclaresLanguage (option_map (λ d. d.now) declared.entry)) }
+    ensures language { IfSome result (λ l. l.now ≡ inherited outer.now (option_map (λ d. d.now) declared.entry)) }
 {
     match declared {
         Some(language) => {

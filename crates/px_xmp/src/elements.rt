@@ -1,6 +1,6 @@
 // What is known of an element while its content is read.
 ghost use Rattle.std.specs.Prelude.{◌≡◌, option_map, IfSome};
-ghost use Rattle.px_xmp.specs.Tags.{inherited};
+ghost use Rattle.px_xmp.specs.Tags.{DeclaresLanguage, inherited};
 ghost use Rattle.px_xmp.specs.calls.Contents.{content_of};
 
 use crate::attributes::language_of;
@@ -37,6 +37,7 @@ pub(crate) struct Around<'a> {
 impl<'a> Around<'a> {
     // An element inside this one that is no element of the normal form. None: its language is for another reader.
     pub(crate) fn inside(self, opened: Opened<'a>) -> Option<Around<'a>>
+        ensures declares { IfSome result (λ a. DeclaresLanguage (option_map (λ l. l.now) opened.entry.language)) }
         ensures language { IfSome result (λ a.
             a.language.now ≡ inherited self.entry.language.now (option_map (λ l. l.now) opened.entry.language)) }
         ensures place { IfSome result (λ a. a.place ≡ opened.entry.place) }

@@ -2,15 +2,18 @@
 ghost use Rattle.std.specs.Prelude.{◌≡◌, option_map};
 ghost use Rattle.px_xmp_text.specs.Values.{Structure};
 ghost use Rattle.px_xmp_forms.specs.Labels.{container_view, label_view};
-ghost use Rattle.px_xmp.specs.Names.{is_rdf, is_root, is_about, is_property, container_of};
+ghost use Rattle.px_xmp.specs.Names.{is_rdf, is_root, is_about, is_free, is_property, container_of};
 ghost use Rattle.px_xmp.specs.Meaning.{compound_of, label_in};
 ghost use Rattle.px_xmp.specs.calls.Opening.{name_of, node_view};
 
 use crate::elements::Node;
-use px_xmp_forms::{Container, Label, META, Property, RDF};
+use px_xmp_forms::{Container, Label, META, Property, RDF, split_space};
 
 // The namespace to which the prefix xml is bound without a declaration.
 pub(crate) const XML: &[u8] = b"http://www.w3.org/XML/1998/namespace";
+
+// The namespace to which only the prefix xmlns is bound.
+pub(crate) const XMLNS: &[u8] = b"http://www.w3.org/2000/xmlns/";
 
 // The name of the root, and that of the root of old packets.
 const ROOT: &[u8] = b"xmpmeta";
@@ -20,6 +23,19 @@ const OLD_ROOT: &[u8] = b"xapmeta";
 const ABOUT: &[u8] = b"about";
 
 const VALUE: &[u8] = b"value";
+
+// Whether a namespace has properties of any name.
+fn is_free(space: &[u8]) -> bool
+    ensures { result ≡ is_free space.now }
+{
+    if space.is_empty() {
+        return false;
+    }
+    if space == RDF {
+        return false;
+    }
+    space != XMLNS
+}
 
 // A name. Its namespace is empty for none.
 #[derive(Clone, Copy, Debug, PartialEq, Eq)]
@@ -54,13 +70,13 @@ impl<'a> Named<'a> {
     fn is_property(&self) -> bool
         ensures { result ≡ is_property (name_of self.now) }
     {
-        if self.space.is_empty() {
-            return false;
+        if self.space == RDF {
+            return self.local == VALUE;
         }
         if self.space == XML {
             return false;
         }
-        self.space != RDF || self.local == VALUE
+        is_free(split_space(self.space).0)
     }
 
     // The property of this name.

@@ -12,7 +12,7 @@ ghost use Rattle.px_xmp.specs.calls.Opening.{name_of, IsDeclared, IsOpened};
 
 use crate::attributes::{declared_prefix, is_plain, names_language};
 use crate::elements::Opened;
-use crate::names::{Named, XML};
+use crate::names::{Named, XML, XMLNS};
 use px_bytes::Memory;
 use px_xmp_forms::{Cause, Refusal, is_rare_space};
 use px_xmp_marks::{Attribute, Name, StartTag, next_attribute};
@@ -22,8 +22,6 @@ use std::marker::Model;
 const XML_PREFIX: &[u8] = b"xml";
 
 const XMLNS_PREFIX: &[u8] = b"xmlns";
-
-const XMLNS: &[u8] = b"http://www.w3.org/2000/xmlns/";
 
 // An open element, or what it declares: a prefix and a namespace. Its declarations follow it.
 #[derive(Clone, Copy, Debug, PartialEq, Eq)]

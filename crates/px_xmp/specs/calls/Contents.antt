@@ -7,6 +7,7 @@ use Rattle.px_xmp_text.specs.Values as values
 use Rattle.px_xmp_marks.specs.Reading.{Attr, Next}
 use Rattle.px_xmp_spaces.specs.Scopes.{ended}
 use Rattle.px_xmp_forms.specs.Forms.{is_white}
+use Rattle.px_xmp_forms.specs.Uris.{IsAbsolute}
 use Rattle.px_xmp_forms.specs.Entries.{Value, Entry}
 use Rattle.px_xmp_forms.specs.Outputs.{State, Open, Has, nothing, begun, changed, with_text, with_inner, with_entry, value_of}
 use Rattle.px_xmp_forms.specs.Outputs.{JoinsProperties, JoinsMembers}
@@ -16,7 +17,7 @@ use Rattle.px_xmp_forms.specs.declared.labels.Container.{Container}
 use Rattle.px_xmp_forms.specs.declared.labels.Container.TheVariants as containers
 use Rattle.px_xmp_forms.specs.declared.output.Output.{Output}
 use Rattle.px_xmp.specs.Names.{Name, is_rdf}
-use Rattle.px_xmp.specs.Tags.{Field, Tag, inherited, plain}
+use Rattle.px_xmp.specs.Tags.{Field, Tag, DeclaresLanguage, inherited, plain}
 use Rattle.px_xmp.specs.Nodes.{Nodes}
 use Rattle.px_xmp.specs.Meaning.{AreWhite, IsText, literal, compound_of, label_in, AreAttributes, HasAttributes, IsRow}
 use Rattle.px_xmp.specs.Meaning.{IsValue, AreEntries, IsNode}
@@ -61,6 +62,7 @@ pub record PropertiesPut (fields : List Field) (l : List ℕ) (place : ℕ) (s :
 
 -- the only attribute was put, as a URI
 pub record ResourcePut (n : Next) (s : State) (output : Output) : Type 0 where
+  pub absolute : IsAbsolute n.attribute.value
   pub text : List ℕ
   pub says : text_of AttributeValue n.attribute.value ≡ Some text
   pub only : (more : List Attr) → AreListed n.rest more → plain more ≡ []
@@ -72,7 +74,7 @@ IsFilled fillings.Any fields l place s output = (fields ≡ []) × Has output s
 IsFilled fillings.Properties fields l place s output =
     (f : Field) × (fields ≡ f ∷ []) × (is_rdf (codes "parseType") f.name ≡ true) × (f.value ≡ codes "Resource") × Has output s
 IsFilled fillings.Resource fields l place s output =
-    (f : Field) × (fields ≡ f ∷ []) × (is_rdf (codes "resource") f.name ≡ true)
+    (f : Field) × (fields ≡ f ∷ []) × (is_rdf (codes "resource") f.name ≡ true) × IsAbsolute f.value
     × (t : List ℕ) × (text_of AttributeValue f.value ≡ Some t) × Has output (changed (with_text t) s)
 IsFilled fillings.Attributes fields l place s output = (fields ≢ []) × PropertiesPut fields l place s output
 
@@ -98,6 +100,7 @@ pub record TextRead (o : Option Opened) (s : State) (old new : Source) (output :
 
 -- a node was begun: its attributes were put
 pub record NodeBegun (node : Node) (t : Tag) (outer : List ℕ) (place : ℕ) (a : Around) (s : State) (output : Output) : Type 0 where
+  pub declares : DeclaresLanguage t.language
   pub language : a.language.now ≡ inherited outer t.language
   pub entries : List Entry
   pub are : HasAttributes (node_view node) (inherited outer t.language) place t.fields entries
@@ -137,6 +140,7 @@ pub record ValueRead (o : Opened) (t : Tag) (label : Label) (outer : List ℕ) (
   pub nodes : Nodes
   pub value : Value
   pub inside : InsideRead o.is_empty nodes old new
+  pub declares : DeclaresLanguage t.language
   pub is : HasValue (inherited outer t.language) o.place t.fields nodes value
   pub scope : new.scope ≡ ended old.scope
   pub has : Has output (changed (with_entry (record { label = label; value = value; place = o.place })) s)
@@ -158,6 +162,7 @@ pub record NodeRead (node : Node) (o : Opened) (t : Tag) (outer : List ℕ) (old
   pub attributes : List Entry
   pub entries : List Entry
   pub inside : InsideRead o.is_empty nodes old new
+  pub declares : DeclaresLanguage t.language
   pub named : compound_of t.name ≡ Some (node_view node)
   pub attributes_are : HasAttributes (node_view node) (inherited outer t.language) o.place t.fields attributes
   pub are : AreEntries (node_view node) (inherited outer t.language) nodes entries

@@ -8,7 +8,7 @@ use Rattle.px_xmp_forms.specs.Entries.{Entry}
 use Rattle.px_xmp_forms.specs.Outputs.{State, Has, changed}
 use Rattle.px_xmp_forms.specs.declared.output.Output.{Output}
 use Rattle.px_xmp.specs.Names.{is_rdf, is_root, is_about}
-use Rattle.px_xmp.specs.Tags.{Field, Tag, inherited}
+use Rattle.px_xmp.specs.Tags.{Field, Tag, DeclaresLanguage, inherited}
 use Rattle.px_xmp.specs.Nodes.{Nodes, AreNodes}
 use Rattle.px_xmp.specs.Meaning.{AreAttributes, AreEntries, AreAbout, without_about, AreSubjects, IsRdf, HasRdf, Means}
 use Rattle.px_xmp.specs.declared.elements.Opened.{Opened}
@@ -48,6 +48,7 @@ pub record SubjectRead (o : Opened) (t : Tag) (outer : List ℕ) (old new : Sour
   pub nodes : Nodes
   pub attributes : List Entry
   pub entries : List Entry
+  pub declares : DeclaresLanguage t.language
   pub named : is_rdf (codes "Description") t.name ≡ true
   pub inside : InsideRead o.is_empty nodes old new
   pub attributes_are : AreAttributes (inherited outer t.language) o.place (without_about t.fields) attributes

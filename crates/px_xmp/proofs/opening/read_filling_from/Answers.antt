@@ -23,6 +23,7 @@ returns-then-is_rdf-2-clause-value c s all has (more, listed, same) =
       only_field c.args.scope.now all more (next_view c.args.first) same (put.only more listed),
       ap (λ (z : Name). is_rdf (114 ∷ 101 ∷ 115 ∷ 111 ∷ 117 ∷ 114 ∷ 99 ∷ 101 ∷ []) z) (sym c.attribute-name.ensures) ∙ sym c.is_rdf-2.ensures
           ∙ c.if-is_rdf-2.true,
+      put.absolute,
       put.text,
       put.says,
       put.has,

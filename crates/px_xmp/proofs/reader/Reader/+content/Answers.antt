@@ -5,7 +5,7 @@ use Rattle.px_xmp_forms.specs.Outputs.{begun, nothing, changed, with_text}
 use Rattle.px_xmp_forms.specs.Labels.{label_view}
 use Rattle.px_xmp_forms.specs.declared.labels.Content.{Content}
 use Rattle.px_xmp_forms.specs.declared.labels.Content.TheVariants as content
-use Rattle.px_xmp.specs.Tags.{Field, fields_in, inherited}
+use Rattle.px_xmp.specs.Tags.{Field, DeclaresLanguage, fields_in, inherited}
 use Rattle.px_xmp.specs.declared.elements.Opened.{Opened}
 use Rattle.px_xmp.specs.declared.elements.Filling.{Filling}
 use Rattle.px_xmp.specs.calls.Opening.{node_view}
@@ -138,6 +138,7 @@ read_value-returns-clause-read t c s u has left opened =
     c.read_content.new.self.source
     (record { rest = c.read_content.new.self.source.rest; at = c.read_content.new.self.source.at; scope = c.close.new.self }) s
     c.read_content.new.self.output c.end_element.new.self
+    (subst DeclaresLanguage opened.1 c.in-Some.ensures.declares)
     (c.in-Some-deeper.ensures.language ∙ c.in-Some.ensures.language
     ∙ ap (λ (z : Option (List ℕ)). inherited c.args.outer.language.now z) opened.1)
     (c.in-Some-deeper.ensures.place ∙ c.in-Some.ensures.place) r refl refl c.close.ensures ended)

@@ -1,6 +1,6 @@
 use Rattle.std.proofs.Common.{Option, List, ℕ, ap, subst, sym, ◌∙◌}
 use Rattle.px_xmp_forms.specs.Outputs.{begun, nothing}
-use Rattle.px_xmp.specs.Tags.{inherited, fields_in}
+use Rattle.px_xmp.specs.Tags.{DeclaresLanguage, inherited, fields_in}
 use Rattle.px_xmp.specs.declared.elements.Node.{Node}
 use Rattle.px_xmp.specs.calls.Contents.{NodeBegun}
 use Rattle.px_xmp.proofs.ContentLaws.{description_begun}
@@ -11,6 +11,6 @@ returns-in_ok-put_properties-in-Description-clause-value c s t has (name, langua
     subst (λ (z : Node). NodeBegun z t c.args.outer.language.now c.args.opened.place c.in-Some.around s c.put_properties.new.output)
     (sym c.in-Description.is)
     (description_begun t c.args.outer.language.now c.args.opened.place c.in-Some.around s c.put_properties.new.output
-    (fields_in c.args.self.now.source.scope all)
+    (fields_in c.args.self.now.source.scope all) (subst DeclaresLanguage language c.in-Some.ensures.declares)
     (c.in-Some.ensures.language ∙ ap (λ (z : Option (List ℕ)). inherited c.args.outer.language.now z) language) c.in-Some.ensures.place fields
     (c.in_ok-put_properties-in-Description.ensures.value (begun nothing s) all (c.in_ok-begin-in-Description.ensures.value s has) listed))

@@ -1,7 +1,7 @@
-use Rattle.std.proofs.Common.{Option, List, ℕ, [], refl, sym, ap, ◌∙◌}
+use Rattle.std.proofs.Common.{Option, List, ℕ, [], refl, sym, ap, subst, ◌∙◌}
 use Rattle.px_xmp_text.specs.Values.{End}
 use Rattle.px_xmp_forms.specs.Outputs.{State, begun, changed, nothing}
-use Rattle.px_xmp.specs.Tags.{inherited}
+use Rattle.px_xmp.specs.Tags.{DeclaresLanguage, inherited}
 use Rattle.px_xmp.specs.calls.Contents.{with_entries}
 use Rattle.px_xmp.proofs.OpeningLaws.{none_after}
 use Rattle.px_xmp.proofs.RootLaws.{no_fields, rdf_row, rdf_done}
@@ -16,6 +16,6 @@ returns-clause-read c t has left (name, language, all, listed, fields) =
     let none = none_after c.next_plain.result all (sym c.is_some.ensures ∙ c.if-is_some.false) (c.next_plain.ensures.value all listed) in
     rdf_done c.args.opened t c.in-Some.around.language.now c.args.self.now.source c.read_subjects.new.self.source _ c.args.subject.now
     c.read_subjects.new.subject (begun nothing empty) c.read_subjects.new.self.output c.end_properties.new.self content
-    (sym c.is_rdf.ensures ∙ c.if-not-is_rdf.false) name
+    (subst DeclaresLanguage language c.in-Some.ensures.declares) (sym c.is_rdf.ensures ∙ c.if-not-is_rdf.false) name
     (c.in-Some.ensures.language ∙ ap (λ (z : Option (List ℕ)). inherited [] z) language)
     (sym fields ∙ no_fields c.args.self.now.source.scope all none) refl refl c.close.ensures sub line put

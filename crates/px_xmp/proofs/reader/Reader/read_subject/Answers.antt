@@ -1,6 +1,6 @@
 use Rattle.std.proofs.Common.{Option, List, ℕ, refl, sym, ap, subst, ◌∙◌}
 use Rattle.px_xmp_forms.specs.Outputs.{changed}
-use Rattle.px_xmp.specs.Tags.{inherited, fields_in}
+use Rattle.px_xmp.specs.Tags.{DeclaresLanguage, inherited, fields_in}
 use Rattle.px_xmp.specs.declared.source.Source.{Source}
 use Rattle.px_xmp.specs.calls.Steps.{IsLeft}
 use Rattle.px_xmp.specs.calls.Contents.{with_entries}
@@ -14,7 +14,7 @@ returns-clause-read c s t has left (name, language, all, listed, fields) =
     subject_done c.args.opened t c.args.outer.language.now c.in-Some.around.language.now c.in-Some.around.place
     (fields_in c.args.self.now.source.scope all) c.args.self.now.source c.read_subject_attributes.new.self.source c.read_items.new.self.source _
     c.args.subject.now c.read_subject_attributes.new.subject s c.read_subject_attributes.new.self.output c.read_items.new.self.output
-    (sym c.is_rdf.ensures ∙ c.if-not-is_rdf.false) name
+    (subst DeclaresLanguage language c.in-Some.ensures.declares) (sym c.is_rdf.ensures ∙ c.if-not-is_rdf.false) name
     (c.in-Some.ensures.language ∙ ap (λ (z : Option (List ℕ)). inherited c.args.outer.language.now z) language) c.in-Some.ensures.place fields kept
     refl refl c.close.ensures a
     (c.in_ok-read_items.ensures.read (changed (with_entries a.entries) s) a.has (subst (λ (z : Source). IsLeft z.at z.rest.now) (sym kept) left))
