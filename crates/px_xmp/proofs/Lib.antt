@@ -12,3 +12,7 @@ pub mod MeaningLaws
 pub mod DocumentLaws
 pub mod RootLaws
 pub mod FormedLaws
+pub mod AlikeLaws
+pub mod SimpleLaws
+pub mod StartLaws
+pub mod SaidLaws

@@ -19,11 +19,11 @@ use Rattle.px_xmp_forms.specs.Entries.{Value, Plain, Inside, Entry, before, row,
 
 -- ---- what follows is appended
 
-opening_more : (l : Label) (k : List ℕ) → opening_tag l k ≡ opening_tag l [] ++ k
+pub opening_more : (l : Label) (k : List ℕ) → opening_tag l k ≡ opening_tag l [] ++ k
 opening_more (Property space local) k = simp append_assoc refl
 opening_more Item k = refl
 
-end_more : (l : Label) (k : List ℕ) → end_tag l k ≡ end_tag l [] ++ k
+pub end_more : (l : Label) (k : List ℕ) → end_tag l k ≡ end_tag l [] ++ k
 end_more (Property space local) k = simp append_assoc refl
 end_more Item k = refl
 

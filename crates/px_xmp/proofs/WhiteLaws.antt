@@ -7,11 +7,11 @@ use Rattle.px_xmp_marks.specs.Declarations.{every}
 use Rattle.px_xmp_forms.specs.Forms.{is_white}
 use Rattle.px_xmp.specs.calls.Steps.{is_plain_space}
 
-first_of : (a b : Bool) → (a && b) ≡ true → a ≡ true
+pub first_of : (a b : Bool) → (a && b) ≡ true → a ≡ true
 first_of true b h = refl
 first_of false b h = absurd (cc)
 
-rest_of : (a b : Bool) → (a && b) ≡ true → b ≡ true
+pub rest_of : (a b : Bool) → (a && b) ≡ true → b ≡ true
 rest_of true b h = h
 rest_of false b h = absurd (cc)
 

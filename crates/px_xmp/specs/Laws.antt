@@ -10,6 +10,7 @@ use Rattle.px_xmp.specs.Reading.{Read, IsReadAs, read}
 use Rattle.px_xmp.specs.Nodes.{Nodes, AreNodes}
 use Rattle.px_xmp.specs.Packet.{IsPacket}
 use Rattle.px_xmp.specs.Meaning.{Means, HasMeaning}
+use Rattle.px_xmp.specs.Readable.{IsReadable}
 
 -- Each mark is read, whatever follows it.
 abbrev pub KindsAreRead : Type 0
@@ -48,3 +49,7 @@ MeanTheSame x m y n = (c : Content) × IsContent c × HasMeaning x m c × HasMea
 -- Documents mean the same exactly if their forms are the same.
 abbrev pub FormsDecide : Type 0
 FormsDecide = (x y : List ℕ) (m n : ℕ) (f g : List ℕ) → IsFormOf x m f → IsFormOf y n g → (f ≡ g) ↔ MeanTheSame x m y n
+
+-- The normal packet of content that can be read means this content.
+abbrev pub NormalSays : Type 0
+NormalSays = (c : Content) → IsContent c → IsReadable c → HasMeaning (normal_packet c) 0 c

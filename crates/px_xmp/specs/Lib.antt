@@ -5,5 +5,6 @@ pub mod Tags
 pub mod Nodes
 pub mod Reading
 pub mod Meaning
+pub mod Readable
 pub mod Laws
 pub mod calls

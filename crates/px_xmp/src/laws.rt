@@ -1,5 +1,5 @@
 //! The laws of packets. Each is the contract of a function that computes nothing.
-ghost use Rattle.px_xmp.specs.Laws.{FormsDecide, KindsAreRead, NodesMeanOnce, OneMeaning, OneReading, ScopesAreJudged};
+ghost use Rattle.px_xmp.specs.Laws.{FormsDecide, KindsAreRead, NodesMeanOnce, NormalSays, OneMeaning, OneReading, ScopesAreJudged};
 
 /// Each mark of a document is read as what it is, and with its length.
 pub fn kinds_are_read()
@@ -47,4 +47,13 @@ pub fn forms_decide()
 {
     px_xmp_text::laws::packet_is_injective();
     one_meaning();
+}
+
+/// The normal packet of content that can be read means this content.
+pub fn normal_says()
+    ensures { NormalSays }
+{
+    px_xmp_text::laws::normal_reads_back();
+    px_xmp_text::laws::normal_bound();
+    px_xmp_text::laws::fault_or_text();
 }
