@@ -16,3 +16,8 @@ pub mod AlikeLaws
 pub mod SimpleLaws
 pub mod StartLaws
 pub mod SaidLaws
+pub mod PartLaws
+pub mod CharacterLaws
+pub mod NestLaws
+pub mod LeadLaws
+pub mod WrittenLaws

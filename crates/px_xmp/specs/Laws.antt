@@ -4,6 +4,7 @@ use Rattle.px_xmp_text.specs.Values.{Content, IsContent, normal_packet}
 use Rattle.px_xmp_marks.specs.Reading.{Named, Attr}
 use Rattle.px_xmp_spaces.specs.Scopes.{Item}
 use Rattle.px_xmp_spaces.specs.Tags.{opened}
+use Rattle.px_xmp_document.specs.Document.{IsFile}
 use Rattle.px_xmp.specs.Marks.{Mark, IsKind}
 use Rattle.px_xmp.specs.Tags.{inside}
 use Rattle.px_xmp.specs.Reading.{Read, IsReadAs, read}
@@ -53,3 +54,7 @@ FormsDecide = (x y : List ℕ) (m n : ℕ) (f g : List ℕ) → IsFormOf x m f �
 -- The normal packet of content that can be read means this content.
 abbrev pub NormalSays : Type 0
 NormalSays = (c : Content) → IsContent c → IsReadable c → HasMeaning (normal_packet c) 0 c
+
+-- The normal packet of content that can be read is a document.
+abbrev pub NormalIsFile : Type 0
+NormalIsFile = (c : Content) → IsContent c → IsReadable c → IsFile (normal_packet c)

@@ -1,5 +1,5 @@
 //! The laws of packets. Each is the contract of a function that computes nothing.
-ghost use Rattle.px_xmp.specs.Laws.{FormsDecide, KindsAreRead, NodesMeanOnce, NormalSays, OneMeaning, OneReading, ScopesAreJudged};
+ghost use Rattle.px_xmp.specs.Laws.{FormsDecide, KindsAreRead, NodesMeanOnce, NormalIsFile, NormalSays, OneMeaning, OneReading, ScopesAreJudged};
 
 /// Each mark of a document is read as what it is, and with its length.
 pub fn kinds_are_read()
@@ -56,4 +56,14 @@ pub fn normal_says()
     px_xmp_text::laws::normal_reads_back();
     px_xmp_text::laws::normal_bound();
     px_xmp_text::laws::fault_or_text();
+}
+
+/// The normal packet of content that can be read is a document.
+pub fn normal_is_file()
+    ensures { NormalIsFile }
+{
+    px_xmp_text::laws::normal_reads_back();
+    px_xmp_text::laws::normal_bound();
+    px_xmp_text::laws::fault_or_text();
+    px_xmp_marks::laws::start_tags_are_read();
 }
