@@ -21,3 +21,10 @@ pub mod CharacterLaws
 pub mod NestLaws
 pub mod LeadLaws
 pub mod WrittenLaws
+pub mod TextLaws
+pub mod SoundLaws
+pub mod RepeatLaws
+pub mod AgainLaws
+pub mod LabelLaws
+pub mod ReadableLaws
+pub mod AcceptedLaws

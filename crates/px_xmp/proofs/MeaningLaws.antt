@@ -22,10 +22,10 @@ some_same p q h = cc
 
 -- ---- what can be written
 
-abbrev Can : Entry → Type 0
+abbrev pub Can : Entry → Type 0
 Can e = IsContent (before e.label e.value End)
 
-abbrev CanAll : List Entry → Type 0
+abbrev pub CanAll : List Entry → Type 0
 CanAll es = AllByRecursion Can es
 
 row_parts : (l : Label) (v : Value) (c : Content) → IsContent (before l v c) → IsContent (before l v End) × IsContent c
@@ -36,11 +36,11 @@ can_row : (es : List Entry) → IsContent (row es) → CanAll es
 can_row [] h = tt
 can_row (e ∷ es) h = let parts = row_parts e.label e.value (row es) h in (parts.0, can_row es parts.1)
 
-can_append : (es fs : List Entry) → CanAll (es ++ fs) → CanAll fs
+pub can_append : (es fs : List Entry) → CanAll (es ++ fs) → CanAll fs
 can_append [] fs h = h
 can_append (e ∷ es) fs h = can_append es fs h.1
 
-can_front : (es fs : List Entry) → CanAll (es ++ fs) → CanAll es
+pub can_front : (es fs : List Entry) → CanAll (es ++ fs) → CanAll es
 can_front [] fs h = tt
 can_front (e ∷ es) fs h = (h.0, can_front es fs h.1)
 
@@ -49,14 +49,14 @@ can_moved es fs h can =
     recursion_from_All Can es (All-permutation Can fs es (IsPermutation-sym es fs h) (All-from_recursion Can fs can))
 
 -- the value of an item
-abbrev CanValue : Value → Type 0
+abbrev pub CanValue : Value → Type 0
 CanValue v = IsContent (before Item v End)
 
-value_can : (l : Label) (v : Value) → IsContent (before l v End) → CanValue v
+pub value_can : (l : Label) (v : Value) → IsContent (before l v End) → CanValue v
 value_can l (Plain p) h = (tt, h.1, tt)
 value_can l (Inside s c) h = (tt, h.1, tt)
 
-inside_can : (v : Value) (s : Compound) (c : Content) → v ≡ Inside s c → CanValue v → IsContent c
+pub inside_can : (v : Value) (s : Compound) (c : Content) → v ≡ Inside s c → CanValue v → IsContent c
 inside_can v s c e h = (subst CanValue e h).1
 
 -- ---- rows
@@ -68,7 +68,7 @@ row_once law Bag es c d (fs, h, e) (gs, k, f) p q = e ∙ sorted_once law es fs 
 row_once law Seq es c d (fs, h, e) (gs, k, f) p q = e ∙ ap row (h ∙ sym k) ∙ sym f
 row_once law Alt es c d (fs, h, e) (gs, k, f) p q = e ∙ ap row (h ∙ sym k) ∙ sym f
 
-row_can : (s : Compound) (es : List Entry) (c : Content) → IsRow s es c → IsContent c → CanAll es
+pub row_can : (s : Compound) (es : List Entry) (c : Content) → IsRow s es c → IsContent c → CanAll es
 row_can Structure es c (fs, (one, h), e) p = can_moved es fs h.same (can_row fs (subst IsContent e p))
 row_can Bag es c (fs, h, e) p = can_moved es fs h.same (can_row fs (subst IsContent e p))
 row_can Seq es c (fs, h, e) p = subst CanAll h (can_row fs (subst IsContent e p))
@@ -112,7 +112,7 @@ both : (a b : Bool) → (a && b) ≡ true → (a ≡ true) × (b ≡ true)
 both true b h = (refl, h)
 both false b h = absurd (cc)
 
-same_octets : (x y : List ℕ) → is_same x y ≡ true → x ≡ y
+pub same_octets : (x y : List ℕ) → is_same x y ≡ true → x ≡ y
 same_octets [] [] h = refl
 same_octets [] (o ∷ y) h = absurd (cc)
 same_octets (o ∷ x) [] h = absurd (cc)

@@ -25,7 +25,7 @@ read_once reading.End k l e f = e ∙ sym f
 read_once (reading.Words kind octets) k l e f = e ∙ sym f
 read_once reading.Other k l e f = e ∙ sym f
 
-mark_once : KindsAreRead → (k l : Mark) (m n x y : List ℕ) → IsKind k m x → IsKind l n y → m ++ x ≡ n ++ y → (k ≡ l) × (m ≡ n) × (x ≡ y)
+pub mark_once : KindsAreRead → (k l : Mark) (m n x y : List ℕ) → IsKind k m x → IsKind l n y → m ++ x ≡ n ++ y → (k ≡ l) × (m ≡ n) × (x ≡ y)
 mark_once law k l m n x y i j e =
     let (q, f, size, is) = law k m x i in
     let (r, g, long, are) = law l n y j in
@@ -36,7 +36,7 @@ mark_once law k l m n x y i j e =
       sym (drop_at m x (length m) refl) ∙ ap (drop (length m)) e ∙ drop_at n y (length m) (sym len),
     )
 
-some_mark : KindsAreRead → (k : Mark) (m x : List ℕ) → IsKind k m x → m ++ x ≡ [] → ⊥
+pub some_mark : KindsAreRead → (k : Mark) (m x : List ℕ) → IsKind k m x → m ++ x ≡ [] → ⊥
 some_mark law k m x i e = let (q, f, size, is) = law k m x i in let wrong = sym nothing_read ∙ ap read (sym e) ∙ f in absurd (cc)
 
 -- ---- what a mark is

@@ -1,6 +1,6 @@
 -- The laws of marks, of what is in scope, and of meaning.
 use Rattle.std.specs.Prelude.{◌≡◌, ◌↔◌, ℕ, Some, List, [], ◌++◌, length, Ok}
-use Rattle.px_xmp_text.specs.Values.{Content, IsContent, normal_packet}
+use Rattle.px_xmp_text.specs.Values.{Structure, Content, IsContent, normal_packet}
 use Rattle.px_xmp_marks.specs.Reading.{Named, Attr}
 use Rattle.px_xmp_spaces.specs.Scopes.{Item}
 use Rattle.px_xmp_spaces.specs.Tags.{opened}
@@ -11,7 +11,7 @@ use Rattle.px_xmp.specs.Reading.{Read, IsReadAs, read}
 use Rattle.px_xmp.specs.Nodes.{Nodes, AreNodes}
 use Rattle.px_xmp.specs.Packet.{IsPacket}
 use Rattle.px_xmp.specs.Meaning.{Means, HasMeaning}
-use Rattle.px_xmp.specs.Readable.{IsReadable}
+use Rattle.px_xmp.specs.Readable.{IsOrdered, AreReadable, IsShallow, IsReadable}
 
 -- Each mark is read, whatever follows it.
 abbrev pub KindsAreRead : Type 0
@@ -58,3 +58,13 @@ NormalSays = (c : Content) → IsContent c → IsReadable c → HasMeaning (norm
 -- The normal packet of content that can be read is a document.
 abbrev pub NormalIsFile : Type 0
 NormalIsFile = (c : Content) → IsContent c → IsReadable c → IsFile (normal_packet c)
+
+-- What a document means can be written and read again, if it is not too deep.
+abbrev pub MeaningsAreReadable : Type 0
+MeaningsAreReadable = (x : List ℕ) (start : ℕ) (c : Content) → IsFile x → HasMeaning x start c → IsContent c
+    → IsOrdered Structure c × AreReadable Structure c
+
+-- The normal packet of what a document means is a document with this meaning, if it is not too deep.
+abbrev pub NormalKeepsMeaning : Type 0
+NormalKeepsMeaning = (x : List ℕ) (start : ℕ) (c : Content) → IsFile x → HasMeaning x start c → IsContent c → IsShallow 3 c
+    → IsFile (normal_packet c) × HasMeaning (normal_packet c) 0 c

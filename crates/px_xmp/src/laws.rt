@@ -1,5 +1,6 @@
 //! The laws of packets. Each is the contract of a function that computes nothing.
-ghost use Rattle.px_xmp.specs.Laws.{FormsDecide, KindsAreRead, NodesMeanOnce, NormalIsFile, NormalSays, OneMeaning, OneReading, ScopesAreJudged};
+ghost use Rattle.px_xmp.specs.Laws.{FormsDecide, KindsAreRead, MeaningsAreReadable, NodesMeanOnce, NormalIsFile};
+ghost use Rattle.px_xmp.specs.Laws.{NormalKeepsMeaning, NormalSays, OneMeaning, OneReading, ScopesAreJudged};
 
 /// Each mark of a document is read as what it is, and with its length.
 pub fn kinds_are_read()
@@ -66,4 +67,22 @@ pub fn normal_is_file()
     px_xmp_text::laws::normal_bound();
     px_xmp_text::laws::fault_or_text();
     px_xmp_marks::laws::start_tags_are_read();
+}
+
+/// What a document means can be written and read again, if it is not too deep.
+pub fn meanings_are_readable()
+    ensures { MeaningsAreReadable }
+{
+    px_xmp_text::laws::only_references_are_read();
+    px_xmp_marks::laws::declarations_are_read();
+    kinds_are_read();
+}
+
+/// The normal packet of what a document means is a document with this meaning, if it is not too deep.
+pub fn normal_keeps_meaning()
+    ensures { NormalKeepsMeaning }
+{
+    meanings_are_readable();
+    normal_is_file();
+    normal_says();
 }
