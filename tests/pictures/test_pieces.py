@@ -4,6 +4,7 @@ import contextlib
 import hashlib
 import os
 import sqlite3
+import subprocess
 import unittest
 from types import SimpleNamespace
 from unittest import mock
@@ -423,8 +424,8 @@ class Sessions(WithPictures):
     def test_its_arguments(self):
         calls, lines = [], []
 
-        def start(words, folder, stdin):
-            calls.append((words, folder, stdin))
+        def start(words, folder, is_asked):
+            calls.append((words, folder, is_asked))
             return SimpleNamespace(poll=lambda: None)
 
         answers = [
@@ -443,7 +444,7 @@ class Sessions(WithPictures):
             self.assertEqual(it.ask([b"/a/b.jpg"], ("-EXIF:Exif", "-XMP"), exiftool._OPTIONS), [{"EXIF": "x"}])
             self.assertEqual(it.ask([b"/a/c"], (), exiftool._OPTIONS), [{}])
             self.assertEqual(it.ask([b"/a/ d.Jpg"], (), exiftool._OPTIONS), [{}])
-        self.assertEqual(calls, [(["exiftool", "-config", "", "-stay_open", "True", "-@", "-"], self.folder, -1)])
+        self.assertEqual(calls, [(["exiftool", "-config", "", "-stay_open", "True", "-@", "-"], self.folder, True)])
         common = [b"-q", b"-q", b"-m", b"-json", b"-a", b"-G4", b"-b", b"-api", b"Filter=s/^(base64|text):/text:$1:/"]
         self.assertEqual(
             [it.split(b"\n") for it in lines],
@@ -514,9 +515,11 @@ class Sessions(WithPictures):
     def test_how_a_program_is_started(self):
         """In a session of its own, in the C locale, with pipes for both outputs; it ends with this process, and gets the signals that this one gets."""
         calls = []
-        with mock.patch.object(programs.subprocess, "Popen", lambda words, **more: calls.append((words, more))):
-            programs.start(["a", "b"], "/", stdin=-3)
+        with mock.patch.object(subprocess, "Popen", lambda words, **more: calls.append((words, more))):
+            programs.start(["a", "b"], "/")
+            programs.start(["a"], "/", is_asked=True)
         (words, more), pipe, nowhere = calls[0], -1, -3
+        self.assertEqual(calls[1][1]["stdin"], pipe)
         begin = more.pop("preexec_fn")
         environment = more.pop("env")
         self.assertEqual(

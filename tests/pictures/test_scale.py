@@ -260,6 +260,7 @@ class Scale(WithPictures):
         self.asked("index", "p", "--catalogue", "c", "--quiet")
         call = "import sys; from exifnorm_pictures.cli.main import main; main(sys.argv[1:]); print(*sys.modules, file=sys.stderr)"
         reading = [f"exifnorm_pictures.{it}" for it in ("extract.extraction", "scan.looking")]
+        fields = {"dataclasses", "difflib", "inspect", "textwrap"}
         names = (
             "catalogue.label_texts",
             "comparison.changed",
@@ -270,15 +271,15 @@ class Scale(WithPictures):
             "refusals.repairs",
             "report.rendering",
         )
-        watched = {"exifnorm", "html", "jinja2", "logging", "multiprocessing", "subprocess", "urllib", "xml", *reading}
+        watched = {"exifnorm", "html", "jinja2", "logging", "multiprocessing", "rdflib", "subprocess", "urllib", "xml", *reading, *fields}
         watched.update(f"exifnorm_pictures.{it}" for it in names)
         for words, needed in (
-            (["same", "--catalogue", "c"], {"subprocess", "exifnorm_pictures.comparison.groups"}),
-            (["index", "p", "--catalogue", "c", "--quiet"], {"subprocess"}),
-            (["index", "p", "--catalogue", "e", "--quiet"], {"subprocess", "exifnorm", "xml", *reading}),
-            (["merge", "c", "--catalogue", "d"], {"subprocess"}),
-            (["changed", "c", "c"], {"subprocess", "exifnorm_pictures.comparison.changed"}),
-            (["show", "p/0000.jpg"], {"subprocess", "exifnorm", "xml", reading[0], "exifnorm_pictures.judge.repairs"}),
+            (["same", "--catalogue", "c"], {*fields, "exifnorm_pictures.comparison.groups"}),
+            (["index", "p", "--catalogue", "c", "--quiet"], set()),
+            (["index", "p", "--catalogue", "e", "--quiet"], {"exifnorm", "xml", *reading}),
+            (["merge", "c", "--catalogue", "d"], set()),
+            (["changed", "c", "c"], {*fields, "exifnorm_pictures.comparison.changed"}),
+            (["show", "p/0000.jpg"], {*fields, "exifnorm", "xml", reading[0], "exifnorm_pictures.judge.repairs"}),
         ):
             with self.subTest(words[0]):
                 done = run([sys.executable, "-S", "-c", call, *words], self.folder)

@@ -14,7 +14,6 @@ import json
 import os
 import re
 import shutil
-import subprocess
 from typing import Dict, List, Optional, Sequence, cast
 
 from ..files.session import Session
@@ -50,7 +49,7 @@ class Process:
         seconds for a call."""
         self.room, self.seconds = room, seconds
         self.number = 0
-        self.process = programs.start(programs.exiftool("-stay_open", "True", "-@", "-"), room, stdin=subprocess.PIPE)
+        self.process = programs.start(programs.exiftool("-stay_open", "True", "-@", "-"), room, is_asked=True)
 
     def ask(self, paths: Sequence[bytes], words: Sequence[str], options: Sequence[str]) -> List[Dict[str, str]]:
         """The tags of some files for the arguments `words`, each by its copy and name as in `Copy1:IPTC`. Raises `Failed`."""
@@ -81,6 +80,8 @@ class Process:
         return link.encode("ascii")
 
     def _status(self) -> int:
+        import subprocess
+
         try:
             return self.process.wait(1.0)
         except subprocess.TimeoutExpired:

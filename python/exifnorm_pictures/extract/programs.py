@@ -14,14 +14,16 @@ import resource
 import select
 import shutil
 import signal
-import subprocess
 import time
-from typing import Callable, Dict, List, Mapping, NamedTuple, Optional, Set, Tuple
+from typing import TYPE_CHECKING, Callable, Dict, List, Mapping, NamedTuple, Optional, Set, Tuple
 
 from ..files import signals
 from ..model.budgets import OUTPUT, PROGRAM_BYTES
 from ..model.errors import Failure
 from ..model.texts import reason
+
+if TYPE_CHECKING:
+    import subprocess  # which takes long to import: most runs start no program
 
 PACKAGES = {"exiftool": "libimage-exiftool-perl", "exiv2": "exiv2"}
 
@@ -106,6 +108,8 @@ def version(program: str, seconds: float) -> Optional[str]:
 
 def run(words: List[str], seconds: float, folder: Optional[str] = None) -> Done:
     """Runs a program to its end. Raises `Failed` if it takes too long, writes too much, gets no more memory, or is ended by a signal."""
+    import subprocess
+
     started = start(words, folder)
     try:
         output = read_until(started, lambda _: False, seconds)
@@ -126,12 +130,12 @@ def _name(words: List[str]) -> str:
 _libc = ctypes.CDLL(None)
 
 
-def start(words: List[str], folder: Optional[str] = None, stdin: int = subprocess.DEVNULL) -> "subprocess.Popen[bytes]":
-    """Starts a program in a process group of its own, which the system ends if this process is killed. Raises `Failed`."""
+def start(words: List[str], folder: Optional[str] = None, is_asked: bool = False) -> "subprocess.Popen[bytes]":
+    """Starts a program in a process group of its own, which the system ends if this process is killed. It has an input if it is asked. Raises `Failed`."""
     started: "Optional[subprocess.Popen[bytes]]" = None
     try:
         with signals.signals_held() as mask:
-            started = _started(words, folder, stdin, mask)
+            started = _started(words, folder, is_asked, mask)
         return started
     except OSError as error:
         raise Failed(f"{_name(words)} can't be started: {reason(error)}") from error
@@ -147,7 +151,9 @@ def _memory() -> Tuple[int, int]:
     return (PROGRAM_BYTES if soft == resource.RLIM_INFINITY else min(soft, PROGRAM_BYTES)), hard
 
 
-def _started(words: List[str], folder: Optional[str], stdin: int, mask: Set[int]) -> "subprocess.Popen[bytes]":
+def _started(words: List[str], folder: Optional[str], is_asked: bool, mask: Set[int]) -> "subprocess.Popen[bytes]":
+    import subprocess
+
     memory = _memory()
 
     def begin() -> None:
@@ -157,7 +163,7 @@ def _started(words: List[str], folder: Optional[str], stdin: int, mask: Set[int]
 
     return subprocess.Popen(
         words,
-        stdin=stdin,
+        stdin=subprocess.PIPE if is_asked else subprocess.DEVNULL,
         stdout=subprocess.PIPE,
         stderr=subprocess.PIPE,
         bufsize=0,
