@@ -16,6 +16,7 @@ LONGEST_TEXT = 65_536  # bytes of a text that is kept whole
 LONGEST_OTHER_TEXT = 400  # characters of bytes that happen to be a text, in a field of no texts
 LONGEST_BYTES = 32  # other bytes that are kept
 LONGEST_NUMBERS = 160  # characters of numbers that are kept
+_BEGINS = 60  # characters that are kept of the beginning
 DIGITS = 32  # hexadecimal digits of SHA-256 that identify a value that isn't kept whole
 
 OCTETS = {"BYTE", "ASCII", "SBYTE", "UNDEFINED", "UTF8", "octets"}
@@ -81,11 +82,11 @@ def kept_value(field: Field) -> Content:
     if isinstance(value, Long):
         return value
     if field.directory == "xmp":
-        return tuple([_kept_property(one) for one in value])  # type: ignore[arg-type]
+        return tuple([kept_property(one) for one in value])  # type: ignore[arg-type]
     if field.count <= 6:  # the longest fraction has 22 characters
         return value
     text = numbers_text(field.type, value)  # type: ignore[arg-type]
-    return value if len(text) <= LONGEST_NUMBERS else Long(digest_of(text.encode()), text[:60])
+    return value if len(text) <= LONGEST_NUMBERS else Long(digest_of(text.encode()), text[:_BEGINS])
 
 
 def _is_long(field: Field, octets: bytes) -> bool:
@@ -94,14 +95,17 @@ def _is_long(field: Field, octets: bytes) -> bool:
     return len(octets) > 4 * LONGEST_OTHER_TEXT or len(plain_text(octets) or " " * 999) > LONGEST_OTHER_TEXT
 
 
-def _kept_property(value: XmpValue) -> XmpValue:
+def kept_property(value: XmpValue) -> XmpValue:
+    """A value of XMP, or if it is too long to be kept, its digest and its beginning."""
     if isinstance(value, xmp_values.Literal) and len(value.text) < LONGEST_TEXT // 4:
         return value
-    text = xmp_values.exact(value)
-    octets = text.encode("utf-8", "surrogatepass")
-    if len(octets) <= LONGEST_TEXT or isinstance(value, Long):
-        return value
-    return Long(digest_of(xmp_values.identity(value).encode("utf-8", "surrogatepass")), text[:60])
+    if isinstance(value, xmp_values.Literal) and len(value.text) > LONGEST_TEXT:  # which needn't be printed whole
+        text = xmp_values.exact(xmp_values.Literal(value.text[:_BEGINS]))
+    else:
+        text = xmp_values.exact(value)
+        if len(text.encode("utf-8", "surrogatepass")) <= LONGEST_TEXT or isinstance(value, Long):
+            return value
+    return Long(digest_of(xmp_values.identity(value).encode("utf-8", "surrogatepass")), text[:_BEGINS])
 
 
 # Exact values

@@ -21,7 +21,7 @@ from ..model.budgets import FIELD_BYTES, NESTED
 from ..model.columns import Damaged
 from ..model.xmp_values import Array, Literal, Long, Uri, Structure, XmpValue
 from .field import Content, Field, Identity
-from .listing import LONGEST_BYTES, MAKER_NOTE, OCTETS, digest_of, kept_value, plain_text
+from .listing import LONGEST_BYTES, MAKER_NOTE, OCTETS, digest_of, kept_property, kept_value, plain_text
 
 _LONG = 64  # characters of a long text
 _ESCAPED = bytes(range(32)) + b'"\\\x7f'  # in JSON
@@ -102,14 +102,14 @@ def _is_plain(octets: bytes) -> bool:
 
 def _json_of_others(directory: str, tag: str, kind: str, count: int, content: Any) -> str:
     value: Any = content
-    if count == 1 and directory != "xmp" and not isinstance(value, Long):
+    if directory == "xmp" and not isinstance(value, Long):
+        return f"[{','.join([_json_of_property(kept_property(one)) for one in value])}]"
+    if count == 1 and not isinstance(value, Long):
         number = value[0]
         return f"[{number[0]},{number[1]}]" if isinstance(number, tuple) else str(number)
     value = kept_value(Field(directory, tag, kind, count, content))
     if isinstance(value, Long):
         return f'["{value.digest}",{_quoted(str(value.begins))}]'
-    if directory == "xmp":
-        return f"[{','.join(map(_json_of_property, value))}]"
     if kind in ("RATIONAL", "SRATIONAL"):
         return f"[{','.join(['%d,%d' % one for one in value])}]"
     return str(value[0]) if len(value) == 1 else f"[{','.join(map(str, value))}]"

@@ -270,7 +270,7 @@ def _doubled(block: bytes, walk: Walk) -> _Done:
 
 
 def _unknown_type(block: bytes, walk: Walk) -> _Done:
-    wrong = [(it, one) for it, one in _entries(walk) if one.type not in EXIF]
+    wrong = [(it, number) for it in walk.directories for number, row in enumerate(it.rows) if row[1] not in EXIF]
     if not wrong:
         return None
     if len(wrong) > MOST:  # one is left out in a step; a directory of such entries can't be one
@@ -279,7 +279,7 @@ def _unknown_type(block: bytes, walk: Walk) -> _Done:
         left = _without_directory(block, walk, directory)
         what = f"the {_NAMES[directory.name]}, whose entries have unknown types, left out"
         return (left, what, "a directory", directory.name) if left else None
-    directory, entry = wrong[0]
+    directory, entry = wrong[0][0], wrong[0][0].entries[wrong[0][1]]
     if entry.type == IFD:
         return _with_type(block, walk, entry), "type 13 (IFD) read as LONG", ""
     what = f"tag {entry.tag:04x} of unknown type {entry.type} left out"
