@@ -347,6 +347,7 @@ class TestArchive:
         "hex": "Apache-2.0 OR MIT",
         "itoa": "MIT",
         "md5": "Apache-2.0 OR MIT",
+        "memchr": "MIT",
         "thiserror": "MIT",
     }
 

@@ -4,9 +4,9 @@ ghost use Rattle.px_xmp_marks.specs.Reading.{begins_with};
 ghost use Rattle.px_xmp_marks.specs.Marks.{data_len};
 ghost use Rattle.px_xmp.specs.Reading.{mark_view, data_read, section_read, comment_read, instruction_read, other_read, tag_read, read};
 
-use crate::why::len_before;
 use px_xmp_marks::{
-    StartTag, read_comment, read_end_tag, read_instruction, read_section, read_start_tag,
+    StartTag, len_before, read_comment, read_end_tag, read_instruction, read_section,
+    read_start_tag,
 };
 use px_xmp_text::TextKind;
 

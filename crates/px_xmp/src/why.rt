@@ -1,27 +1,11 @@
 // Why no mark begins at a place: of XML, or of names that are for another reader.
-ghost use Rattle.std.specs.Prelude.{◌≡◌, ◌≤◌, ◌<◌, ◌==◌, not, length};
-ghost use Rattle.px_xmp_marks.specs.Reading.{run};
-
 use px_xmp_forms::Cause;
-use px_xmp_marks::{next_attribute, read_name};
+use px_xmp_marks::{len_before, next_attribute, read_name};
 use px_xmp_text::{TextKind, first_fault};
 
 // The octets from an offset on.
 fn after(octets: &[u8], offset: usize) -> &[u8] {
     octets.split_at(offset.min(octets.len())).1
-}
-
-// The number of octets before the first of a kind.
-pub(crate) fn len_before(octets: &[u8], mark: u8) -> usize
-    ensures value { result ≡ run (λ o. not (o == mark)) octets.now }
-    ensures within { result ≤ length octets.now }
-{
-    for (n, octet) in octets.iter().enumerate() {
-        if *octet == mark {
-            return n;
-        }
-    }
-    octets.len()
 }
 
 // Whether an octet of ASCII ends a name.

@@ -8,3 +8,5 @@ pub mod InstructionLaws
 pub mod DeclarationLaws
 pub mod MarkLaws
 pub mod NamingLaws
+pub mod SearchLaws
+pub mod LocalLaws

@@ -6,3 +6,4 @@ pub mod Comments
 pub mod Instructions
 pub mod Declarations
 pub mod Marks
+pub mod Locals

@@ -3,6 +3,7 @@ ghost use Rattle.std.specs.Prelude.{◌≡◌, ◌≤◌, ◌+◌, length, optio
 ghost use Rattle.px_xmp_marks.specs.Reading.{eq_len, value_len, quoted_len, att_value, attribute, attribute_view};
 
 use crate::names::{Name, begins_with, read_name, space_len};
+use memchr::memchr2;
 use px_xmp_text::{TextKind, first_fault};
 
 /// An attribute, as it is written.
@@ -31,20 +32,17 @@ pub(crate) fn eq_len(octets: &[u8]) -> Option<usize>
 }
 
 // The number of octets before the first quotation mark of this kind. None: there is none, or `<` precedes it.
-#[tactic(auto, unfolding(crate::specs::Reading::quoted_len))]
 fn quoted_len(octets: &[u8], quote: u8) -> Option<usize>
     ensures value { result ≡ quoted_len quote 0 octets.now }
     ensures within { IfSome result (λ n. n + 1 ≤ length octets.now) }
 {
-    for (n, octet) in octets.iter().enumerate() {
-        if *octet == quote {
-            return Some(n);
-        }
-        if *octet == b'<' {
-            return None;
-        }
+    let Some(n) = memchr2(quote, b'<', octets) else {
+        return None;
+    };
+    if octets[n] != quote {
+        return None;
     }
-    None
+    Some(n)
 }
 
 // The length of the value before the first quotation mark of this kind, if it has a text.

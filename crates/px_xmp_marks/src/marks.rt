@@ -6,7 +6,8 @@ ghost use Rattle.px_xmp_marks.specs.Marks.{data_len, text_len, tag_len, other_le
 use crate::comments::read_comment;
 use crate::instructions::read_instruction;
 use crate::names::begins_with;
-use crate::sections::{find, read_section};
+use crate::searching::{has_section_end, len_before};
+use crate::sections::read_section;
 use crate::tags::{StartTag, read_end_tag, read_start_tag};
 use px_xmp_text::{TextKind, first_fault};
 
@@ -15,12 +16,7 @@ fn data_len(octets: &[u8]) -> usize
     ensures value { result ≡ data_len octets.now }
     ensures within { result ≤ length octets.now }
 {
-    for (n, octet) in octets.iter().enumerate() {
-        if *octet == b'<' {
-            return n;
-        }
-    }
-    octets.len()
+    len_before(octets, b'<')
 }
 
 // The length of the character data at the start, with its references.
@@ -34,7 +30,7 @@ fn text_len(octets: &[u8]) -> Option<usize>
         return None;
     }
     let data = octets.split_at(len).0;
-    if find(data, b"]]>").is_some() {
+    if has_section_end(data) {
         return None;
     }
     if first_fault(data, TextKind::CharacterData).is_some() {
