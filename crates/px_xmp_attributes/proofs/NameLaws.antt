@@ -1,8 +1,9 @@
 -- Stored names: a test says whether one is there twice.
-use Rattle.std.proofs.Common.{◌≡◌, ◌==◌, ◌&&◌, ◌||◌, ℕ, Bool, true, false, nat_eq, List, [], ◌∷◌, map, sym, ap, ◌∙◌, inl, inr, refl}
+use Rattle.std.proofs.Common.{◌≡◌, ◌==◌, ◌&&◌, ◌||◌, ℕ, Bool, true, false, not, nat_eq, List, [], ◌∷◌, map, sym, ap, ◌∙◌, inl, inr, refl}
 use Rattle.std.proofs.lemmas.Bool.{cases_Bool, or_parts, eqb-true, eqb-false, true_from_ne_false}
-use Rattle.std.specs.Cmp.Lexicographic.{pointwise, same_text, other_text}
+use Rattle.std.specs.Cmp.Lexicographic.{pointwise, same_text, other_text, bytes_decides}
 use Rattle.px_xmp_marks.specs.Reading.{Named, Attr}
+use Rattle.px_xmp_marks.specs.Locals.{is_local_of, are_locals_distinct}
 use Rattle.px_xmp_attributes.specs.Distinct.{IsAmong, AreDistinct, AreRepeated}
 use Rattle.px_xmp_attributes.specs.calls.Names.{are_same, is_among, has_twice}
 
@@ -59,3 +60,28 @@ pub once_from : (attributes : List Attr) → has_twice (names_of attributes) ≡
 once_from [] h = tt
 once_from (a ∷ more) h =
     let p = or_parts (is_among a.name (names_of more)) (has_twice (names_of more)) h in (not_among a.name more p.0, once_from more p.1)
+
+-- ---- other local names
+
+or_true : (b : Bool) → (b || true) ≡ true
+or_true true = refl
+or_true false = refl
+
+among_local : (n : Named) (attributes : List Attr) → IsAmong n attributes → is_local_of n.local attributes ≡ true
+among_local n [] i = absurd (i)
+among_local n (a ∷ more) (inl e) =
+    ap (λ (b : Bool). b || is_local_of n.local more) ((bytes_decides n.local a.name.local).1 (ap (λ (m : Named). m.local) (sym e)))
+among_local n (a ∷ more) (inr i) =
+    ap (λ (b : Bool). pointwise nat_eq n.local a.name.local || b) (among_local n more i) ∙ or_true (pointwise nat_eq n.local a.name.local)
+
+neither : (b c : Bool) → (not b && c) ≡ true → (b ≡ false) × (c ≡ true)
+neither true c h = absurd (cc)
+neither false c h = (refl, h)
+
+pub once_by_locals : (attributes : List Attr) → are_locals_distinct attributes ≡ true → AreDistinct attributes
+once_by_locals [] h = tt
+once_by_locals (a ∷ more) h =
+    let parts = neither (is_local_of a.name.local more) (are_locals_distinct more) h in (
+      λ i. let wrong : true ≡ false = sym (among_local a.name more i) ∙ parts.0 in absurd (cc),
+      once_by_locals more parts.1,
+    )

@@ -8,7 +8,9 @@ ghost use Rattle.px_xmp_attributes.specs.calls.Listed.{AreListed};
 ghost use Rattle.px_xmp_attributes.specs.calls.Names.{are_same, is_among, has_twice, names_of};
 
 use crate::faults::{Cause, Fault};
-use px_xmp_marks::{Attribute, Name, StartTag, next_attribute, read_mark, read_names};
+use px_xmp_marks::{
+    Attribute, Name, StartTag, are_locals_distinct, next_attribute, read_mark, read_names,
+};
 
 // The names of so many attributes are stored in one space for all tags, which few tags exceed: a larger one costs more to clear
 // than small documents cost to read.
@@ -109,6 +111,9 @@ pub fn are_repeated(attributes: &[Attribute]) -> bool
     ensures repeated { result ≡ true → AreRepeated (map attribute_view attributes.now) }
     ensures distinct { result ≡ false → AreDistinct (map attribute_view attributes.now) }
 {
+    if are_locals_distinct(attributes) {
+        return false;
+    }
     have_repeated(attributes)
 }
 

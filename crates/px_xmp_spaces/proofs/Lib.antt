@@ -3,3 +3,4 @@ pub mod ScopeLaws
 pub mod FaultLaws
 pub mod PlainLaws
 pub mod TagNameLaws
+pub mod LocalNameLaws

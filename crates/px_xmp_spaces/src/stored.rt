@@ -7,7 +7,7 @@ ghost use Rattle.px_xmp_spaces.specs.calls.Passing.{Gives, start_piece};
 
 use crate::faults::Cause;
 use crate::scopes::{Entry, Scope};
-use px_xmp_marks::{Attribute, Name};
+use px_xmp_marks::{Attribute, Name, are_locals_distinct};
 
 impl<'a> Scope<'a> {
     // Binds what attributes declare.
@@ -46,8 +46,8 @@ impl<'a> Scope<'a> {
         false
     }
 
-    // Whether no two of some attributes have both in common.
-    fn is_each_unique(&self, attributes: &[Attribute]) -> bool
+    // Whether no two of some attributes have both in common, by a look at each pair.
+    fn is_each_pair_unique(&self, attributes: &[Attribute]) -> bool
         ensures { result ≡ are_unique self.now (map attribute_view attributes.now) }
     {
         for (n, attribute) in attributes.iter().enumerate() {
@@ -56,6 +56,16 @@ impl<'a> Scope<'a> {
             }
         }
         true
+    }
+
+    // Whether no two of some attributes have both in common.
+    fn is_each_unique(&self, attributes: &[Attribute]) -> bool
+        ensures { result ≡ are_unique self.now (map attribute_view attributes.now) }
+    {
+        if are_locals_distinct(attributes) {
+            return true;
+        }
+        self.is_each_pair_unique(attributes)
     }
 
     // What is wrong with the names of a tag.

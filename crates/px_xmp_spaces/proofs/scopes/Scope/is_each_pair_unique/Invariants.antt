@@ -1,7 +1,7 @@
 use Rattle.std.proofs.Common.{◌≡◌, drop, map}
 use Rattle.px_xmp_marks.specs.Reading.{attribute_view}
 use Rattle.px_xmp_spaces.specs.Tags.{are_unique}
-use Rattle.px_xmp_spaces.proofs.scopes.Scope.is_each_unique.Given as goal
+use Rattle.px_xmp_spaces.proofs.scopes.Scope.is_each_pair_unique.Given as goal
 
 abbrev pub invariant-loop-n : goal.invariant-loop-n
 invariant-loop-n l =
