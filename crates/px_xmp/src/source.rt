@@ -123,12 +123,12 @@ fn is_plain_space(octet: u8) -> bool
 fn are_plain_spaces(octets: &[u8]) -> bool
     ensures { result ≡ every is_plain_space octets.now }
 {
+    // without an end before the last octet, so that many are looked at at once
+    let mut all = true;
     for octet in octets {
-        if !is_plain_space(*octet) {
-            return false;
-        }
+        all &= is_plain_space(*octet);
     }
-    true
+    all
 }
 
 // Judges a text between elements, which has to be white space.

@@ -16,7 +16,7 @@ use px_xmp_tree::{Cause, Fault, MarkKind, Nesting, read_other_mark, start_kind};
 
 // So many attributes of a tag are stored in one space for all tags, which few tags exceed: a larger one costs more to clear than
 // small documents cost to read.
-const STORED: usize = 16;
+const STORED: usize = 64;
 
 // So many are stored in a space for one tag. No tag has more that is right.
 const MANY: usize = 256;

@@ -41,12 +41,12 @@ fn is_plain(octet: u8) -> bool
 fn are_plain(octets: &[u8]) -> bool
     ensures { result ≡ every is_plain octets.now }
 {
+    // without an end before the last octet, so that many are looked at at once
+    let mut all = true;
     for octet in octets {
-        if !is_plain(*octet) {
-            return false;
-        }
+        all &= is_plain(*octet);
     }
-    true
+    all
 }
 
 // Whether no declaration can bind a prefix to a namespace.

@@ -41,12 +41,12 @@ fn is_space(octet: u8) -> bool
 fn are_spaces(octets: &[u8]) -> bool
     ensures { result ≡ every is_space octets.now }
 {
+    // without an end before the last octet, so that many are looked at at once
+    let mut all = true;
     for octet in octets {
-        if !is_space(*octet) {
-            return false;
-        }
+        all &= is_space(*octet);
     }
-    true
+    all
 }
 
 /// The kind of a start tag, or of the tag of an empty element, with this name. It allocates nothing.
