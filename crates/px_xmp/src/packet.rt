@@ -14,7 +14,7 @@ use crate::subject::Subject;
 use px_bytes::Memory;
 use px_xmp_document::first_fault;
 use px_xmp_forms::{Cause, LIMIT, Refusal};
-use px_xmp_marks::{StartTag, next_attribute, read_declaration};
+use px_xmp_marks::{StartTag, len_before, next_attribute, read_declaration};
 
 // No tag has more attributes.
 const ATTRIBUTE_LIMIT: usize = 256;
@@ -154,22 +154,36 @@ fn has_long_run(octets: &[u8]) -> bool {
     false
 }
 
+// A tag with more attributes than this reader judges is no shorter.
+const CROWDED: usize = 1285;
+
+// Whether octets have as many equals signs as the attributes that this reader judges, and more octets, or more equals signs.
+fn has_many_equals(octets: &[u8]) -> bool {
+    let mut left = ATTRIBUTE_LIMIT;
+    let mut at = 0;
+    while at < octets.len() {
+        if left == 0 {
+            return true;
+        }
+        left -= 1;
+        at += len_before(octets.split_at(at).1, b'=') + 1;
+    }
+    false
+}
+
 // Whether a tag can have more attributes than this reader judges. Each has an equals sign, and a tag has no second `<`.
 fn can_be_crowded(octets: &[u8]) -> bool {
     if !has_long_run(octets) {
         return false;
     }
-    let mut left = ATTRIBUTE_LIMIT;
-    for octet in octets {
-        if *octet == b'<' {
-            left = ATTRIBUTE_LIMIT;
+    let mut at = 0;
+    while at < octets.len() {
+        let rest = octets.split_at(at).1;
+        let len = len_before(rest, b'<');
+        if len >= CROWDED && has_many_equals(rest.split_at(len).0) {
+            return true;
         }
-        if *octet == b'=' {
-            if left == 0 {
-                return true;
-            }
-            left -= 1;
-        }
+        at += len + 1;
     }
     false
 }
