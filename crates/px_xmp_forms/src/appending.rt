@@ -37,6 +37,9 @@ pub fn append(memory: &mut Memory, out: &mut Vec<u8>, octets: &[u8]) -> Result<(
     ensures memory { CountsAllocFailureInPacket result memory.old memory.new }
     ensures rare { IsRare result }
 {
+    if octets.is_empty() {
+        return Ok(());
+    }
     if !has_space(out.len(), octets.len()) {
         return Err(Cause::RareLength.at(LIMIT));
     }

@@ -237,12 +237,7 @@ pub(crate) fn append_stop(
 pub(crate) fn has(octets: &[u8], octet: u8) -> bool
     ensures { result ≡ has octet octets.now }
 {
-    for other in octets {
-        if *other == octet {
-            return true;
-        }
-    }
-    false
+    octets.contains(&octet)
 }
 
 // Whether the name of a property can be written.
