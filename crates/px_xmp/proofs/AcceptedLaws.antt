@@ -1,11 +1,12 @@
 -- What a document means can be written and read again.
-use Rattle.std.proofs.Common.{◌≡◌, ◌+◌, ◌-◌, ℕ, List, [], length, drop, subst}
+use Rattle.std.proofs.Common.{◌≡◌, ◌+◌, ◌-◌, ℕ, List, [], length, drop, sym, subst}
 use Rattle.px_xmp_text.specs.Grammar.{OnlyReferencesAreRead}
 use Rattle.px_xmp_marks.specs.Declarations.{DeclarationsAreRead}
-use Rattle.px_xmp_document.specs.Document.{order_mark_len}
+use Rattle.px_xmp_document.specs.Document.{IsFile, order_mark_len}
 use Rattle.px_xmp.specs.Nodes.{AreNodes}
+use Rattle.px_xmp.specs.Meaning.{HasMeaning}
 use Rattle.px_xmp.specs.Readable.{IsReadable}
-use Rattle.px_xmp.specs.Laws.{KindsAreRead, MeaningsAreReadable, NormalIsFile, NormalSays, NormalKeepsMeaning}
+use Rattle.px_xmp.specs.Laws.{KindsAreRead, MeaningsAreReadable, NormalIsFile, NormalSays, NormalKeepsMeaning, FormIsItsOwn}
 use Rattle.px_xmp.proofs.DocumentLaws.{tree_once}
 use Rattle.px_xmp.proofs.SoundLaws.{AreSound, document_sound}
 use Rattle.px_xmp.proofs.ReadableLaws.{means_is}
@@ -25,3 +26,7 @@ normal_keeps_meaning accepted file says x start c is meaning can shallow =
     let (ordered, readable) = accepted x start c is meaning can in
     let all : IsReadable c = (ordered, readable, shallow) in
     (file c can all, says c can all)
+
+pub form_is_its_own : NormalIsFile → NormalSays → FormIsItsOwn
+form_is_its_own file says form (c, can, readable, is) =
+    (subst IsFile (sym is) (file c can readable), (c, can, subst (λ (z : List ℕ). HasMeaning z 0 c) (sym is) (says c can readable), is))

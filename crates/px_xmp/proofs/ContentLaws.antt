@@ -1,5 +1,5 @@
 -- What is read of an element, and what the output has of it.
-use Rattle.std.proofs.Common.{◌≡◌, ◌≢◌, ◌+◌, ℕ, codes, Bool, true, false, Some, None, List, [], ◌∷◌, ◌++◌, length, refl, sym, ap, subst, ◌∙◌, inl, inr, arith, length-append, append-nil}
+use Rattle.std.proofs.Common.{◌≡◌, ◌≢◌, ◌≤◌, ◌+◌, ℕ, suc, codes, Bool, true, false, Some, None, List, [], ◌∷◌, ◌++◌, length, refl, sym, ap, subst, ◌∙◌, inl, inr, arith, length-append, append-nil}
 use Rattle.px_xmp_text.specs.Values.{Label, Compound, Structure, Bag, Seq, Alt}
 use Rattle.px_xmp_text.specs.Values as values
 use Rattle.px_xmp_marks.specs.Reading.{Named, Attr}
@@ -27,10 +27,12 @@ use Rattle.px_xmp.specs.declared.elements.Node.TheVariants as nodes
 use Rattle.px_xmp.specs.declared.source.Source.{Source}
 use Rattle.px_xmp.specs.calls.Opening.{name_of, node_view, IsOpened}
 use Rattle.px_xmp.specs.calls.Steps.{IsLeft, Moves, IsFirst, IsStart, TagAfter, HasInside, EndRead}
-use Rattle.px_xmp.specs.calls.Contents.{content_of, with_entries, is_bag, JoinsNode, PropertiesPut, NodeBegun, NodeEnded, HasValue, TextRead, ItemsRead, ValueRead, ContentRead, NodeRead}
+use Rattle.px_xmp_tree.specs.Nesting.{limit}
+use Rattle.px_xmp.specs.calls.Contents.{content_of, with_entries, AreShallow, IsShallowValue, is_bag, JoinsNode, PropertiesPut, NodeBegun, NodeEnded, HasValue, TextRead, ItemsRead, ValueRead, ContentRead, NodeRead}
 use Rattle.px_xmp.proofs.TagLaws.{ended_inside}
 use Rattle.px_xmp.proofs.StepLaws.{joined, nodes_joined, entries_joined, white_entries, moves_on}
 use Rattle.px_xmp.proofs.OpeningLaws.{entry_after}
+use Rattle.px_xmp.proofs.DepthLaws.{shallow_append, row_shallow, entry_shallow, node_shallow}
 
 -- ---- the octets of an element
 
@@ -66,20 +68,21 @@ element_read o tag scope inner at to x y z all s within h =
 
 -- ---- items, one after another
 
-pub record ItemsSoFar (c : Compound) (l : List ℕ) (old now : Source) (s : State) (output : Output) : Type 0 where
+pub record ItemsSoFar (c : Compound) (l : List ℕ) (depth : ℕ) (old now : Source) (s : State) (output : Output) : Type 0 where
   pub nodes : Nodes
   pub entries : List Entry
   pub octets : AreNodes nodes old.scope old.at old.rest.now now.rest.now
   pub are : AreEntries c l nodes entries
+  pub shallow : AreShallow depth entries
   pub scope : now.scope ≡ old.scope
   pub moves : Moves old.at old.rest.now now.at now.rest.now
   pub has : Has output (changed (with_entries entries) s)
 
-pub items_next : (c : Compound) (l : List ℕ) (old a b d : Source) (s : State) (before after : Output) (o : Opened) (white : Nodes) (label : Label)
-    → (so : ItemsSoFar c l old a s before) → AreWhite white → TagAfter (Some o) white a b → label_in c (name_of o.name) ≡ Some label
-    → ((t : Tag) → IsOpened b.scope o t → ValueRead o t label l b d (changed (with_entries so.entries) s) after)
-    → ItemsSoFar c l old d s after
-items_next c l old a b d s before after o white label so is_white tag named value =
+pub items_next : (c : Compound) (l : List ℕ) (depth : ℕ) (old a b d : Source) (s : State) (before after : Output) (o : Opened) (white : Nodes) (label : Label)
+    → (so : ItemsSoFar c l depth old a s before) → AreWhite white → TagAfter (Some o) white a b → label_in c (name_of o.name) ≡ Some label
+    → ((t : Tag) → IsOpened b.scope o t → ValueRead o t label l depth b d (changed (with_entries so.entries) s) after)
+    → ItemsSoFar c l depth old d s after
+items_next c l depth old a b d s before after o white label so is_white tag named value =
     let (t, start) = tag.is in
     let v = value t start.opened in
     let e : Entry = record { label = label; value = v.value; place = o.place } in
@@ -99,15 +102,16 @@ items_next c l old a b d s before after o white label so is_white tag named valu
           entries_joined c l so.nodes (joined white (Element t o.place v.nodes Nothing)) so.entries (e ∷ []) so.are
           (entries_joined c l white (Element t o.place v.nodes Nothing) [] (e ∷ []) (white_entries c l white is_white)
           (v.declares, label, v.value, [], ap (λ (q : Name). label_in c q) (sym start.opened.0) ∙ named, refl, refl, v.is));
+      shallow = shallow_append depth so.entries (e ∷ []) so.shallow (v.shallow, tt);
       scope = v.scope ∙ ap ended start.inner_is ∙ ended_inside a.scope start.attributes ∙ so.scope;
       moves = moves_on old.at a.at d.at old.rest.now a.rest.now d.rest.now so.moves
           (moves_on a.at b.at d.at a.rest.now b.rest.now d.rest.now tag.moves v.inside.moves);
       has = subst (λ (z : State). Has after z) (entry_after s so.entries e) v.has;
     }
 
-pub items_end : (c : Compound) (l : List ℕ) (old a b : Source) (s : State) (output : Output) (white : Nodes) → ItemsSoFar c l old a s output
-    → AreWhite white → TagAfter None white a b → ItemsRead false c l old b s output
-items_end c l old a b s output white so is_white tag =
+pub items_end : (c : Compound) (l : List ℕ) (depth : ℕ) (old a b : Source) (s : State) (output : Output) (white : Nodes) → ItemsSoFar c l depth old a s output
+    → AreWhite white → TagAfter None white a b → ItemsRead false c l depth old b s output
+items_end c l depth old a b s output white so is_white tag =
     let ((m, kind, whole), same) = tag.is in
     record {
       nodes = joined so.nodes white;
@@ -124,18 +128,19 @@ items_end c l old a b s output white so is_white tag =
       };
       are = subst (λ (q : List Entry). AreEntries c l (joined so.nodes white) q) (append-nil so.entries)
           (entries_joined c l so.nodes white so.entries [] so.are (white_entries c l white is_white));
+      shallow = so.shallow;
       scope = same ∙ so.scope;
       has = so.has;
     }
 
 -- ---- a value
 
-pub value_done : (content : Content) (o : Opened) (t : Tag) (label : Label) (outer : List ℕ) (a : Around) (old mid new : Source) (s : State)
+pub value_done : (content : Content) (o : Opened) (t : Tag) (label : Label) (outer : List ℕ) (depth : ℕ) (a : Around) (old mid new : Source) (s : State)
     (before after : Output) → DeclaresLanguage t.language → a.language.now ≡ inherited outer t.language → a.place ≡ o.place
-    → (r : ContentRead content o.is_empty t.fields a old mid s before) → new.rest.now ≡ mid.rest.now → new.at ≡ mid.at → new.scope ≡ ended mid.scope
+    → a.depth ≡ suc depth → a.depth ≤ limit → (r : ContentRead content o.is_empty t.fields a old mid s before) → new.rest.now ≡ mid.rest.now → new.at ≡ mid.at → new.scope ≡ ended mid.scope
     → Has after (changed (with_entry (record { label = label; value = value_of content r.element.text r.element.inner; place = a.place })) s)
-    → ValueRead o t label outer old new s after
-value_done content o t label outer a old mid new s before after declares language place r rest at scope has =
+    → ValueRead o t label outer depth old new s after
+value_done content o t label outer depth a old mid new s before after declares language place deeper within r rest at scope has =
     record {
       nodes = r.nodes;
       value = value_of content r.element.text r.element.inner;
@@ -147,6 +152,7 @@ value_done content o t label outer a old mid new s before after declares languag
       declares = declares;
       is = subst (λ (q : ℕ). HasValue (inherited outer t.language) q t.fields r.nodes (value_of content r.element.text r.element.inner)) place
           (subst (λ (q : List ℕ). HasValue q a.place t.fields r.nodes (value_of content r.element.text r.element.inner)) language r.is);
+      shallow = entry_shallow depth a.depth label (value_of content r.element.text r.element.inner) deeper within r.shallow;
       scope = scope ∙ ap ended r.scope;
       has = subst
           (λ (q : ℕ). Has after (changed (with_entry
@@ -186,10 +192,10 @@ node_joined (nodes.Container k) s after es o os e (joins, same) =
     (fs, container_joined k es fs sorts, opened, same)
 
 -- a description was begun
-pub description_begun : (t : Tag) (outer : List ℕ) (place : ℕ) (a : Around) (s : State) (output : Output) (all : List Field)
-    → DeclaresLanguage t.language → a.language.now ≡ inherited outer t.language → a.place ≡ place → all ≡ t.fields
-    → PropertiesPut all a.language.now a.place (begun nothing s) output → NodeBegun nodes.Description t outer place a s output
-description_begun t outer place a s output all declares language same fields put =
+pub description_begun : (t : Tag) (outer : List ℕ) (depth place : ℕ) (a : Around) (s : State) (output : Output) (all : List Field)
+    → DeclaresLanguage t.language → a.language.now ≡ inherited outer t.language → a.place ≡ place → a.depth ≡ depth → all ≡ t.fields
+    → PropertiesPut all a.language.now a.depth a.place (begun nothing s) output → NodeBegun nodes.Description t outer depth place a s output
+description_begun t outer depth place a s output all declares language same inner fields put =
     record {
       declares = declares;
       language = language;
@@ -197,6 +203,8 @@ description_begun t outer place a s output all declares language same fields put
       are = subst (λ (z : List Field). AreAttributes (inherited outer t.language) place z put.entries) fields
           (subst (λ (z : ℕ). AreAttributes (inherited outer t.language) z all put.entries) same
           (subst (λ (z : List ℕ). AreAttributes z a.place all put.entries) language put.are));
+      inner = inner;
+      shallow = put.shallow;
       has = put.has;
     }
 
@@ -216,7 +224,7 @@ structure_row s after es os output e (distinct, (joins, same)) has =
 
 pub content_parsed : (empty : Bool) (fields : List Field) (a : Around) (old new : Source) (s after : State) (first before output : Output)
     → (f : Field) × (fields ≡ f ∷ []) × (is_rdf (codes "parseType") f.name ≡ true) × (f.value ≡ codes "Resource") × Has first (begun nothing s)
-    → (r : ItemsRead empty Structure a.language.now old new (begun nothing s) before)
+    → (r : ItemsRead empty Structure a.language.now a.depth old new (begun nothing s) before)
     → JoinsProperties (begun (with_entries r.entries nothing) s) after → Has output after
     → ContentRead content.Structure empty fields a old new s output
 content_parsed empty fields a old new s after first before output (f, only, named, value, has) r joins now =
@@ -226,6 +234,7 @@ content_parsed empty fields a old new s after first before output (f, only, name
       element = with_joined fs (with_entries r.entries nothing);
       inside = r.inside;
       is = inr (inr (inl (f, only, named, value, r.entries, row fs, r.are, rows, refl)));
+      shallow = row_shallow a.depth Structure r.entries (row fs) rows r.shallow;
       scope = r.scope;
       has = joined;
     }
@@ -240,12 +249,13 @@ content_uri empty fields a old new s output (f, only, named, absolute, t, says, 
       element = with_text t nothing;
       inside = within;
       is = inr (inr (inr (inl (f, only, named, absolute, white, t, says, refl))));
+      shallow = tt;
       scope = scope;
       has = has;
     }
 
 pub content_described : (empty : Bool) (fields : List Field) (a : Around) (old new : Source) (s after : State) (before output : Output) → fields ≢ []
-    → (p : PropertiesPut fields a.language.now a.place (begun nothing s) before) → EndRead empty old new
+    → (p : PropertiesPut fields a.language.now a.depth a.place (begun nothing s) before) → EndRead empty old new
     → JoinsProperties (begun (with_entries p.entries nothing) s) after → Has output after
     → ContentRead content.Structure empty fields a old new s output
 content_described empty fields a old new s after before output some p (all, white, within, scope) joins now =
@@ -255,6 +265,7 @@ content_described empty fields a old new s after before output some p (all, whit
       element = with_joined fs (with_entries p.entries nothing);
       inside = within;
       is = inr (inr (inr (inr (some, white, p.entries, row fs, p.are, rows, refl))));
+      shallow = row_shallow a.depth Structure p.entries (row fs) rows p.shallow;
       scope = scope;
       has = joined;
     }
@@ -269,6 +280,7 @@ content_empty a old s output left has =
       element = nothing;
       inside = record { row = (refl, refl); moves = record { left = left; same = refl } };
       is = inl (refl, [], refl, refl);
+      shallow = tt;
       scope = refl;
       has = has;
     }
@@ -285,6 +297,7 @@ content_text a old new s output r =
         moves = r.after.moves;
       };
       is = inl (refl, r.text, r.is_text, refl);
+      shallow = tt;
       scope = scope;
       has = r.has;
     }
@@ -301,7 +314,7 @@ node_value (nodes.Container k) t c = refl
 
 pub content_node : (node : Node) (inner : Opened) (a : Around) (old mid on new : Source) (s : State) (before after : Output)
     → TextRead (Some inner) s old mid before
-    → ((t : Tag) → IsOpened mid.scope inner t → NodeRead node inner t a.language.now mid on s after)
+    → ((t : Tag) → IsOpened mid.scope inner t → NodeRead node inner t a.language.now a.depth mid on s after)
     → EndRead false on new → ContentRead (content_of node) false [] a old new s after
 content_node node inner a old mid on new s before after r read (more, more_white, within, scope) =
     let (t, start) = r.after.is in
@@ -336,16 +349,17 @@ content_node node inner a old mid on new s before after r read (more, more_white
             (n.declares, n.named, more_white, n.attributes, n.entries, n.attributes_are, n.are, n.row),
         node_value node [] n.content,
       ));
+      shallow = subst (IsShallowValue a.depth) (sym (node_value node [] n.content)) n.shallow;
       scope = scope ∙ back;
       has = n.has;
     }
 
-pub node_done : (node : Node) (o : Opened) (t : Tag) (outer : List ℕ) (a : Around) (old mid on new : Source) (s : State) (begin before after : Output)
-    → compound_of (name_of o.name) ≡ Some (node_view node) → name_of o.name ≡ t.name → mid ≡ old → NodeBegun node t outer o.place a (begun nothing s) begin
-    → ((st : State) → Has begin st → ItemsRead o.is_empty (node_view node) a.language.now mid on st before)
+pub node_done : (node : Node) (o : Opened) (t : Tag) (outer : List ℕ) (depth : ℕ) (a : Around) (old mid on new : Source) (s : State) (begin before after : Output)
+    → compound_of (name_of o.name) ≡ Some (node_view node) → name_of o.name ≡ t.name → mid ≡ old → NodeBegun node t outer depth o.place a (begun nothing s) begin
+    → ((st : State) → Has begin st → ItemsRead o.is_empty (node_view node) a.language.now a.depth mid on st before)
     → new.rest.now ≡ on.rest.now → new.at ≡ on.at → new.scope ≡ ended on.scope
-    → ((st : State) → Has before st → NodeEnded node st after) → NodeRead node o t outer old new s after
-node_done node o t outer a old mid on new s begin before after named name same b items rest at scope ends =
+    → ((st : State) → Has before st → NodeEnded node st after) → NodeRead node o t outer depth old new s after
+node_done node o t outer depth a old mid on new s begin before after named name same b items rest at scope ends =
     let r = items (begun (with_entries b.entries nothing) (begun nothing s)) b.has in
     let (c, rows, has) =
     ends (begun (with_entries r.entries (with_entries b.entries nothing)) (begun nothing s)) r.has (b.entries ++ r.entries) nothing s.opened refl in
@@ -366,6 +380,8 @@ node_done node o t outer a old mid on new s begin before after named name same b
       attributes_are = b.are;
       are = subst (λ (q : List ℕ). AreEntries (node_view node) q r.nodes r.entries) b.language r.are;
       row = rows;
+      shallow = node_shallow node depth a.depth c b.inner (row_shallow a.depth (node_view node) (b.entries ++ r.entries) c rows
+          (shallow_append a.depth b.entries r.entries b.shallow r.shallow));
       scope = scope ∙ ap ended (r.scope ∙ ap (λ (q : Source). q.scope) same);
       has = has;
     }

@@ -13,8 +13,9 @@ use Rattle.px_xmp_forms.specs.Outputs.{Has}
 use Rattle.px_xmp_forms.specs.declared.output.Output.{Output}
 use Rattle.px_xmp.specs.Marks.{Mark, Start, End, Text, Other, IsKind, AreRow}
 use Rattle.px_xmp.specs.Nodes.{Nodes, AreNodes}
-use Rattle.px_xmp.specs.Meaning.{Means}
-use Rattle.px_xmp.specs.Laws.{IsFormOf}
+use Rattle.px_xmp.specs.Meaning.{Means, HasMeaning}
+use Rattle.px_xmp.specs.Readable.{IsShallow}
+use Rattle.px_xmp.specs.Laws.{IsFormOf, IsReadableForm, MeaningsAreReadable}
 use Rattle.px_xmp.specs.Packet.{is_around, is_padding, IsPacket}
 use Rattle.px_xmp.specs.calls.Steps.{IsLeft}
 use Rattle.px_xmp.proofs.DocumentLaws.{tree_once}
@@ -45,27 +46,39 @@ head_leaves law x d e head at file parts few =
     let (ms, row) = row_of ks file.tree marked in
     record { marks = ms; row = subst (λ (z : List ℕ). AreRow ms z) same row; few = few }
 
+-- what was read is what the document means
+meaning_of : (x d : List ℕ) (e : Option (List ℕ)) (start head at : ℕ) (scope : List Item) (y : List ℕ) (nodes : Nodes) (c : Content)
+    → IsSplit (drop (order_mark_len x) x) d e (drop head x) → head ≤ length x → at ≡ start + head → scope ≡ [] → y ≡ drop head x
+    → AreNodes nodes scope at y [] → Means nodes c → HasMeaning x start c
+meaning_of x d e start head at scope y nodes c parts within place none same octets means =
+    let move : at ≡ start + (length x - length (drop head x)) = omega (arith, place, length-drop head x, within) in
+    record {
+      declaration = d;
+      encoding = e;
+      tree = drop head x;
+      parts = parts;
+      nodes = nodes;
+      row = subst (λ (q : ℕ). AreNodes nodes [] q (drop head x) []) move
+          (subst (λ (q : List ℕ). AreNodes nodes [] at q []) same (subst (λ (q : List Item). AreNodes nodes q at y []) none octets));
+      means = means;
+    }
+
 -- a form is that of what the document means
 pub form_of : (x d : List ℕ) (e : Option (List ℕ)) (start head at : ℕ) (scope : List Item) (y : List ℕ) (nodes : Nodes) (c : Content) (output : Output)
     (form : List ℕ) → IsSplit (drop (order_mark_len x) x) d e (drop head x) → head ≤ length x → at ≡ start + head → scope ≡ [] → y ≡ drop head x
     → AreNodes nodes scope at y [] → Means nodes c → Has output (record { opened = []; properties = c }) → form ≡ normal_packet c → IsFormOf x start form
 form_of x d e start head at scope y nodes c output form parts within place none same octets means has is =
-    let move : at ≡ start + (length x - length (drop head x)) = omega (arith, place, length-drop head x, within) in (
-      c,
-      has.can,
-      record {
-        declaration = d;
-        encoding = e;
-        tree = drop head x;
-        parts = parts;
-        nodes = nodes;
-        row = subst (λ (q : ℕ). AreNodes nodes [] q (drop head x) []) move
-            (subst (λ (q : List ℕ). AreNodes nodes [] at q []) same
-            (subst (λ (q : List Item). AreNodes nodes q at y []) none octets));
-        means = means;
-      },
-      is,
-    )
+    (c, has.can, meaning_of x d e start head at scope y nodes c parts within place none same octets means, is)
+
+-- and it can be read again
+pub form_again : MeaningsAreReadable → (x d : List ℕ) (e : Option (List ℕ)) (start head at : ℕ) (scope : List Item) (y : List ℕ) (nodes : Nodes)
+    (c : Content) (output : Output) (form : List ℕ) → IsFile x → IsSplit (drop (order_mark_len x) x) d e (drop head x) → head ≤ length x
+    → at ≡ start + head → scope ≡ [] → y ≡ drop head x → AreNodes nodes scope at y [] → Means nodes c → IsShallow 3 c
+    → Has output (record { opened = []; properties = c }) → form ≡ normal_packet c → IsReadableForm form
+form_again law x d e start head at scope y nodes c output form file parts within place none same octets means shallow has is =
+    let (ordered, readable) =
+    law x start c file (meaning_of x d e start head at scope y nodes c parts within place none same octets means) has.can in
+    (c, has.can, (ordered, readable, shallow), is)
 
 -- ---- results
 

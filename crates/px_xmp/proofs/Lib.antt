@@ -3,6 +3,7 @@ pub mod MarkLaws
 pub mod TagLaws
 pub mod StepLaws
 pub mod WhiteLaws
+pub mod DepthLaws
 pub mod OpeningLaws
 pub mod ContentLaws
 pub mod JudgedLaws

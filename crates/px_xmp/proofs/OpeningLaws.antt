@@ -14,16 +14,18 @@ use Rattle.px_xmp.specs.Names.{Name, attribute_name}
 use Rattle.px_xmp.specs.Tags.{Field, field_of, fields_in, plain}
 use Rattle.px_xmp.specs.Meaning.{label_in, AreAttributes}
 use Rattle.px_xmp.specs.calls.Listed.{AreListed, IsNextPlain}
-use Rattle.px_xmp.specs.calls.Contents.{with_entries, attribute, PropertyPut, PropertiesPut}
+use Rattle.px_xmp.specs.calls.Contents.{with_entries, attribute, AreShallow, PropertyPut, PropertiesPut}
+use Rattle.px_xmp.proofs.DepthLaws.{shallow_append}
 
 -- entries were put of the first fields, and the attributes that are left have the others
-pub record PropertiesLeft (n : Option NextAttribute) (scope : List Item) (all : List Attr) (l : List ℕ) (place : ℕ) (s : State) (output : Output) : Type 0 where
+pub record PropertiesLeft (n : Option NextAttribute) (scope : List Item) (all : List Attr) (l : List ℕ) (depth : ℕ) (place : ℕ) (s : State) (output : Output) : Type 0 where
   pub fields : List Field
   pub entries : List Entry
   pub more : List Attr
   pub found : IsNextPlain (option_map next_view n) more
   pub whole : fields_in scope all ≡ fields ++ fields_in scope more
   pub are : AreAttributes l place fields entries
+  pub shallow : AreShallow depth entries
   pub has : Has output (changed (with_entries entries) s)
 
 -- how many octets are left, with one for the attribute
@@ -73,9 +75,9 @@ attribute_after l place (g ∷ fs) es f label t (other, u, more, h, i, e, r) nam
 )
 
 -- nothing was put yet
-pub properties_begin : (n : Option NextAttribute) (scope : List Item) (all : List Attr) (l : List ℕ) (place : ℕ) (s : State) (output : Output)
-    → IsNextPlain (option_map next_view n) all → Has output s → PropertiesLeft n scope all l place s output
-properties_begin n scope all l place s output found has =
+pub properties_begin : (n : Option NextAttribute) (scope : List Item) (all : List Attr) (l : List ℕ) (depth place : ℕ) (s : State) (output : Output)
+    → IsNextPlain (option_map next_view n) all → Has output s → PropertiesLeft n scope all l depth place s output
+properties_begin n scope all l depth place s output found has =
     record {
       fields = [];
       entries = [];
@@ -83,17 +85,18 @@ properties_begin n scope all l place s output found has =
       found = found;
       whole = refl;
       are = refl;
+      shallow = tt;
       has = subst (λ (z : State). Has output z) (sym (no_entries s)) has;
     }
 
 -- one more was put
-pub properties_next : (m n : Option NextAttribute) (x : NextAttribute) (scope : List Item) (all : List Attr) (l : List ℕ) (place : ℕ) (s : State)
-    (before after : Output) (name : Name) → m ≡ Some x → (left : PropertiesLeft m scope all l place s before)
+pub properties_next : (m n : Option NextAttribute) (x : NextAttribute) (scope : List Item) (all : List Attr) (l : List ℕ) (depth place : ℕ) (s : State)
+    (before after : Output) (name : Name) → m ≡ Some x → (left : PropertiesLeft m scope all l depth place s before)
     → ((rest : List Attr) → AreListed x.rest.now rest → IsNextPlain (option_map next_view n) rest)
     → name ≡ attribute_name scope (next_view x).attribute.name
-    → PropertyPut name (next_view x).attribute.value l place (changed (with_entries left.entries) s) after
-    → PropertiesLeft n scope all l place s after
-properties_next m n x scope all l place s before after name is left next named put =
+    → PropertyPut name (next_view x).attribute.value l depth place (changed (with_entries left.entries) s) after
+    → PropertiesLeft n scope all l depth place s after
+properties_next m n x scope all l depth place s before after name is left next named put =
     let (more, listed, same) = subst (λ (z : Option NextAttribute). IsNextPlain (option_map next_view z) left.more) is left.found in
     let f = field_of scope (next_view x).attribute in
     record {
@@ -105,19 +108,21 @@ properties_next m n x scope all l place s before after name is left next named p
           ∙ sym (append_assoc left.fields (f ∷ []) (fields_in scope more));
       are = attribute_after l place left.fields left.entries f put.label put.text left.are
           (ap (λ (z : Name). label_in Structure z) (sym named) ∙ put.named) put.says;
+      shallow = shallow_append depth left.entries (attribute put.label place l put.text ∷ []) left.shallow ((put.shallow, tt), tt);
       has = subst (λ (z : State). Has after z) (entry_after s left.entries (attribute put.label place l put.text)) put.has;
     }
 
 -- all were put
-pub properties_end : (n : Option NextAttribute) (scope : List Item) (all : List Attr) (l : List ℕ) (place : ℕ) (s : State) (output : Output)
-    → n ≡ None → PropertiesLeft n scope all l place s output → PropertiesPut (fields_in scope all) l place s output
-properties_end n scope all l place s output is left =
+pub properties_end : (n : Option NextAttribute) (scope : List Item) (all : List Attr) (l : List ℕ) (depth place : ℕ) (s : State) (output : Output)
+    → n ≡ None → PropertiesLeft n scope all l depth place s output → PropertiesPut (fields_in scope all) l depth place s output
+properties_end n scope all l depth place s output is left =
     let none : plain left.more ≡ [] = subst (λ (z : Option NextAttribute). IsNextPlain (option_map next_view z) left.more) is left.found in
     let whole : fields_in scope all ≡ left.fields =
     left.whole ∙ ap (λ (z : List Attr). left.fields ++ map (field_of scope) z) none ∙ append-nil left.fields in
     record {
       entries = left.entries;
       are = subst (λ (z : List Field). AreAttributes l place z left.entries) (sym whole) left.are;
+      shallow = left.shallow;
       has = left.has;
     }
 

@@ -118,10 +118,13 @@ one_distinct : (a : Attr) → AreDistinct (a ∷ [])
 one_distinct a = (λ h. h, tt)
 
 two_distinct : (a b : Attr) → b.name ≢ a.name → AreDistinct (a ∷ b ∷ [])
-two_distinct a b h = (λ w. elim w [
-  | inl e ↦ h e
-  | inr f ↦ f
-], one_distinct b)
+two_distinct a b h = (
+  λ w. elim w [
+    | inl e ↦ h e
+    | inr f ↦ f
+  ],
+  one_distinct b,
+)
 
 other_prefix : (p q x y : List ℕ) → length q ≢ length p → named q y ≢ named p x
 other_prefix p q x y h e = h (ap (λ (n : Named). length n.prefix) e)

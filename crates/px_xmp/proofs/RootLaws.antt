@@ -21,12 +21,14 @@ use Rattle.px_xmp.specs.declared.subject.Subject.{Subject}
 use Rattle.px_xmp.specs.calls.Listed.{AreListed, IsNextPlain}
 use Rattle.px_xmp.specs.calls.Opening.{name_of, IsOpened}
 use Rattle.px_xmp.specs.calls.Steps.{IsLeft, Moves, IsStart, TagAfter, HasInside, InsideRead, AfterRead}
-use Rattle.px_xmp.specs.calls.Contents.{with_entries, attribute, ItemsRead}
+use Rattle.px_xmp.specs.Readable.{IsShallow}
+use Rattle.px_xmp.specs.calls.Contents.{with_entries, attribute, AreShallow, ItemsRead}
 use Rattle.px_xmp.specs.calls.Roots.{IsSubject, Keeps, IsAbout, AttributeRead, AttributesRead, SubjectRead, SubjectsRead, RdfRead, AroundRead, RootRead, DocumentRead}
 use Rattle.px_xmp.proofs.TagLaws.{ended_inside}
 use Rattle.px_xmp.proofs.StepLaws.{joined, nodes_joined, white_joined, moves_on}
 use Rattle.px_xmp.proofs.OpeningLaws.{no_entries, entry_after, entries_after}
 use Rattle.px_xmp.proofs.ContentLaws.{element_read, structure_row}
+use Rattle.px_xmp.proofs.DepthLaws.{shallow_append, row_shallow}
 
 -- what was read, of a source whose scope alone has changed
 pub inside_kept : (empty : Bool) (nodes : Nodes) (old mid new : Source) → new.rest.now ≡ mid.rest.now → new.at ≡ mid.at → InsideRead empty nodes old mid
@@ -124,7 +126,7 @@ attribute_after l place (g ∷ fs) es f label t (other, u, more, h, i, e, r) nam
 )
 
 -- entries were put of the first fields, and the attributes that are left have the others
-pub record AttributesLeft (n : Option NextAttribute) (scope : List Item) (all : List Attr) (l : List ℕ) (place : ℕ) (s : State) (old new : Subject)
+pub record AttributesLeft (n : Option NextAttribute) (scope : List Item) (all : List Attr) (l : List ℕ) (depth place : ℕ) (s : State) (old new : Subject)
     (output : Output) : Type 0 where
   pub fields : List Field
   pub entries : List Entry
@@ -132,12 +134,13 @@ pub record AttributesLeft (n : Option NextAttribute) (scope : List Item) (all : 
   pub found : IsNextPlain (option_map next_view n) more
   pub whole : fields_in scope all ≡ fields ++ fields_in scope more
   pub are : AreAttributes l place (without_about fields) entries
+  pub shallow : AreShallow depth entries
   pub about : Keeps old new (λ u. AreAbout u fields)
   pub has : Has output (changed (with_entries entries) s)
 
-pub attributes_begin : (n : Option NextAttribute) (scope : List Item) (all : List Attr) (l : List ℕ) (place : ℕ) (s : State) (subject : Subject)
-    (output : Output) → IsNextPlain (option_map next_view n) all → Has output s → AttributesLeft n scope all l place s subject subject output
-attributes_begin n scope all l place s subject output found has =
+pub attributes_begin : (n : Option NextAttribute) (scope : List Item) (all : List Attr) (l : List ℕ) (depth place : ℕ) (s : State) (subject : Subject)
+    (output : Output) → IsNextPlain (option_map next_view n) all → Has output s → AttributesLeft n scope all l depth place s subject subject output
+attributes_begin n scope all l depth place s subject output found has =
     record {
       fields = [];
       entries = [];
@@ -145,6 +148,7 @@ attributes_begin n scope all l place s subject output found has =
       found = found;
       whole = refl;
       are = refl;
+      shallow = tt;
       about = λ h. (h, λ u k. (k, tt));
       has = subst (λ (z : State). Has output z) (sym (no_entries s)) has;
     }
@@ -153,12 +157,12 @@ true_false : {P : Type 0} (b : Bool) → b ≡ true → b ≡ false → P
 true_false true e f = absurd (cc)
 true_false false e f = absurd (cc)
 
-attributes_step : (n : Option NextAttribute) (scope : List Item) (all more : List Attr) (l : List ℕ) (place : ℕ) (s : State)
+attributes_step : (n : Option NextAttribute) (scope : List Item) (all more : List Attr) (l : List ℕ) (depth place : ℕ) (s : State)
     (old now new : Subject) (before after : Output) (fields : List Field) (entries : List Entry) (f : Field) → IsNextPlain (option_map next_view n) more
-    → fields_in scope all ≡ (fields ++ f ∷ []) ++ fields_in scope more → AreAttributes l place (without_about fields) entries
+    → fields_in scope all ≡ (fields ++ f ∷ []) ++ fields_in scope more → AreAttributes l place (without_about fields) entries → AreShallow depth entries
     → Keeps old now (λ u. AreAbout u fields)
-    → AttributeRead f l place (changed (with_entries entries) s) now new after → AttributesLeft n scope all l place s old new after
-attributes_step n scope all more l place s old now new before after fields entries f found whole are about (inl (is, keeps, has)) =
+    → AttributeRead f l depth place (changed (with_entries entries) s) now new after → AttributesLeft n scope all l depth place s old new after
+attributes_step n scope all more l depth place s old now new before after fields entries f found whole are shallow about (inl (is, keeps, has)) =
     record {
       fields = fields ++ f ∷ [];
       entries = entries;
@@ -167,11 +171,12 @@ attributes_step n scope all more l place s old now new before after fields entri
       whole = whole;
       are = subst (λ (z : List Field). AreAttributes l place z entries)
           (sym (without_after fields f ∙ ap (λ (b : Bool). without_about fields ++ (if b then [] else f ∷ [])) is ∙ append-nil (without_about fields))) are;
+      shallow = shallow;
       about = keeps_with old new (λ u. AreAbout u fields × IsAbout f.value u) (λ u. AreAbout u (fields ++ f ∷ []))
           (λ u p. about_after u fields f p.0 (λ e. p.1)) (keeps_on old now new (λ u. AreAbout u fields) (IsAbout f.value) about keeps);
       has = has;
     }
-attributes_step n scope all more l place s old now new before after fields entries f found whole are about (inr (is, same, put)) =
+attributes_step n scope all more l depth place s old now new before after fields entries f found whole are shallow about (inr (is, same, put)) =
     record {
       fields = fields ++ f ∷ [];
       entries = entries ++ attribute put.label place l put.text ∷ [];
@@ -181,6 +186,7 @@ attributes_step n scope all more l place s old now new before after fields entri
       are = subst (λ (z : List Field). AreAttributes l place z (entries ++ attribute put.label place l put.text ∷ []))
           (sym (without_after fields f ∙ ap (λ (b : Bool). without_about fields ++ (if b then [] else f ∷ [])) is))
           (attribute_after l place (without_about fields) entries f put.label put.text are put.named put.says);
+      shallow = shallow_append depth entries (attribute put.label place l put.text ∷ []) shallow ((put.shallow, tt), tt);
       about = subst (λ (z : Subject). Keeps old z (λ u. AreAbout u (fields ++ f ∷ []))) (sym same)
           (keeps_with old now (λ u. AreAbout u fields) (λ u. AreAbout u (fields ++ f ∷ []))
           (λ u p. about_after u fields f p (λ e. true_false (is_about f.name) e is)) about);
@@ -188,44 +194,45 @@ attributes_step n scope all more l place s old now new before after fields entri
     }
 
 -- one more was read
-pub attributes_next : (m n : Option NextAttribute) (x : NextAttribute) (scope : List Item) (all : List Attr) (l : List ℕ) (place : ℕ) (s : State)
-    (old now new : Subject) (before after : Output) → m ≡ Some x → (left : AttributesLeft m scope all l place s old now before)
+pub attributes_next : (m n : Option NextAttribute) (x : NextAttribute) (scope : List Item) (all : List Attr) (l : List ℕ) (depth place : ℕ) (s : State)
+    (old now new : Subject) (before after : Output) → m ≡ Some x → (left : AttributesLeft m scope all l depth place s old now before)
     → ((rest : List Attr) → AreListed x.rest.now rest → IsNextPlain (option_map next_view n) rest)
-    → AttributeRead (field_of scope (next_view x).attribute) l place (changed (with_entries left.entries) s) now new after
-    → AttributesLeft n scope all l place s old new after
-attributes_next m n x scope all l place s old now new before after is left next put =
+    → AttributeRead (field_of scope (next_view x).attribute) l depth place (changed (with_entries left.entries) s) now new after
+    → AttributesLeft n scope all l depth place s old new after
+attributes_next m n x scope all l depth place s old now new before after is left next put =
     let (more, listed, same) = subst (λ (z : Option NextAttribute). IsNextPlain (option_map next_view z) left.more) is left.found in
-    attributes_step n scope all more l place s old now new before after left.fields left.entries (field_of scope (next_view x).attribute)
+    attributes_step n scope all more l depth place s old now new before after left.fields left.entries (field_of scope (next_view x).attribute)
     (next more listed)
     (left.whole ∙ ap (λ (z : List Attr). left.fields ++ map (field_of scope) z) same
-    ∙ sym (append_assoc left.fields (field_of scope (next_view x).attribute ∷ []) (fields_in scope more))) left.are left.about put
+    ∙ sym (append_assoc left.fields (field_of scope (next_view x).attribute ∷ []) (fields_in scope more))) left.are left.shallow left.about put
 
 -- all were read
-pub attributes_end : (n : Option NextAttribute) (scope : List Item) (all : List Attr) (l : List ℕ) (place : ℕ) (s : State) (old new : Subject)
-    (output : Output) → n ≡ None → AttributesLeft n scope all l place s old new output → AttributesRead (fields_in scope all) l place s old new output
-attributes_end n scope all l place s old new output is left =
+pub attributes_end : (n : Option NextAttribute) (scope : List Item) (all : List Attr) (l : List ℕ) (depth place : ℕ) (s : State) (old new : Subject)
+    (output : Output) → n ≡ None → AttributesLeft n scope all l depth place s old new output → AttributesRead (fields_in scope all) l depth place s old new output
+attributes_end n scope all l depth place s old new output is left =
     let none : plain left.more ≡ [] = subst (λ (z : Option NextAttribute). IsNextPlain (option_map next_view z) left.more) is left.found in
     let whole : fields_in scope all ≡ left.fields =
     left.whole ∙ ap (λ (z : List Attr). left.fields ++ map (field_of scope) z) none ∙ append-nil left.fields in
     record {
       entries = left.entries;
       are = subst (λ (z : List Field). AreAttributes l place (without_about z) left.entries) (sym whole) left.are;
+      shallow = left.shallow;
       about = subst (λ (z : List Field). Keeps old new (λ u. AreAbout u z)) (sym whole) left.about;
       has = left.has;
     }
 
 -- ---- rdf:Description in rdf:RDF
 
-pub subject_done : (o : Opened) (t : Tag) (outer l : List ℕ) (place : ℕ) (fields : List Field) (old mid at_end new : Source) (before after : Subject)
+pub subject_done : (o : Opened) (t : Tag) (outer l : List ℕ) (outside depth place : ℕ) (fields : List Field) (old mid at_end new : Source) (before after : Subject)
     (s : State) (middle output : Output) → DeclaresLanguage t.language → is_rdf (codes "Description") (name_of o.name) ≡ true
     → name_of o.name ≡ t.name
-    → l ≡ inherited outer t.language → place ≡ o.place → fields ≡ t.fields → mid ≡ old → new.rest.now ≡ at_end.rest.now → new.at ≡ at_end.at
-    → new.scope ≡ ended at_end.scope → (a : AttributesRead fields l place s before after middle)
-    → ItemsRead o.is_empty Structure l mid at_end (changed (with_entries a.entries) s) output
-    → SubjectRead o t outer old new before after s output
-subject_done o t outer l place fields old mid at_end new before after s middle output declares named name language here same source rest at scope a items =
-    let read : ItemsRead o.is_empty Structure l old at_end (changed (with_entries a.entries) s) output =
-    subst (λ (z : Source). ItemsRead o.is_empty Structure l z at_end (changed (with_entries a.entries) s) output) source items in
+    → l ≡ inherited outer t.language → depth ≡ outside → place ≡ o.place → fields ≡ t.fields → mid ≡ old → new.rest.now ≡ at_end.rest.now → new.at ≡ at_end.at
+    → new.scope ≡ ended at_end.scope → (a : AttributesRead fields l depth place s before after middle)
+    → ItemsRead o.is_empty Structure l depth mid at_end (changed (with_entries a.entries) s) output
+    → SubjectRead o t outer outside old new before after s output
+subject_done o t outer l outside depth place fields old mid at_end new before after s middle output declares named name language inner here same source rest at scope a items =
+    let read : ItemsRead o.is_empty Structure l depth old at_end (changed (with_entries a.entries) s) output =
+    subst (λ (z : Source). ItemsRead o.is_empty Structure l depth z at_end (changed (with_entries a.entries) s) output) source items in
     record {
       nodes = read.nodes;
       attributes = a.entries;
@@ -239,39 +246,43 @@ subject_done o t outer l place fields old mid at_end new before after s middle o
           (subst (λ (z : ℕ). AreAttributes l z (without_about fields) a.entries) here a.are));
       are = subst (λ (z : List ℕ). AreEntries Structure z read.nodes read.entries) language read.are;
       about = subst (λ (z : List Field). Keeps before after (λ u. AreAbout u z)) same a.about;
+      shallow = subst (λ (z : ℕ). AreShallow z (a.entries ++ read.entries)) inner
+          (shallow_append depth a.entries read.entries a.shallow read.shallow);
       scope = scope ∙ ap ended read.scope;
       has = subst (λ (z : State). Has output z) (entries_after s a.entries read.entries) read.has;
     }
 
 -- ---- subjects, one after another
 
-pub record SubjectsSoFar (l : List ℕ) (old now : Source) (before after : Subject) (s : State) (output : Output) : Type 0 where
+pub record SubjectsSoFar (l : List ℕ) (depth : ℕ) (old now : Source) (before after : Subject) (s : State) (output : Output) : Type 0 where
   pub nodes : Nodes
   pub entries : List Entry
   pub octets : AreNodes nodes old.scope old.at old.rest.now now.rest.now
   pub are : Keeps before after (λ u. AreSubjects u l nodes entries)
+  pub shallow : AreShallow depth entries
   pub scope : now.scope ≡ old.scope
   pub moves : Moves old.at old.rest.now now.at now.rest.now
   pub has : Has output (changed (with_entries entries) s)
 
-pub subjects_begin : (l : List ℕ) (old : Source) (subject : Subject) (s : State) (output : Output) → IsLeft old.at old.rest.now → Has output s
-    → SubjectsSoFar l old old subject subject s output
-subjects_begin l old subject s output left has =
+pub subjects_begin : (l : List ℕ) (depth : ℕ) (old : Source) (subject : Subject) (s : State) (output : Output) → IsLeft old.at old.rest.now → Has output s
+    → SubjectsSoFar l depth old old subject subject s output
+subjects_begin l depth old subject s output left has =
     record {
       nodes = Nothing;
       entries = [];
       octets = refl;
       are = λ h. (h, λ u k. (k, refl));
+      shallow = tt;
       scope = refl;
       moves = record { left = left; same = refl };
       has = subst (λ (z : State). Has output z) (sym (no_entries s)) has;
     }
 
-pub subjects_next : (l : List ℕ) (old a b d : Source) (subject before after : Subject) (s : State) (middle output : Output) (o : Opened) (white : Nodes)
-    → (so : SubjectsSoFar l old a subject before s middle) → AreWhite white → TagAfter (Some o) white a b
-    → ((t : Tag) → IsOpened b.scope o t → SubjectRead o t l b d before after (changed (with_entries so.entries) s) output)
-    → SubjectsSoFar l old d subject after s output
-subjects_next l old a b d subject before after s middle output o white so is_white tag read =
+pub subjects_next : (l : List ℕ) (depth : ℕ) (old a b d : Source) (subject before after : Subject) (s : State) (middle output : Output) (o : Opened) (white : Nodes)
+    → (so : SubjectsSoFar l depth old a subject before s middle) → AreWhite white → TagAfter (Some o) white a b
+    → ((t : Tag) → IsOpened b.scope o t → SubjectRead o t l depth b d before after (changed (with_entries so.entries) s) output)
+    → SubjectsSoFar l depth old d subject after s output
+subjects_next l depth old a b d subject before after s middle output o white so is_white tag read =
     let (t, start) = tag.is in
     let v = read t start.opened in
     let one : Nodes = Element t o.place v.nodes Nothing in
@@ -302,15 +313,17 @@ subjects_next l old a b d subject before after s middle output o white so is_whi
             ap (λ (z : List Entry). v.attributes ++ z) (sym (append-nil v.entries)),
           )))
           (keeps_on subject before after (λ u. AreSubjects u l so.nodes so.entries) (λ u. AreAbout u t.fields) so.are v.about);
+      shallow = shallow_append depth so.entries es so.shallow v.shallow;
       scope = v.scope ∙ ap ended start.inner_is ∙ ended_inside a.scope start.attributes ∙ so.scope;
       moves = moves_on old.at a.at d.at old.rest.now a.rest.now d.rest.now so.moves
           (moves_on a.at b.at d.at a.rest.now b.rest.now d.rest.now tag.moves v.inside.moves);
       has = subst (λ (z : State). Has output z) (entries_after s so.entries es) v.has;
     }
 
-pub subjects_end : (l : List ℕ) (old a b : Source) (subject after : Subject) (s : State) (output : Output) (white : Nodes)
-    → SubjectsSoFar l old a subject after s output → AreWhite white → TagAfter None white a b → SubjectsRead false l old b subject after s output
-subjects_end l old a b subject after s output white so is_white tag =
+pub subjects_end : (l : List ℕ) (depth : ℕ) (old a b : Source) (subject after : Subject) (s : State) (output : Output) (white : Nodes)
+    → SubjectsSoFar l depth old a subject after s output → AreWhite white → TagAfter None white a b
+    → SubjectsRead false l depth old b subject after s output
+subjects_end l depth old a b subject after s output white so is_white tag =
     let ((m, kind, whole), same) = tag.is in
     record {
       nodes = joined so.nodes white;
@@ -328,13 +341,14 @@ subjects_end l old a b subject after s output white so is_white tag =
       are = keeps_with subject after (λ u. AreSubjects u l so.nodes so.entries) (λ u. AreSubjects u l (joined so.nodes white) so.entries)
           (λ u p. subst (λ (q : List Entry). AreSubjects u l (joined so.nodes white) q) (append-nil so.entries)
           (subjects_joined u l so.nodes white so.entries [] p (white_subjects u l white is_white))) so.are;
+      shallow = so.shallow;
       scope = same ∙ so.scope;
       has = so.has;
     }
 
-pub subjects_none : (empty : Bool) (l : List ℕ) (old : Source) (subject : Subject) (s : State) (output : Output) → empty ≡ true → IsLeft old.at old.rest.now
-    → Has output s → SubjectsRead empty l old old subject subject s output
-subjects_none empty l old subject s output is left has =
+pub subjects_none : (empty : Bool) (l : List ℕ) (depth : ℕ) (old : Source) (subject : Subject) (s : State) (output : Output) → empty ≡ true → IsLeft old.at old.rest.now
+    → Has output s → SubjectsRead empty l depth old old subject subject s output
+subjects_none empty l depth old subject s output is left has =
     record {
       nodes = Nothing;
       entries = [];
@@ -343,6 +357,7 @@ subjects_none empty l old subject s output is left has =
         moves = record { left = left; same = refl };
       };
       are = λ h. (h, λ u k. (k, refl));
+      shallow = tt;
       scope = refl;
       has = subst (λ (z : State). Has output z) (sym (no_entries s)) has;
     }
@@ -376,12 +391,12 @@ rdf_row es after first second joins has ended_as =
     let (fs, row_is, now) = structure_row (changed (with_entries es) (begun nothing empty_state)) after es [] first refl joins has in
     (row fs, row_is, ended_as _ now)
 
-pub rdf_done : (o : Opened) (t : Tag) (l : List ℕ) (old mid new : Source) (before after : Subject) (s : State) (middle output : Output) (c : Content)
-    → DeclaresLanguage t.language → is_rdf (codes "RDF") (name_of o.name) ≡ true → name_of o.name ≡ t.name → l ≡ inherited [] t.language → t.fields ≡ []
+pub rdf_done : (o : Opened) (t : Tag) (l : List ℕ) (depth : ℕ) (old mid new : Source) (before after : Subject) (s : State) (middle output : Output) (c : Content)
+    → DeclaresLanguage t.language → is_rdf (codes "RDF") (name_of o.name) ≡ true → name_of o.name ≡ t.name → l ≡ inherited [] t.language → depth ≡ 3 → t.fields ≡ []
     → new.rest.now ≡ mid.rest.now → new.at ≡ mid.at → new.scope ≡ ended mid.scope
-    → (r : SubjectsRead o.is_empty l old mid before after s middle) → IsRow Structure r.entries c
+    → (r : SubjectsRead o.is_empty l depth old mid before after s middle) → IsRow Structure r.entries c
     → Has output (record { opened = []; properties = c }) → RdfRead o t old new after output
-rdf_done o t l old mid new before after s middle output c declares named name language none rest at scope r line has =
+rdf_done o t l depth old mid new before after s middle output c declares named name language three none rest at scope r line has =
     record {
       nodes = r.nodes;
       content = c;
@@ -397,6 +412,7 @@ rdf_done o t l old mid new before after s middle output c declares named name la
             subst (λ (z : List ℕ). AreSubjects u z r.nodes r.entries) language are,
             line,
           ));
+      shallow = subst (λ (z : ℕ). IsShallow z c) three (row_shallow depth Structure r.entries c line r.shallow);
       scope = scope ∙ ap ended r.scope;
       has = has;
     }
@@ -454,6 +470,7 @@ around_done o white blank old mid on new after output is_white tag read is_blank
         moves = moves_on old.at on.at new.at old.rest.now on.rest.now new.rest.now moves last.moves;
       };
       is = λ h. rdf_joined one blank r.content (white_rdf white (Element t o.place r.nodes Nothing) r.content is_white (r.is h, tt)) is_blank;
+      shallow = r.shallow;
       scope = same ∙ scope;
       has = r.has;
     }
@@ -461,7 +478,7 @@ around_done o white blank old mid on new after output is_white tag read is_blank
 pub root_rdf : (o : Opened) (t : Tag) (old new : Source) (after : Subject) (output : Output) → RdfRead o t old new after output
     → RootRead o t old new after output
 root_rdf o t old new after output r =
-    record { nodes = r.nodes; content = r.content; inside = r.inside; is = λ h. inl (r.is h); scope = r.scope; has = r.has }
+    record { nodes = r.nodes; content = r.content; inside = r.inside; is = λ h. inl (r.is h); shallow = r.shallow; scope = r.scope; has = r.has }
 
 pub root_around : (o : Opened) (t : Tag) (old mid new : Source) (after : Subject) (output : Output) → is_root (name_of o.name) ≡ true
     → name_of o.name ≡ t.name → o.is_empty ≡ false → new.rest.now ≡ mid.rest.now → new.at ≡ mid.at → new.scope ≡ ended mid.scope
@@ -472,6 +489,7 @@ root_around o t old mid new after output named name some rest at scope r =
       content = r.content;
       inside = subst (λ (z : Bool). InsideRead z r.nodes old new) (sym some) (inside_kept false r.nodes old mid new rest at r.inside);
       is = λ h. inr (ap is_root (sym name) ∙ named, r.is h);
+      shallow = r.shallow;
       scope = scope ∙ ap ended r.scope;
       has = r.has;
     }
@@ -490,5 +508,6 @@ document_done o white old mid on after output is_white tag read last h =
       nodes_joined one blank old.scope old.at on.at old.rest.now on.rest.now [] octets
           (subst (λ (q : List Item). AreNodes blank q on.at on.rest.now []) (scope_after o white t old mid on tag start r.scope) ending) moves.same,
       means_joined one blank r.content (white_means white (Element t o.place r.nodes Nothing) r.content is_white (r.is h, tt)) is_blank,
+      r.shallow,
       r.has,
     )

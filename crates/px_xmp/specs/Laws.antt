@@ -43,6 +43,10 @@ IsFormOf x start form = (c : Content) × IsContent c × HasMeaning x start c × 
 abbrev pub IsFormOfPacket : List ℕ → List ℕ → Type 0
 IsFormOfPacket x form = (p : IsPacket x) × IsFormOf p.document (length p.before) form
 
+-- these octets are the normal packet of content that can be read again
+abbrev pub IsReadableForm : List ℕ → Type 0
+IsReadableForm form = (c : Content) × IsContent c × IsReadable c × (form ≡ normal_packet c)
+
 -- two documents mean one thing
 abbrev pub MeanTheSame : List ℕ → ℕ → List ℕ → ℕ → Type 0
 MeanTheSame x m y n = (c : Content) × IsContent c × HasMeaning x m c × HasMeaning y n c
@@ -68,3 +72,7 @@ MeaningsAreReadable = (x : List ℕ) (start : ℕ) (c : Content) → IsFile x �
 abbrev pub NormalKeepsMeaning : Type 0
 NormalKeepsMeaning = (x : List ℕ) (start : ℕ) (c : Content) → IsFile x → HasMeaning x start c → IsContent c → IsShallow 3 c
     → IsFile (normal_packet c) × HasMeaning (normal_packet c) 0 c
+
+-- The normal packet of content that can be read is a document, and its own form.
+abbrev pub FormIsItsOwn : Type 0
+FormIsItsOwn = (form : List ℕ) → IsReadableForm form → IsFile form × IsFormOf form 0 form

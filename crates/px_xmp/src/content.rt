@@ -77,7 +77,7 @@ impl<'a> Reader<'a> {
     ) -> Result<Around<'a>, Refusal>
         ensures source { self.new.source ≡ self.old.source }
         ensures value { (s : State) (t : Tag) → Has self.old.output s → IsOpened self.old.source.scope opened.entry t
-            → IfOk result (λ a. NodeBegun node t outer.entry.language.now opened.entry.place a s self.new.output) }
+            → IfOk result (λ a. NodeBegun node t outer.entry.language.now outer.entry.depth opened.entry.place a s self.new.output) }
         ensures memory { CountsAllocFailureInPacket result memory.old memory.new }
     {
         let Some(around) = outer.inside(opened) else {
@@ -119,7 +119,8 @@ impl<'a> Reader<'a> {
     ) -> Result<(), Refusal>
         ensures shorter { OnOk result (length self.new.source.rest.now ≤ length self.old.source.rest.now) }
         ensures read { (s : State) → Has self.old.output s → IsLeft self.old.source.at self.old.source.rest.now → OnOk result
-            (ItemsRead is_empty (node_view node) around.entry.language.now self.old.source self.new.source s self.new.output) }
+            (ItemsRead is_empty (node_view node) around.entry.language.now around.entry.depth
+            self.old.source self.new.source s self.new.output) }
         ensures memory { CountsAllocFailureInPacket result memory.old memory.new }
     {
         if is_empty {
@@ -148,7 +149,8 @@ impl<'a> Reader<'a> {
         ensures shorter { OnOk result (length self.new.source.rest.now ≤ length self.old.source.rest.now) }
         ensures read { (s : State) (t : Tag) → Has self.old.output s → IsLeft self.old.source.at self.old.source.rest.now
             → IsOpened self.old.source.scope opened.entry t → OnOk result
-            (ValueRead opened.entry t (label_view label.entry) outer.entry.language.now self.old.source self.new.source s self.new.output) }
+            (ValueRead opened.entry t (label_view label.entry) outer.entry.language.now outer.entry.depth
+            self.old.source self.new.source s self.new.output) }
         ensures memory { CountsAllocFailureInPacket result memory.old memory.new }
     {
         let Some(around) = outer.inside(opened) else {
@@ -242,7 +244,7 @@ impl<'a> Reader<'a> {
         ensures shorter { OnOk result (length self.new.source.rest.now ≤ length self.old.source.rest.now) }
         ensures read { (s : State) (t : Tag) → Has self.old.output (begun nothing s) → IsLeft self.old.source.at self.old.source.rest.now
             → IsOpened self.old.source.scope opened.entry t → IfOk result (λ node.
-            NodeRead node opened.entry t outer.entry.language.now self.old.source self.new.source s self.new.output) }
+            NodeRead node opened.entry t outer.entry.language.now outer.entry.depth self.old.source self.new.source s self.new.output) }
         ensures memory { CountsAllocFailureInPacket result memory.old memory.new }
     {
         let Some(node) = opened.name.node() else {

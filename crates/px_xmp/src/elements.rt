@@ -1,5 +1,6 @@
 // What is known of an element while its content is read.
-ghost use Rattle.std.specs.Prelude.{◌≡◌, option_map, IfSome};
+ghost use Rattle.std.specs.Prelude.{◌≡◌, ◌≤◌, suc, option_map, IfSome};
+ghost use Rattle.px_xmp_tree.specs.Nesting.{limit};
 ghost use Rattle.px_xmp.specs.Tags.{DeclaresLanguage, inherited};
 ghost use Rattle.px_xmp.specs.calls.Contents.{content_of};
 
@@ -41,6 +42,7 @@ impl<'a> Around<'a> {
         ensures language { IfSome result (λ a.
             a.language.now ≡ inherited self.entry.language.now (option_map (λ l. l.now) opened.entry.language)) }
         ensures place { IfSome result (λ a. a.place ≡ opened.entry.place) }
+        ensures depth { IfSome result (λ a. a.depth ≡ self.entry.depth) }
     {
         let Some(language) = language_of(opened.language, self.language) else {
             return None;
@@ -56,6 +58,8 @@ impl<'a> Around<'a> {
     pub(crate) fn deeper(self) -> Option<Around<'a>>
         ensures language { IfSome result (λ a. a.language.now ≡ self.entry.language.now) }
         ensures place { IfSome result (λ a. a.place ≡ self.entry.place) }
+        ensures depth { IfSome result (λ a. a.depth ≡ suc self.entry.depth) }
+        ensures within { IfSome result (λ a. a.depth ≤ limit) }
     {
         if self.depth >= DEPTH_LIMIT {
             return None;

@@ -1,5 +1,5 @@
 //! The laws of packets. Each is the contract of a function that computes nothing.
-ghost use Rattle.px_xmp.specs.Laws.{FormsDecide, KindsAreRead, MeaningsAreReadable, NodesMeanOnce, NormalIsFile};
+ghost use Rattle.px_xmp.specs.Laws.{FormIsItsOwn, FormsDecide, KindsAreRead, MeaningsAreReadable, NodesMeanOnce, NormalIsFile};
 ghost use Rattle.px_xmp.specs.Laws.{NormalKeepsMeaning, NormalSays, OneMeaning, OneReading, ScopesAreJudged};
 
 /// Each mark of a document is read as what it is, and with its length.
@@ -83,6 +83,14 @@ pub fn normal_keeps_meaning()
     ensures { NormalKeepsMeaning }
 {
     meanings_are_readable();
+    normal_is_file();
+    normal_says();
+}
+
+/// The normal packet of content that can be read is a document, and its own form.
+pub fn form_is_its_own()
+    ensures { FormIsItsOwn }
+{
     normal_is_file();
     normal_says();
 }

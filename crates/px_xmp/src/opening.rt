@@ -28,7 +28,8 @@ pub(crate) fn put_property(
     around: Around,
 ) -> Result<(), Refusal>
     ensures value { (s : State) → Has output.old s
-        → OnOk result (PropertyPut (name_of name.entry) value.now around.entry.language.now around.entry.place s output.new) }
+        → OnOk result (PropertyPut (name_of name.entry) value.now around.entry.language.now around.entry.depth
+        around.entry.place s output.new) }
     ensures memory { CountsAllocFailureInPacket result memory.old memory.new }
 {
     let Some(label) = name.property() else {
@@ -54,7 +55,8 @@ pub(crate) fn put_properties<'a>(
     around: Around<'a>,
 ) -> Result<(), Refusal>
     ensures value { (s : State) (all : List Attr) → Has output.old s → AreListed attributes.now all
-        → OnOk result (PropertiesPut (fields_in scope.now all) around.entry.language.now around.entry.place s output.new) }
+        → OnOk result (PropertiesPut (fields_in scope.now all) around.entry.language.now around.entry.depth
+        around.entry.place s output.new) }
     ensures memory { CountsAllocFailureInPacket result memory.old memory.new }
 {
     let mut found = next_plain(attributes);
@@ -75,7 +77,8 @@ fn put_value_properties<'a>(
     around: Around<'a>,
 ) -> Result<(), Refusal>
     ensures value { (s : State) (all : List Attr) → Has output.old s → IsNextOf (next_view first.entry) all
-        → OnOk result (PropertiesPut (fields_in scope.now all) around.entry.language.now around.entry.place s output.new) }
+        → OnOk result (PropertiesPut (fields_in scope.now all) around.entry.language.now around.entry.depth
+        around.entry.place s output.new) }
     ensures memory { CountsAllocFailureInPacket result memory.old memory.new }
 {
     let mut found = Some(first);
@@ -119,7 +122,8 @@ fn read_filling_from<'a>(
     around: Around<'a>,
 ) -> Result<Filling, Refusal>
     ensures value { (s : State) (all : List Attr) → Has output.old s → IsNextOf (next_view first.entry) all
-        → IfOk result (λ f. IsFilled f (fields_in scope.now all) around.entry.language.now around.entry.place s output.new) }
+        → IfOk result (λ f. IsFilled f (fields_in scope.now all) around.entry.language.now around.entry.depth
+        around.entry.place s output.new) }
     ensures memory { CountsAllocFailureInPacket result memory.old memory.new }
 {
     let name = scope.attribute(first.attribute.name);
@@ -147,7 +151,8 @@ pub(crate) fn read_filling<'a>(
     around: Around<'a>,
 ) -> Result<Filling, Refusal>
     ensures value { (s : State) (all : List Attr) → Has output.old s → AreListed attributes.now all
-        → IfOk result (λ f. IsFilled f (fields_in scope.now all) around.entry.language.now around.entry.place s output.new) }
+        → IfOk result (λ f. IsFilled f (fields_in scope.now all) around.entry.language.now around.entry.depth
+        around.entry.place s output.new) }
     ensures memory { CountsAllocFailureInPacket result memory.old memory.new }
 {
     match next_plain(attributes) {

@@ -6,7 +6,7 @@ ghost use Rattle.px_xmp_document.specs.Document.{IsSplit, order_mark_len, IsFile
 ghost use Rattle.px_xmp_forms.specs.Forms.{IsNormal};
 ghost use Rattle.px_xmp_forms.specs.Allocations.{CountsAllocFailureInPacket};
 ghost use Rattle.px_xmp.specs.Packet.{is_padding, is_around, IsPacket};
-ghost use Rattle.px_xmp.specs.Laws.{IsFormOf, IsFormOfPacket};
+ghost use Rattle.px_xmp.specs.Laws.{IsFormOf, IsFormOfPacket, IsReadableForm};
 
 use crate::causes::cause_of;
 use crate::reader::Reader;
@@ -248,6 +248,7 @@ fn head_len(document: &[u8]) -> usize
 fn document_form(memory: &mut Memory, document: &[u8], start: usize) -> Result<Vec<u8>, Refusal>
     ensures document { OnOk result (IsFile document.now) }
     ensures form { start + length document.now ≤ limit → IfOk result (λ form. IsFormOf document.now start form.items) }
+    ensures readable { start + length document.now ≤ limit → IfOk result (λ form. IsReadableForm form.items) }
     ensures memory { CountsAllocFailureInPacket result memory.old memory.new }
     ensures normal { IfOk result (λ form. IsNormal form.items) }
     ensures bound { IfOk result (λ form. length form.items ≤ limit) }
@@ -260,6 +261,7 @@ fn document_form(memory: &mut Memory, document: &[u8], start: usize) -> Result<V
         return Err(cause_of(document, fault).at(start.saturating_add(fault.offset)));
     }
     px_xmp_marks::laws::declarations_are_read();
+    crate::laws::meanings_are_readable();
     let octets = document.split_at(head).1;
     let mut reader = Reader::new(memory, octets, start.saturating_add(head));
     let mut subject = Subject {
@@ -280,6 +282,7 @@ fn document_form(memory: &mut Memory, document: &[u8], start: usize) -> Result<V
 pub fn normal_form_in(memory: &mut Memory, packet: &[u8]) -> Result<Vec<u8>, Refusal>
     ensures packet { OnOk result (IsPacket packet.now) }
     ensures form { IfOk result (λ form. IsFormOfPacket packet.now form.items) }
+    ensures readable { IfOk result (λ form. IsReadableForm form.items) }
     ensures memory { CountsAllocFailureInPacket result memory.old memory.new }
     ensures normal { IfOk result (λ form. IsNormal form.items) }
     ensures bound { IfOk result (λ form. length form.items ≤ limit) }

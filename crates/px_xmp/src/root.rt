@@ -31,7 +31,8 @@ impl<'a> Reader<'a> {
     ) -> Result<(), Refusal>
         ensures source { self.new.source ≡ self.old.source }
         ensures value { (s : State) → Has self.old.output s → OnOk result
-            (AttributeRead (field_of self.old.source.scope (next_view next.entry).attribute) around.entry.language.now around.entry.place s
+            (AttributeRead (field_of self.old.source.scope (next_view next.entry).attribute)
+            around.entry.language.now around.entry.depth around.entry.place s
             subject.old subject.new self.new.output) }
         ensures memory { CountsAllocFailureInPacket result memory.old memory.new }
     {
@@ -52,7 +53,7 @@ impl<'a> Reader<'a> {
     ) -> Result<(), Refusal>
         ensures source { self.new.source ≡ self.old.source }
         ensures value { (s : State) (all : List Attr) → Has self.old.output s → AreListed attributes.now all → OnOk result
-            (AttributesRead (fields_in self.old.source.scope all) around.entry.language.now around.entry.place s
+            (AttributesRead (fields_in self.old.source.scope all) around.entry.language.now around.entry.depth around.entry.place s
             subject.old subject.new self.new.output) }
         ensures memory { CountsAllocFailureInPacket result memory.old memory.new }
     {
@@ -75,7 +76,7 @@ impl<'a> Reader<'a> {
         ensures shorter { OnOk result (length self.new.source.rest.now ≤ length self.old.source.rest.now) }
         ensures read { (s : State) (t : Tag) → Has self.old.output s → IsLeft self.old.source.at self.old.source.rest.now
             → IsOpened self.old.source.scope opened.entry t → OnOk result
-            (SubjectRead opened.entry t outer.entry.language.now self.old.source self.new.source subject.old subject.new s
+            (SubjectRead opened.entry t outer.entry.language.now outer.entry.depth self.old.source self.new.source subject.old subject.new s
             self.new.output) }
         ensures memory { CountsAllocFailureInPacket result memory.old memory.new }
     {
@@ -100,7 +101,8 @@ impl<'a> Reader<'a> {
         around: Around<'a>,
     ) -> Result<(), Refusal>
         ensures read { (s : State) → Has self.old.output s → IsLeft self.old.source.at self.old.source.rest.now → OnOk result
-            (SubjectsRead opened.entry.is_empty around.entry.language.now self.old.source self.new.source subject.old subject.new s
+            (SubjectsRead opened.entry.is_empty around.entry.language.now around.entry.depth
+            self.old.source self.new.source subject.old subject.new s
             self.new.output) }
         ensures memory { CountsAllocFailureInPacket result memory.old memory.new }
     {

@@ -1,5 +1,6 @@
 -- What a call has read of an element, and put into the output.
-use Rattle.std.specs.Prelude.{◌≡◌, ◌≢◌, ◌++◌, ℕ, Bool, true, false, not, codes, Option, Some, is_some, List, [], ◌∷◌}
+use Rattle.std.specs.Prelude.{◌≡◌, ◌≢◌, ◌≤◌, ◌<◌, ◌++◌, ℕ, suc, Bool, true, false, not, codes, Option, Some, is_some, List, [], ◌∷◌, ⊤}
+use Rattle.std.specs.List.{AllByRecursion}
 use Rattle.px_xmp_text.specs.Texts.{text_of}
 use Rattle.px_xmp_text.specs.declared.pieces.TextKind.TheVariants.{AttributeValue}
 use Rattle.px_xmp_text.specs.Values.{Label, Compound, Structure}
@@ -8,7 +9,8 @@ use Rattle.px_xmp_marks.specs.Reading.{Attr, Next}
 use Rattle.px_xmp_spaces.specs.Scopes.{ended}
 use Rattle.px_xmp_forms.specs.Forms.{is_white}
 use Rattle.px_xmp_forms.specs.Uris.{IsAbsolute}
-use Rattle.px_xmp_forms.specs.Entries.{Value, Entry}
+use Rattle.px_xmp_tree.specs.Nesting.{limit}
+use Rattle.px_xmp_forms.specs.Entries.{Value, Plain, Inside, Entry, before}
 use Rattle.px_xmp_forms.specs.Outputs.{State, Open, Has, nothing, begun, changed, with_text, with_inner, with_entry, value_of}
 use Rattle.px_xmp_forms.specs.Outputs.{JoinsProperties, JoinsMembers}
 use Rattle.px_xmp_forms.specs.declared.labels.Content.{Content}
@@ -21,6 +23,7 @@ use Rattle.px_xmp.specs.Tags.{Field, Tag, DeclaresLanguage, inherited, plain}
 use Rattle.px_xmp.specs.Nodes.{Nodes}
 use Rattle.px_xmp.specs.Meaning.{AreWhite, IsText, literal, compound_of, label_in, AreAttributes, HasAttributes, IsRow}
 use Rattle.px_xmp.specs.Meaning.{IsValue, AreEntries, IsNode}
+use Rattle.px_xmp.specs.Readable.{IsShallow}
 use Rattle.px_xmp.specs.Reading.{What}
 use Rattle.px_xmp.specs.declared.elements.Opened.{Opened}
 use Rattle.px_xmp.specs.declared.elements.Around.{Around}
@@ -41,23 +44,45 @@ content_of (nodes.Container c) = content.Members c
 abbrev pub with_entries : List Entry → Open → Open
 with_entries es o = record { text = o.text; inner = o.inner; entries = o.entries ++ es }
 
+-- ---- depth
+
+-- entries are not too deep inside so many elements
+abbrev pub AreShallow : ℕ → List Entry → Type 0
+AreShallow depth es = AllByRecursion (λ e. IsShallow depth (before e.label e.value values.End)) es
+
+-- what is in a structure or an array is not, inside an element that is the last one of so many
+abbrev pub IsShallowInside : ℕ → Compound → values.Content → Type 0
+IsShallowInside depth Structure c = IsShallow depth c
+IsShallowInside depth array c = (suc depth ≤ limit) × IsShallow (suc depth) c
+
+abbrev pub IsShallowValue : ℕ → Value → Type 0
+IsShallowValue depth (Plain p) = ⊤
+IsShallowValue depth (Inside s c) = IsShallowInside depth s c
+
+-- how many elements are around what is in a node, inside so many
+abbrev pub IsNodeDepth : Node → ℕ → ℕ → Type 0
+IsNodeDepth nodes.Description outer depth = depth ≡ outer
+IsNodeDepth (nodes.Container c) outer depth = (depth ≡ suc outer) × (depth ≤ limit)
+
 -- ---- attributes
 
 abbrev pub attribute : Label → ℕ → List ℕ → List ℕ → Entry
 attribute label place l t = record { label = label; value = literal l t; place = place }
 
 -- an attribute was put, as a property
-pub record PropertyPut (name : Name) (value : List ℕ) (l : List ℕ) (place : ℕ) (s : State) (output : Output) : Type 0 where
+pub record PropertyPut (name : Name) (value : List ℕ) (l : List ℕ) (depth : ℕ) (place : ℕ) (s : State) (output : Output) : Type 0 where
   pub label : Label
   pub text : List ℕ
   pub named : label_in Structure name ≡ Some label
   pub says : text_of AttributeValue value ≡ Some text
+  pub shallow : depth < limit
   pub has : Has output (changed (with_entry (attribute label place l text)) s)
 
 -- attributes were put, as properties
-pub record PropertiesPut (fields : List Field) (l : List ℕ) (place : ℕ) (s : State) (output : Output) : Type 0 where
+pub record PropertiesPut (fields : List Field) (l : List ℕ) (depth : ℕ) (place : ℕ) (s : State) (output : Output) : Type 0 where
   pub entries : List Entry
   pub are : AreAttributes l place fields entries
+  pub shallow : AreShallow depth entries
   pub has : Has output (changed (with_entries entries) s)
 
 -- the only attribute was put, as a URI
@@ -69,14 +94,14 @@ pub record ResourcePut (n : Next) (s : State) (output : Output) : Type 0 where
   pub has : Has output (changed (with_text text) s)
 
 -- what the attributes of a property or an item are, and what was put
-abbrev pub IsFilled : Filling → List Field → List ℕ → ℕ → State → Output → Type 0
-IsFilled fillings.Any fields l place s output = (fields ≡ []) × Has output s
-IsFilled fillings.Properties fields l place s output =
+abbrev pub IsFilled : Filling → List Field → List ℕ → ℕ → ℕ → State → Output → Type 0
+IsFilled fillings.Any fields l depth place s output = (fields ≡ []) × Has output s
+IsFilled fillings.Properties fields l depth place s output =
     (f : Field) × (fields ≡ f ∷ []) × (is_rdf (codes "parseType") f.name ≡ true) × (f.value ≡ codes "Resource") × Has output s
-IsFilled fillings.Resource fields l place s output =
+IsFilled fillings.Resource fields l depth place s output =
     (f : Field) × (fields ≡ f ∷ []) × (is_rdf (codes "resource") f.name ≡ true) × IsAbsolute f.value
     × (t : List ℕ) × (text_of AttributeValue f.value ≡ Some t) × Has output (changed (with_text t) s)
-IsFilled fillings.Attributes fields l place s output = (fields ≢ []) × PropertiesPut fields l place s output
+IsFilled fillings.Attributes fields l depth place s output = (fields ≢ []) × PropertiesPut fields l depth place s output
 
 -- ---- the text of a property or an item
 
@@ -99,11 +124,14 @@ pub record TextRead (o : Option Opened) (s : State) (old new : Source) (output :
 -- ---- nodes
 
 -- a node was begun: its attributes were put
-pub record NodeBegun (node : Node) (t : Tag) (outer : List ℕ) (place : ℕ) (a : Around) (s : State) (output : Output) : Type 0 where
+pub record NodeBegun (node : Node) (t : Tag) (outer : List ℕ) (depth : ℕ) (place : ℕ) (a : Around)
+    (s : State) (output : Output) : Type 0 where
   pub declares : DeclaresLanguage t.language
   pub language : a.language.now ≡ inherited outer t.language
   pub entries : List Entry
   pub are : HasAttributes (node_view node) (inherited outer t.language) place t.fields entries
+  pub inner : IsNodeDepth node depth a.depth
+  pub shallow : AreShallow a.depth entries
   pub has : Has output (begun (with_entries entries nothing) s)
 
 abbrev pub is_bag : Container → Bool
@@ -123,11 +151,13 @@ NodeEnded node s output =
     → (c : values.Content) × IsRow (node_view node) es c × Has output (record { opened = with_inner c o ∷ os; properties = s.properties })
 
 -- properties or items were read
-pub record ItemsRead (empty : Bool) (compound : Compound) (l : List ℕ) (old new : Source) (s : State) (output : Output) : Type 0 where
+pub record ItemsRead (empty : Bool) (compound : Compound) (l : List ℕ) (depth : ℕ) (old new : Source)
+    (s : State) (output : Output) : Type 0 where
   pub nodes : Nodes
   pub entries : List Entry
   pub inside : InsideRead empty nodes old new
   pub are : AreEntries compound l nodes entries
+  pub shallow : AreShallow depth entries
   pub scope : new.scope ≡ old.scope
   pub has : Has output (changed (with_entries entries) s)
 
@@ -136,12 +166,14 @@ abbrev pub HasValue : List ℕ → ℕ → List Field → Nodes → Value → Ty
 HasValue l place fields nodes v = IsValue l place fields nodes (IsNode l nodes) (AreEntries Structure l nodes) v
 
 -- a property or an item was read
-pub record ValueRead (o : Opened) (t : Tag) (label : Label) (outer : List ℕ) (old new : Source) (s : State) (output : Output) : Type 0 where
+pub record ValueRead (o : Opened) (t : Tag) (label : Label) (outer : List ℕ) (depth : ℕ) (old new : Source)
+    (s : State) (output : Output) : Type 0 where
   pub nodes : Nodes
   pub value : Value
   pub inside : InsideRead o.is_empty nodes old new
   pub declares : DeclaresLanguage t.language
   pub is : HasValue (inherited outer t.language) o.place t.fields nodes value
+  pub shallow : IsShallow depth (before label value values.End)
   pub scope : new.scope ≡ ended old.scope
   pub has : Has output (changed (with_entry (record { label = label; value = value; place = o.place })) s)
 
@@ -152,11 +184,13 @@ pub record ContentRead (c : Content) (empty : Bool) (fields : List Field) (a : A
   pub element : Open
   pub inside : InsideRead empty nodes old new
   pub is : HasValue a.language.now a.place fields nodes (value_of c element.text element.inner)
+  pub shallow : IsShallowValue a.depth (value_of c element.text element.inner)
   pub scope : new.scope ≡ old.scope
   pub has : Has output (begun element s)
 
 -- a node was read, and is inside the element around it
-pub record NodeRead (node : Node) (o : Opened) (t : Tag) (outer : List ℕ) (old new : Source) (s : State) (output : Output) : Type 0 where
+pub record NodeRead (node : Node) (o : Opened) (t : Tag) (outer : List ℕ) (depth : ℕ) (old new : Source)
+    (s : State) (output : Output) : Type 0 where
   pub nodes : Nodes
   pub content : values.Content
   pub attributes : List Entry
@@ -167,5 +201,6 @@ pub record NodeRead (node : Node) (o : Opened) (t : Tag) (outer : List ℕ) (old
   pub attributes_are : HasAttributes (node_view node) (inherited outer t.language) o.place t.fields attributes
   pub are : AreEntries (node_view node) (inherited outer t.language) nodes entries
   pub row : IsRow (node_view node) (attributes ++ entries) content
+  pub shallow : IsShallowInside depth (node_view node) content
   pub scope : new.scope ≡ ended old.scope
   pub has : Has output (begun (with_inner content nothing) s)

@@ -15,7 +15,8 @@ use Rattle.px_xmp.specs.declared.elements.Opened.{Opened}
 use Rattle.px_xmp.specs.declared.source.Source.{Source}
 use Rattle.px_xmp.specs.declared.subject.Subject.{Subject}
 use Rattle.px_xmp.specs.calls.Steps.{InsideRead}
-use Rattle.px_xmp.specs.calls.Contents.{with_entries, PropertyPut}
+use Rattle.px_xmp.specs.Readable.{IsShallow}
+use Rattle.px_xmp.specs.calls.Contents.{with_entries, AreShallow, PropertyPut}
 
 -- the subject that was named, if one was, has this text
 abbrev pub IsSubject : Subject → Option (List ℕ) → Type 0
@@ -30,20 +31,22 @@ abbrev pub IsAbout : List ℕ → Option (List ℕ) → Type 0
 IsAbout v u = (v ≡ []) ⊎ (text_of AttributeValue v ≡ u)
 
 -- an attribute of rdf:Description in rdf:RDF was read: the name of the subject, or a property
-abbrev pub AttributeRead : Field → List ℕ → ℕ → State → Subject → Subject → Output → Type 0
-AttributeRead f l place s old new output =
+abbrev pub AttributeRead : Field → List ℕ → ℕ → ℕ → State → Subject → Subject → Output → Type 0
+AttributeRead f l depth place s old new output =
     ((is_about f.name ≡ true) × Keeps old new (IsAbout f.value) × Has output s)
-    ⊎ ((is_about f.name ≡ false) × (new ≡ old) × PropertyPut f.name f.value l place s output)
+    ⊎ ((is_about f.name ≡ false) × (new ≡ old) × PropertyPut f.name f.value l depth place s output)
 
 -- the attributes of rdf:Description in rdf:RDF were read
-pub record AttributesRead (fields : List Field) (l : List ℕ) (place : ℕ) (s : State) (old new : Subject) (output : Output) : Type 0 where
+pub record AttributesRead (fields : List Field) (l : List ℕ) (depth : ℕ) (place : ℕ)
+    (s : State) (old new : Subject) (output : Output) : Type 0 where
   pub entries : List Entry
   pub are : AreAttributes l place (without_about fields) entries
+  pub shallow : AreShallow depth entries
   pub about : Keeps old new (λ u. AreAbout u fields)
   pub has : Has output (changed (with_entries entries) s)
 
 -- rdf:Description in rdf:RDF was read
-pub record SubjectRead (o : Opened) (t : Tag) (outer : List ℕ) (old new : Source) (before after : Subject) (s : State)
+pub record SubjectRead (o : Opened) (t : Tag) (outer : List ℕ) (depth : ℕ) (old new : Source) (before after : Subject) (s : State)
     (output : Output) : Type 0 where
   pub nodes : Nodes
   pub attributes : List Entry
@@ -54,15 +57,18 @@ pub record SubjectRead (o : Opened) (t : Tag) (outer : List ℕ) (old new : Sour
   pub attributes_are : AreAttributes (inherited outer t.language) o.place (without_about t.fields) attributes
   pub are : AreEntries Structure (inherited outer t.language) nodes entries
   pub about : Keeps before after (λ u. AreAbout u t.fields)
+  pub shallow : AreShallow depth (attributes ++ entries)
   pub scope : new.scope ≡ ended old.scope
   pub has : Has output (changed (with_entries (attributes ++ entries)) s)
 
 -- the content of rdf:RDF was read
-pub record SubjectsRead (empty : Bool) (l : List ℕ) (old new : Source) (before after : Subject) (s : State) (output : Output) : Type 0 where
+pub record SubjectsRead (empty : Bool) (l : List ℕ) (depth : ℕ) (old new : Source) (before after : Subject)
+    (s : State) (output : Output) : Type 0 where
   pub nodes : Nodes
   pub entries : List Entry
   pub inside : InsideRead empty nodes old new
   pub are : Keeps before after (λ u. AreSubjects u l nodes entries)
+  pub shallow : AreShallow depth entries
   pub scope : new.scope ≡ old.scope
   pub has : Has output (changed (with_entries entries) s)
 
@@ -72,6 +78,7 @@ pub record RdfRead (o : Opened) (t : Tag) (old new : Source) (after : Subject) (
   pub content : Content
   pub inside : InsideRead o.is_empty nodes old new
   pub is : after.other ≡ None → IsRdf t nodes content
+  pub shallow : IsShallow 3 content
   pub scope : new.scope ≡ ended old.scope
   pub has : Has output (record { opened = []; properties = content })
 
@@ -81,6 +88,7 @@ pub record AroundRead (old new : Source) (after : Subject) (output : Output) : T
   pub content : Content
   pub inside : InsideRead false nodes old new
   pub is : after.other ≡ None → HasRdf nodes content
+  pub shallow : IsShallow 3 content
   pub scope : new.scope ≡ old.scope
   pub has : Has output (record { opened = []; properties = content })
 
@@ -90,11 +98,12 @@ pub record RootRead (o : Opened) (t : Tag) (old new : Source) (after : Subject) 
   pub content : Content
   pub inside : InsideRead o.is_empty nodes old new
   pub is : after.other ≡ None → IsRdf t nodes content ⊎ ((is_root t.name ≡ true) × HasRdf nodes content)
+  pub shallow : IsShallow 3 content
   pub scope : new.scope ≡ ended old.scope
   pub has : Has output (record { opened = []; properties = content })
 
 -- a document was read, as nodes that mean what is put
 abbrev pub DocumentRead : Source → Output → Type 0
 DocumentRead old output =
-    (nodes : Nodes) × (c : Content) × AreNodes nodes old.scope old.at old.rest.now [] × Means nodes c
+    (nodes : Nodes) × (c : Content) × AreNodes nodes old.scope old.at old.rest.now [] × Means nodes c × IsShallow 3 c
     × Has output (record { opened = []; properties = c })

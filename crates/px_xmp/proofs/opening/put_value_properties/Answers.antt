@@ -9,7 +9,7 @@ pub loop-found-init : goal.loop-found-init
 loop-found-init c =
     record {
       put = λ s all has next.
-          properties_begin (Some c.args.first) c.args.scope.now all c.args.around.language.now c.args.around.place s c.args.output.now
+          properties_begin (Some c.args.first) c.args.scope.now all c.args.around.language.now c.args.around.depth c.args.around.place s c.args.output.now
           next has;
       failed_allocations = refl;
     }
@@ -19,7 +19,7 @@ loop-found-preserved c =
     record {
       put = λ s all has next.
           let left = c.loop-found.invariant.put s all has next in
-          properties_next c.loop-found.found c.next_plain-found.result c.in-Some.next c.args.scope.now all c.args.around.language.now
+          properties_next c.loop-found.found c.next_plain-found.result c.in-Some.next c.args.scope.now all c.args.around.language.now c.args.around.depth
           c.args.around.place s c.loop-found.output c.put_property.new.output (name_of c.attribute-name.result) c.in-Some.is left
           c.next_plain-found.ensures.value c.attribute-name.ensures
           (c.in_ok-put_property.ensures.value (changed (with_entries left.entries) s) left.has);
@@ -28,5 +28,5 @@ loop-found-preserved c =
 
 pub returns-clause-value : goal.returns-clause-value
 returns-clause-value c s all has next =
-    properties_end c.loop-found.found c.args.scope.now all c.args.around.language.now c.args.around.place s c.loop-found.output c.in_default.is
+    properties_end c.loop-found.found c.args.scope.now all c.args.around.language.now c.args.around.depth c.args.around.place s c.loop-found.output c.in_default.is
     (c.loop-found.invariant.put s all has next)

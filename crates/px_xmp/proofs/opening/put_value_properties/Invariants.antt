@@ -9,7 +9,7 @@ use Rattle.px_xmp.proofs.opening.put_value_properties.Given as goal
 abbrev pub invariant-loop-found : goal.invariant-loop-found
 invariant-loop-found l = record {
   put : (s : State) (all : List Attr) → Has l.fn.output s → IsNextOf (next_view l.first) all
-      → PropertiesLeft l.found l.scope all l.around.language.now l.around.place s l.output;
+      → PropertiesLeft l.found l.scope all l.around.language.now l.around.depth l.around.place s l.output;
   failed_allocations : l.memory.failed_allocations ≡ l.fn.memory.failed_allocations;
 }
 

@@ -34,3 +34,13 @@ returns-clause-form c =
       is,
     ))
     c.document_form.ensures.document (c.document_form.ensures.form few)
+
+pub returns-clause-readable : goal.returns-clause-readable
+returns-clause-readable c =
+    let before = c.split_at.result.0.now in
+    let document = c.split_at-2.result.0.now in
+    let after = c.split_at-2.result.1.now in
+    let joined : c.args.packet.now ≡ before ++ document ++ after =
+    parts_joined _ _ _ _ _ _ _ c.split_at.ensures.front c.split_at.ensures.back c.split_at-2.ensures.front c.split_at-2.ensures.back in
+    c.document_form.ensures.readable
+    (omega (arith, c.if-packet-gt-LIMIT.false, ap length joined, length-append (before ++ document) after, length-append before document))

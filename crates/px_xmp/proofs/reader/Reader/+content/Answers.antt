@@ -1,4 +1,4 @@
-use Rattle.std.proofs.Common.{Bool, Option, List, [], ℕ, refl, sym, ap, subst, ◌∙◌, arith}
+use Rattle.std.proofs.Common.{Bool, Option, List, [], ℕ, suc, refl, sym, ap, subst, ◌∙◌, arith}
 use Rattle.std.specs.Prelude.{IfOk}
 use Rattle.std.proofs.lemmas.Result.{on_ok_weaker}
 use Rattle.px_xmp_forms.specs.Outputs.{begun, nothing, changed, with_text}
@@ -19,9 +19,9 @@ pub read_items-returns-in_default-clause-read : goal.read_items-returns-in_defau
 read_items-returns-in_default-clause-read t c s has left =
     let so = c.items.invariant.read s has left in
     let (white, is_white, tag) = c.in_ok-inner.ensures.read so.moves.left in
-    subst (λ (b : Bool). ItemsRead b (node_view c.args.node) c.args.around.language.now c.args.self.now.source c.next_tag.new.self s c.items.self.output)
+    subst (λ (b : Bool). ItemsRead b (node_view c.args.node) c.args.around.language.now c.args.around.depth c.args.self.now.source c.next_tag.new.self s c.items.self.output)
     (sym c.if-is_empty.false)
-    (items_end (node_view c.args.node) c.args.around.language.now c.args.self.now.source c.items.self.source c.next_tag.new.self s c.items.self.output
+    (items_end (node_view c.args.node) c.args.around.language.now c.args.around.depth c.args.self.now.source c.items.self.source c.next_tag.new.self s c.items.self.output
     white so is_white (subst (λ (z : Option Opened). TagAfter z white c.items.self.source c.next_tag.new.self) c.in_default.is tag))
 
 pub read_items-items-preserved : goal.read_items-items-preserved
@@ -31,7 +31,7 @@ read_items-items-preserved t c =
       read = λ s has left.
           let so = c.items.invariant.read s has left in
           let (white, is_white, tag) = c.in_ok-inner.ensures.read so.moves.left in
-          items_next (node_view c.args.node) c.args.around.language.now c.args.self.now.source c.items.self.source c.next_tag.new.self
+          items_next (node_view c.args.node) c.args.around.language.now c.args.around.depth c.args.self.now.source c.items.self.source c.next_tag.new.self
           c.read_value.new.self.source s c.items.self.output c.read_value.new.self.output c.in-Some.inner white
           (label_view c.in-Some-item_label.label) so is_white
           (subst (λ (z : Option Opened). TagAfter z white c.items.self.source c.next_tag.new.self) c.in-Some.is tag) (sym c.in-Some-item_label.ensures)
@@ -43,7 +43,7 @@ pub read_content-returns-in-Any-clause-read : goal.read_content-returns-in-Any-c
 read_content-returns-in-Any-clause-read t c s u has left (name, language, all, listed, fields) =
     let fs = fields_in c.args.self.now.source.scope all in
     let (none, now) =
-    subst (λ (z : Filling). IsFilled z fs c.args.around.language.now c.args.around.place (begun nothing s) c.read_filling.new.output) c.in-Any.is
+    subst (λ (z : Filling). IsFilled z fs c.args.around.language.now c.args.around.depth c.args.around.place (begun nothing s) c.read_filling.new.output) c.in-Any.is
     (c.in_ok-filling.ensures.value (begun nothing s) all has listed) in
     subst (λ (z : List Field). IfOk c.read_text_or_node.result (λ (r : Content). ContentRead r c.args.opened.is_empty z c.args.around
     c.args.self.now.source c.read_text_or_node.new.self.source s c.read_text_or_node.new.self.output)) (sym (sym fields ∙ none))
@@ -54,7 +54,7 @@ pub read_content-returns-in_ok-join_properties-in-Properties-clause-read :
 read_content-returns-in_ok-join_properties-in-Properties-clause-read t c s u has left (name, language, all, listed, fields) =
     let fs = fields_in c.args.self.now.source.scope all in
     let filled =
-    subst (λ (z : Filling). IsFilled z fs c.args.around.language.now c.args.around.place (begun nothing s) c.read_filling.new.output) c.in-Properties.is
+    subst (λ (z : Filling). IsFilled z fs c.args.around.language.now c.args.around.depth c.args.around.place (begun nothing s) c.read_filling.new.output) c.in-Properties.is
     (c.in_ok-filling.ensures.value (begun nothing s) all has listed) in
     let (f, only, named, value, now) = filled in
     let r = c.in_ok-read_items-in-Properties.ensures.read (begun nothing s) now left in
@@ -69,7 +69,7 @@ pub read_content-returns-in_ok-read_nothing-in-Resource-clause-read : goal.read_
 read_content-returns-in_ok-read_nothing-in-Resource-clause-read t c s u has left (name, language, all, listed, fields) =
     let fs = fields_in c.args.self.now.source.scope all in
     let filled =
-    subst (λ (z : Filling). IsFilled z fs c.args.around.language.now c.args.around.place (begun nothing s) c.read_filling.new.output) c.in-Resource.is
+    subst (λ (z : Filling). IsFilled z fs c.args.around.language.now c.args.around.depth c.args.around.place (begun nothing s) c.read_filling.new.output) c.in-Resource.is
     (c.in_ok-filling.ensures.value (begun nothing s) all has listed) in
     subst (λ (z : List Field). ContentRead content.Resource c.args.opened.is_empty z c.args.around c.args.self.now.source c.read_nothing.new.self s
     c.read_filling.new.output) fields
@@ -81,7 +81,7 @@ pub read_content-returns-in_ok-join_properties-in-Attributes-clause-read :
 read_content-returns-in_ok-join_properties-in-Attributes-clause-read t c s u has left (name, language, all, listed, fields) =
     let fs = fields_in c.args.self.now.source.scope all in
     let (some, put) =
-    subst (λ (z : Filling). IsFilled z fs c.args.around.language.now c.args.around.place (begun nothing s) c.read_filling.new.output) c.in-Attributes.is
+    subst (λ (z : Filling). IsFilled z fs c.args.around.language.now c.args.around.depth c.args.around.place (begun nothing s) c.read_filling.new.output) c.in-Attributes.is
     (c.in_ok-filling.ensures.value (begun nothing s) all has listed) in
     let (after, joined, joins) =
     c.in_ok-join_properties-in-Attributes.ensures.value (begun (with_entries put.entries nothing) s) put.has in
@@ -123,7 +123,7 @@ pub read_node-returns-clause-read : goal.read_node-returns-clause-read
 read_node-returns-clause-read t c s u has left opened =
     let source = c.in_ok-around.ensures.source in
     let on = subst (λ (q : Source). IsLeft q.at q.rest.now) (sym source) left in
-    node_done c.in-Some.node c.args.opened u c.args.outer.language.now c.in_ok-around.around c.args.self.now.source c.begin_node.new.self.source
+    node_done c.in-Some.node c.args.opened u c.args.outer.language.now c.args.outer.depth c.in_ok-around.around c.args.self.now.source c.begin_node.new.self.source
     c.read_items.new.self.source
     (record { rest = c.read_items.new.self.source.rest; at = c.read_items.new.self.source.at; scope = c.close.new.self }) s
     c.begin_node.new.self.output c.read_items.new.self.output c.end_node.new.output (sym c.in-Some.ensures) opened.0 source
@@ -134,12 +134,13 @@ pub read_value-returns-clause-read : goal.read_value-returns-clause-read
 read_value-returns-clause-read t c s u has left opened =
     let r = c.in_ok-content.ensures.read s u (c.in_ok-begin.ensures.value s has) left opened in
     on_ok_weaker c.end_element.result (λ ended.
-    value_done c.in_ok-content.content c.args.opened u (label_view c.args.label) c.args.outer.language.now c.in-Some-deeper.around c.args.self.now.source
+    value_done c.in_ok-content.content c.args.opened u (label_view c.args.label) c.args.outer.language.now c.args.outer.depth c.in-Some-deeper.around c.args.self.now.source
     c.read_content.new.self.source
     (record { rest = c.read_content.new.self.source.rest; at = c.read_content.new.self.source.at; scope = c.close.new.self }) s
     c.read_content.new.self.output c.end_element.new.self
     (subst DeclaresLanguage opened.1 c.in-Some.ensures.declares)
     (c.in-Some-deeper.ensures.language ∙ c.in-Some.ensures.language
     ∙ ap (λ (z : Option (List ℕ)). inherited c.args.outer.language.now z) opened.1)
-    (c.in-Some-deeper.ensures.place ∙ c.in-Some.ensures.place) r refl refl c.close.ensures ended)
+    (c.in-Some-deeper.ensures.place ∙ c.in-Some.ensures.place) (c.in-Some-deeper.ensures.depth ∙ ap suc c.in-Some.ensures.depth)
+    c.in-Some-deeper.ensures.within r refl refl c.close.ensures ended)
     (c.end_element.ensures.value (begun r.element s) r.has)

@@ -24,7 +24,7 @@ abbrev pub invariant-read_items-items : goal.invariant-read_items-items
 invariant-read_items-items l = record {
   within : length l.self.source.rest.now ≤ length l.fn.self.source.rest.now;
   read : (s : State) → Has l.fn.self.output s → IsLeft l.fn.self.source.at l.fn.self.source.rest.now
-      → ItemsSoFar (node_view l.node) l.around.language.now l.fn.self.source l.self.source s l.self.output;
+      → ItemsSoFar (node_view l.node) l.around.language.now l.around.depth l.fn.self.source l.self.source s l.self.output;
   failed_allocations : l.memory.failed_allocations ≡ l.fn.memory.failed_allocations;
 }
 

@@ -8,9 +8,9 @@ use Rattle.px_xmp.proofs.reader.Reader.begin_node.Goals as goal
 
 pub returns-in_ok-put_properties-in-Description-clause-value : goal.returns-in_ok-put_properties-in-Description-clause-value
 returns-in_ok-put_properties-in-Description-clause-value c s t has (name, language, all, listed, fields) =
-    subst (λ (z : Node). NodeBegun z t c.args.outer.language.now c.args.opened.place c.in-Some.around s c.put_properties.new.output)
+    subst (λ (z : Node). NodeBegun z t c.args.outer.language.now c.args.outer.depth c.args.opened.place c.in-Some.around s c.put_properties.new.output)
     (sym c.in-Description.is)
-    (description_begun t c.args.outer.language.now c.args.opened.place c.in-Some.around s c.put_properties.new.output
+    (description_begun t c.args.outer.language.now c.args.outer.depth c.args.opened.place c.in-Some.around s c.put_properties.new.output
     (fields_in c.args.self.now.source.scope all) (subst DeclaresLanguage language c.in-Some.ensures.declares)
-    (c.in-Some.ensures.language ∙ ap (λ (z : Option (List ℕ)). inherited c.args.outer.language.now z) language) c.in-Some.ensures.place fields
+    (c.in-Some.ensures.language ∙ ap (λ (z : Option (List ℕ)). inherited c.args.outer.language.now z) language) c.in-Some.ensures.place c.in-Some.ensures.depth fields
     (c.in_ok-put_properties-in-Description.ensures.value (begun nothing s) all (c.in_ok-begin-in-Description.ensures.value s has) listed))

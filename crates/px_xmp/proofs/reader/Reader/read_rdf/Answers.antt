@@ -14,8 +14,8 @@ returns-clause-read c t has left (name, language, all, listed, fields) =
     let (after, now, joins) = c.in_ok-join_properties.ensures.value (changed (with_entries sub.entries) (begun nothing empty)) sub.has in
     let (content, line, put) = rdf_row sub.entries after c.join_properties.new.self c.end_properties.new.self joins now c.end_properties.ensures in
     let none = none_after c.next_plain.result all (sym c.is_some.ensures ∙ c.if-is_some.false) (c.next_plain.ensures.value all listed) in
-    rdf_done c.args.opened t c.in-Some.around.language.now c.args.self.now.source c.read_subjects.new.self.source _ c.args.subject.now
+    rdf_done c.args.opened t c.in-Some.around.language.now c.in-Some.around.depth c.args.self.now.source c.read_subjects.new.self.source _ c.args.subject.now
     c.read_subjects.new.subject (begun nothing empty) c.read_subjects.new.self.output c.end_properties.new.self content
     (subst DeclaresLanguage language c.in-Some.ensures.declares) (sym c.is_rdf.ensures ∙ c.if-not-is_rdf.false) name
-    (c.in-Some.ensures.language ∙ ap (λ (z : Option (List ℕ)). inherited [] z) language)
+    (c.in-Some.ensures.language ∙ ap (λ (z : Option (List ℕ)). inherited [] z) language) c.in-Some.ensures.depth
     (sym fields ∙ no_fields c.args.self.now.source.scope all none) refl refl c.close.ensures sub line put

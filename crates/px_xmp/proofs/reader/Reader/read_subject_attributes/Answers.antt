@@ -13,7 +13,7 @@ loop-found-init c =
     record {
       source = refl;
       put = λ s all has listed.
-          attributes_begin c.next_plain-found.result c.args.self.now.source.scope all c.args.around.language.now c.args.around.place s
+          attributes_begin c.next_plain-found.result c.args.self.now.source.scope all c.args.around.language.now c.args.around.depth c.args.around.place s
           c.args.subject.now c.args.self.now.output (c.next_plain-found.ensures.value all listed) has;
       failed_allocations = refl;
     }
@@ -25,9 +25,9 @@ loop-found-preserved c =
       put = λ s all has listed.
           let left = c.loop-found.invariant.put s all has listed in
           attributes_next c.loop-found.found c.next_plain-found-in-Some.result c.in-Some.next c.args.self.now.source.scope all
-          c.args.around.language.now c.args.around.place s c.args.subject.now c.loop-found.subject c.read_subject_attribute.new.subject
+          c.args.around.language.now c.args.around.depth c.args.around.place s c.args.subject.now c.loop-found.subject c.read_subject_attribute.new.subject
           c.loop-found.self.output c.read_subject_attribute.new.self.output c.in-Some.is left c.next_plain-found-in-Some.ensures.value
-          (subst (λ (z : Source). AttributeRead (field_of z.scope (next_view c.in-Some.next).attribute) c.args.around.language.now
+          (subst (λ (z : Source). AttributeRead (field_of z.scope (next_view c.in-Some.next).attribute) c.args.around.language.now c.args.around.depth
           c.args.around.place (changed (with_entries left.entries) s) c.loop-found.subject c.read_subject_attribute.new.subject
           c.read_subject_attribute.new.self.output) c.loop-found.invariant.source
           (c.in_ok-read_subject_attribute.ensures.value (changed (with_entries left.entries) s) left.has));
@@ -36,5 +36,5 @@ loop-found-preserved c =
 
 pub returns-clause-value : goal.returns-clause-value
 returns-clause-value c s all has listed =
-    attributes_end c.loop-found.found c.args.self.now.source.scope all c.args.around.language.now c.args.around.place s c.args.subject.now
+    attributes_end c.loop-found.found c.args.self.now.source.scope all c.args.around.language.now c.args.around.depth c.args.around.place s c.args.subject.now
     c.loop-found.subject c.loop-found.self.output c.in_default.is (c.loop-found.invariant.put s all has listed)

@@ -10,7 +10,7 @@ abbrev pub invariant-loop-found : goal.invariant-loop-found
 invariant-loop-found l = record {
   source : l.self.source ≡ l.fn.self.source;
   put : (s : State) (all : List Attr) → Has l.fn.self.output s → AreListed l.attributes all
-      → AttributesLeft l.found l.fn.self.source.scope all l.around.language.now l.around.place s l.fn.subject l.subject l.self.output;
+      → AttributesLeft l.found l.fn.self.source.scope all l.around.language.now l.around.depth l.around.place s l.fn.subject l.subject l.self.output;
   failed_allocations : l.memory.failed_allocations ≡ l.fn.memory.failed_allocations;
 }
 

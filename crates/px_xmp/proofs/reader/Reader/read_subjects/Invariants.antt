@@ -7,7 +7,7 @@ use Rattle.px_xmp.proofs.reader.Reader.read_subjects.Given as goal
 abbrev pub invariant-subjects : goal.invariant-subjects
 invariant-subjects l = record {
   read : (s : State) → Has l.fn.self.output s → IsLeft l.fn.self.source.at l.fn.self.source.rest.now
-      → SubjectsSoFar l.around.language.now l.fn.self.source l.self.source l.fn.subject l.subject s l.self.output;
+      → SubjectsSoFar l.around.language.now l.around.depth l.fn.self.source l.self.source l.fn.subject l.subject s l.self.output;
   failed_allocations : l.memory.failed_allocations ≡ l.fn.memory.failed_allocations;
 }
 
