@@ -2,17 +2,23 @@
 """What exifnorm-pictures costs over another tree of these sources, such as a checkout of an earlier commit, and prints a table.
 
   bench/pictures/over.py LIBRARY TREE [--pictures N] [--longest N]
+  bench/pictures/over.py LIBRARY TREE --folder FOLDER [--folder FOLDER ..] [--rounds N]
 
 LIBRARY is a folder such as out/lib, which both use. The instructions, which Valgrind counts, hardly depend on the machine: those of each
 command on the samples, and those of `index` on JPEG files that are made here, with captions of up to so many characters in IPTC and XMP. The
 size is that of the catalogue of these files, which `export` writes as tables.
+
+With folders of pictures it is `index` of these alone: its instructions, and its processor time with that of ExifTool, the median of so many
+rounds, in each of which both trees have a turn.
 """
 
 import argparse
 import os
 import random
 import re
+import resource
 import shutil
+import statistics
 import subprocess
 import sys
 import tempfile
@@ -93,6 +99,24 @@ class Tree:
             )
         return int(re.findall(r"I\s+refs:\s+([\d,]+)", told)[0].replace(",", ""))
 
+    def milliseconds(self, *words: str) -> int:
+        """The processor time of a command and of the programs that it starts; it makes a catalogue anew."""
+        (self.folder / "new").unlink(missing_ok=True)
+        before = resource.getrusage(resource.RUSAGE_CHILDREN)
+        self.run(*words)
+        after = resource.getrusage(resource.RUSAGE_CHILDREN)
+        return round(1000 * (after.ru_utime - before.ru_utime + after.ru_stime - before.ru_stime))
+
+
+def rows_of_folder(trees: Tuple[Tree, Tree], pictures: Path, rounds: int) -> Iterator[Tuple[str, int, int]]:
+    """What was measured of `index` on a folder of pictures, in the other tree and in this one."""
+    words = ["index", str(pictures.resolve()), "--catalogue", "new", "--jobs", "1", "--quiet"]
+    other, this = [it.instructions(*words) for it in trees]
+    yield f"instructions of `index {pictures.name}`", other, this
+    times = zip(*([it.milliseconds(*words) for it in trees] for _ in range(rounds)))
+    other, this = [round(statistics.median(it)) for it in times]
+    yield f"milliseconds of `index {pictures.name}`", other, this
+
 
 def rows(trees: Tuple[Tree, Tree], folder: Path, count: int, longest: int) -> Iterator[Tuple[str, int, int]]:
     """What was measured, in the other tree and in this one."""
@@ -115,6 +139,8 @@ def main() -> None:
     words.add_argument("tree", type=Path)
     words.add_argument("--pictures", type=int, default=500)
     words.add_argument("--longest", type=int, default=1900)
+    words.add_argument("--folder", type=Path, action="append", default=[])
+    words.add_argument("--rounds", type=int, default=15)
     asked = words.parse_args()
     os.environ["EXIFNORM_LIBRARY"] = str((asked.library / "libexifnorm.so.1").resolve())
     os.environ.pop("PYTHONDONTWRITEBYTECODE", None)
@@ -122,7 +148,8 @@ def main() -> None:
         folder = Path(name)
         trees = Tree(asked.tree.resolve(), folder / "other"), Tree(TOP, folder / "this")
         print("| Measured | The other tree | This one | Ratio |\n|---|---|---|---|", flush=True)
-        for what, other, this in rows(trees, folder, asked.pictures, asked.longest):
+        of_folders = (row for it in asked.folder for row in rows_of_folder(trees, it, asked.rounds))
+        for what, other, this in of_folders if asked.folder else rows(trees, folder, asked.pictures, asked.longest):
             print(f"| {what} | {other:,} | {this:,} | {this / other:.3f} |", flush=True)
 
 
