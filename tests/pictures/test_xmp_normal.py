@@ -219,5 +219,11 @@ def test_attributes_are_counted_wherever_their_tag_stands(count, cause):
 
 def test_padding_and_marks_mean_nothing():
     packet = xmp(f"<dc:a>1</dc:a><dc:b><rdf:Bag>{LI.format(2)}</rdf:Bag></dc:b>")
-    for other in (b"\xef\xbb\xbf" + packet, b"\0 \n" + packet + b"\0\0", bytearray(packet), memoryview(packet)):
+    mixed = b" \xef\xbb\xbf\n\xef\xbb\xbf\0<?xml version='1.0'?>" + packet
+    for other in (b"\xef\xbb\xbf" + packet, b"\0 \n" + packet + b"\0\0", mixed, bytearray(packet), memoryview(packet)):
         assert exifnorm.xmp_normal(other) == exifnorm.xmp_normal(packet)
+
+
+@pytest.mark.parametrize("before", [b"\xbb", b"\xef\xbb", b" \xbf"])
+def test_a_part_of_an_order_mark_is_no_padding(before):
+    assert check(before + xmp("<dc:a>1</dc:a>")).cause == "XmpBadCharacter"

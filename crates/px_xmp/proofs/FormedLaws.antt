@@ -1,5 +1,5 @@
 -- A document is marks in a row, and its form is that of what it means.
-use Rattle.std.proofs.Common.{◌≡◌, ◌≤◌, ◌+◌, ◌-◌, ℕ, true, false, Option, List, [], ◌∷◌, ◌++◌, length, drop, Result, Ok, Err, OnOk, refl, subst, inl, inr, arith, length-drop}
+use Rattle.std.proofs.Common.{◌≡◌, ◌≤◌, ◌+◌, ◌-◌, ℕ, true, false, Option, List, [], ◌∷◌, ◌++◌, length, take, drop, Result, Ok, Err, OnOk, refl, sym, ap, subst, ◌∙◌, inl, inr, arith, length-drop, append_assoc}
 use Rattle.std.specs.Prelude.{IfOk}
 use Rattle.px_bytes.specs.Parts.{limit}
 use Rattle.px_xmp_text.specs.Values.{Content, normal_packet}
@@ -15,10 +15,12 @@ use Rattle.px_xmp.specs.Marks.{Mark, Start, End, Text, Other, IsKind, AreRow}
 use Rattle.px_xmp.specs.Nodes.{Nodes, AreNodes}
 use Rattle.px_xmp.specs.Meaning.{Means, HasMeaning}
 use Rattle.px_xmp.specs.Readable.{IsShallow}
-use Rattle.px_xmp.specs.Laws.{IsFormOf, IsReadableForm, MeaningsAreReadable}
-use Rattle.px_xmp.specs.Packet.{is_around, is_padding, IsPacket}
+use Rattle.px_xmp.specs.Laws.{IsFormOf, HasNoMeaning, IsReadableForm, MeaningsAreReadable}
+use Rattle.px_xmp.specs.Packet.{is_padding, AreAround, BeginsBare, EndsBare, IsPacket}
 use Rattle.px_xmp.specs.calls.Steps.{IsLeft}
+use Rattle.px_xmp.proofs.AroundLaws.{packet_is}
 use Rattle.px_xmp.proofs.DocumentLaws.{tree_once}
+use Rattle.px_xmp.proofs.PacketLaws.{rest_joined, parts_joined}
 
 mark_of : (k : Kind) (m y : List ℕ) → kinds.IsKind k m y → (l : Mark) × IsKind l m y
 mark_of (Opening n) m y (attributes, is) = (Start n attributes false, is)
@@ -92,7 +94,58 @@ both_ok (Err e) F P Q f g h = tt
 
 -- ---- a packet
 
-abbrev pub packet_parts : (x before document after : List ℕ) → x ≡ before ++ document ++ after → length x ≤ limit → every is_around before ≡ true
-    → every is_padding after ≡ true → IsFile document → IsPacket x
-packet_parts x b d a joined few around padding file =
-    record { before = b; document = d; after = a; joined = joined; few = few; around = around; padding = padding; file = file }
+abbrev pub packet_parts : (x before document after : List ℕ) (pieces : List (List ℕ)) → x ≡ before ++ document ++ after → length x ≤ limit
+    → AreAround pieces before → every is_padding after ≡ true → BeginsBare (document ++ after) → EndsBare document → IsFile document → IsPacket x
+packet_parts x b d a pieces joined few around padding first last file =
+    record {
+      before = b;
+      document = d;
+      after = a;
+      joined = joined;
+      few = few;
+      pieces = pieces;
+      around = around;
+      padding = padding;
+      first = first;
+      last = last;
+      file = file;
+    }
+
+-- the parts of a packet, as they are found
+pub record IsParted (x b r d a : List ℕ) (n m : ℕ) : Type 0 where
+  pub before : b ≡ take n x
+  pub rest : r ≡ drop n x
+  pub document : d ≡ take m r
+  pub after : a ≡ drop m r
+  pub pieces : List (List ℕ)
+  pub around : AreAround pieces (take n x)
+  pub first : BeginsBare (drop n x)
+  pub padding : every is_padding (drop m r) ≡ true
+  pub last : EndsBare (take m r)
+
+abbrev pub packet_from : (x b r d a : List ℕ) (n m : ℕ) → IsParted x b r d a n m → length x ≤ limit → IsFile d → IsPacket x
+packet_from x b r d a n m h few file =
+    packet_parts x b d a h.pieces (parts_joined x b r d a n m h.before h.rest h.document h.after) few
+    (subst (λ (z : List ℕ). AreAround h.pieces z) (sym h.before) h.around) (ap (every is_padding) h.after ∙ h.padding)
+    (subst BeginsBare (sym h.rest ∙ rest_joined r d a m h.document h.after) h.first) (subst EndsBare (sym h.document) h.last) file
+
+-- if the document has no meaning, the packet has none
+pub none_from : (x b r d a : List ℕ) (n m : ℕ) → IsParted x b r d a n m → ((c : Content) → IsFile d → HasMeaning d (length b) c → ⊥) → HasNoMeaning x
+none_from x b r d a n m h none p c is =
+    let (before, document, after) = packet_is x b d a h.pieces
+    (parts_joined x b r d a n m h.before h.rest h.document h.after ∙ append_assoc b d a)
+    (subst (λ (z : List ℕ). AreAround h.pieces z) (sym h.before) h.around) (ap (every is_padding) h.after ∙ h.padding)
+    (subst BeginsBare (sym h.rest ∙ rest_joined r d a m h.document h.after) h.first) (subst EndsBare (sym h.document) h.last) p in
+    none c (subst IsFile document p.file)
+    (subst (λ (z : List ℕ). HasMeaning z (length b) c) document (subst (λ (k : ℕ). HasMeaning p.document k c) (ap length before) is))
+
+-- what a document means in any way, it means by the nodes that are read
+pub rows_of : DeclarationsAreRead → (x d : List ℕ) (e : Option (List ℕ)) (start head at : ℕ) (scope : List Item) (y : List ℕ) (c : Content)
+    → IsSplit (drop (order_mark_len x) x) d e (drop head x) → head ≤ length x → at ≡ start + head → scope ≡ [] → y ≡ drop head x
+    → (h : HasMeaning x start c) → AreNodes h.nodes scope at y []
+rows_of law x d e start head at scope y c parts within place none same h =
+    let tree : h.tree ≡ drop head x = tree_once law (drop (order_mark_len x) x) h.declaration d h.tree (drop head x) h.encoding e h.parts parts in
+    let move : start + (length x - length h.tree) ≡ at = omega (arith, place, ap length tree, length-drop head x, within) in
+    subst (λ (q : List Item). AreNodes h.nodes q at y []) (sym none)
+    (subst (λ (q : ℕ). AreNodes h.nodes [] q y []) move
+    (subst (λ (q : List ℕ). AreNodes h.nodes [] (start + (length x - length h.tree)) q []) (tree ∙ sym same) h.row))

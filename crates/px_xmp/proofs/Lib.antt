@@ -29,3 +29,5 @@ pub mod AgainLaws
 pub mod LabelLaws
 pub mod ReadableLaws
 pub mod AcceptedLaws
+pub mod AroundLaws
+pub mod RefusedLaws

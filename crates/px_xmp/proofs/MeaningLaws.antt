@@ -120,7 +120,7 @@ same_octets (o ∷ x) (p ∷ y) h =
     let parts = both (o == p) (is_same x y) h in
     ap (λ (n : ℕ). n ∷ x) (eqb-true o p parts.0) ∙ ap (λ (z : List ℕ). p ∷ z) (same_octets x y parts.1)
 
-rdf_name : (local : List ℕ) (n : Name) → is_rdf local n ≡ true → n ≡ name_in rdf_space local
+pub rdf_name : (local : List ℕ) (n : Name) → is_rdf local n ≡ true → n ≡ name_in rdf_space local
 rdf_name local n h =
     let parts = both (is_same n.local local) (is_same n.space rdf_space) h in
     ap (λ (z : List ℕ). name_in n.space z) (same_octets n.local local parts.0)

@@ -42,59 +42,59 @@ some_mark law k m x i e = let (q, f, size, is) = law k m x i in let wrong = sym 
 -- ---- what a mark is
 
 -- the text that a mark is
-abbrev IsWords : Mark → List ℕ → Type 0
+abbrev pub IsWords : Mark → List ℕ → Type 0
 IsWords (Start n attributes empty) t = ⊥
 IsWords End t = ⊥
 IsWords (Text kind octets) t = text_of kind octets ≡ Some t
 IsWords Other t = t ≡ []
 
-words_same : (k : Mark) (t u : List ℕ) → IsWords k t → IsWords k u → t ≡ u
+pub words_same : (k : Mark) (t u : List ℕ) → IsWords k t → IsWords k u → t ≡ u
 words_same (Start n attributes empty) t u e f = absurd e
 words_same End t u e f = absurd e
 words_same (Text kind octets) t u e f = some_same t u (sym e ∙ f)
 words_same Other t u e f = e ∙ sym f
 
-abbrev WordsMark : List ℕ → List ℕ → List ℕ → Type 0
+abbrev pub WordsMark : List ℕ → List ℕ → List ℕ → Type 0
 WordsMark t m x = (k : Mark) × IsKind k m x × IsWords k t
 
-words_mark : (t m x : List ℕ) → AreWords t m x → WordsMark t m x
+pub words_mark : (t m x : List ℕ) → AreWords t m x → WordsMark t m x
 words_mark t m x (inl (kind, octets, i, e)) = (Text kind octets, i, e)
 words_mark t m x (inr (i, e)) = (Other, i, e)
 
-abbrev tag_in : List Item → Mark → Option Tag
+abbrev pub tag_in : List Item → Mark → Option Tag
 tag_in scope (Start n attributes empty) = Some (tag_of scope n attributes)
 tag_in scope End = None
 tag_in scope (Text kind octets) = None
 tag_in scope Other = None
 
-abbrev inner_in : List Item → Mark → List Item
+abbrev pub inner_in : List Item → Mark → List Item
 inner_in scope (Start n attributes empty) = inside scope attributes
 inner_in scope End = []
 inner_in scope (Text kind octets) = []
 inner_in scope Other = []
 
-abbrev is_alone : Mark → Bool
+abbrev pub is_alone : Mark → Bool
 is_alone (Start n attributes empty) = empty
 is_alone End = false
 is_alone (Text kind octets) = false
 is_alone Other = false
 
 -- nothing, or an end tag
-abbrev IsStop : List ℕ → Type 0
+abbrev pub IsStop : List ℕ → Type 0
 IsStop y = (y ≡ []) ⊎ ((e t : List ℕ) × IsKind End e t × (y ≡ e ++ t))
 
-at_stop : KindsAreRead → (k : Mark) (m x : List ℕ) → IsKind k m x → IsStop (m ++ x) → k ≡ End
+pub at_stop : KindsAreRead → (k : Mark) (m x : List ℕ) → IsKind k m x → IsStop (m ++ x) → k ≡ End
 at_stop law k m x i (inl e) = absurd (some_mark law k m x i e)
 at_stop law k m x i (inr (e, t, j, w)) = (mark_once law k End m e x t i j w).0
 
-words_stop : KindsAreRead → (t m x : List ℕ) → AreWords t m x → IsStop (m ++ x) → ⊥
+pub words_stop : KindsAreRead → (t m x : List ℕ) → AreWords t m x → IsStop (m ++ x) → ⊥
 words_stop law t m x i s =
     let (k, j, words) = words_mark t m x i in subst (λ (z : Mark). IsWords z t) (at_stop law k m x j s) words
 
-no_tag : (scope : List Item) (n : Named) (xs : List Attr) (b : Bool) → Start n xs b ≡ End → ⊥
+pub no_tag : (scope : List Item) (n : Named) (xs : List Attr) (b : Bool) → Start n xs b ≡ End → ⊥
 no_tag scope n xs b e = let wrong = ap (tag_in scope) e in absurd (cc)
 
-words_start : KindsAreRead → (t m x : List ℕ) (n : Named) (xs : List Attr) (b : Bool) (l y : List ℕ) → AreWords t m x → IsKind (Start n xs b) l y
+pub words_start : KindsAreRead → (t m x : List ℕ) (n : Named) (xs : List Attr) (b : Bool) (l y : List ℕ) → AreWords t m x → IsKind (Start n xs b) l y
     → m ++ x ≡ l ++ y → ⊥
 words_start law t m x n xs b l y i j e =
     let (k, is, words) = words_mark t m x i in
@@ -102,15 +102,15 @@ words_start law t m x n xs b l y i j e =
 
 -- ---- rows
 
-abbrev Same : Nodes → Nodes → List ℕ → List ℕ → Type 0
+abbrev pub Same : Nodes → Nodes → List ℕ → List ℕ → Type 0
 Same a b y z = (a ≡ b) × (y ≡ z)
 
 -- the tag at the start of an element, and the octets that follow it
-abbrev IsOpen : List Item → Tag → Named → List Attr → Bool → List ℕ → List ℕ → List ℕ → Type 0
+abbrev pub IsOpen : List Item → Tag → Named → List Attr → Bool → List ℕ → List ℕ → List ℕ → Type 0
 IsOpen scope tag n xs b m rest x = (tag ≡ tag_of scope n xs) × (x ≡ m ++ rest) × IsKind (Start n xs b) m rest
 
 -- two tags at the start are one
-tag_once : KindsAreRead → (scope : List Item) (s t : Tag) (n k : Named) (xs ys : List Attr) (b c : Bool) (m rest l tail x : List ℕ)
+pub tag_once : KindsAreRead → (scope : List Item) (s t : Tag) (n k : Named) (xs ys : List Attr) (b c : Bool) (m rest l tail x : List ℕ)
     → IsOpen scope s n xs b m rest x → IsOpen scope t k ys c l tail x
     → (s ≡ t) × (m ≡ l) × (rest ≡ tail) × (b ≡ c) × (inside scope xs ≡ inside scope ys)
 tag_once law scope s t n k xs ys b c m rest l tail x (e, w, i) (f, v, j) =
@@ -122,7 +122,7 @@ tag_once law scope s t n k xs ys b c m rest l tail x (e, w, i) (f, v, j) =
       ap (inner_in scope) same,
     )
 
-nodes_once : KindsAreRead → (a b : Nodes) (scope : List Item) (at : ℕ) (x y z : List ℕ) → AreNodes a scope at x y → AreNodes b scope at x z
+pub nodes_once : KindsAreRead → (a b : Nodes) (scope : List Item) (at : ℕ) (x y z : List ℕ) → AreNodes a scope at x y → AreNodes b scope at x z
     → IsStop y → IsStop z → Same a b y z
 nodes_once law Nothing Nothing scope at x y z e f s t = (refl, sym e ∙ f)
 nodes_once law Nothing (Words u more) scope at x y z e (m, rest, i, w, r) s t =

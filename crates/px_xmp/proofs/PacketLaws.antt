@@ -4,11 +4,14 @@ use Rattle.std.proofs.lemmas.List.{take-append-drop, take_at, drop-drop}
 use Rattle.px_xmp_marks.specs.Declarations.{Declared, declaration, IsDeclaration, DeclarationsAreRead, OnlyDeclarationsAreRead}
 use Rattle.px_xmp_document.specs.Document.{IsSplit, order_mark_len}
 
+pub rest_joined : (r d a : List ℕ) (m : ℕ) → d ≡ take m r → a ≡ drop m r → r ≡ d ++ a
+rest_joined r d a m hd ha =
+    sym (take-append-drop m r) ∙ ap (λ (z : List ℕ). z ++ drop m r) (sym hd) ∙ ap (λ (z : List ℕ). d ++ z) (sym ha)
+
 pub parts_joined : (x b r d a : List ℕ) (n m : ℕ) → b ≡ take n x → r ≡ drop n x → d ≡ take m r → a ≡ drop m r → x ≡ b ++ d ++ a
 parts_joined x b r d a n m hb hr hd ha =
-    let inner : r ≡ d ++ a = sym (take-append-drop m r) ∙ ap (λ (z : List ℕ). z ++ drop m r) (sym hd) ∙ ap (λ (z : List ℕ). d ++ z) (sym ha) in
-    sym (take-append-drop n x) ∙ ap (λ (z : List ℕ). z ++ drop n x) (sym hb) ∙ ap (λ (z : List ℕ). b ++ z) (sym hr ∙ inner)
-    ∙ sym (append_assoc b d a)
+    sym (take-append-drop n x) ∙ ap (λ (z : List ℕ). z ++ drop n x) (sym hb)
+    ∙ ap (λ (z : List ℕ). b ++ z) (sym hr ∙ rest_joined r d a m hd ha) ∙ sym (append_assoc b d a)
 
 -- ---- the declaration
 

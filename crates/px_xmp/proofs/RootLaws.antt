@@ -4,7 +4,7 @@ use Rattle.px_xmp_text.specs.Texts.{text_of}
 use Rattle.px_xmp_text.specs.Values.{Content, End}
 use Rattle.px_xmp_forms.specs.Entries.{Entry, row}
 use Rattle.px_xmp.specs.Nodes.{Nodes, Nothing, Words, Element, AreNodes}
-use Rattle.px_xmp.specs.Meaning.{AreWhite, AreAttributes, AreEntries, AreAbout, without_about, AreSubjects, HasRdf, Means}
+use Rattle.px_xmp.specs.Meaning.{AreWhite, AreAttributes, AreEntries, AreAbout, without_about, AreSubjects, IsRdf, HasRdf, IsRoot, Means}
 use Rattle.px_xmp_text.specs.declared.pieces.TextKind.TheVariants.{AttributeValue}
 use Rattle.px_xmp_text.specs.Values.{Label, Structure}
 use Rattle.px_xmp_marks.specs.Reading.{Attr, next_view}
@@ -23,12 +23,15 @@ use Rattle.px_xmp.specs.calls.Opening.{name_of, IsOpened}
 use Rattle.px_xmp.specs.calls.Steps.{IsLeft, Moves, IsStart, TagAfter, HasInside, InsideRead, AfterRead}
 use Rattle.px_xmp.specs.Readable.{IsShallow}
 use Rattle.px_xmp.specs.calls.Contents.{with_entries, attribute, AreShallow, ItemsRead}
-use Rattle.px_xmp.specs.calls.Roots.{IsSubject, Keeps, IsAbout, AttributeRead, AttributesRead, SubjectRead, SubjectsRead, RdfRead, AroundRead, RootRead, DocumentRead}
+use Rattle.px_xmp.specs.calls.Roots.{IsSubject, Keeps, Stays, IsNew, IsAbout, AttributeRead, AttributesRead, SubjectRead, SubjectsRead, RdfRead, AroundRead, RootRead, DocumentRead}
 use Rattle.px_xmp.proofs.TagLaws.{ended_inside}
 use Rattle.px_xmp.proofs.StepLaws.{joined, nodes_joined, white_joined, moves_on}
 use Rattle.px_xmp.proofs.OpeningLaws.{no_entries, entry_after, entries_after}
 use Rattle.px_xmp.proofs.ContentLaws.{element_read, structure_row}
 use Rattle.px_xmp.proofs.DepthLaws.{shallow_append, row_shallow}
+use Rattle.px_xmp.proofs.MeaningLaws.{rdf_name}
+use Rattle.px_xmp.proofs.NodeLaws.{nodes_once}
+use Rattle.px_xmp.specs.Laws.{KindsAreRead}
 
 -- what was read, of a source whose scope alone has changed
 pub inside_kept : (empty : Bool) (nodes : Nodes) (old mid new : Source) → new.rest.now ≡ mid.rest.now → new.at ≡ mid.at → InsideRead empty nodes old mid
@@ -85,6 +88,20 @@ keeps_on a b c P Q k l h =
 pub keeps_with : (a b : Subject) (P Q : Option (List ℕ) → Type 0) → ((u : Option (List ℕ)) → P u → Q u) → Keeps a b P → Keeps a b Q
 keeps_with a b P Q f k h = let (d, first) = k h in (d, λ u s. (let (n, p) = first u s in (n, f u p)))
 
+pub stays_on : (a b c : Subject) (P Q : Option (List ℕ) → Type 0) → Stays a b P → Stays b c Q → Stays a c (λ u. P u × Q u)
+stays_on a b c P Q k l u none is both = let (other, now) = k u none is both.0 in l u other now both.1
+
+pub stays_with : (a b : Subject) (P Q : Option (List ℕ) → Type 0) → ((u : Option (List ℕ)) → Q u → P u) → Stays a b P → Stays a b Q
+stays_with a b P Q f k u none is q = k u none is (f u q)
+
+some_same : {A : Type 0} (p q : A) → Some p ≡ Some q → p ≡ q
+some_same p q h = cc
+
+about_front : (u : Option (List ℕ)) (fs : List Field) (f : Field) → AreAbout u (fs ++ f ∷ [])
+    → AreAbout u fs × (is_about f.name ≡ true → IsAbout f.value u)
+about_front u [] f (h, k) = (tt, h)
+about_front u (g ∷ fs) f (h, k) = let (front, last) = about_front u fs f k in ((h, front), last)
+
 about_after : (u : Option (List ℕ)) (fs : List Field) (f : Field) → AreAbout u fs → (is_about f.name ≡ true → IsAbout f.value u) → AreAbout u (fs ++ f ∷ [])
 about_after u [] f h k = (k, tt)
 about_after u (g ∷ fs) f h k = (h.0, about_after u fs f h.1 k)
@@ -136,6 +153,7 @@ pub record AttributesLeft (n : Option NextAttribute) (scope : List Item) (all : 
   pub are : AreAttributes l place (without_about fields) entries
   pub shallow : AreShallow depth entries
   pub about : Keeps old new (λ u. AreAbout u fields)
+  pub only : Stays old new (λ u. AreAbout u fields)
   pub has : Has output (changed (with_entries entries) s)
 
 pub attributes_begin : (n : Option NextAttribute) (scope : List Item) (all : List Attr) (l : List ℕ) (depth place : ℕ) (s : State) (subject : Subject)
@@ -150,19 +168,20 @@ attributes_begin n scope all l depth place s subject output found has =
       are = refl;
       shallow = tt;
       about = λ h. (h, λ u k. (k, tt));
+      only = λ u none is h. (none, is);
       has = subst (λ (z : State). Has output z) (sym (no_entries s)) has;
     }
 
-true_false : {P : Type 0} (b : Bool) → b ≡ true → b ≡ false → P
+pub true_false : {P : Type 0} (b : Bool) → b ≡ true → b ≡ false → P
 true_false true e f = absurd (cc)
 true_false false e f = absurd (cc)
 
 attributes_step : (n : Option NextAttribute) (scope : List Item) (all more : List Attr) (l : List ℕ) (depth place : ℕ) (s : State)
     (old now new : Subject) (before after : Output) (fields : List Field) (entries : List Entry) (f : Field) → IsNextPlain (option_map next_view n) more
     → fields_in scope all ≡ (fields ++ f ∷ []) ++ fields_in scope more → AreAttributes l place (without_about fields) entries → AreShallow depth entries
-    → Keeps old now (λ u. AreAbout u fields)
+    → Keeps old now (λ u. AreAbout u fields) → Stays old now (λ u. AreAbout u fields)
     → AttributeRead f l depth place (changed (with_entries entries) s) now new after → AttributesLeft n scope all l depth place s old new after
-attributes_step n scope all more l depth place s old now new before after fields entries f found whole are shallow about (inl (is, keeps, has)) =
+attributes_step n scope all more l depth place s old now new before after fields entries f found whole are shallow about only (inl (is, keeps, stays, has)) =
     record {
       fields = fields ++ f ∷ [];
       entries = entries;
@@ -174,9 +193,12 @@ attributes_step n scope all more l depth place s old now new before after fields
       shallow = shallow;
       about = keeps_with old new (λ u. AreAbout u fields × IsAbout f.value u) (λ u. AreAbout u (fields ++ f ∷ []))
           (λ u p. about_after u fields f p.0 (λ e. p.1)) (keeps_on old now new (λ u. AreAbout u fields) (IsAbout f.value) about keeps);
+      only = stays_with old new (λ u. AreAbout u fields × IsAbout f.value u) (λ u. AreAbout u (fields ++ f ∷ []))
+          (λ u p. let (front, last) = about_front u fields f p in (front, last is))
+          (stays_on old now new (λ u. AreAbout u fields) (IsAbout f.value) only stays);
       has = has;
     }
-attributes_step n scope all more l depth place s old now new before after fields entries f found whole are shallow about (inr (is, same, put)) =
+attributes_step n scope all more l depth place s old now new before after fields entries f found whole are shallow about only (inr (is, same, put)) =
     record {
       fields = fields ++ f ∷ [];
       entries = entries ++ attribute put.label place l put.text ∷ [];
@@ -190,6 +212,8 @@ attributes_step n scope all more l depth place s old now new before after fields
       about = subst (λ (z : Subject). Keeps old z (λ u. AreAbout u (fields ++ f ∷ []))) (sym same)
           (keeps_with old now (λ u. AreAbout u fields) (λ u. AreAbout u (fields ++ f ∷ []))
           (λ u p. about_after u fields f p (λ e. true_false (is_about f.name) e is)) about);
+      only = subst (λ (z : Subject). Stays old z (λ u. AreAbout u (fields ++ f ∷ []))) (sym same)
+          (stays_with old now (λ u. AreAbout u fields) (λ u. AreAbout u (fields ++ f ∷ [])) (λ u p. (about_front u fields f p).0) only);
       has = subst (λ (z : State). Has after z) (entry_after s entries (attribute put.label place l put.text)) put.has;
     }
 
@@ -204,7 +228,7 @@ attributes_next m n x scope all l depth place s old now new before after is left
     attributes_step n scope all more l depth place s old now new before after left.fields left.entries (field_of scope (next_view x).attribute)
     (next more listed)
     (left.whole ∙ ap (λ (z : List Attr). left.fields ++ map (field_of scope) z) same
-    ∙ sym (append_assoc left.fields (field_of scope (next_view x).attribute ∷ []) (fields_in scope more))) left.are left.shallow left.about put
+    ∙ sym (append_assoc left.fields (field_of scope (next_view x).attribute ∷ []) (fields_in scope more))) left.are left.shallow left.about left.only put
 
 -- all were read
 pub attributes_end : (n : Option NextAttribute) (scope : List Item) (all : List Attr) (l : List ℕ) (depth place : ℕ) (s : State) (old new : Subject)
@@ -218,6 +242,7 @@ attributes_end n scope all l depth place s old new output is left =
       are = subst (λ (z : List Field). AreAttributes l place (without_about z) left.entries) (sym whole) left.are;
       shallow = left.shallow;
       about = subst (λ (z : List Field). Keeps old new (λ u. AreAbout u z)) (sym whole) left.about;
+      only = subst (λ (z : List Field). Stays old new (λ u. AreAbout u z)) (sym whole) left.only;
       has = left.has;
     }
 
@@ -248,11 +273,24 @@ subject_done o t outer l outside depth place fields old mid at_end new before af
       about = subst (λ (z : List Field). Keeps before after (λ u. AreAbout u z)) same a.about;
       shallow = subst (λ (z : ℕ). AreShallow z (a.entries ++ read.entries)) inner
           (shallow_append depth a.entries read.entries a.shallow read.shallow);
+      only = subst (λ (z : List Field). Stays before after (λ u. AreAbout u z)) same a.only;
       scope = scope ∙ ap ended read.scope;
       has = subst (λ (z : State). Has output z) (entries_after s a.entries read.entries) read.has;
     }
 
 -- ---- subjects, one after another
+
+-- some properties, of subjects
+abbrev HaveSubjects : List ℕ → Nodes → Option (List ℕ) → Type 0
+HaveSubjects l nodes u = (es : List Entry) × AreSubjects u l nodes es
+
+subjects_front : (u : Option (List ℕ)) (l : List ℕ) (a b : Nodes) → HaveSubjects l (joined a b) u → HaveSubjects l a u × HaveSubjects l b u
+subjects_front u l Nothing b h = (([], refl), h)
+subjects_front u l (Words t more) b (es, (e, r)) =
+    let ((fs, front), last) = subjects_front u l more b (es, r) in ((fs, (e, front)), last)
+subjects_front u l (Element tag place inner more) b (es, (says, is, about, as1, own, others, p, q, r, e)) =
+    let ((fs, front), last) = subjects_front u l more b (others, r) in
+    ((as1 ++ (own ++ fs), (says, is, about, as1, own, fs, p, q, front, refl)), last)
 
 pub record SubjectsSoFar (l : List ℕ) (depth : ℕ) (old now : Source) (before after : Subject) (s : State) (output : Output) : Type 0 where
   pub nodes : Nodes
@@ -260,6 +298,7 @@ pub record SubjectsSoFar (l : List ℕ) (depth : ℕ) (old now : Source) (before
   pub octets : AreNodes nodes old.scope old.at old.rest.now now.rest.now
   pub are : Keeps before after (λ u. AreSubjects u l nodes entries)
   pub shallow : AreShallow depth entries
+  pub only : Stays before after (HaveSubjects l nodes)
   pub scope : now.scope ≡ old.scope
   pub moves : Moves old.at old.rest.now now.at now.rest.now
   pub has : Has output (changed (with_entries entries) s)
@@ -273,6 +312,7 @@ subjects_begin l depth old subject s output left has =
       octets = refl;
       are = λ h. (h, λ u k. (k, refl));
       shallow = tt;
+      only = λ u none is h. (none, is);
       scope = refl;
       moves = record { left = left; same = refl };
       has = subst (λ (z : State). Has output z) (sym (no_entries s)) has;
@@ -314,6 +354,12 @@ subjects_next l depth old a b d subject before after s middle output o white so 
           )))
           (keeps_on subject before after (λ u. AreSubjects u l so.nodes so.entries) (λ u. AreAbout u t.fields) so.are v.about);
       shallow = shallow_append depth so.entries es so.shallow v.shallow;
+      only = stays_with subject after (λ u. HaveSubjects l so.nodes u × AreAbout u t.fields) (HaveSubjects l (joined so.nodes (joined white one)))
+          (λ u h.
+          let (front, more) = subjects_front u l so.nodes (joined white one) h in
+          let (blank, (es, (says, named, about, as1, own, others, p, q, r, e))) = subjects_front u l white one more in
+          (front, about))
+          (stays_on subject before after (HaveSubjects l so.nodes) (λ u. AreAbout u t.fields) so.only v.only);
       scope = v.scope ∙ ap ended start.inner_is ∙ ended_inside a.scope start.attributes ∙ so.scope;
       moves = moves_on old.at a.at d.at old.rest.now a.rest.now d.rest.now so.moves
           (moves_on a.at b.at d.at a.rest.now b.rest.now d.rest.now tag.moves v.inside.moves);
@@ -342,6 +388,8 @@ subjects_end l depth old a b subject after s output white so is_white tag =
           (λ u p. subst (λ (q : List Entry). AreSubjects u l (joined so.nodes white) q) (append-nil so.entries)
           (subjects_joined u l so.nodes white so.entries [] p (white_subjects u l white is_white))) so.are;
       shallow = so.shallow;
+      only = stays_with subject after (HaveSubjects l so.nodes) (HaveSubjects l (joined so.nodes white))
+          (λ u h. (subjects_front u l so.nodes white h).0) so.only;
       scope = same ∙ so.scope;
       has = so.has;
     }
@@ -358,14 +406,12 @@ subjects_none empty l depth old subject s output is left has =
       };
       are = λ h. (h, λ u k. (k, refl));
       shallow = tt;
+      only = λ u none is h. (none, is);
       scope = refl;
       has = subst (λ (z : State). Has output z) (sym (no_entries s)) has;
     }
 
 -- ---- rdf:RDF
-
-some_same : {A : Type 0} (p q : A) → Some p ≡ Some q → p ≡ q
-some_same p q h = cc
 
 -- the text of the subject that was named, if one was
 has_subject : (s : Subject) → (u : Option (List ℕ)) × IsSubject s u
@@ -374,6 +420,10 @@ has_subject s = by (option_map (λ x. x.now) s.value)
     by : (m : Option (List ℕ)) → (u : Option (List ℕ)) × ((v : List ℕ) → m ≡ Some v → text_of AttributeValue v ≡ u)
     by None = (None, λ v e. absurd (cc))
     by (Some x) = (text_of AttributeValue x, λ v e. ap (text_of AttributeValue) (sym (some_same x v e)))
+
+-- none was named, so that it is any
+no_subject : (s : Subject) (u : Option (List ℕ)) → s.value ≡ None → IsSubject s u
+no_subject s u none v e = let wrong : None ≡ Some v = sym (ap (λ m. option_map (λ x. x.now) m) none) ∙ e in absurd (cc)
 
 -- no attribute declares nothing
 pub no_fields : (scope : List Item) (all : List Attr) → plain all ≡ [] → fields_in scope all ≡ []
@@ -394,9 +444,9 @@ rdf_row es after first second joins has ended_as =
 pub rdf_done : (o : Opened) (t : Tag) (l : List ℕ) (depth : ℕ) (old mid new : Source) (before after : Subject) (s : State) (middle output : Output) (c : Content)
     → DeclaresLanguage t.language → is_rdf (codes "RDF") (name_of o.name) ≡ true → name_of o.name ≡ t.name → l ≡ inherited [] t.language → depth ≡ 3 → t.fields ≡ []
     → new.rest.now ≡ mid.rest.now → new.at ≡ mid.at → new.scope ≡ ended mid.scope
-    → (r : SubjectsRead o.is_empty l depth old mid before after s middle) → IsRow Structure r.entries c
+    → IsNew before → (r : SubjectsRead o.is_empty l depth old mid before after s middle) → IsRow Structure r.entries c
     → Has output (record { opened = []; properties = c }) → RdfRead o t old new after output
-rdf_done o t l depth old mid new before after s middle output c declares named name language three none rest at scope r line has =
+rdf_done o t l depth old mid new before after s middle output c declares named name language three none rest at scope new_one r line has =
     record {
       nodes = r.nodes;
       content = c;
@@ -413,6 +463,9 @@ rdf_done o t l depth old mid new before after s middle output c declares named n
             line,
           ));
       shallow = subst (λ (z : ℕ). IsShallow z c) three (row_shallow depth Structure r.entries c line r.shallow);
+      only = λ d is.
+          let (says, is_rdf_name, fields, u, es, are, others) = is in
+          (r.only u new_one.1 (no_subject before u new_one.0) (es, subst (λ (z : List ℕ). AreSubjects u z r.nodes es) (sym language) are)).0;
       scope = scope ∙ ap ended r.scope;
       has = has;
     }
@@ -429,6 +482,19 @@ means_joined Nothing b c h w = absurd h
 means_joined (Words t more) b c (e, h) w = (e, means_joined more b c h w)
 means_joined (Element tag place inner more) b c (is, white) w = (is, white_joined more b white w)
 
+-- what is known of one element with white space around it
+rdf_element : (white blank : Nodes) (t : Tag) (place : ℕ) (inner : Nodes) (c : Content) → AreWhite white
+    → HasRdf (joined (joined white (Element t place inner Nothing)) blank) c → IsRdf t inner c
+rdf_element Nothing blank t place inner c w (is, others) = is
+rdf_element (Words u more) blank t place inner c (e, w) (f, h) = rdf_element more blank t place inner c w h
+rdf_element (Element tag site content more) blank t place inner c w h = absurd w
+
+root_element : (white blank : Nodes) (t : Tag) (place : ℕ) (inner : Nodes) (c : Content) → AreWhite white
+    → Means (joined (joined white (Element t place inner Nothing)) blank) c → IsRoot t inner c
+root_element Nothing blank t place inner c w (is, others) = is
+root_element (Words u more) blank t place inner c (e, w) (f, h) = root_element more blank t place inner c w h
+root_element (Element tag site content more) blank t place inner c w h = absurd w
+
 -- white space and an element, whose content was read
 element_after : (o : Opened) (white : Nodes) (t : Tag) (old mid on : Source) (nodes : Nodes) (tag : TagAfter (Some o) white old mid)
     → IsStart o t old.scope mid.scope tag.at tag.octets mid.rest.now → InsideRead o.is_empty nodes mid on
@@ -442,7 +508,7 @@ element_after o white t old mid on nodes tag start read =
     )
 
 -- what is in scope after the element is what was before it
-scope_after : (o : Opened) (white : Nodes) (t : Tag) (old mid on : Source) (tag : TagAfter (Some o) white old mid)
+pub scope_after : (o : Opened) (white : Nodes) (t : Tag) (old mid on : Source) (tag : TagAfter (Some o) white old mid)
     → (start : IsStart o t old.scope mid.scope tag.at tag.octets mid.rest.now) → on.scope ≡ ended mid.scope → on.scope ≡ old.scope
 scope_after o white t old mid on tag start same = same ∙ ap ended start.inner_is ∙ ended_inside old.scope start.attributes
 
@@ -469,16 +535,39 @@ around_done o white blank old mid on new after output is_white tag read is_blank
         );
         moves = moves_on old.at on.at new.at old.rest.now on.rest.now new.rest.now moves last.moves;
       };
+      only = λ d h. r.only d (rdf_element white blank t o.place r.nodes d is_white h);
       is = λ h. rdf_joined one blank r.content (white_rdf white (Element t o.place r.nodes Nothing) r.content is_white (r.is h, tt)) is_blank;
       shallow = r.shallow;
       scope = same ∙ scope;
       has = r.has;
     }
 
-pub root_rdf : (o : Opened) (t : Tag) (old new : Source) (after : Subject) (output : Output) → RdfRead o t old new after output
-    → RootRead o t old new after output
-root_rdf o t old new after output r =
-    record { nodes = r.nodes; content = r.content; inside = r.inside; is = λ h. inl (r.is h); shallow = r.shallow; scope = r.scope; has = r.has }
+pub rdf_alone : (t : Tag) (nodes : Nodes) (c : Content) → is_root t.name ≡ false → IsRoot t nodes c → IsRdf t nodes c
+rdf_alone t nodes c other (inl is) = is
+rdf_alone t nodes c other (inr (is, others)) = true_false (is_root t.name) is other
+
+root_not_rdf : (n : Name) → is_rdf (codes "RDF") n ≡ true → is_root n ≡ true → ⊥
+root_not_rdf n h k =
+    let other : is_root n ≡ false = ap is_root (rdf_name (codes "RDF") n h) in true_false (is_root n) k other
+
+pub around_alone : (t : Tag) (nodes : Nodes) (c : Content) → is_root t.name ≡ true → IsRoot t nodes c → HasRdf nodes c
+around_alone t nodes c is (inl (says, named, fields, u, es, are, line)) = absurd (root_not_rdf t.name named is)
+around_alone t nodes c is (inr (other, has)) = has
+
+pub root_rdf : (o : Opened) (t : Tag) (old new : Source) (after : Subject) (output : Output) → is_root (name_of o.name) ≡ false
+    → name_of o.name ≡ t.name → RdfRead o t old new after output → RootRead o t old new after output
+root_rdf o t old new after output named name r =
+    let other : is_root t.name ≡ false = ap is_root (sym name) ∙ named in
+    record {
+      nodes = r.nodes;
+      content = r.content;
+      inside = r.inside;
+      is = λ h. inl (r.is h);
+      only = λ d h. r.only d (rdf_alone t r.nodes d other h);
+      shallow = r.shallow;
+      scope = r.scope;
+      has = r.has;
+    }
 
 pub root_around : (o : Opened) (t : Tag) (old mid new : Source) (after : Subject) (output : Output) → is_root (name_of o.name) ≡ true
     → name_of o.name ≡ t.name → o.is_empty ≡ false → new.rest.now ≡ mid.rest.now → new.at ≡ mid.at → new.scope ≡ ended mid.scope
@@ -490,6 +579,7 @@ root_around o t old mid new after output named name some rest at scope r =
       inside = subst (λ (z : Bool). InsideRead z r.nodes old new) (sym some) (inside_kept false r.nodes old mid new rest at r.inside);
       is = λ h. inr (ap is_root (sym name) ∙ named, r.is h);
       shallow = r.shallow;
+      only = λ d h. r.only d (around_alone t r.nodes d (ap is_root (sym name) ∙ named) h);
       scope = scope ∙ ap ended r.scope;
       has = r.has;
     }
@@ -511,3 +601,19 @@ document_done o white old mid on after output is_white tag read last h =
       r.shallow,
       r.has,
     )
+
+-- a document that means something has one subject
+pub document_subject : KindsAreRead → (o : Opened) (white : Nodes) (old mid on : Source) (after : Subject) (output : Output) (all : Nodes) (c : Content)
+    → AreWhite white → TagAfter (Some o) white old mid → ((t : Tag) → IsOpened mid.scope o t → RootRead o t mid on after output)
+    → (IsLeft on.at on.rest.now → AfterRead on) → AreNodes all old.scope old.at old.rest.now [] → Means all c → after.other ≡ None
+document_subject law o white old mid on after output all c is_white tag read last row means =
+    let (t, start) = tag.is in
+    let r = read t start.opened in
+    let one : Nodes = joined white (Element t o.place r.nodes Nothing) in
+    let (octets, moves) = element_after o white t old mid on r.nodes tag start r.inside in
+    let (blank, is_blank, ending) = last moves.left in
+    let whole : AreNodes (joined one blank) old.scope old.at old.rest.now [] =
+    nodes_joined one blank old.scope old.at on.at old.rest.now on.rest.now [] octets
+    (subst (λ (q : List Item). AreNodes blank q on.at on.rest.now []) (scope_after o white t old mid on tag start r.scope) ending) moves.same in
+    let (same, end) = nodes_once law all (joined one blank) old.scope old.at old.rest.now [] [] row whole (inl refl) (inl refl) in
+    r.only c (root_element white blank t o.place r.nodes c is_white (subst (λ (q : Nodes). Means q c) same means))

@@ -47,6 +47,14 @@ IsFormOfPacket x form = (p : IsPacket x) × IsFormOf p.document (length p.before
 abbrev pub IsReadableForm : List ℕ → Type 0
 IsReadableForm form = (c : Content) × IsContent c × IsReadable c × (form ≡ normal_packet c)
 
+-- octets are no packet whose document has a meaning
+abbrev pub HasNoMeaning : List ℕ → Type 0
+HasNoMeaning x = (p : IsPacket x) (c : Content) → HasMeaning p.document (length p.before) c → ⊥
+
+-- Octets are one packet: what is around the document, and the document, are given by them.
+abbrev pub OnePacket : Type 0
+OnePacket = (x : List ℕ) (p q : IsPacket x) → (p.before ≡ q.before) × (p.document ≡ q.document) × (p.after ≡ q.after)
+
 -- two documents mean one thing
 abbrev pub MeanTheSame : List ℕ → ℕ → List ℕ → ℕ → Type 0
 MeanTheSame x m y n = (c : Content) × IsContent c × HasMeaning x m c × HasMeaning y n c

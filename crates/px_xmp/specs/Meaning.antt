@@ -157,10 +157,14 @@ HasRdf (Words t more) c = (is_white t ≡ true) × HasRdf more c
 HasRdf (Element tag place inner more) c = IsRdf tag inner c × AreWhite more
 
 -- rdf:RDF, or x:xmpmeta around it (XMP part 1, 7.3.3): its attributes mean nothing
+abbrev pub IsRoot : Tag → Nodes → Content → Type 0
+IsRoot tag inner c = IsRdf tag inner c ⊎ ((is_root tag.name ≡ true) × HasRdf inner c)
+
+-- one root, with white space around it
 abbrev pub Means : Nodes → Content → Type 0
 Means Nothing c = ⊥
 Means (Words t more) c = (is_white t ≡ true) × Means more c
-Means (Element tag place inner more) c = (IsRdf tag inner c ⊎ ((is_root tag.name ≡ true) × HasRdf inner c)) × AreWhite more
+Means (Element tag place inner more) c = IsRoot tag inner c × AreWhite more
 
 -- a document at an offset of its packet has nodes that mean this
 pub record HasMeaning (x : List ℕ) (start : ℕ) (c : Content) : Type 0 where

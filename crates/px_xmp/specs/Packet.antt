@@ -1,5 +1,5 @@
 -- A packet: its document, and what is around it.
-use Rattle.std.specs.Prelude.{◌≡◌, ◌≤◌, ◌==◌, ◌||◌, ◌++◌, ℕ, Bool, true, List, length}
+use Rattle.std.specs.Prelude.{◌≡◌, ◌≢◌, ◌≤◌, ◌==◌, ◌||◌, ◌⊎◌, ◌++◌, ℕ, Bool, true, List, [], ◌∷◌, length}
 use Rattle.px_bytes.specs.Parts.{limit}
 use Rattle.px_xmp_marks.specs.Declarations.{every}
 use Rattle.px_xmp_document.specs.Document.{IsFile}
@@ -12,13 +12,32 @@ is_padding o = (o == 0) || (o == 32) || (o == 9) || (o == 10) || (o == 13)
 abbrev pub is_around : ℕ → Bool
 is_around o = is_padding o || (o == 239) || (o == 187) || (o == 191)
 
--- a document, with padding and byte order marks before it, and padding after it
+-- an octet of padding, or the byte order mark of UTF-8
+abbrev pub IsAround : List ℕ → Type 0
+IsAround m = ((o : ℕ) × (is_padding o ≡ true) × (m ≡ o ∷ [])) ⊎ (m ≡ 239 ∷ 187 ∷ 191 ∷ [])
+
+-- x is such pieces in a row
+abbrev pub AreAround : List (List ℕ) → List ℕ → Type 0
+AreAround [] x = x ≡ []
+AreAround (m ∷ more) x = IsAround m × (rest : List ℕ) × (x ≡ m ++ rest) × AreAround more rest
+
+-- none is at the start, and no padding at the end
+abbrev pub BeginsBare : List ℕ → Type 0
+BeginsBare x = (m y : List ℕ) → IsAround m → x ≢ m ++ y
+
+abbrev pub EndsBare : List ℕ → Type 0
+EndsBare x = (o : ℕ) (y : List ℕ) → is_padding o ≡ true → x ≢ y ++ o ∷ []
+
+-- a document; before it all padding and byte order marks at the start, and after it all padding at the end
 pub record IsPacket (x : List ℕ) : Type 0 where
   pub before : List ℕ
   pub document : List ℕ
   pub after : List ℕ
   pub joined : x ≡ before ++ document ++ after
   pub few : length x ≤ limit
-  pub around : every is_around before ≡ true
+  pub pieces : List (List ℕ)
+  pub around : AreAround pieces before
   pub padding : every is_padding after ≡ true
+  pub first : BeginsBare (document ++ after)
+  pub last : EndsBare document
   pub file : IsFile document

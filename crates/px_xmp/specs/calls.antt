@@ -4,3 +4,5 @@ pub mod Opening
 pub mod Steps
 pub mod Contents
 pub mod Roots
+pub mod Around
+pub mod Refused

@@ -2,6 +2,7 @@
 ghost use Rattle.std.specs.Prelude.{◌≡◌, ◌≤◌, [], length, option_map, OnOk, IfOk};
 ghost use Rattle.px_xmp_forms.specs.Labels.{label_view};
 ghost use Rattle.px_xmp_forms.specs.Allocations.{CountsAllocFailureInPacket};
+ghost use Rattle.px_xmp_forms.specs.Causes.{IsRare};
 ghost use Rattle.px_xmp_forms.specs.Outputs.{State, Has, begun, nothing};
 ghost use Rattle.px_xmp.specs.Tags.{Tag};
 ghost use Rattle.px_xmp.specs.Meaning.{label_in};
@@ -48,6 +49,7 @@ fn is_bag(container: Container) -> bool
 fn join_node(memory: &mut Memory, output: &mut Output, node: Node) -> Result<(), Refusal>
     ensures value { (s : State) → Has output.old s → OnOk result ((after : State) × Has output.new after × JoinsNode node s after) }
     ensures memory { CountsAllocFailureInPacket result memory.old memory.new }
+    ensures rare { IsRare result }
 {
     match node {
         Node::Description => output.join_properties(memory),
@@ -60,6 +62,7 @@ fn join_node(memory: &mut Memory, output: &mut Output, node: Node) -> Result<(),
 fn end_node(memory: &mut Memory, output: &mut Output, node: Node) -> Result<(), Refusal>
     ensures value { (s : State) → Has output.old s → OnOk result (NodeEnded node s output.new) }
     ensures memory { CountsAllocFailureInPacket result memory.old memory.new }
+    ensures rare { IsRare result }
 {
     join_node(memory, output, node)?;
     output.end_node(memory)
@@ -79,6 +82,7 @@ impl<'a> Reader<'a> {
         ensures value { (s : State) (t : Tag) → Has self.old.output s → IsOpened self.old.source.scope opened.entry t
             → IfOk result (λ a. NodeBegun node t outer.entry.language.now outer.entry.depth opened.entry.place a s self.new.output) }
         ensures memory { CountsAllocFailureInPacket result memory.old memory.new }
+        ensures rare { IsRare result }
     {
         let Some(around) = outer.inside(opened) else {
             return Err(Cause::RareLanguage.at(opened.place));
@@ -122,6 +126,7 @@ impl<'a> Reader<'a> {
             (ItemsRead is_empty (node_view node) around.entry.language.now around.entry.depth
             self.old.source self.new.source s self.new.output) }
         ensures memory { CountsAllocFailureInPacket result memory.old memory.new }
+        ensures rare { IsRare result }
     {
         if is_empty {
             return Ok(());
@@ -152,6 +157,7 @@ impl<'a> Reader<'a> {
             (ValueRead opened.entry t (label_view label.entry) outer.entry.language.now outer.entry.depth
             self.old.source self.new.source s self.new.output) }
         ensures memory { CountsAllocFailureInPacket result memory.old memory.new }
+        ensures rare { IsRare result }
     {
         let Some(around) = outer.inside(opened) else {
             return Err(Cause::RareLanguage.at(opened.place));
@@ -179,6 +185,7 @@ impl<'a> Reader<'a> {
             → IsOpened self.old.source.scope opened.entry t → IfOk result (λ content.
             ContentRead content opened.entry.is_empty t.fields around.entry self.old.source self.new.source s self.new.output) }
         ensures memory { CountsAllocFailureInPacket result memory.old memory.new }
+        ensures rare { IsRare result }
     {
         let filling = read_filling(
             memory,
@@ -220,6 +227,7 @@ impl<'a> Reader<'a> {
             → IfOk result (λ content.
             ContentRead content is_empty [] around.entry self.old.source self.new.source s self.new.output) }
         ensures memory { CountsAllocFailureInPacket result memory.old memory.new }
+        ensures rare { IsRare result }
     {
         if is_empty {
             return Ok(Content::Text(around.language));
@@ -246,6 +254,7 @@ impl<'a> Reader<'a> {
             → IsOpened self.old.source.scope opened.entry t → IfOk result (λ node.
             NodeRead node opened.entry t outer.entry.language.now outer.entry.depth self.old.source self.new.source s self.new.output) }
         ensures memory { CountsAllocFailureInPacket result memory.old memory.new }
+        ensures rare { IsRare result }
     {
         let Some(node) = opened.name.node() else {
             return Err(Cause::RareElement.at(opened.place));

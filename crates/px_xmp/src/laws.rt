@@ -1,6 +1,6 @@
 //! The laws of packets. Each is the contract of a function that computes nothing.
 ghost use Rattle.px_xmp.specs.Laws.{FormIsItsOwn, FormsDecide, KindsAreRead, MeaningsAreReadable, NodesMeanOnce, NormalIsFile};
-ghost use Rattle.px_xmp.specs.Laws.{NormalKeepsMeaning, NormalSays, OneMeaning, OneReading, ScopesAreJudged};
+ghost use Rattle.px_xmp.specs.Laws.{NormalKeepsMeaning, NormalSays, OneMeaning, OnePacket, OneReading, ScopesAreJudged};
 
 /// Each mark of a document is read as what it is, and with its length.
 pub fn kinds_are_read()
@@ -17,6 +17,11 @@ pub fn kinds_are_read()
 /// What is in scope in an element is what `px_xmp_spaces` judges.
 pub fn scopes_are_judged()
     ensures { ScopesAreJudged }
+{}
+
+/// Octets are a packet with one document.
+pub fn one_packet()
+    ensures { OnePacket }
 {}
 
 /// Octets are one row of nodes.

@@ -6,8 +6,9 @@
 //!
 //! It is proved that a packet with a form is a document, that this document has a meaning by the productions of RDF/XML that
 //! XMP has, and that the form is the normal packet of this meaning. So two packets with equal forms mean the same, and with
-//! different forms don't. That each packet with a meaning in the usual forms is accepted, and which fault of RDF is the first,
-//! are tested, and no contract states them.
+//! different forms don't. A packet that is refused by a cause that is not rare is proved to have no such meaning. That each
+//! packet with a meaning in the usual forms is accepted, and which fault of RDF is the first, are tested, and no contract states
+//! them.
 #![tactic(auto)]
 
 mod attributes;

@@ -2,6 +2,7 @@
 ghost use Rattle.std.specs.Prelude.{◌≡◌, ℕ, List, codes, OnOk, IfOk};
 ghost use Rattle.px_xmp_marks.specs.Reading.{Attr, next_view};
 ghost use Rattle.px_xmp_forms.specs.Allocations.{CountsAllocFailureInPacket};
+ghost use Rattle.px_xmp_forms.specs.Causes.{IsRare};
 ghost use Rattle.px_xmp_forms.specs.Outputs.{State, Has};
 ghost use Rattle.px_xmp.specs.Tags.{fields_in};
 ghost use Rattle.px_xmp.specs.calls.Listed.{AreListed, IsNextOf};
@@ -31,6 +32,7 @@ pub(crate) fn put_property(
         → OnOk result (PropertyPut (name_of name.entry) value.now around.entry.language.now around.entry.depth
         around.entry.place s output.new) }
     ensures memory { CountsAllocFailureInPacket result memory.old memory.new }
+    ensures rare { IsRare result }
 {
     let Some(label) = name.property() else {
         return Err(Cause::RareAttribute.at(around.place));
@@ -58,6 +60,7 @@ pub(crate) fn put_properties<'a>(
         → OnOk result (PropertiesPut (fields_in scope.now all) around.entry.language.now around.entry.depth
         around.entry.place s output.new) }
     ensures memory { CountsAllocFailureInPacket result memory.old memory.new }
+    ensures rare { IsRare result }
 {
     let mut found = next_plain(attributes);
     while let Some(next) = found {
@@ -80,6 +83,7 @@ fn put_value_properties<'a>(
         → OnOk result (PropertiesPut (fields_in scope.now all) around.entry.language.now around.entry.depth
         around.entry.place s output.new) }
     ensures memory { CountsAllocFailureInPacket result memory.old memory.new }
+    ensures rare { IsRare result }
 {
     let mut found = Some(first);
     while let Some(next) = found {
@@ -102,6 +106,7 @@ fn put_resource<'a>(
 ) -> Result<(), Refusal>
     ensures value { (s : State) → Has output.old s → OnOk result (ResourcePut (next_view first.entry) s output.new) }
     ensures memory { CountsAllocFailureInPacket result memory.old memory.new }
+    ensures rare { IsRare result }
 {
     if !is_absolute(first.attribute.value) {
         return Err(Cause::RareResource.at(around.place));
@@ -125,6 +130,7 @@ fn read_filling_from<'a>(
         → IfOk result (λ f. IsFilled f (fields_in scope.now all) around.entry.language.now around.entry.depth
         around.entry.place s output.new) }
     ensures memory { CountsAllocFailureInPacket result memory.old memory.new }
+    ensures rare { IsRare result }
 {
     let name = scope.attribute(first.attribute.name);
     if name.is_rdf(b"parseType") {
@@ -154,6 +160,7 @@ pub(crate) fn read_filling<'a>(
         → IfOk result (λ f. IsFilled f (fields_in scope.now all) around.entry.language.now around.entry.depth
         around.entry.place s output.new) }
     ensures memory { CountsAllocFailureInPacket result memory.old memory.new }
+    ensures rare { IsRare result }
 {
     match next_plain(attributes) {
         Some(first) => read_filling_from(memory, output, scope, first, around),

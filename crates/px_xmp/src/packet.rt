@@ -2,11 +2,15 @@
 ghost use Rattle.std.specs.Prelude.{◌≡◌, ◌≤◌, ◌+◌, ℕ, Option, List, length, take, drop, true, IfOk, OnOk};
 ghost use Rattle.px_bytes.specs.Parts.{limit};
 ghost use Rattle.px_xmp_marks.specs.Declarations.{every};
+ghost use Rattle.px_xmp_text.specs.Values.{Content};
 ghost use Rattle.px_xmp_document.specs.Document.{IsSplit, order_mark_len, IsFile};
 ghost use Rattle.px_xmp_forms.specs.Forms.{IsNormal};
 ghost use Rattle.px_xmp_forms.specs.Allocations.{CountsAllocFailureInPacket};
-ghost use Rattle.px_xmp.specs.Packet.{is_padding, is_around, IsPacket};
-ghost use Rattle.px_xmp.specs.Laws.{IsFormOf, IsFormOfPacket, IsReadableForm};
+ghost use Rattle.px_xmp_forms.specs.Causes.{IfWrong};
+ghost use Rattle.px_xmp.specs.Packet.{is_padding, AreAround, BeginsBare, EndsBare, IsPacket};
+ghost use Rattle.px_xmp.specs.Meaning.{HasMeaning};
+ghost use Rattle.px_xmp.specs.calls.Around.{BeginsAround};
+ghost use Rattle.px_xmp.specs.Laws.{IsFormOf, IsFormOfPacket, HasNoMeaning, IsReadableForm};
 
 use crate::causes::cause_of;
 use crate::reader::Reader;
@@ -26,58 +30,45 @@ fn is_padding(octet: u8) -> bool
     octet == 0 || octet == b' ' || octet == b'\t' || octet == b'\n' || octet == b'\r'
 }
 
-// Whether an octet is padding, or one of a byte order mark.
-fn is_around(octet: u8) -> bool
-    ensures { result ≡ is_around octet }
+// The length of the padding or the byte order mark at the start: of one octet, or of three. It is 0 if neither is there.
+fn piece_len(octets: &[u8]) -> usize
+    ensures within { result ≤ length octets.now }
+    ensures piece { BeginsAround octets.now result }
 {
-    is_padding(octet) || octet == 0xEF || octet == 0xBB || octet == 0xBF
+    if octets.is_empty() {
+        return 0;
+    }
+    if is_padding(octets[0]) {
+        return 1;
+    }
+    if octets.starts_with(b"\xEF\xBB\xBF") {
+        return 3;
+    }
+    0
 }
 
-// Whether each octet is padding.
-fn are_padding(octets: &[u8]) -> bool
-    ensures { result ≡ every is_padding octets.now }
+// The number of octets at the start that are byte order marks and padding.
+fn around_len(packet: &[u8]) -> usize
+    ensures within { result ≤ length packet.now }
+    ensures around { (pieces : List (List ℕ)) × AreAround pieces (take result packet.now) }
+    ensures first { BeginsBare (drop result packet.now) }
 {
-    for octet in octets {
-        if !is_padding(*octet) {
-            return false;
+    let mut at = 0;
+    'pieces: loop {
+        let len = piece_len(packet.split_at(at).1);
+        if len == 0 {
+            return at;
         }
+        at += len;
     }
-    true
 }
 
-// Whether each octet is padding, or one of a byte order mark.
-fn are_around(octets: &[u8]) -> bool
-    ensures { result ≡ every is_around octets.now }
+// The number of octets before the padding at the end.
+fn unpadded_len(octets: &[u8]) -> usize
+    ensures within { result ≤ length octets.now }
+    ensures padding { every is_padding (drop result octets.now) ≡ true }
+    ensures last { EndsBare (take result octets.now) }
 {
-    for octet in octets {
-        if !is_around(*octet) {
-            return false;
-        }
-    }
-    true
-}
-
-// The octets after the byte order marks at the start.
-fn after_order_marks(packet: &[u8]) -> &[u8] {
-    let mut rest = packet;
-    while rest.starts_with(b"\xEF\xBB\xBF") {
-        rest = rest.split_at(3).1;
-    }
-    rest
-}
-
-// The number of octets of padding at the start.
-fn padding_len(octets: &[u8]) -> usize {
-    for (n, octet) in octets.iter().enumerate() {
-        if !is_padding(*octet) {
-            return n;
-        }
-    }
-    octets.len()
-}
-
-// The number of octets up to the last one that is no padding.
-fn last_len(octets: &[u8]) -> usize {
     let mut len = octets.len();
     while len > 0 {
         if !is_padding(octets[len - 1]) {
@@ -86,32 +77,6 @@ fn last_len(octets: &[u8]) -> usize {
         len -= 1;
     }
     0
-}
-
-// The number of octets at the start that are byte order marks and padding.
-fn around_len(packet: &[u8]) -> usize
-    ensures within { result ≤ length packet.now }
-    ensures around { every is_around (take result packet.now) ≡ true }
-{
-    let rest = after_order_marks(packet);
-    let left = rest.len().saturating_sub(padding_len(rest));
-    let len = packet.len().saturating_sub(left);
-    if are_around(packet.split_at(len).0) {
-        return len;
-    }
-    0
-}
-
-// The number of octets before the padding at the end.
-fn unpadded_len(octets: &[u8]) -> usize
-    ensures within { result ≤ length octets.now }
-    ensures padding { every is_padding (drop result octets.now) ≡ true }
-{
-    let len = last_len(octets).min(octets.len());
-    if are_padding(octets.split_at(len).1) {
-        return len;
-    }
-    octets.len()
 }
 
 // Whether a packet begins as UTF-16 or UTF-32 does.
@@ -250,9 +215,12 @@ fn document_form(memory: &mut Memory, document: &[u8], start: usize) -> Result<V
     ensures form { start + length document.now ≤ limit → IfOk result (λ form. IsFormOf document.now start form.items) }
     ensures readable { start + length document.now ≤ limit → IfOk result (λ form. IsReadableForm form.items) }
     ensures memory { CountsAllocFailureInPacket result memory.old memory.new }
+    ensures refused { start + length document.now ≤ limit
+        → IfWrong result ((c : Content) → IsFile document.now → HasMeaning document.now start c → ⊥) }
     ensures normal { IfOk result (λ form. IsNormal form.items) }
     ensures bound { IfOk result (λ form. length form.items ≤ limit) }
 {
+    px_xmp_document::laws::one_fault();
     let head = head_len(document);
     if let Some(at) = first_crowded(document.split_at(head).1) {
         return Err(Cause::RareCount.at(start.saturating_add(head).saturating_add(at)));
@@ -278,12 +246,13 @@ fn document_form(memory: &mut Memory, document: &[u8], start: usize) -> Result<V
 /// The normal form of a packet: that of what its document means.
 ///
 /// `Content`: the first fault, of the length, the document or RDF. If `Cause::is_rare`, the packet may have a meaning, which
-/// this crate does not read. `OutOfMemory`, exactly if an allocation failed in this call.
+/// this crate does not read; otherwise it has none. `OutOfMemory`, exactly if an allocation failed in this call.
 pub fn normal_form_in(memory: &mut Memory, packet: &[u8]) -> Result<Vec<u8>, Refusal>
     ensures packet { OnOk result (IsPacket packet.now) }
     ensures form { IfOk result (λ form. IsFormOfPacket packet.now form.items) }
     ensures readable { IfOk result (λ form. IsReadableForm form.items) }
     ensures memory { CountsAllocFailureInPacket result memory.old memory.new }
+    ensures refused { IfWrong result (HasNoMeaning packet.now) }
     ensures normal { IfOk result (λ form. IsNormal form.items) }
     ensures bound { IfOk result (λ form. length form.items ≤ limit) }
 {
@@ -302,6 +271,7 @@ pub fn normal_form_in(memory: &mut Memory, packet: &[u8]) -> Result<Vec<u8>, Ref
 pub fn check_in(memory: &mut Memory, packet: &[u8]) -> Result<(), Refusal>
     ensures packet { OnOk result (IsPacket packet.now) }
     ensures memory { CountsAllocFailureInPacket result memory.old memory.new }
+    ensures refused { IfWrong result (HasNoMeaning packet.now) }
 {
     normal_form_in(memory, packet)?;
     Ok(())

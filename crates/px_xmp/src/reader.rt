@@ -2,6 +2,7 @@
 ghost use Rattle.std.specs.Prelude.{◌≡◌, ◌<◌, ℕ, List, [], length, OnOk, IfOk};
 ghost use Rattle.px_xmp_text.specs.Values.{End};
 ghost use Rattle.px_xmp_forms.specs.Allocations.{CountsAllocFailureInPacket};
+ghost use Rattle.px_xmp_forms.specs.Causes.{IsRare};
 ghost use Rattle.px_xmp_forms.specs.Outputs.{State, Has, begun, nothing};
 ghost use Rattle.px_xmp.specs.Reading.{kind_view};
 ghost use Rattle.px_xmp.specs.calls.Steps.{IsLeft};
@@ -10,7 +11,7 @@ ghost use Rattle.px_xmp.specs.calls.Contents.{PutsWords, TextRead};
 use crate::elements::{Around, Opened};
 use crate::marks::MarkKind;
 use crate::scope::Scope;
-use crate::source::Source;
+use crate::source::{ENDED, Source};
 use px_bytes::Memory;
 use px_xmp_forms::{Cause, Output, Refusal};
 
@@ -20,7 +21,8 @@ pub(crate) struct Reader<'a> {
     pub(crate) output: Output,
 }
 
-// Puts a mark that is no tag to the text of a property or an item. Returns whether it is more than white space.
+// Puts a mark that is no tag to the text of a property or an item. Returns whether it is more than white space. Of a tag it says
+// what leaves the packet to another reader.
 fn put_words(
     memory: &mut Memory,
     output: &mut Output,
@@ -29,11 +31,12 @@ fn put_words(
 ) -> Result<bool, Refusal>
     ensures value { (s : State) → Has output.old s → IfOk result (λ more. PutsWords (kind_view kind.entry) s more output.new) }
     ensures memory { CountsAllocFailureInPacket result memory.old memory.new }
+    ensures rare { IsRare result }
 {
     match kind {
         MarkKind::Text(text) => output.put_text(memory, text.octets, text.kind),
         MarkKind::Other => Ok(false),
-        _ => Err(Cause::BadMarkup.at(place)),
+        _ => Err(Cause::RareElement.at(place)),
     }
 }
 
@@ -66,12 +69,13 @@ impl<'a> Reader<'a> {
         ensures read { (s : State) → Has self.old.output (begun nothing s) → IsLeft self.old.source.at self.old.source.rest.now
             → IfOk result (λ o. TextRead o s self.old.source self.new.source self.new.output) }
         ensures memory { CountsAllocFailureInPacket result memory.old memory.new }
+        ensures rare { IsRare result }
     {
         let mut says = false;
         'marks: loop {
             let place = self.source.at;
             let Some(kind) = self.source.next() else {
-                return Err(Cause::BadMarkup.at(place));
+                return Err(ENDED.at(place));
             };
             match kind {
                 MarkKind::Start(tag) => {

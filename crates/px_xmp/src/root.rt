@@ -1,14 +1,18 @@
 // Reads the root of a document, and rdf:RDF. XMP part 1, 7.
-ghost use Rattle.std.specs.Prelude.{◌≡◌, ◌≤◌, ◌<◌, ℕ, List, [], None, length, OnOk};
-ghost use Rattle.px_xmp_text.specs.Values.{End};
+ghost use Rattle.std.specs.Prelude.{◌≡◌, ◌≤◌, ◌<◌, ℕ, List, [], None, false, codes, length, OnOk};
+ghost use Rattle.px_xmp_text.specs.Values.{Content, End};
 ghost use Rattle.px_xmp_marks.specs.Reading.{Attr, next_view};
 ghost use Rattle.px_xmp_forms.specs.Allocations.{CountsAllocFailureInPacket};
+ghost use Rattle.px_xmp_forms.specs.Causes.{IsRare, IfWrong};
 ghost use Rattle.px_xmp_forms.specs.Outputs.{State, Has};
 ghost use Rattle.px_xmp.specs.Tags.{Tag, field_of, fields_in};
+ghost use Rattle.px_xmp.specs.Names.{is_rdf};
+ghost use Rattle.px_xmp.specs.Nodes.{Nodes, AreNodes};
+ghost use Rattle.px_xmp.specs.Meaning.{IsRoot, HasRdf, Means};
 ghost use Rattle.px_xmp.specs.calls.Listed.{AreListed};
 ghost use Rattle.px_xmp.specs.calls.Opening.{IsOpened};
-ghost use Rattle.px_xmp.specs.calls.Steps.{IsLeft};
-ghost use Rattle.px_xmp.specs.calls.Roots.{AttributeRead, AttributesRead, SubjectRead, SubjectsRead};
+ghost use Rattle.px_xmp.specs.calls.Steps.{IsLeft, HasInside};
+ghost use Rattle.px_xmp.specs.calls.Roots.{IsNew, AttributeRead, AttributesRead, SubjectRead, SubjectsRead};
 ghost use Rattle.px_xmp.specs.calls.Roots.{RdfRead, AroundRead, RootRead, DocumentRead};
 
 use crate::attributes::next_plain;
@@ -35,6 +39,7 @@ impl<'a> Reader<'a> {
             around.entry.language.now around.entry.depth around.entry.place s
             subject.old subject.new self.new.output) }
         ensures memory { CountsAllocFailureInPacket result memory.old memory.new }
+        ensures rare { IsRare result }
     {
         let name = self.source.scope.attribute(next.attribute.name);
         if name.is_about() {
@@ -56,6 +61,7 @@ impl<'a> Reader<'a> {
             (AttributesRead (fields_in self.old.source.scope all) around.entry.language.now around.entry.depth around.entry.place s
             subject.old subject.new self.new.output) }
         ensures memory { CountsAllocFailureInPacket result memory.old memory.new }
+        ensures rare { IsRare result }
     {
         let mut found = next_plain(attributes);
         while let Some(next) = found {
@@ -79,6 +85,7 @@ impl<'a> Reader<'a> {
             (SubjectRead opened.entry t outer.entry.language.now outer.entry.depth self.old.source self.new.source subject.old subject.new s
             self.new.output) }
         ensures memory { CountsAllocFailureInPacket result memory.old memory.new }
+        ensures rare { IsRare result }
     {
         if !opened.name.is_rdf(b"Description") {
             return Err(Cause::RareElement.at(opened.place));
@@ -105,6 +112,7 @@ impl<'a> Reader<'a> {
             self.old.source self.new.source subject.old subject.new s
             self.new.output) }
         ensures memory { CountsAllocFailureInPacket result memory.old memory.new }
+        ensures rare { IsRare result }
     {
         if opened.is_empty {
             return Ok(());
@@ -125,9 +133,11 @@ impl<'a> Reader<'a> {
         opened: Opened<'a>,
     ) -> Result<(), Refusal>
         ensures read { (t : Tag) → Has self.old.output (record { opened = []; properties = End })
-            → IsLeft self.old.source.at self.old.source.rest.now → IsOpened self.old.source.scope opened.entry t → OnOk result
-            (RdfRead opened.entry t self.old.source self.new.source subject.new self.new.output) }
+            → IsLeft self.old.source.at self.old.source.rest.now → IsNew subject.old → IsOpened self.old.source.scope opened.entry t
+            → OnOk result (RdfRead opened.entry t self.old.source self.new.source subject.new self.new.output) }
         ensures memory { CountsAllocFailureInPacket result memory.old memory.new }
+        ensures refused { (t : Tag) → IsOpened self.old.source.scope opened.entry t
+            → IfWrong result (is_rdf (codes "RDF") t.name ≡ false) }
     {
         if !opened.name.is_rdf(b"RDF") {
             return Err(Cause::NoRdf.at(opened.place));
@@ -159,10 +169,15 @@ impl<'a> Reader<'a> {
         place: usize,
     ) -> Result<(), Refusal>
         ensures read { Has self.old.output (record { opened = []; properties = End })
-            → IsLeft self.old.source.at self.old.source.rest.now → OnOk result
+            → IsLeft self.old.source.at self.old.source.rest.now → IsNew subject.old → OnOk result
             (AroundRead self.old.source self.new.source subject.new self.new.output) }
         ensures memory { CountsAllocFailureInPacket result memory.old memory.new }
+        ensures refused { (nodes : Nodes) (c : Content) (y : List ℕ) → Has self.old.output (record { opened = []; properties = End })
+            → IsLeft self.old.source.at self.old.source.rest.now → IsNew subject.old
+            → HasInside false nodes self.old.source.scope self.old.source.at self.old.source.rest.now y
+            → IfWrong result (HasRdf nodes c → ⊥) }
     {
+        crate::laws::kinds_are_read();
         let Some(inner) = self.source.next_tag(memory, Cause::NoRdf)? else {
             return Err(Cause::NoRdf.at(place));
         };
@@ -181,9 +196,14 @@ impl<'a> Reader<'a> {
         opened: Opened<'a>,
     ) -> Result<(), Refusal>
         ensures read { (t : Tag) → Has self.old.output (record { opened = []; properties = End })
-            → IsLeft self.old.source.at self.old.source.rest.now → IsOpened self.old.source.scope opened.entry t → OnOk result
-            (RootRead opened.entry t self.old.source self.new.source subject.new self.new.output) }
+            → IsLeft self.old.source.at self.old.source.rest.now → IsNew subject.old → IsOpened self.old.source.scope opened.entry t
+            → OnOk result (RootRead opened.entry t self.old.source self.new.source subject.new self.new.output) }
         ensures memory { CountsAllocFailureInPacket result memory.old memory.new }
+        ensures refused { (t : Tag) (nodes : Nodes) (c : Content) (y : List ℕ)
+            → Has self.old.output (record { opened = []; properties = End })
+            → IsLeft self.old.source.at self.old.source.rest.now → IsNew subject.old → IsOpened self.old.source.scope opened.entry t
+            → HasInside opened.entry.is_empty nodes self.old.source.scope self.old.source.at self.old.source.rest.now y
+            → IfWrong result (IsRoot t nodes c → ⊥) }
     {
         if !opened.name.is_root() {
             return self.read_rdf(memory, subject, opened);
@@ -203,10 +223,19 @@ impl<'a> Reader<'a> {
         subject: &mut Subject<'a>,
     ) -> Result<(), Refusal>
         ensures read { Has self.old.output (record { opened = []; properties = End })
-            → IsLeft self.old.source.at self.old.source.rest.now → subject.old.value ≡ None → subject.old.other ≡ None
+            → IsLeft self.old.source.at self.old.source.rest.now → IsNew subject.old
             → OnOk result (subject.new.other ≡ None → DocumentRead self.old.source self.new.output) }
         ensures memory { CountsAllocFailureInPacket result memory.old memory.new }
+        ensures refused { (nodes : Nodes) (c : Content) → Has self.old.output (record { opened = []; properties = End })
+            → IsLeft self.old.source.at self.old.source.rest.now → IsNew subject.old
+            → AreNodes nodes self.old.source.scope self.old.source.at self.old.source.rest.now []
+            → IfWrong result (Means nodes c → ⊥) }
+        ensures subject { (nodes : Nodes) (c : Content) → Has self.old.output (record { opened = []; properties = End })
+            → IsLeft self.old.source.at self.old.source.rest.now → IsNew subject.old
+            → AreNodes nodes self.old.source.scope self.old.source.at self.old.source.rest.now []
+            → OnOk result (Means nodes c → subject.new.other ≡ None) }
     {
+        crate::laws::kinds_are_read();
         let place = self.source.at;
         let Some(opened) = self.source.next_tag(memory, Cause::NoRdf)? else {
             return Err(Cause::NoRdf.at(place));

@@ -4,6 +4,7 @@ ghost use Rattle.px_xmp_marks.specs.Reading.{Attr, name_view, attribute_view};
 ghost use Rattle.px_xmp_spaces.specs.Scopes.{built_in, space_of, ended};
 ghost use Rattle.px_xmp_spaces.specs.Bindings.{declared_prefix};
 ghost use Rattle.px_xmp_forms.specs.Allocations.{CountsAllocFailureInPacket};
+ghost use Rattle.px_xmp_forms.specs.Causes.{IsRare};
 ghost use Rattle.px_xmp.specs.Names.{or_none, element_name, attribute_name};
 ghost use Rattle.px_xmp.specs.Tags.{names_language, is_plain, with_prefix, inside, tag_of};
 ghost use Rattle.px_xmp.specs.calls.Entries.{entry_view, entries_of};
@@ -145,6 +146,7 @@ impl<'a> Scope<'a> {
     fn put(&mut self, memory: &mut Memory, entry: Entry<'a>) -> Result<(), Refusal>
         ensures items { OnOk result (self.new ≡ entry_view entry.entry ∷ self.old) }
         ensures memory { CountsAllocFailureInPacket result memory.old memory.new }
+        ensures rare { IsRare result }
     {
         memory.push(&mut self.entries, entry)?;
         Ok(())
@@ -160,6 +162,7 @@ impl<'a> Scope<'a> {
         ensures items { OnOk result (self.new
             ≡ with_prefix (declared_prefix (name_view attribute.entry.name)) attribute.entry.value.now self.old) }
         ensures memory { CountsAllocFailureInPacket result memory.old memory.new }
+        ensures rare { IsRare result }
     {
         let Some(prefix) = declared_prefix(attribute.name) else {
             return Ok(());
@@ -181,6 +184,7 @@ impl<'a> Scope<'a> {
         ensures items { (all : List Attr) → AreListed attributes.now all → OnOk result (self.new ≡ inside self.old all) }
         ensures tag { (all : List Attr) → AreListed attributes.now all → IfOk result (λ d. IsDeclared d all) }
         ensures memory { CountsAllocFailureInPacket result memory.old memory.new }
+        ensures rare { IsRare result }
     {
         px_xmp_marks::laws::attributes_in_order();
         self.put(memory, Entry::Element)?;
@@ -213,6 +217,7 @@ impl<'a> Scope<'a> {
         ensures empty { IfOk result (λ o. o.is_empty ≡ tag.entry.is_empty) }
         ensures place { IfOk result (λ o. o.place ≡ place) }
         ensures memory { CountsAllocFailureInPacket result memory.old memory.new }
+        ensures rare { IsRare result }
     {
         let declared = self.open(memory, tag.rest, place)?;
         Ok(Opened {

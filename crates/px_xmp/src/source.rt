@@ -1,12 +1,14 @@
 // Reads the marks of a document, one after another.
-ghost use Rattle.std.specs.Prelude.{◌≡◌, ◌≤◌, ◌<◌, ℕ, List, true, false, length, OnOk, IfOk, IfSome};
+ghost use Rattle.std.specs.Prelude.{◌≡◌, ◌≤◌, ◌<◌, ℕ, List, [], true, false, length, OnOk, IfOk, IfSome};
 ghost use Rattle.px_xmp_marks.specs.Declarations.{every};
 ghost use Rattle.px_xmp_forms.specs.Allocations.{CountsAllocFailureInPacket};
+ghost use Rattle.px_xmp_forms.specs.Causes.{is_rare, IsRare, IfWrong};
 ghost use Rattle.px_xmp_forms.specs.Forms.{is_white};
-ghost use Rattle.px_xmp.specs.Nodes.{Nodes};
+ghost use Rattle.px_xmp.specs.Nodes.{Nodes, AreNodes};
 ghost use Rattle.px_xmp.specs.Meaning.{AreWhite};
 ghost use Rattle.px_xmp.specs.Reading.{Words, kind_view};
 ghost use Rattle.px_xmp.specs.calls.Steps.{IsLeft, Says, Next, TagAfter, EndRead, AfterRead, is_plain_space};
+ghost use Rattle.px_xmp.specs.calls.Refused.{IsOther, BeginsWithText};
 
 use crate::elements::Opened;
 use crate::marks::{MarkKind, Text, read_mark};
@@ -14,6 +16,10 @@ use crate::scope::Scope;
 use px_bytes::Memory;
 use px_xmp_forms::{Cause, Refusal, append_text, is_blank};
 use px_xmp_text::TextKind;
+
+// What is said where a document ends too early. One without a fault has no such place, so that this says of no packet that it is
+// wrong.
+pub(crate) const ENDED: Cause = Cause::RareElement;
 
 // The octets that are left, their offset in the packet, and what is in scope there.
 #[derive(Drop)]
@@ -52,16 +58,20 @@ impl<'a> Source<'a> {
         ensures read { IsLeft self.old.at self.old.rest.now
             → IfOk result (λ o. (white : Nodes) × AreWhite white × TagAfter o white self.old self.new) }
         ensures memory { CountsAllocFailureInPacket result memory.old memory.new }
+        ensures rare { is_rare other ≡ true → IsRare result }
+        ensures refused { IsLeft self.old.at self.old.rest.now
+            → IfWrong result (BeginsWithText self.old.scope self.old.at self.old.rest.now) }
     {
         'marks: loop {
             let place = self.at;
             let Some(kind) = self.next() else {
-                return Err(Cause::BadMarkup.at(place));
+                return Err(ENDED.at(place));
             };
             match kind {
                 MarkKind::Start(tag) => return Ok(Some(self.scope.enter(memory, tag, place)?)),
                 MarkKind::End => return Ok(None),
-                _ => judge_white(memory, kind, other, place)?,
+                MarkKind::Text(text) => judge_blank(memory, text, other, place)?,
+                MarkKind::Other => {}
             }
         }
     }
@@ -72,6 +82,7 @@ impl<'a> Source<'a> {
         ensures shorter { OnOk result (length self.new.rest.now < length self.old.rest.now) }
         ensures read { IsLeft self.old.at self.old.rest.now → OnOk result (EndRead false self.old self.new) }
         ensures memory { CountsAllocFailureInPacket result memory.old memory.new }
+        ensures rare { IsRare result }
     {
         match self.next_tag(memory, Cause::RareText)? {
             Some(opened) => Err(Cause::RareElement.at(opened.place)),
@@ -89,6 +100,7 @@ impl<'a> Source<'a> {
         ensures shorter { OnOk result (length self.new.rest.now ≤ length self.old.rest.now) }
         ensures read { IsLeft self.old.at self.old.rest.now → OnOk result (EndRead is_empty self.old self.new) }
         ensures memory { CountsAllocFailureInPacket result memory.old memory.new }
+        ensures rare { IsRare result }
     {
         if is_empty {
             return Ok(());
@@ -100,11 +112,14 @@ impl<'a> Source<'a> {
     pub(crate) fn read_after(&mut self, memory: &mut Memory) -> Result<(), Refusal>
         ensures read { IsLeft self.old.at self.old.rest.now → OnOk result (AfterRead self.old) }
         ensures memory { CountsAllocFailureInPacket result memory.old memory.new }
+        ensures refused { (nodes : Nodes) → IsLeft self.old.at self.old.rest.now
+            → AreNodes nodes self.old.scope self.old.at self.old.rest.now [] → IfWrong result (AreWhite nodes → ⊥) }
     {
+        crate::laws::kinds_are_read();
         while !self.rest.is_empty() {
             let place = self.at;
             let Some(kind) = self.next() else {
-                return Err(Cause::BadMarkup.at(place));
+                return Err(ENDED.at(place));
             };
             judge_white(memory, kind, Cause::NoRdf, place)?;
         }
@@ -135,6 +150,8 @@ fn are_plain_spaces(octets: &[u8]) -> bool
 fn judge_blank(memory: &mut Memory, text: Text, other: Cause, place: usize) -> Result<(), Refusal>
     ensures says { OnOk result ((t : List ℕ) × Says (Words text.entry.kind text.entry.octets.now) t × (is_white t ≡ true)) }
     ensures memory { CountsAllocFailureInPacket result memory.old memory.new }
+    ensures rare { is_rare other ≡ true → IsRare result }
+    ensures refused { IfWrong result (IsOther (Words text.entry.kind text.entry.octets.now)) }
 {
     if text.kind == TextKind::CharacterData && are_plain_spaces(text.octets) {
         return Ok(());
@@ -156,6 +173,7 @@ fn judge_white(
 ) -> Result<(), Refusal>
     ensures says { OnOk result ((t : List ℕ) × Says (kind_view kind.entry) t × (is_white t ≡ true)) }
     ensures memory { CountsAllocFailureInPacket result memory.old memory.new }
+    ensures refused { IfWrong result (IsOther (kind_view kind.entry)) }
 {
     match kind {
         MarkKind::Text(text) => judge_blank(memory, text, other, place),

@@ -1,7 +1,8 @@
 // The subject of a packet.
 ghost use Rattle.std.specs.Prelude.{◌≡◌, OnOk};
 ghost use Rattle.px_xmp_forms.specs.Allocations.{CountsAllocFailureInPacket};
-ghost use Rattle.px_xmp.specs.calls.Roots.{IsAbout, Keeps};
+ghost use Rattle.px_xmp_forms.specs.Causes.{IsRare};
+ghost use Rattle.px_xmp.specs.calls.Roots.{IsAbout, Keeps, Stays};
 
 use px_bytes::Memory;
 use px_xmp_forms::{Refusal, same_text};
@@ -24,7 +25,9 @@ impl<'a> Subject<'a> {
         place: usize,
     ) -> Result<(), Refusal>
         ensures value { OnOk result (Keeps self.old self.new (IsAbout value.now)) }
+        ensures only { OnOk result (Stays self.old self.new (IsAbout value.now)) }
         ensures memory { CountsAllocFailureInPacket result memory.old memory.new }
+        ensures rare { IsRare result }
     {
         if value.is_empty() || self.other.is_some() {
             return Ok(());

@@ -7,10 +7,10 @@ use Rattle.px_xmp_spaces.specs.Scopes.{ended}
 use Rattle.px_xmp_forms.specs.Entries.{Entry}
 use Rattle.px_xmp_forms.specs.Outputs.{State, Has, changed}
 use Rattle.px_xmp_forms.specs.declared.output.Output.{Output}
-use Rattle.px_xmp.specs.Names.{is_rdf, is_root, is_about}
+use Rattle.px_xmp.specs.Names.{is_rdf, is_about}
 use Rattle.px_xmp.specs.Tags.{Field, Tag, DeclaresLanguage, inherited}
 use Rattle.px_xmp.specs.Nodes.{Nodes, AreNodes}
-use Rattle.px_xmp.specs.Meaning.{AreAttributes, AreEntries, AreAbout, without_about, AreSubjects, IsRdf, HasRdf, Means}
+use Rattle.px_xmp.specs.Meaning.{AreAttributes, AreEntries, AreAbout, without_about, AreSubjects, IsRdf, HasRdf, IsRoot, Means}
 use Rattle.px_xmp.specs.declared.elements.Opened.{Opened}
 use Rattle.px_xmp.specs.declared.source.Source.{Source}
 use Rattle.px_xmp.specs.declared.subject.Subject.{Subject}
@@ -26,6 +26,14 @@ IsSubject s u = (v : List ℕ) → option_map (λ x. x.now) s.value ≡ Some v �
 abbrev pub Keeps : Subject → Subject → (Option (List ℕ) → Type 0) → Type 0
 Keeps old new P = new.other ≡ None → (old.other ≡ None) × ((u : Option (List ℕ)) → IsSubject new u → IsSubject old u × P u)
 
+-- if a subject is the one that was named, if one was, and no other was named, so it stays where P holds of it
+abbrev pub Stays : Subject → Subject → (Option (List ℕ) → Type 0) → Type 0
+Stays old new P = (u : Option (List ℕ)) → old.other ≡ None → IsSubject old u → P u → (new.other ≡ None) × IsSubject new u
+
+-- none was named
+abbrev pub IsNew : Subject → Type 0
+IsNew s = (s.value ≡ None) × (s.other ≡ None)
+
 -- a value of rdf:about names nothing or this subject
 abbrev pub IsAbout : List ℕ → Option (List ℕ) → Type 0
 IsAbout v u = (v ≡ []) ⊎ (text_of AttributeValue v ≡ u)
@@ -33,7 +41,7 @@ IsAbout v u = (v ≡ []) ⊎ (text_of AttributeValue v ≡ u)
 -- an attribute of rdf:Description in rdf:RDF was read: the name of the subject, or a property
 abbrev pub AttributeRead : Field → List ℕ → ℕ → ℕ → State → Subject → Subject → Output → Type 0
 AttributeRead f l depth place s old new output =
-    ((is_about f.name ≡ true) × Keeps old new (IsAbout f.value) × Has output s)
+    ((is_about f.name ≡ true) × Keeps old new (IsAbout f.value) × Stays old new (IsAbout f.value) × Has output s)
     ⊎ ((is_about f.name ≡ false) × (new ≡ old) × PropertyPut f.name f.value l depth place s output)
 
 -- the attributes of rdf:Description in rdf:RDF were read
@@ -43,6 +51,7 @@ pub record AttributesRead (fields : List Field) (l : List ℕ) (depth : ℕ) (pl
   pub are : AreAttributes l place (without_about fields) entries
   pub shallow : AreShallow depth entries
   pub about : Keeps old new (λ u. AreAbout u fields)
+  pub only : Stays old new (λ u. AreAbout u fields)
   pub has : Has output (changed (with_entries entries) s)
 
 -- rdf:Description in rdf:RDF was read
@@ -58,6 +67,7 @@ pub record SubjectRead (o : Opened) (t : Tag) (outer : List ℕ) (depth : ℕ) (
   pub are : AreEntries Structure (inherited outer t.language) nodes entries
   pub about : Keeps before after (λ u. AreAbout u t.fields)
   pub shallow : AreShallow depth (attributes ++ entries)
+  pub only : Stays before after (λ u. AreAbout u t.fields)
   pub scope : new.scope ≡ ended old.scope
   pub has : Has output (changed (with_entries (attributes ++ entries)) s)
 
@@ -69,6 +79,7 @@ pub record SubjectsRead (empty : Bool) (l : List ℕ) (depth : ℕ) (old new : S
   pub inside : InsideRead empty nodes old new
   pub are : Keeps before after (λ u. AreSubjects u l nodes entries)
   pub shallow : AreShallow depth entries
+  pub only : Stays before after (λ u. (es : List Entry) × AreSubjects u l nodes es)
   pub scope : new.scope ≡ old.scope
   pub has : Has output (changed (with_entries entries) s)
 
@@ -79,6 +90,7 @@ pub record RdfRead (o : Opened) (t : Tag) (old new : Source) (after : Subject) (
   pub inside : InsideRead o.is_empty nodes old new
   pub is : after.other ≡ None → IsRdf t nodes content
   pub shallow : IsShallow 3 content
+  pub only : (c : Content) → IsRdf t nodes c → after.other ≡ None
   pub scope : new.scope ≡ ended old.scope
   pub has : Has output (record { opened = []; properties = content })
 
@@ -89,6 +101,7 @@ pub record AroundRead (old new : Source) (after : Subject) (output : Output) : T
   pub inside : InsideRead false nodes old new
   pub is : after.other ≡ None → HasRdf nodes content
   pub shallow : IsShallow 3 content
+  pub only : (c : Content) → HasRdf nodes c → after.other ≡ None
   pub scope : new.scope ≡ old.scope
   pub has : Has output (record { opened = []; properties = content })
 
@@ -97,7 +110,8 @@ pub record RootRead (o : Opened) (t : Tag) (old new : Source) (after : Subject) 
   pub nodes : Nodes
   pub content : Content
   pub inside : InsideRead o.is_empty nodes old new
-  pub is : after.other ≡ None → IsRdf t nodes content ⊎ ((is_root t.name ≡ true) × HasRdf nodes content)
+  pub is : after.other ≡ None → IsRoot t nodes content
+  pub only : (c : Content) → IsRoot t nodes c → after.other ≡ None
   pub shallow : IsShallow 3 content
   pub scope : new.scope ≡ ended old.scope
   pub has : Has output (record { opened = []; properties = content })

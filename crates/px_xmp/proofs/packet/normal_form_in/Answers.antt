@@ -1,36 +1,64 @@
 use Rattle.std.proofs.Common.{◌≡◌, ◌≤◌, ◌+◌, ◌++◌, ◌∙◌, List, ℕ, length, length-append, ap, arith}
 use Rattle.px_bytes.specs.Parts.{limit}
+use Rattle.px_xmp_text.specs.Values.{Content}
 use Rattle.px_xmp_document.specs.Document.{IsFile}
-use Rattle.px_xmp.specs.Laws.{IsFormOf}
-use Rattle.px_xmp.proofs.FormedLaws.{both_ok, packet_parts}
-use Rattle.std.proofs.lemmas.Result.{on_ok_weaker}
-use Rattle.px_xmp_marks.specs.Declarations.{every}
-use Rattle.px_xmp.specs.Packet.{is_padding, is_around, IsPacket}
+use Rattle.px_xmp.specs.Meaning.{HasMeaning}
+use Rattle.px_xmp.specs.Laws.{IsFormOf, HasNoMeaning}
+use Rattle.px_xmp.specs.Packet.{IsPacket}
+use Rattle.px_xmp.proofs.FormedLaws.{both_ok, IsParted, packet_from, none_from}
 use Rattle.px_xmp.proofs.PacketLaws.{parts_joined}
+use Rattle.px_xmp.proofs.RefusedLaws.{wrong_weaker}
+use Rattle.std.proofs.lemmas.Result.{on_ok_weaker}
 use Rattle.px_xmp.proofs.packet.normal_form_in.Goals as goal
 
 pub returns-clause-packet : goal.returns-clause-packet
 returns-clause-packet c =
-    on_ok_weaker c.document_form.result (λ file. packet_parts c.args.packet.now c.split_at.result.0.now c.split_at-2.result.0.now c.split_at-2.result.1.now
-    (parts_joined _ _ _ _ _ _ _ c.split_at.ensures.front c.split_at.ensures.back c.split_at-2.ensures.front c.split_at-2.ensures.back)
-    (omega (arith, c.if-packet-gt-LIMIT.false)) (ap (λ (z : List ℕ). every is_around z) c.split_at.ensures.front ∙ c.around_len.ensures.around)
-    (ap (λ (z : List ℕ). every is_padding z) c.split_at-2.ensures.back ∙ c.unpadded_len.ensures.padding) file) c.document_form.ensures.document
+    let x = c.args.packet.now in
+    let before = c.split_at.result.0.now in
+    let rest = c.split_at.result.1.now in
+    let document = c.split_at-2.result.0.now in
+    let after = c.split_at-2.result.1.now in
+    let parted : IsParted x before rest document after c.around_len.result c.unpadded_len.result =
+    record {
+      before = c.split_at.ensures.front;
+      rest = c.split_at.ensures.back;
+      document = c.split_at-2.ensures.front;
+      after = c.split_at-2.ensures.back;
+      pieces = c.around_len.ensures.around.0;
+      around = c.around_len.ensures.around.1;
+      first = c.around_len.ensures.first;
+      padding = c.unpadded_len.ensures.padding;
+      last = c.unpadded_len.ensures.last;
+    } in
+    on_ok_weaker c.document_form.result (λ file. packet_from x before rest document after c.around_len.result c.unpadded_len.result parted
+    (omega (arith, c.if-packet-gt-LIMIT.false)) file) c.document_form.ensures.document
 
 pub returns-clause-form : goal.returns-clause-form
 returns-clause-form c =
     let x = c.args.packet.now in
     let before = c.split_at.result.0.now in
+    let rest = c.split_at.result.1.now in
     let document = c.split_at-2.result.0.now in
     let after = c.split_at-2.result.1.now in
+    let parted : IsParted x before rest document after c.around_len.result c.unpadded_len.result =
+    record {
+      before = c.split_at.ensures.front;
+      rest = c.split_at.ensures.back;
+      document = c.split_at-2.ensures.front;
+      after = c.split_at-2.ensures.back;
+      pieces = c.around_len.ensures.around.0;
+      around = c.around_len.ensures.around.1;
+      first = c.around_len.ensures.first;
+      padding = c.unpadded_len.ensures.padding;
+      last = c.unpadded_len.ensures.last;
+    } in
     let joined : x ≡ before ++ document ++ after =
-    parts_joined _ _ _ _ _ _ _ c.split_at.ensures.front c.split_at.ensures.back c.split_at-2.ensures.front c.split_at-2.ensures.back in
+    parts_joined x before rest document after c.around_len.result c.unpadded_len.result parted.before parted.rest parted.document parted.after in
     let few : length before + length document ≤ limit =
     omega (arith, c.if-packet-gt-LIMIT.false, ap length joined, length-append (before ++ document) after, length-append before document) in
     both_ok c.document_form.result (IsFile document) (λ form. IsFormOf document (length before) form.items)
     (λ form. (p : IsPacket x) × IsFormOf p.document (length p.before) form.items) (λ file form is. (
-      packet_parts x before document after joined (omega (arith, c.if-packet-gt-LIMIT.false))
-          (ap (λ (z : List ℕ). every is_around z) c.split_at.ensures.front ∙ c.around_len.ensures.around)
-          (ap (λ (z : List ℕ). every is_padding z) c.split_at-2.ensures.back ∙ c.unpadded_len.ensures.padding) file,
+      packet_from x before rest document after c.around_len.result c.unpadded_len.result parted (omega (arith, c.if-packet-gt-LIMIT.false)) file,
       is,
     ))
     c.document_form.ensures.document (c.document_form.ensures.form few)
@@ -44,3 +72,29 @@ returns-clause-readable c =
     parts_joined _ _ _ _ _ _ _ c.split_at.ensures.front c.split_at.ensures.back c.split_at-2.ensures.front c.split_at-2.ensures.back in
     c.document_form.ensures.readable
     (omega (arith, c.if-packet-gt-LIMIT.false, ap length joined, length-append (before ++ document) after, length-append before document))
+
+pub returns-clause-refused : goal.returns-clause-refused
+returns-clause-refused c =
+    let x = c.args.packet.now in
+    let before = c.split_at.result.0.now in
+    let rest = c.split_at.result.1.now in
+    let document = c.split_at-2.result.0.now in
+    let after = c.split_at-2.result.1.now in
+    let parted : IsParted x before rest document after c.around_len.result c.unpadded_len.result =
+    record {
+      before = c.split_at.ensures.front;
+      rest = c.split_at.ensures.back;
+      document = c.split_at-2.ensures.front;
+      after = c.split_at-2.ensures.back;
+      pieces = c.around_len.ensures.around.0;
+      around = c.around_len.ensures.around.1;
+      first = c.around_len.ensures.first;
+      padding = c.unpadded_len.ensures.padding;
+      last = c.unpadded_len.ensures.last;
+    } in
+    let joined : x ≡ before ++ document ++ after =
+    parts_joined x before rest document after c.around_len.result c.unpadded_len.result parted.before parted.rest parted.document parted.after in
+    let few : length before + length document ≤ limit =
+    omega (arith, c.if-packet-gt-LIMIT.false, ap length joined, length-append (before ++ document) after, length-append before document) in
+    wrong_weaker _ c.document_form.result ((d : Content) → IsFile document → HasMeaning document (length before) d → ⊥) (HasNoMeaning x)
+    (none_from x before rest document after c.around_len.result c.unpadded_len.result parted) (c.document_form.ensures.refused few)

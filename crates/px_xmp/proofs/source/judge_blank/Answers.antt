@@ -1,10 +1,13 @@
-use Rattle.std.proofs.Common.{◌≡◌, Some, sym, subst, ◌∙◌, rules}
+use Rattle.std.specs.Bool.{⊤}
+use Rattle.std.proofs.Common.{◌≡◌, ◌++◌, ℕ, List, Some, ap, sym, subst, ◌∙◌, rules}
 use denote.Enum.Bare.{same_true}
 use Rattle.px_xmp_text.specs.contracts.pieces.TextKind.{the_type}
-use Rattle.px_xmp_text.specs.Texts.{text_of}
+use Rattle.px_xmp_text.specs.Texts.{text_of, normal_text}
 use Rattle.px_xmp_text.specs.declared.pieces.TextKind.{TextKind}
 use Rattle.px_xmp.proofs.WhiteLaws.{own_text}
 use Rattle.px_xmp.proofs.source.judge_blank.Goals as goal
+use Rattle.std.proofs.lemmas.Result.{err_from_is_err_and}
+use Rattle.px_xmp.proofs.RefusedLaws.{rare_says, wrong_at}
 
 pub returns-then-are_plain_spaces-clause-says : goal.returns-then-are_plain_spaces-clause-says
 returns-then-are_plain_spaces-clause-says c =
@@ -12,3 +15,13 @@ returns-then-are_plain_spaces-clause-says c =
     let (text, white) = own_text x (sym c.are_plain_spaces.ensures ∙ c.if-are_plain_spaces.true) in
     let is = same_true the_type (search rules) _ _ (sym c.eq.ensures ∙ c.if-eq.true) in
     (x, subst (λ (k : TextKind). text_of k x ≡ Some x) (sym is) text, white)
+
+pub returns-in_err-append_text-clause-refused : goal.returns-in_err-append_text-clause-refused
+returns-in_err-append_text-clause-refused c =
+    let p = err_from_is_err_and c.from_residual.result c.from_residual.ensures.1 in
+    rw (p.1, p.2) (rare_says ⊤ ⊤ c.in_err-append_text.field-0.0 _ c.in_err-append_text.ensures.rare)
+
+pub returns-clause-refused : goal.returns-clause-refused
+returns-clause-refused c =
+    let (t, says, form) = c.in_ok-append_text.ensures.items in
+    wrong_at ⊤ _ _ _ _ c.at.ensures (t, says, sym (c.is_blank.ensures t (c.as_slice.ensures.value ∙ form ∙ ap (λ (z : List ℕ). z ++ normal_text t) c.list-form.ensures.items)) ∙ c.if-is_blank.false)

@@ -1,17 +1,92 @@
-use Rattle.std.proofs.Common.{Option, subst}
+use Rattle.std.specs.Bool.{⊤}
+use Rattle.std.proofs.Common.{Option, ◌++◌, codes, inr, refl, subst}
+use Rattle.px_xmp.specs.Names.{is_rdf}
+use Rattle.px_xmp.specs.Nodes.{Nodes, Nothing}
+use Rattle.px_xmp.specs.Meaning.{HasRdf}
+use Rattle.px_xmp.proofs.NodeLaws.{IsStop}
+use Rattle.px_xmp.proofs.RootLaws.{true_false}
 use Rattle.px_xmp.specs.declared.elements.Opened.{Opened}
 use Rattle.px_xmp.specs.calls.Steps.{TagAfter}
 use Rattle.px_xmp.proofs.RootLaws.{around_done}
 use Rattle.px_xmp.proofs.reader.Reader.read_around.Goals as goal
+use Rattle.std.proofs.lemmas.Result.{err_from_is_err_and}
+use Rattle.px_xmp.proofs.RefusedLaws.{text_found, rdf_text, white_text, rdf_front, white_at_end, enter_after, row_after, rdf_inside, white_inside, wrong_says, wrong_at}
 
 pub returns-in-None-clause-read : goal.returns-in-None-clause-read
-returns-in-None-clause-read c has left =
+returns-in-None-clause-read c has left fresh =
     let (white, is_white, first) = c.in_ok-inner.ensures.read left in
     let tag = subst (λ (z : Option Opened). TagAfter z white c.args.self.now.source c.next_tag.new.self) c.in-Some.is first in
     let (t, start) = tag.is in
-    let rdf = c.in_ok-read_rdf.ensures.read t has first.moves.left start.opened in
+    let rdf = c.in_ok-read_rdf.ensures.read t has first.moves.left fresh start.opened in
     let (blank, is_blank, last) = c.in_ok-second.ensures.read rdf.inside.moves.left in
     around_done c.in-Some.inner white blank c.args.self.now.source c.next_tag.new.self c.read_rdf.new.self.source c.next_tag-2.new.self
     c.read_rdf.new.subject c.read_rdf.new.self.output is_white tag
-    (λ u opened. c.in_ok-read_rdf.ensures.read u has first.moves.left opened) is_blank
+    (λ u opened. c.in_ok-read_rdf.ensures.read u has first.moves.left fresh opened) is_blank
     (subst (λ (z : Option Opened). TagAfter z blank c.read_rdf.new.self.source c.next_tag-2.new.self) c.in-None.is last)
+
+pub returns-in_err-inner-clause-refused : goal.returns-in_err-inner-clause-refused
+returns-in_err-inner-clause-refused c nodes d y has left fresh (e, row, ends) =
+    let old = c.args.self.now.source in
+    let p = err_from_is_err_and c.from_residual.result c.from_residual.ensures.1 in
+    rw (p.1, p.2) (wrong_says (Option Opened) ⊤ c.in_err-inner.field-0.0 _ _ (λ begins h.
+    let (bad, z, text, octets) = begins in
+    rdf_text nodes d (text_found c.kinds_are_read.ensures bad nodes old.scope old.at old.at old.rest.now z (e ++ y) text octets row
+    (inr (e, y, ends, refl))) h) (c.in_err-inner.ensures.refused left))
+
+pub returns-in_default-clause-refused : goal.returns-in_default-clause-refused
+returns-in_default-clause-refused c nodes d y has left fresh (e, row, ends) =
+    let (white, is_white, first) = c.in_ok-inner.ensures.read left in
+    let tag = subst (λ (z : Option Opened). TagAfter z white c.args.self.now.source c.next_tag.new.self) c.in_default.is first in
+    let whole = white_at_end c.kinds_are_read.ensures white nodes c.args.self.now.source c.next_tag.new.self (e ++ y) is_white tag row (inr (e, y, ends, refl)) in
+    wrong_at ⊤ _ _ _ _ c.at.ensures (λ h. rdf_front white Nothing d is_white (subst (λ (q : Nodes). HasRdf q d) whole h))
+
+pub returns-in_err-read_rdf-clause-refused : goal.returns-in_err-read_rdf-clause-refused
+returns-in_err-read_rdf-clause-refused c nodes d y has left fresh (e, row, ends) =
+    let old = c.args.self.now.source in
+    let mid = c.next_tag.new.self in
+    let (white, is_white, first) = c.in_ok-inner.ensures.read left in
+    let tag = subst (λ (z : Option Opened). TagAfter z white old mid) c.in-Some.is first in
+    let (t, start) = tag.is in
+    let entered = enter_after c.kinds_are_read.ensures c.in-Some.inner white t nodes old mid (e ++ y) is_white tag start row (inr (e, y, ends, refl)) in
+    let p = err_from_is_err_and c.from_residual-in_err-read_rdf.result c.from_residual-in_err-read_rdf.ensures.1 in
+    rw (p.1, p.2) (wrong_says ⊤ ⊤ c.in_err-read_rdf.field-0.0 _ _ (λ wrong h. true_false (is_rdf (codes "RDF") t.name)
+    (rdf_inside c.in-Some.inner white t nodes old mid (e ++ y) d entered is_white h).0.1 wrong) (c.in_err-read_rdf.ensures.refused t start.opened))
+
+pub returns-in_err-second-clause-refused : goal.returns-in_err-second-clause-refused
+returns-in_err-second-clause-refused c nodes d y has left fresh (e, row, ends) =
+    let old = c.args.self.now.source in
+    let mid = c.next_tag.new.self in
+    let on = c.read_rdf.new.self.source in
+    let (white, is_white, first) = c.in_ok-inner.ensures.read left in
+    let tag = subst (λ (z : Option Opened). TagAfter z white old mid) c.in-Some.is first in
+    let (t, start) = tag.is in
+    let stop : IsStop (e ++ y) = inr (e, y, ends, refl) in
+    let entered = enter_after c.kinds_are_read.ensures c.in-Some.inner white t nodes old mid (e ++ y) is_white tag start row stop in
+    let rdf = c.in_ok-read_rdf.ensures.read t has first.moves.left fresh start.opened in
+    let others = row_after c.kinds_are_read.ensures c.in-Some.inner white t entered.left rdf.nodes old mid on (e ++ y) tag start entered.entered rdf.inside rdf.scope in
+    let p = err_from_is_err_and c.from_residual-in_err-second.result c.from_residual-in_err-second.ensures.1 in
+    rw (p.1, p.2) (wrong_says (Option Opened) ⊤ c.in_err-second.field-0.0 _ _ (λ begins h.
+    let (bad, z, text, octets) = begins in
+    white_text entered.entered.more (text_found c.kinds_are_read.ensures bad entered.entered.more on.scope on.at on.at on.rest.now z (e ++ y) text octets
+    others stop) (rdf_inside c.in-Some.inner white t nodes old mid (e ++ y) d entered is_white h).1)
+    (c.in_err-second.ensures.refused rdf.inside.moves.left))
+
+pub returns-in-Some-2-clause-refused : goal.returns-in-Some-2-clause-refused
+returns-in-Some-2-clause-refused c nodes d y has left fresh (e, row, ends) =
+    let old = c.args.self.now.source in
+    let mid = c.next_tag.new.self in
+    let on = c.read_rdf.new.self.source in
+    let new = c.next_tag-2.new.self in
+    let (white, is_white, first) = c.in_ok-inner.ensures.read left in
+    let tag = subst (λ (z : Option Opened). TagAfter z white old mid) c.in-Some.is first in
+    let (t, start) = tag.is in
+    let stop : IsStop (e ++ y) = inr (e, y, ends, refl) in
+    let entered = enter_after c.kinds_are_read.ensures c.in-Some.inner white t nodes old mid (e ++ y) is_white tag start row stop in
+    let rdf = c.in_ok-read_rdf.ensures.read t has first.moves.left fresh start.opened in
+    let others = row_after c.kinds_are_read.ensures c.in-Some.inner white t entered.left rdf.nodes old mid on (e ++ y) tag start entered.entered rdf.inside rdf.scope in
+    let (blank, is_blank, last) = c.in_ok-second.ensures.read rdf.inside.moves.left in
+    let again = subst (λ (z : Option Opened). TagAfter z blank on new) c.in-Some-2.is last in
+    let (u, begin) = again.is in
+    let second = enter_after c.kinds_are_read.ensures c.in-Some-2.second blank u entered.entered.more on new (e ++ y) is_blank again begin others stop in
+    wrong_at ⊤ _ _ _ _ c.at-in-Some-2.ensures (λ h. white_inside c.in-Some-2.second blank u entered.entered.more on new (e ++ y) second
+    (rdf_inside c.in-Some.inner white t nodes old mid (e ++ y) d entered is_white h).1)

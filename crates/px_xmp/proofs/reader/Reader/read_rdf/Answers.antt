@@ -1,4 +1,6 @@
-use Rattle.std.proofs.Common.{Option, List, ℕ, [], refl, sym, ap, subst, ◌∙◌}
+use Rattle.std.specs.Bool.{⊤}
+use Rattle.std.proofs.Common.{Option, List, ℕ, [], codes, refl, sym, ap, subst, ◌∙◌}
+use Rattle.px_xmp.specs.Names.{is_rdf}
 use Rattle.px_xmp_text.specs.Values.{End}
 use Rattle.px_xmp_forms.specs.Outputs.{State, begun, changed, nothing}
 use Rattle.px_xmp.specs.Tags.{DeclaresLanguage, inherited}
@@ -6,9 +8,11 @@ use Rattle.px_xmp.specs.calls.Contents.{with_entries}
 use Rattle.px_xmp.proofs.OpeningLaws.{none_after}
 use Rattle.px_xmp.proofs.RootLaws.{no_fields, rdf_row, rdf_done}
 use Rattle.px_xmp.proofs.reader.Reader.read_rdf.Goals as goal
+use Rattle.std.proofs.lemmas.Result.{err_from_is_err_and}
+use Rattle.px_xmp.proofs.RefusedLaws.{rare_says, wrong_at}
 
 pub returns-clause-read : goal.returns-clause-read
-returns-clause-read c t has left (name, language, all, listed, fields) =
+returns-clause-read c t has left fresh (name, language, all, listed, fields) =
     let empty : State = record { opened = []; properties = End } in
     let sub = c.in_ok-read_subjects.ensures.read (begun nothing empty) (c.in_ok-begin.ensures.value empty has) left in
     let (after, now, joins) = c.in_ok-join_properties.ensures.value (changed (with_entries sub.entries) (begun nothing empty)) sub.has in
@@ -18,4 +22,23 @@ returns-clause-read c t has left (name, language, all, listed, fields) =
     c.read_subjects.new.subject (begun nothing empty) c.read_subjects.new.self.output c.end_properties.new.self content
     (subst DeclaresLanguage language c.in-Some.ensures.declares) (sym c.is_rdf.ensures ∙ c.if-not-is_rdf.false) name
     (c.in-Some.ensures.language ∙ ap (λ (z : Option (List ℕ)). inherited [] z) language) c.in-Some.ensures.depth
-    (sym fields ∙ no_fields c.args.self.now.source.scope all none) refl refl c.close.ensures sub line put
+    (sym fields ∙ no_fields c.args.self.now.source.scope all none) refl refl c.close.ensures fresh sub line put
+
+pub returns-then-not-is_rdf-clause-refused : goal.returns-then-not-is_rdf-clause-refused
+returns-then-not-is_rdf-clause-refused c t opened =
+    wrong_at ⊤ _ _ _ _ c.at.ensures (ap (is_rdf (codes "RDF")) (sym opened.0) ∙ sym c.is_rdf.ensures ∙ c.if-not-is_rdf.true)
+
+pub returns-in_err-begin-clause-refused : goal.returns-in_err-begin-clause-refused
+returns-in_err-begin-clause-refused c t opened =
+    let p = err_from_is_err_and c.from_residual.result c.from_residual.ensures.1 in
+    rw (p.1, p.2) (rare_says ⊤ ⊤ c.in_err-begin.field-0.0 _ c.in_err-begin.ensures.rare)
+
+pub returns-in_err-read_subjects-clause-refused : goal.returns-in_err-read_subjects-clause-refused
+returns-in_err-read_subjects-clause-refused c t opened =
+    let p = err_from_is_err_and c.from_residual-in_err-read_subjects.result c.from_residual-in_err-read_subjects.ensures.1 in
+    rw (p.1, p.2) (rare_says ⊤ ⊤ c.in_err-read_subjects.field-0.0 _ c.in_err-read_subjects.ensures.rare)
+
+pub returns-in_err-join_properties-clause-refused : goal.returns-in_err-join_properties-clause-refused
+returns-in_err-join_properties-clause-refused c t opened =
+    let p = err_from_is_err_and c.from_residual-in_err-join_properties.result c.from_residual-in_err-join_properties.ensures.1 in
+    rw (p.1, p.2) (rare_says ⊤ ⊤ c.in_err-join_properties.field-0.0 _ c.in_err-join_properties.ensures.rare)

@@ -1,15 +1,44 @@
-use Rattle.std.proofs.Common.{refl, sym, ◌∙◌}
+use Rattle.std.specs.Bool.{⊤}
+use Rattle.std.proofs.Common.{◌≡◌, Bool, codes, refl, sym, ap, subst, ◌∙◌}
+use Rattle.px_xmp.specs.Names.{is_rdf, is_root}
+use Rattle.px_xmp.specs.Nodes.{Nodes, Nothing}
+use Rattle.px_xmp.specs.Meaning.{HasRdf}
+use Rattle.px_xmp.specs.calls.Steps.{HasInside}
 use Rattle.std.proofs.lemmas.Result.{on_ok_weaker}
-use Rattle.px_xmp.proofs.RootLaws.{root_rdf, root_around}
+use Rattle.px_xmp.proofs.RootLaws.{root_rdf, root_around, rdf_alone, around_alone, true_false}
 use Rattle.px_xmp.proofs.reader.Reader.read_root.Goals as goal
+use Rattle.std.proofs.lemmas.Result.{err_from_is_err_and}
+use Rattle.px_xmp.proofs.RefusedLaws.{wrong_weaker, wrong_says, wrong_at}
 
 pub returns-then-not-is_root-clause-read : goal.returns-then-not-is_root-clause-read
-returns-then-not-is_root-clause-read c t has left opened =
+returns-then-not-is_root-clause-read c t has left fresh opened =
     on_ok_weaker c.read_rdf.result (root_rdf c.args.opened t c.args.self.now.source c.read_rdf.new.self.source c.read_rdf.new.subject
-    c.read_rdf.new.self.output) (c.read_rdf.ensures.read t has left opened)
+    c.read_rdf.new.self.output (sym c.is_root.ensures ∙ c.if-not-is_root.true) opened.0) (c.read_rdf.ensures.read t has left fresh opened)
 
 pub returns-clause-read : goal.returns-clause-read
-returns-clause-read c t has left (name, language, all, listed, fields) =
+returns-clause-read c t has left fresh (name, language, all, listed, fields) =
     root_around c.args.opened t c.args.self.now.source c.read_around.new.self.source _ c.read_around.new.subject c.read_around.new.self.output
     (sym c.is_root.ensures ∙ c.if-not-is_root.false) name c.if-opened.false refl refl c.close.ensures
-    (c.in_ok-read_around.ensures.read has left)
+    (c.in_ok-read_around.ensures.read has left fresh)
+
+pub returns-then-not-is_root-clause-refused : goal.returns-then-not-is_root-clause-refused
+returns-then-not-is_root-clause-refused c t nodes d y has left fresh opened within =
+    wrong_weaker _ c.read_rdf.result _ _ (λ wrong h. true_false (is_rdf (codes "RDF") t.name)
+    (rdf_alone t nodes d (ap is_root (sym opened.0) ∙ sym c.is_root.ensures ∙ c.if-not-is_root.true) h).1 wrong)
+    (c.read_rdf.ensures.refused t opened)
+
+pub returns-then-opened-clause-refused : goal.returns-then-opened-clause-refused
+returns-then-opened-clause-refused c t nodes d y has left fresh opened within =
+    let none : nodes ≡ Nothing =
+    (subst (λ (b : Bool). HasInside b nodes c.args.self.now.source.scope c.args.self.now.source.at c.args.self.now.source.rest.now y)
+    c.if-opened.true within).0 in
+    wrong_at ⊤ _ _ _ _ c.at.ensures (λ h. subst (λ (q : Nodes). HasRdf q d) none
+    (around_alone t nodes d (ap is_root (sym opened.0) ∙ sym c.is_root.ensures ∙ c.if-not-is_root.false) h))
+
+pub returns-in_err-read_around-clause-refused : goal.returns-in_err-read_around-clause-refused
+returns-in_err-read_around-clause-refused c t nodes d y has left fresh opened within =
+    let p = err_from_is_err_and c.from_residual.result c.from_residual.ensures.1 in
+    rw (p.1, p.2) (wrong_says ⊤ ⊤ c.in_err-read_around.field-0.0 _ _ (λ wrong h. wrong (around_alone t nodes d (ap is_root (sym opened.0) ∙ sym c.is_root.ensures ∙ c.if-not-is_root.false) h))
+    (c.in_err-read_around.ensures.refused nodes d y has left fresh
+    (subst (λ (b : Bool). HasInside b nodes c.args.self.now.source.scope c.args.self.now.source.at c.args.self.now.source.rest.now y)
+    c.if-opened.false within)))

@@ -1,7 +1,30 @@
-use Rattle.std.proofs.Common.{◌∙◌, arith}
+use Rattle.std.specs.Bool.{⊤}
+use Rattle.px_xmp.specs.declared.elements.Opened.{Opened}
+use Rattle.std.proofs.Common.{Option, [], refl, subst, ◌∙◌, arith}
+use Rattle.px_xmp.specs.Reading as reading
+use Rattle.px_xmp.specs.declared.marks.MarkKind.{MarkKind}
+use Rattle.px_xmp.specs.calls.Steps.{Next}
+use Rattle.px_xmp.proofs.RefusedLaws.{rare_says, wrong_says, text_begins}
 use Rattle.px_xmp.specs.Reading.{kind_view}
 use Rattle.px_xmp.proofs.StepLaws.{white_step, moves_on, tag_started, tag_ended}
+use Rattle.std.proofs.lemmas.Result.{err_from_is_err_and}
 use Rattle.px_xmp.proofs.source.Source.next_tag.Goals as goal
+
+pub marks-preserved-in_ok-judge_blank-in-Text : goal.marks-preserved-in_ok-judge_blank-in-Text
+marks-preserved-in_ok-judge_blank-in-Text c =
+    record {
+      within = omega (arith, c.in-Some.ensures.shorter, c.marks.invariant.within);
+      scope = c.next.ensures.scope ∙ c.marks.invariant.scope;
+      read = λ left.
+          let (white, is_white, octets, moves) = c.marks.invariant.read left in
+          let (t, says, blank) = c.in_ok-judge_blank-in-Text.ensures.says in
+          let next =
+          subst (λ (z : MarkKind). Next (kind_view z) c.marks.self.at c.marks.self.rest.now c.next.new.self.at c.next.new.self.rest.now) c.in-Text.is
+          (c.in-Some.ensures.read moves.left) in
+          white_step white c.args.self.now.scope c.args.self.now.at c.args.self.now.rest.now c.marks.self.at c.marks.self.rest.now
+          c.next.new.self.at c.next.new.self.rest.now _ t is_white octets moves next says blank;
+      failed_allocations = c.in_ok-judge_blank-in-Text.ensures.memory ∙ c.marks.invariant.failed_allocations;
+    }
 
 pub marks-preserved : goal.marks-preserved
 marks-preserved c =
@@ -10,10 +33,12 @@ marks-preserved c =
       scope = c.next.ensures.scope ∙ c.marks.invariant.scope;
       read = λ left.
           let (white, is_white, octets, moves) = c.marks.invariant.read left in
-          let (t, says, blank) = c.in_ok-judge_white-in_default-kind.ensures.says in
+          let next =
+          subst (λ (z : MarkKind). Next (kind_view z) c.marks.self.at c.marks.self.rest.now c.next.new.self.at c.next.new.self.rest.now) c.in-Other.is
+          (c.in-Some.ensures.read moves.left) in
           white_step white c.args.self.now.scope c.args.self.now.at c.args.self.now.rest.now c.marks.self.at c.marks.self.rest.now
-          c.next.new.self.at c.next.new.self.rest.now (kind_view c.in-Some.kind) t is_white octets moves (c.in-Some.ensures.read moves.left) says blank;
-      failed_allocations = c.in_ok-judge_white-in_default-kind.ensures.memory ∙ c.marks.invariant.failed_allocations;
+          c.next.new.self.at c.next.new.self.rest.now reading.Other [] is_white octets moves next refl refl;
+      failed_allocations = c.marks.invariant.failed_allocations;
     }
 
 pub returns-in-Start-clause-read : goal.returns-in-Start-clause-read
@@ -55,3 +80,19 @@ returns-in-End-clause-read c left =
             c.next.new.self.rest.now moves next.moves;
       },
     )
+
+pub returns-in_err-enter-in-Start-clause-refused : goal.returns-in_err-enter-in-Start-clause-refused
+returns-in_err-enter-in-Start-clause-refused c left =
+    let p = err_from_is_err_and c.from_residual.result c.from_residual.ensures.1 in
+    rw (p.1, p.2) (rare_says Opened (Option Opened) c.in_err-enter-in-Start.field-0.0 _ c.in_err-enter-in-Start.ensures.rare)
+
+pub returns-in_err-judge_blank-in-Text-clause-refused : goal.returns-in_err-judge_blank-in-Text-clause-refused
+returns-in_err-judge_blank-in-Text-clause-refused c left =
+    let (white, is_white, octets, moves) = c.marks.invariant.read left in
+    let next =
+    subst (λ (z : MarkKind). Next (kind_view z) c.marks.self.at c.marks.self.rest.now c.next.new.self.at c.next.new.self.rest.now) c.in-Text.is
+    (c.in-Some.ensures.read moves.left) in
+    let p = err_from_is_err_and c.from_residual-in_err-judge_blank-in-Text.result c.from_residual-in_err-judge_blank-in-Text.ensures.1 in
+    rw (p.1, p.2) (wrong_says ⊤ (Option Opened) c.in_err-judge_blank-in-Text.field-0.0 _ _ (text_begins white c.args.self.now.scope c.args.self.now.at c.marks.self.at c.next.new.self.at c.args.self.now.rest.now
+    c.marks.self.rest.now c.next.new.self.rest.now c.in-Text.text.kind c.in-Text.text.octets.now is_white octets moves.same next)
+    c.in_err-judge_blank-in-Text.ensures.refused)

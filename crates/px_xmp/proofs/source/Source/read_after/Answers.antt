@@ -1,7 +1,10 @@
+use Rattle.std.specs.Bool.{⊤}
 use Rattle.std.proofs.Common.{◌∙◌}
 use Rattle.px_xmp.specs.Reading.{kind_view}
 use Rattle.px_xmp.proofs.StepLaws.{white_step}
 use Rattle.px_xmp.proofs.source.Source.read_after.Goals as goal
+use Rattle.std.proofs.lemmas.Result.{err_from_is_err_and}
+use Rattle.px_xmp.proofs.RefusedLaws.{after_refused, wrong_says}
 
 pub loop-place-preserved : goal.loop-place-preserved
 loop-place-preserved c =
@@ -13,3 +16,13 @@ loop-place-preserved c =
           c.next.new.self.at c.next.new.self.rest.now (kind_view c.in-Some.kind) t is_white octets moves (c.in-Some.ensures.read moves.left) says blank;
       failed_allocations = c.in_ok-judge_white.ensures.memory ∙ c.loop-place.invariant.failed_allocations;
     }
+
+pub returns-in_err-judge_white-clause-refused : goal.returns-in_err-judge_white-clause-refused
+returns-in_err-judge_white-clause-refused c nodes left row =
+    let old = c.args.self.now in
+    let now = c.loop-place.self in
+    let (white, is_white, octets, moves) = c.loop-place.invariant.read left in
+    let p = err_from_is_err_and c.from_residual.result c.from_residual.ensures.1 in
+    rw (p.1, p.2) (wrong_says ⊤ ⊤ c.in_err-judge_white.field-0.0 _ _ (after_refused c.kinds_are_read.ensures (kind_view c.in-Some.kind) white nodes old.scope old.at now.at c.next.new.self.at
+    old.rest.now now.rest.now c.next.new.self.rest.now is_white octets moves.same row (c.in-Some.ensures.read moves.left))
+    c.in_err-judge_white.ensures.refused)
