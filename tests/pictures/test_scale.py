@@ -279,7 +279,7 @@ class Scale(WithPictures):
             (["index", "p", "--catalogue", "e", "--quiet"], {"exifnorm", "xml", *reading}),
             (["merge", "c", "--catalogue", "d"], set()),
             (["changed", "c", "c"], {*fields, "exifnorm_pictures.comparison.changed"}),
-            (["show", "p/0000.jpg"], {*fields, "exifnorm", "xml", reading[0], "exifnorm_pictures.judge.repairs"}),
+            (["show", "p/0000.jpg"], {"exifnorm", "xml", reading[0], "exifnorm_pictures.judge.repairs"}),
         ):
             with self.subTest(words[0]):
                 done = run([sys.executable, "-S", "-c", call, *words], self.folder)

@@ -3,7 +3,6 @@
 from __future__ import annotations
 
 import contextlib
-from dataclasses import dataclass
 from typing import TYPE_CHECKING, Callable, NamedTuple, Optional
 
 from ..extract.formats.streams import File, Parts, digest_of
@@ -36,13 +35,12 @@ class Whole(NamedTuple):
             return cls(coded, digest_of(file, 0, file.size), head)
 
 
-@dataclass
 class Origin:
     """The file of a picture, if it was read by a path, and its marks then."""
 
-    path: bytes = b""
-    stamp: Optional[Stamp] = None
-    _whole: Optional[Whole] = None
+    def __init__(self, path: bytes = b"", stamp: Optional[Stamp] = None) -> None:
+        self.path, self.stamp = path, stamp
+        self._whole: Optional[Whole] = None
 
     def keep(self, whole: Whole) -> None:
         """Keeps that of a file object, which is there only while it is read."""
