@@ -11,7 +11,7 @@ use Rattle.px_xmp_forms.specs.declared.faults.Cause.TheVariants.{RareEncoding, R
 use Rattle.px_xmp_forms.specs.declared.faults.Cause.TheVariants.{RareElement, RareAttribute, RareText, RareLanguage}
 use Rattle.px_xmp_forms.specs.declared.faults.Cause.TheVariants.{RareResource, RareRepeated, RareLength, RareDepth}
 use Rattle.px_xmp_forms.specs.Causes.{is_rare}
-use Rattle.px_xmp.specs.Laws.{IsFormOfPacket}
+use Rattle.px_xmp.specs.Laws.{IsFormOfPacket, IsReadableForm}
 use Rattle.px_c.specs.declared.faults.ExifnormFault.{ExifnormFault}
 
 -- the numbers of the causes; those of packets that are left to another reader follow 250
@@ -41,10 +41,10 @@ xmp_cause RareRepeated = 260
 xmp_cause RareLength = 261
 xmp_cause RareDepth = 262
 
--- the normal form of what a packet means is put into the caller's buffer, or the buffer is too small
+-- the normal form of what a packet means, which is a packet again, is put into the caller's buffer, or the buffer is too small
 abbrev pub PutsXmp : List ℕ → Given → List ℕ → List ℕ → Type 0
 PutsXmp packet given old new =
-    (form : List ℕ) × IsFormOfPacket packet form × (length form ≤ limit) × IsPut given form old new
+    (form : List ℕ) × IsFormOfPacket packet form × IsReadableForm form × (length form ≤ limit) × IsPut given form old new
 
 -- the packet is wrong: a number of such a cause, and an offset
 abbrev pub RefusesXmp : ExifnormFault → Type 0

@@ -7,6 +7,7 @@ pub returns-in-Ok-clause-done : goal.returns-in-Ok-clause-done
 returns-in-Ok-clause-done c is = (
   c.in-Ok.form.items,
   c.in-Ok.ensures.form,
+  c.in-Ok.ensures.readable,
   c.in-Ok.ensures.bound,
   subst (λ (z : List ℕ). IsPut (Whole c.give.new.written) z c.args.out.now c.give.new.out) c.as_slice.ensures.value (c.give.ensures.done is),
 )
@@ -15,6 +16,7 @@ pub returns-in-Ok-clause-short : goal.returns-in-Ok-clause-short
 returns-in-Ok-clause-short c is = (
   c.in-Ok.form.items,
   c.in-Ok.ensures.form,
+  c.in-Ok.ensures.readable,
   c.in-Ok.ensures.bound,
   subst (λ (z : List ℕ). IsPut (Needs c.give.new.written) z c.args.out.now c.give.new.out) c.as_slice.ensures.value (c.give.ensures.short is),
 )
