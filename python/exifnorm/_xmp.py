@@ -16,8 +16,9 @@ def xmp_normal(packet: Block) -> bytes:
     white space between elements, comments, `rdf:about`, `x:xmptk` and the padding make no difference; neither does the order in an
     `rdf:Bag`. Extended XMP is a packet of its own.
 
-    Raises XmpRefused if the packet is wrong, or in a rare form of RDF/XML; MemoryError and LibraryMissing. It is proved that the
-    form is that of what the packet means; which packets have one is tested.
+    Raises XmpRefused if the packet is wrong, or in a rare form of RDF/XML; MemoryError and LibraryMissing. It is proved that the form is
+    that of what the packet means, that it is a packet which means the same, and that a wrong packet has no meaning; which packets are in a
+    rare form is tested.
 
     >>> rdf = "<r:RDF xmlns:r='http://www.w3.org/1999/02/22-rdf-syntax-ns#' xmlns:d='http://d/'><r:Description {}</r:RDF>"
     >>> first = rdf.format("d:a='Vase'/>").encode()

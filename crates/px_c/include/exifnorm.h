@@ -11,8 +11,9 @@
  * with XMP, and exifnorm_jpeg_same_blocks without.
  *
  * Whether two blocks of Exif or IPTC mean the same is proved. Whether two JPEGs have the same Exif and IPTC is proved of
- * exifnorm_jpeg_same_blocks, and exifnorm_jpeg_same returns nothing else of these. Where the packets of XMP are is proved, and that a form
- * is that of what its packet means; which packets are read is tested. How blocks are found in other formats, and groups of pictures, are
+ * exifnorm_jpeg_same_blocks, and exifnorm_jpeg_same returns nothing else of these. Where the packets of XMP are is proved, that a form
+ * is that of what its packet means, and that a packet which is refused has no meaning; which packets are left to another reader
+ * (EXIFNORM_RARE) is tested. How blocks are found in other formats, and groups of pictures, are
  * tested. It is proved of each call which status but EXIFNORM_NO_MEMORY it returns for which input, what it sets, and what stays unchanged;
  * and that exifnorm_check doesn't return EXIFNORM_NO_MEMORY for a block of DataSets. What this page says otherwise of EXIFNORM_NO_MEMORY,
  * and of copies, of the stack, of threads, of ownership, and that EXIFNORM_NAME_ROOM is enough, is tested. That texts are ASCII is read in
@@ -424,11 +425,13 @@ uint32_t exifnorm_xmp_check(const unsigned char *packet, size_t packet_length, /
  * x:xmptk and the padding make no difference. Extended XMP is a packet of its own. The place of a fault is the byte offset in the packet
  * of the tag or the text that has it.
  *
- * It is proved that the form is that of what the packet means; which packets have one is tested and, unlike which blocks, not proved. It
- * is also proved that the call ends and is safe for any bytes, and that it returns NO_MEMORY exactly if an allocation failed.
+ * It is proved that the form is that of what the packet means, that it is a packet which means the same, and that a packet which is
+ * refused has no meaning. Which packets are left to another reader is tested and, unlike which blocks are refused, not proved; a form, or
+ * another packet with a meaning, could be among them. It is also proved that the call ends and is safe for any bytes, and that it returns
+ * NO_MEMORY exactly if an allocation failed.
  *
  *   DONE             out begins with the form; written is its length. The rest of out is unchanged.
- *   REFUSED          the packet is wrong; fault is set.
+ *   REFUSED          the packet is wrong, and has no meaning; fault is set.
  *   RARE             it may have a meaning; fault is set.
  *   NO_MEMORY        nothing is set.
  *   TOO_LITTLE_ROOM  written is the length of the form, which is more than out_length.

@@ -11,7 +11,7 @@ use Rattle.px_xmp_forms.specs.declared.faults.Cause.TheVariants.{RareEncoding, R
 use Rattle.px_xmp_forms.specs.declared.faults.Cause.TheVariants.{RareElement, RareAttribute, RareText, RareLanguage}
 use Rattle.px_xmp_forms.specs.declared.faults.Cause.TheVariants.{RareResource, RareRepeated, RareLength, RareDepth}
 use Rattle.px_xmp_forms.specs.Causes.{is_rare}
-use Rattle.px_xmp.specs.Laws.{IsFormOfPacket, IsReadableForm}
+use Rattle.px_xmp.specs.Laws.{IsFormOfPacket, IsReadableForm, HasNoMeaning}
 use Rattle.px_c.specs.declared.faults.ExifnormFault.{ExifnormFault}
 
 -- the numbers of the causes; those of packets that are left to another reader follow 250
@@ -46,9 +46,13 @@ abbrev pub PutsXmp : List ℕ → Given → List ℕ → List ℕ → Type 0
 PutsXmp packet given old new =
     (form : List ℕ) × IsFormOfPacket packet form × IsReadableForm form × (length form ≤ limit) × IsPut given form old new
 
--- the packet is wrong: a number of such a cause, and an offset
+-- a packet is wrong: a number of such a cause, and an offset
 abbrev pub RefusesXmp : ExifnormFault → Type 0
 RefusesXmp fault = (c : Cause) × (fault.cause ≡ xmp_cause c) × (is_rare c ≡ false) × (fault.place ≤ limit)
+
+-- this packet is wrong, and has no meaning
+abbrev pub RefusesPacket : List ℕ → ExifnormFault → Type 0
+RefusesPacket packet fault = RefusesXmp fault × HasNoMeaning packet
 
 -- the packet is left to another reader
 abbrev pub LeavesXmp : ExifnormFault → Type 0

@@ -28,7 +28,7 @@ ghost use Rattle.px_c.specs.Outcomes.{Refuses, PutsText, PutsTextOf, IsOfKind, A
 ghost use Rattle.px_c.specs.Packets.{ShowsPacket, LeavesRest, RefusesHead};
 ghost use Rattle.px_c.specs.Pictures.{ArePicturesCompared, LeavesUnread, RefusesPicture};
 ghost use Rattle.px_c.specs.Unread.{ShowsUnread, RefusesJoining};
-ghost use Rattle.px_c.specs.Xmp.{PutsXmp, RefusesXmp, LeavesXmp};
+ghost use Rattle.px_c.specs.Xmp.{PutsXmp, RefusesPacket, LeavesXmp};
 ghost use Rattle.px_c.specs.Numbers as status;
 
 mod blocks;
@@ -264,8 +264,9 @@ pub extern "C" fn exifnorm_jpeg_blocks(
 
 /// Stores in `same` whether two pictures have the same Exif, IPTC and XMP: 1 if `exifnorm_jpeg_same_blocks` stores 1, and neither has XMP
 /// or both have one packet, and these, joined with their extended XMP, have equal normal forms; 0 if `exifnorm_jpeg_same_blocks` stores 0,
-/// or all XMP of both is read and is different: only one has a packet, or the forms differ. Which packets have a form is tested, and no
-/// contract states it. Allocates what `compare_all_in` of px_xmp_pictures does.
+/// or all XMP of both is read and is different: only one has a packet, or the forms differ. A packet that is refused as wrong has
+/// no meaning; which others have no form is tested, and no contract states it. Allocates what `compare_all_in` of
+/// px_xmp_pictures does.
 ///
 /// `NOT_READ`: what is read is the same, and `unread` is a place of the first picture that isn't read: as `exifnorm_jpeg_same_blocks`
 /// stores it, or else of XMP in an APP1 segment by another mark or in Photoshop's resource 0x0424, of a packet that is wrong or
@@ -419,20 +420,21 @@ pub extern "C" fn exifnorm_photoshop_resources(
 #[unsafe(no_mangle)]
 pub extern "C" fn exifnorm_xmp_check(alloc: Global, packet: &[u8], fault: &mut ExifnormFault) -> u32
     ensures known { (result ≡ status.done) ⊎ (result ≡ status.refused) ⊎ (result ≡ status.rare) ⊎ (result ≡ status.no_memory) }
-    ensures refused { result ≡ status.refused → RefusesXmp fault.new }
+    ensures refused { result ≡ status.refused → RefusesPacket packet.now fault.new }
     ensures rare { result ≡ status.rare → LeavesXmp fault.new }
     ensures fault { result ≢ status.refused → result ≢ status.rare → fault.new ≡ fault.old }
 {
     xmp_check_in(&mut Memory::new(alloc), packet, fault)
 }
 
-/// Writes the normal form of a packet of XMP to the start of `out`, and its length to `written`: that of what the packet means.
-/// Which packets have one is tested, and no contract states it. Allocates the form, and the values of the elements that are open.
+/// Writes the normal form of a packet of XMP to the start of `out`, and its length to `written`: that of what the packet means,
+/// which is a packet that means the same. Allocates the form, and the values of the elements that are open.
 ///
-/// `REFUSED`: the packet is wrong, and `fault` is its first fault. `RARE`: it may have a meaning, which this library doesn't
-/// read, and `fault` is where. `TOO_LITTLE_ROOM`: `out` is shorter than the form, whose length is in `written`. `NO_MEMORY`:
-/// an allocation failed. Only success changes `out`, and only as far as the form goes. Only success and `TOO_LITTLE_ROOM`
-/// change `written`. Only `REFUSED` and `RARE` change `fault`.
+/// `REFUSED`: the packet is wrong, and has no meaning; `fault` is its first fault. `RARE`: it may have a meaning, which this
+/// library doesn't read, and `fault` is where: which packets these are is tested, and no contract states it. `TOO_LITTLE_ROOM`:
+/// `out` is shorter than the form, whose length is in `written`. `NO_MEMORY`: an allocation failed. Only success changes `out`,
+/// and only as far as the form goes. Only success and `TOO_LITTLE_ROOM` change `written`. Only `REFUSED` and `RARE` change
+/// `fault`.
 #[unsafe(no_mangle)]
 pub extern "C" fn exifnorm_xmp_normalise(
     alloc: Global,
@@ -444,7 +446,7 @@ pub extern "C" fn exifnorm_xmp_normalise(
     ensures known { (result ≡ status.done) ⊎ (result ≡ status.refused) ⊎ (result ≡ status.rare) ⊎ (result ≡ status.no_memory)
         ⊎ (result ≡ status.too_little_room) }
     ensures done { result ≡ status.done → PutsXmp packet.now (Whole written.new) out.old out.new }
-    ensures refused { result ≡ status.refused → RefusesXmp fault.new }
+    ensures refused { result ≡ status.refused → RefusesPacket packet.now fault.new }
     ensures rare { result ≡ status.rare → LeavesXmp fault.new }
     ensures short { result ≡ status.too_little_room → PutsXmp packet.now (Needs written.new) out.old out.new }
     ensures out { result ≢ status.done → out.new ≡ out.old }

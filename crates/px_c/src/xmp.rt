@@ -1,9 +1,10 @@
 // XMP packets. The calls are over memory: each returns `NO_MEMORY` exactly if an allocation failed in that call.
-ghost use Rattle.std.specs.Prelude.{◌≡◌, ◌≢◌, ◌⊎◌, ◌≤◌, ◌+◌};
+ghost use Rattle.std.specs.Prelude.{◌≡◌, ◌≢◌, ◌⊎◌, ◌≤◌, ◌+◌, false};
 ghost use Rattle.px_bytes.specs.Parts.{limit};
 ghost use Rattle.px_engine.specs.declared.normal.Given.TheVariants.{Whole, Needs};
+ghost use Rattle.px_xmp_forms.specs.Causes.{is_rare};
 ghost use Rattle.px_c.specs.Numbers as status;
-ghost use Rattle.px_c.specs.Xmp.{xmp_cause, PutsXmp, RefusesXmp, LeavesXmp};
+ghost use Rattle.px_c.specs.Xmp.{xmp_cause, PutsXmp, RefusesXmp, RefusesPacket, LeavesXmp};
 
 use crate::faults::ExifnormFault;
 use crate::giving::give;
@@ -47,6 +48,7 @@ fn xmp_cause(cause: Cause) -> u32
 fn refuse(cause: Cause, place: usize, fault: &mut ExifnormFault) -> u32
     ensures known { (result ≡ status.refused) ⊎ (result ≡ status.rare) }
     ensures refused { result ≡ status.refused → RefusesXmp fault.new }
+    ensures wrong { result ≡ status.refused → is_rare cause ≡ false }
     ensures rare { result ≡ status.rare → LeavesXmp fault.new }
 {
     *fault = ExifnormFault {
@@ -62,7 +64,7 @@ fn refuse(cause: Cause, place: usize, fault: &mut ExifnormFault) -> u32
 // Whether a packet has a normal form.
 pub(crate) fn xmp_check_in(memory: &mut Memory, packet: &[u8], fault: &mut ExifnormFault) -> u32
     ensures known { (result ≡ status.done) ⊎ (result ≡ status.refused) ⊎ (result ≡ status.rare) ⊎ (result ≡ status.no_memory) }
-    ensures refused { result ≡ status.refused → RefusesXmp fault.new }
+    ensures refused { result ≡ status.refused → RefusesPacket packet.now fault.new }
     ensures rare { result ≡ status.rare → LeavesXmp fault.new }
     ensures fault { result ≢ status.refused → result ≢ status.rare → fault.new ≡ fault.old }
     ensures lacking { result ≡ status.no_memory → memory.new.failed_allocations ≡ memory.old.failed_allocations + 1 }
@@ -86,7 +88,7 @@ pub(crate) fn xmp_normalise_in(
     ensures known { (result ≡ status.done) ⊎ (result ≡ status.refused) ⊎ (result ≡ status.rare) ⊎ (result ≡ status.no_memory)
         ⊎ (result ≡ status.too_little_room) }
     ensures done { result ≡ status.done → PutsXmp packet.now (Whole written.new) out.old out.new }
-    ensures refused { result ≡ status.refused → RefusesXmp fault.new }
+    ensures refused { result ≡ status.refused → RefusesPacket packet.now fault.new }
     ensures rare { result ≡ status.rare → LeavesXmp fault.new }
     ensures short { result ≡ status.too_little_room → PutsXmp packet.now (Needs written.new) out.old out.new }
     ensures out { result ≢ status.done → out.new ≡ out.old }

@@ -20,3 +20,7 @@ returns-in-Ok-clause-short c is = (
   c.in-Ok.ensures.bound,
   subst (λ (z : List ℕ). IsPut (Needs c.give.new.written) z c.args.out.now c.give.new.out) c.as_slice.ensures.value (c.give.ensures.short is),
 )
+
+pub returns-in-Err-Content-clause-refused : goal.returns-in-Err-Content-clause-refused
+returns-in-Err-Content-clause-refused c is =
+    (c.refuse.ensures.refused is, (rw c.in-Err-Content.field-0-is at c.in-Err-Content.ensures.refused) (c.refuse.ensures.wrong is))

@@ -1,0 +1,5 @@
+use Rattle.px_c.proofs.xmp.xmp_check_in.Goals as goal
+
+pub returns-in-Err-Content-clause-refused : goal.returns-in-Err-Content-clause-refused
+returns-in-Err-Content-clause-refused c is =
+    (c.refuse.ensures.refused is, (rw c.in-Err-Content.field-0-is at c.in-Err-Content.ensures.refused) (c.refuse.ensures.wrong is))
