@@ -146,9 +146,8 @@ def _content(element: Element, language: str, inner: List[Statements]) -> Value:
         return Node(tuple(_node(node, language, inner)))
     if node.tag != _DESCRIPTION or node.attrib[_ABOUT]:
         raise Unusual
-    inner.append(
-        tuple(_node(node, language, inner))
-    )  # a lenient form, of IDimager: in RDF/XML (2.2) these are statements about the picture
+    # IDimager writes this, and RDF/XML (2.2) makes statements about the picture of it.
+    inner.append(tuple(_node(node, language, inner)))
     return Uri(PICTURE)
 
 
