@@ -116,8 +116,8 @@ def test_quiet_prints_the_counts_alone(folder, called):
 def test_how_nightly_looks_at_pictures(folder, called, monkeypatch):
     """As index does, with its options."""
     put(folder / "p", {"a.jpg": ONE, "b.tmp.jpg": OTHER})
-    hows, how = [], batches.How.__init__
-    monkeypatch.setattr(batches.How, "__init__", lambda self, *given, **more: hows.append(self) or how(self, *given, **more))
+    hows, how = [], batches.How.__new__
+    monkeypatch.setattr(batches.How, "__new__", lambda *given, **more: hows.append(how(*given, **more)) or hows[-1])
     _, printed, _ = called("nightly", "p", "--catalogue", "n", "--exclude", "*.tmp.jpg", "--maker-notes")
     assert "1 picture" in printed and hows[-1].maker_notes
 

@@ -247,8 +247,8 @@ def test_each_byte_is_read_by_each_command(command, option, archive, called, mon
 
 @pytest.mark.parametrize("command, option", HOWS)
 def test_how_each_command_looks_at_pictures(command, option, archive, called, monkeypatch):
-    hows, how = [], batches.How.__init__
-    monkeypatch.setattr(batches.How, "__init__", lambda self, *given, **more: hows.append(self) or how(self, *given, **more))
+    hows, how = [], batches.How.__new__
+    monkeypatch.setattr(batches.How, "__new__", lambda *given, **more: hows.append(how(*given, **more)) or hows[-1])
     words = [it for it in {"index": ("p", "--catalogue", "other")}.get(command, COMMANDS[command]) if it not in LISTED]
     called(command, *words, option, *(["3"] * (option == "--jobs")))
     assert {getattr(it, option[2:]) for it in hows} >= {3 if option == "--jobs" else True}
