@@ -27,5 +27,5 @@ mod source;
 mod subject;
 mod why;
 
-pub use packet::{check_in, normal_form_in};
+pub use packet::{check_in, normal_form_in, unsorted_form_in};
 pub use px_xmp_forms::{Cause, LIMIT, Refusal};

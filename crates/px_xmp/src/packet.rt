@@ -7,6 +7,7 @@ ghost use Rattle.px_xmp_document.specs.Document.{IsSplit, order_mark_len, IsFile
 ghost use Rattle.px_xmp_forms.specs.Forms.{IsNormal};
 ghost use Rattle.px_xmp_forms.specs.Allocations.{CountsAllocFailureInPacket};
 ghost use Rattle.px_xmp_forms.specs.Causes.{IfWrong};
+ghost use Rattle.px_xmp_forms.specs.declared.items.BagOrder.TheVariants.{Sorted};
 ghost use Rattle.px_xmp.specs.Packet.{is_padding, AreAround, BeginsBare, EndsBare, IsPacket};
 ghost use Rattle.px_xmp.specs.Meaning.{HasMeaning};
 ghost use Rattle.px_xmp.specs.calls.Around.{BeginsAround};
@@ -17,7 +18,7 @@ use crate::reader::Reader;
 use crate::subject::Subject;
 use px_bytes::Memory;
 use px_xmp_document::first_fault;
-use px_xmp_forms::{Cause, LIMIT, Refusal};
+use px_xmp_forms::{BagOrder, Cause, LIMIT, Refusal};
 use px_xmp_marks::{StartTag, len_before, next_attribute, read_declaration};
 
 // No tag has more attributes.
@@ -209,13 +210,18 @@ fn head_len(document: &[u8]) -> usize
     mark + declaration_len(document.split_at(mark).1)
 }
 
-// The normal form of a document that begins at an offset of the packet.
-fn document_form(memory: &mut Memory, document: &[u8], start: usize) -> Result<Vec<u8>, Refusal>
+// The form of a document that begins at an offset of the packet, with the items of bags in this order.
+fn document_form(
+    memory: &mut Memory,
+    document: &[u8],
+    start: usize,
+    order: BagOrder,
+) -> Result<Vec<u8>, Refusal>
     ensures document { OnOk result (IsFile document.now) }
-    ensures form { start + length document.now ≤ limit → IfOk result (λ form. IsFormOf document.now start form.items) }
-    ensures readable { start + length document.now ≤ limit → IfOk result (λ form. IsReadableForm form.items) }
+    ensures form { order ≡ Sorted → start + length document.now ≤ limit → IfOk result (λ form. IsFormOf document.now start form.items) }
+    ensures readable { order ≡ Sorted → start + length document.now ≤ limit → IfOk result (λ form. IsReadableForm form.items) }
     ensures memory { CountsAllocFailureInPacket result memory.old memory.new }
-    ensures refused { start + length document.now ≤ limit
+    ensures refused { order ≡ Sorted → start + length document.now ≤ limit
         → IfWrong result ((c : Content) → IsFile document.now → HasMeaning document.now start c → ⊥) }
     ensures normal { IfOk result (λ form. IsNormal form.items) }
     ensures bound { IfOk result (λ form. length form.items ≤ limit) }
@@ -231,7 +237,7 @@ fn document_form(memory: &mut Memory, document: &[u8], start: usize) -> Result<V
     px_xmp_marks::laws::declarations_are_read();
     crate::laws::meanings_are_readable();
     let octets = document.split_at(head).1;
-    let mut reader = Reader::new(memory, octets, start.saturating_add(head));
+    let mut reader = Reader::new(memory, octets, start.saturating_add(head), order);
     let mut subject = Subject {
         value: None,
         other: None,
@@ -241,6 +247,27 @@ fn document_form(memory: &mut Memory, document: &[u8], start: usize) -> Result<V
         return Err(Cause::SeveralSubjects.at(place));
     }
     reader.output.whole(memory)
+}
+
+// The form of a packet with the items of bags in this order.
+fn form_in(memory: &mut Memory, packet: &[u8], order: BagOrder) -> Result<Vec<u8>, Refusal>
+    ensures packet { OnOk result (IsPacket packet.now) }
+    ensures form { order ≡ Sorted → IfOk result (λ form. IsFormOfPacket packet.now form.items) }
+    ensures readable { order ≡ Sorted → IfOk result (λ form. IsReadableForm form.items) }
+    ensures memory { CountsAllocFailureInPacket result memory.old memory.new }
+    ensures refused { order ≡ Sorted → IfWrong result (HasNoMeaning packet.now) }
+    ensures normal { IfOk result (λ form. IsNormal form.items) }
+    ensures bound { IfOk result (λ form. length form.items ≤ limit) }
+{
+    if packet.len() > LIMIT {
+        return Err(Cause::TooLong.at(LIMIT));
+    }
+    if is_wide(packet) {
+        return Err(Cause::RareEncoding.at(0));
+    }
+    let (before, rest) = packet.split_at(around_len(packet));
+    let document = rest.split_at(unpadded_len(rest)).0;
+    document_form(memory, document, before.len(), order)
 }
 
 /// The normal form of a packet: that of what its document means.
@@ -256,15 +283,19 @@ pub fn normal_form_in(memory: &mut Memory, packet: &[u8]) -> Result<Vec<u8>, Ref
     ensures normal { IfOk result (λ form. IsNormal form.items) }
     ensures bound { IfOk result (λ form. length form.items ≤ limit) }
 {
-    if packet.len() > LIMIT {
-        return Err(Cause::TooLong.at(LIMIT));
-    }
-    if is_wide(packet) {
-        return Err(Cause::RareEncoding.at(0));
-    }
-    let (before, rest) = packet.split_at(around_len(packet));
-    let document = rest.split_at(unpadded_len(rest)).0;
-    document_form(memory, document, before.len())
+    form_in(memory, packet, BagOrder::Sorted)
+}
+
+/// The form of a packet for showing it: its normal form, except that the items of each bag are in the packet's order.
+///
+/// The errors are those of `normal_form_in`. That the form is that of this packet no contract states.
+pub fn unsorted_form_in(memory: &mut Memory, packet: &[u8]) -> Result<Vec<u8>, Refusal>
+    ensures packet { OnOk result (IsPacket packet.now) }
+    ensures memory { CountsAllocFailureInPacket result memory.old memory.new }
+    ensures normal { IfOk result (λ form. IsNormal form.items) }
+    ensures bound { IfOk result (λ form. length form.items ≤ limit) }
+{
+    form_in(memory, packet, BagOrder::AsWritten)
 }
 
 /// Judges a packet as `normal_form_in` does, with the same errors.

@@ -4,6 +4,7 @@ ghost use Rattle.px_xmp_text.specs.Values.{End};
 ghost use Rattle.px_xmp_forms.specs.Allocations.{CountsAllocFailureInPacket};
 ghost use Rattle.px_xmp_forms.specs.Causes.{IsRare};
 ghost use Rattle.px_xmp_forms.specs.Outputs.{State, Has, begun, nothing};
+ghost use Rattle.px_xmp_forms.specs.declared.items.BagOrder.TheVariants.{Sorted};
 ghost use Rattle.px_xmp.specs.Reading.{kind_view};
 ghost use Rattle.px_xmp.specs.calls.Steps.{IsLeft};
 ghost use Rattle.px_xmp.specs.calls.Contents.{PutsWords, TextRead};
@@ -13,7 +14,7 @@ use crate::marks::MarkKind;
 use crate::scope::Scope;
 use crate::source::{ENDED, Source};
 use px_bytes::Memory;
-use px_xmp_forms::{Cause, Output, Refusal};
+use px_xmp_forms::{BagOrder, Cause, Output, Refusal};
 
 #[derive(Drop)]
 pub(crate) struct Reader<'a> {
@@ -41,11 +42,11 @@ fn put_words(
 }
 
 impl<'a> Reader<'a> {
-    pub(crate) fn new(memory: &Memory, octets: &'a [u8], at: usize) -> Reader<'a>
+    pub(crate) fn new(memory: &Memory, octets: &'a [u8], at: usize, order: BagOrder) -> Reader<'a>
         ensures rest { result.source.rest.now ≡ octets.now }
         ensures at { result.source.at ≡ at }
         ensures scope { result.source.scope ≡ [] }
-        ensures output { Has result.output (record { opened = []; properties = End }) }
+        ensures output { order ≡ Sorted → Has result.output (record { opened = []; properties = End }) }
     {
         Reader {
             source: Source {
@@ -53,7 +54,7 @@ impl<'a> Reader<'a> {
                 at,
                 scope: Scope::new(memory),
             },
-            output: Output::new(memory),
+            output: Output::new(memory, order),
         }
     }
 

@@ -14,6 +14,7 @@ use Rattle.px_xmp_forms.specs.declared.labels.Content.{Content}
 use Rattle.px_xmp_forms.specs.declared.labels.Content.TheVariants as content
 use Rattle.px_xmp_forms.specs.declared.elements.Element.{Element}
 use Rattle.px_xmp_forms.specs.declared.items.Item.{Item}
+use Rattle.px_xmp_forms.specs.declared.items.BagOrder.TheVariants.{Sorted}
 use Rattle.px_xmp_forms.specs.declared.output.Level.{Level}
 use Rattle.px_xmp_forms.specs.declared.output.Output.{Output}
 
@@ -58,10 +59,12 @@ AreLevels (x ∷ xs) (o ∷ os) = IsLevel x o × AreLevels xs os
 AreLevels [] (o ∷ os) = ⊥
 AreLevels (x ∷ xs) [] = ⊥
 
+-- an output that sorts the items of bags has the octets of these values
 pub record Has (x : Output) (s : State) : Type 0 where
   pub levels : AreLevels (reverse x.levels.items) s.opened
   pub properties : x.properties ≡ written s.properties []
   pub can : IsContent s.properties
+  pub order : x.order ≡ Sorted
 
 -- ---- what a call does
 

@@ -7,6 +7,7 @@ ghost use Rattle.std.specs.Ordering.{nat_cmp};
 ghost use Rattle.px_xmp_text.specs.Values.{written};
 ghost use Rattle.px_xmp_forms.specs.Entries.{Entry, entry_octets, row, AreDistinct, IsRepeated};
 ghost use Rattle.px_xmp_forms.specs.Outputs.{AreItems};
+ghost use Rattle.px_xmp_forms.specs.declared.items.BagOrder.TheVariants.{Sorted, AsWritten};
 ghost use Rattle.px_xmp_forms.specs.Allocations.{CountsAllocFailureInPacket};
 ghost use Rattle.px_xmp_forms.specs.Causes.{IsRare};
 
@@ -81,6 +82,15 @@ impl Ord for Item {
     }
 }
 
+/// The order of the items of each bag.
+#[derive(Clone, Copy)]
+pub enum BagOrder {
+    /// That of their octets.
+    Sorted,
+    /// That in which they were put into the output.
+    AsWritten,
+}
+
 // The items in order. A heap sorts them, since std's own sorts call themselves, and the C source has
 // no function that does.
 pub(crate) fn sort_items(items: Vec<Item>) -> Vec<Item>
@@ -88,6 +98,18 @@ pub(crate) fn sort_items(items: Vec<Item>) -> Vec<Item>
     ensures sorted { IsSorted (λ a b. slice_cmp nat_cmp a.element.piece b.element.piece) result.items }
 {
     BinaryHeap::from(items).into_sorted_vec()
+}
+
+// The items of a bag in this order.
+pub(crate) fn bag_items(order: BagOrder, items: Vec<Item>) -> Vec<Item>
+    ensures permutation { IsPermutation items.items result.items }
+    ensures sorted { order ≡ Sorted → IsSorted (λ a b. slice_cmp nat_cmp a.element.piece b.element.piece) result.items }
+    ensures as_written { order ≡ AsWritten → result.items ≡ items.items }
+{
+    match order {
+        BagOrder::Sorted => sort_items(items),
+        BagOrder::AsWritten => items,
+    }
 }
 
 // The lesser place.

@@ -17,6 +17,7 @@ mod spaces;
 
 pub use appending::{LIMIT, append, append_text, is_blank, same_text};
 pub use faults::{Cause, Refusal};
+pub use items::BagOrder;
 pub use labels::{Container, Content, Label, Origin, Property};
 pub use languages::is_language;
 pub use output::Output;

@@ -5,6 +5,7 @@ ghost use Rattle.px_xmp_text.specs.Texts.{text_of, normal_text};
 ghost use Rattle.px_xmp_text.specs.Values.{End, IsContent, written, normal_packet};
 ghost use Rattle.px_xmp_text.specs.declared.pieces.TextKind.TheVariants.{AttributeValue};
 ghost use Rattle.px_xmp_forms.specs.Forms.{IsNormal};
+ghost use Rattle.px_xmp_forms.specs.declared.items.BagOrder.TheVariants.{Sorted};
 ghost use Rattle.px_xmp_forms.specs.Entries.{Entry, row};
 ghost use Rattle.px_xmp_forms.specs.Outputs.{State, Open, Has, IsItem, AreItems, IsLevel};
 ghost use Rattle.px_xmp_forms.specs.Outputs.{nothing, begun, changed, with_text, with_inner, with_entry};
@@ -17,7 +18,7 @@ ghost use Rattle.px_xmp_forms.specs.Causes.{IsRare};
 use crate::appending::{LIMIT, append, is_blank, reserve};
 use crate::elements::write_element;
 use crate::faults::{Cause, Refusal};
-use crate::items::{Item, first_repeated, join_items, sort_items};
+use crate::items::{BagOrder, Item, bag_items, first_repeated, join_items, sort_items};
 use crate::labels::{Content, Label, Origin};
 use crate::pieces::{Piece, TextForm};
 use px_bytes::Memory;
@@ -72,16 +73,18 @@ fn attribute_item(
 pub struct Output {
     levels: Vec<Level>,
     properties: Piece,
+    order: BagOrder,
 }
 
 impl Output {
     /// Nothing.
-    pub fn new(memory: &Memory) -> Output
-        ensures { Has result (record { opened = []; properties = End }) }
+    pub fn new(memory: &Memory, order: BagOrder) -> Output
+        ensures { order ≡ Sorted → Has result (record { opened = []; properties = End }) }
     {
         Output {
             levels: memory.list(),
             properties: Piece::new(memory),
+            order,
         }
     }
 
@@ -274,7 +277,7 @@ impl Output {
         self.push_joined(memory, level.text, items)
     }
 
-    /// Joins the members of the innermost element. Those of a bag are sorted.
+    /// Joins the members of the innermost element. Those of a bag are in this output's order.
     pub fn join_members(&mut self, memory: &mut Memory, is_bag: bool) -> Result<(), Refusal>
         ensures value { (s : State) → Has self.old s → OnOk result ((after : State) × Has self.new after × JoinsMembers is_bag s after) }
         ensures memory { CountsAllocFailureInPacket result memory.old memory.new }
@@ -284,7 +287,8 @@ impl Output {
             return Ok(());
         };
         if is_bag {
-            return self.push_joined(memory, level.text, sort_items(level.items));
+            let items = bag_items(self.order, level.items);
+            return self.push_joined(memory, level.text, items);
         }
         self.push_joined(memory, level.text, level.items)
     }

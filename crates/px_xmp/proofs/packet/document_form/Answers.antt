@@ -15,7 +15,7 @@ use Rattle.px_xmp.proofs.RefusedLaws.{rare_at, rare_wrong, wrong_at, wrong_all, 
 use Rattle.px_xmp.proofs.packet.document_form.Goals as goal
 
 pub returns-clause-form : goal.returns-clause-form
-returns-clause-form c few =
+returns-clause-form c sorted few =
     let x = c.args.document.now in
     let head = c.head_len-head.result in
     let source = c.new-reader.result.source in
@@ -29,14 +29,14 @@ returns-clause-form c few =
     let left : IsLeft source.at source.rest.now =
     subst (λ (z : List ℕ). IsLeft source.at z) (sym same)
     (head_leaves c.declarations_are_read.ensures x d e head source.at file parts (omega (arith, at, place, few, length-drop head x, within))) in
-    let (nodes, content, row, means, shallow, has) = c.in_ok-read_document.ensures.read c.new-reader.ensures.output left (refl, refl) c.in_default-other.is in
+    let (nodes, content, row, means, shallow, has) = c.in_ok-read_document.ensures.read (c.new-reader.ensures.output sorted) left (refl, refl) c.in_default-other.is in
     if_ok_map c.whole.result (λ form. form.items ≡ normal_packet content) (λ form. IsFormOf x c.args.start form.items) (λ form is.
     form_of x d e c.args.start head source.at source.scope source.rest.now nodes content c.read_document.new.self.output form.items
     parts within (omega (arith, at, place, few, within)) c.new-reader.ensures.scope same row means has is)
     (c.whole.ensures.value (record { opened = []; properties = content }) has)
 
 pub returns-clause-readable : goal.returns-clause-readable
-returns-clause-readable c few =
+returns-clause-readable c sorted few =
     let x = c.args.document.now in
     let head = c.head_len-head.result in
     let source = c.new-reader.result.source in
@@ -50,7 +50,7 @@ returns-clause-readable c few =
     let left : IsLeft source.at source.rest.now =
     subst (λ (z : List ℕ). IsLeft source.at z) (sym same)
     (head_leaves c.declarations_are_read.ensures x d e head source.at file parts (omega (arith, at, place, few, length-drop head x, within))) in
-    let (nodes, content, row, means, shallow, has) = c.in_ok-read_document.ensures.read c.new-reader.ensures.output left (refl, refl) c.in_default-other.is in
+    let (nodes, content, row, means, shallow, has) = c.in_ok-read_document.ensures.read (c.new-reader.ensures.output sorted) left (refl, refl) c.in_default-other.is in
     if_ok_map c.whole.result (λ form. form.items ≡ normal_packet content) (λ form. IsReadableForm form.items) (λ form is.
     form_again c.meanings_are_readable.ensures x d e c.args.start head source.at source.scope source.rest.now nodes content
     c.read_document.new.self.output form.items file parts within (omega (arith, at, place, few, within)) c.new-reader.ensures.scope same row means
@@ -58,10 +58,10 @@ returns-clause-readable c few =
     (c.whole.ensures.value (record { opened = []; properties = content }) has)
 
 pub returns-in-Some-clause-refused : goal.returns-in-Some-clause-refused
-returns-in-Some-clause-refused c few = rare_at ⊤ _ _ _ _ c.at.ensures refl
+returns-in-Some-clause-refused c sorted few = rare_at ⊤ _ _ _ _ c.at.ensures refl
 
 pub returns-in-Some-first_fault-clause-refused : goal.returns-in-Some-first_fault-clause-refused
-returns-in-Some-first_fault-clause-refused c few =
+returns-in-Some-first_fault-clause-refused c sorted few =
     let x = c.args.document.now in
     let f = c.in-Some-first_fault.fault in
     let wrong : IsFileFault x f.cause f.offset =
@@ -69,7 +69,7 @@ returns-in-Some-first_fault-clause-refused c few =
     wrong_at ⊤ _ _ _ _ c.at-in-Some-first_fault.ensures (λ d file means. (c.one_fault.ensures x f.cause f.offset wrong).0 file)
 
 pub returns-in_err-read_document-clause-refused : goal.returns-in_err-read_document-clause-refused
-returns-in_err-read_document-clause-refused c few =
+returns-in_err-read_document-clause-refused c sorted few =
     let x = c.args.document.now in
     let head = c.head_len-head.result in
     let source = c.new-reader.result.source in
@@ -90,10 +90,10 @@ returns-in_err-read_document-clause-refused c few =
     rw (p.1, p.2) (wrong_says ⊤ ⊤ c.in_err-read_document.field-0.0 ((a : (t : Content) × HasMeaning x c.args.start t) → ⊥) _ (λ f t is m. f (t, m))
     (wrong_all ⊤ ⊤ c.in_err-read_document.field-0.0 ((t : Content) × HasMeaning x c.args.start t) (λ a. ⊥) (λ a.
     wrong_says ⊤ ⊤ c.in_err-read_document.field-0.0 (Means a.1.nodes a.0 → ⊥) ⊥ (λ f. f a.1.means)
-    (c.in_err-read_document.ensures.refused a.1.nodes a.0 c.new-reader.ensures.output left (refl, refl) (rows a.0 a.1)))))
+    (c.in_err-read_document.ensures.refused a.1.nodes a.0 (c.new-reader.ensures.output sorted) left (refl, refl) (rows a.0 a.1)))))
 
 pub returns-in-Some-other-clause-refused : goal.returns-in-Some-other-clause-refused
-returns-in-Some-other-clause-refused c few =
+returns-in-Some-other-clause-refused c sorted few =
     let x = c.args.document.now in
     let head = c.head_len-head.result in
     let source = c.new-reader.result.source in
@@ -111,9 +111,9 @@ returns-in-Some-other-clause-refused c few =
     let row : AreNodes m.nodes source.scope source.at source.rest.now [] =
     rows_of c.declarations_are_read.ensures x d e c.args.start head source.at source.scope source.rest.now t parts
     (omega (arith, within)) (omega (arith, at, place, few, within)) c.new-reader.ensures.scope same m in
-    let none = c.in_ok-read_document.ensures.subject m.nodes t c.new-reader.ensures.output left (refl, refl) row m.means in
+    let none = c.in_ok-read_document.ensures.subject m.nodes t (c.new-reader.ensures.output sorted) left (refl, refl) row m.means in
     let other = sym none ∙ c.in-Some-other.is in
     absurd (cc))
 
 pub returns-clause-refused : goal.returns-clause-refused
-returns-clause-refused c few = rare_wrong _ c.whole.result _ c.whole.ensures.rare
+returns-clause-refused c sorted few = rare_wrong _ c.whole.result _ c.whole.ensures.rare

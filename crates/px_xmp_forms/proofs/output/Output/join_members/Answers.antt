@@ -10,8 +10,8 @@ pub returns-then-is_bag-clause-value : goal.returns-then-is_bag-clause-value
 returns-then-is_bag-clause-value c s h =
     let (o, os, f, l, r) = c.in-Some.ensures s h in
     let rest : State = record { opened = os; properties = s.properties } in
-    let (fs, p, are) = items_moved c.in-Some.level.items.items c.sort_items.result.items o.entries c.sort_items.ensures.permutation l.entries in
-    let sorts : Sorts o.entries fs = record { same = p; order = items_sorted c.sort_items.result.items fs are c.sort_items.ensures.sorted } in
+    let (fs, p, are) = items_moved c.in-Some.level.items.items c.bag_items-items.result.items o.entries c.bag_items-items.ensures.permutation l.entries in
+    let sorts : Sorts o.entries fs = record { same = p; order = items_sorted c.bag_items-items.result.items fs are (c.bag_items-items.ensures.sorted r.order) } in
     let if_bag = subst (λ (b : Bool). SortsIf b o.entries fs) (sym c.if-is_bag.true) sorts in
     on_ok_weaker c.push_joined.result (λ k. (begun (with_joined fs o) rest, k, (joins_first c.args.is_bag s.opened o os fs f if_bag, refl)))
     (c.push_joined.ensures.value rest o.text fs r l.text are)

@@ -1,4 +1,4 @@
-use Rattle.std.proofs.Common.{◌≡◌, ◌≤◌, ◌+◌, ◌++◌, ◌∙◌, List, ℕ, length, length-append, ap, arith}
+use Rattle.std.proofs.Common.{◌≡◌, ◌≤◌, ◌+◌, ◌++◌, length, length-append, ap, arith}
 use Rattle.px_bytes.specs.Parts.{limit}
 use Rattle.px_xmp_text.specs.Values.{Content}
 use Rattle.px_xmp_document.specs.Document.{IsFile}
@@ -9,7 +9,7 @@ use Rattle.px_xmp.proofs.FormedLaws.{both_ok, IsParted, packet_from, none_from}
 use Rattle.px_xmp.proofs.PacketLaws.{parts_joined}
 use Rattle.px_xmp.proofs.RefusedLaws.{wrong_weaker}
 use Rattle.std.proofs.lemmas.Result.{on_ok_weaker}
-use Rattle.px_xmp.proofs.packet.normal_form_in.Goals as goal
+use Rattle.px_xmp.proofs.packet.form_in.Goals as goal
 
 pub returns-clause-packet : goal.returns-clause-packet
 returns-clause-packet c =
@@ -34,7 +34,7 @@ returns-clause-packet c =
     (omega (arith, c.if-packet-gt-LIMIT.false)) file) c.document_form.ensures.document
 
 pub returns-clause-form : goal.returns-clause-form
-returns-clause-form c =
+returns-clause-form c sorted =
     let x = c.args.packet.now in
     let before = c.split_at.result.0.now in
     let rest = c.split_at.result.1.now in
@@ -61,20 +61,20 @@ returns-clause-form c =
       packet_from x before rest document after c.around_len.result c.unpadded_len.result parted (omega (arith, c.if-packet-gt-LIMIT.false)) file,
       is,
     ))
-    c.document_form.ensures.document (c.document_form.ensures.form few)
+    c.document_form.ensures.document (c.document_form.ensures.form sorted few)
 
 pub returns-clause-readable : goal.returns-clause-readable
-returns-clause-readable c =
+returns-clause-readable c sorted =
     let before = c.split_at.result.0.now in
     let document = c.split_at-2.result.0.now in
     let after = c.split_at-2.result.1.now in
     let joined : c.args.packet.now ≡ before ++ document ++ after =
     parts_joined _ _ _ _ _ _ _ c.split_at.ensures.front c.split_at.ensures.back c.split_at-2.ensures.front c.split_at-2.ensures.back in
-    c.document_form.ensures.readable
+    c.document_form.ensures.readable sorted
     (omega (arith, c.if-packet-gt-LIMIT.false, ap length joined, length-append (before ++ document) after, length-append before document))
 
 pub returns-clause-refused : goal.returns-clause-refused
-returns-clause-refused c =
+returns-clause-refused c sorted =
     let x = c.args.packet.now in
     let before = c.split_at.result.0.now in
     let rest = c.split_at.result.1.now in
@@ -97,4 +97,4 @@ returns-clause-refused c =
     let few : length before + length document ≤ limit =
     omega (arith, c.if-packet-gt-LIMIT.false, ap length joined, length-append (before ++ document) after, length-append before document) in
     wrong_weaker _ c.document_form.result ((d : Content) → IsFile document → HasMeaning document (length before) d → ⊥) (HasNoMeaning x)
-    (none_from x before rest document after c.around_len.result c.unpadded_len.result parted) (c.document_form.ensures.refused few)
+    (none_from x before rest document after c.around_len.result c.unpadded_len.result parted) (c.document_form.ensures.refused sorted few)
