@@ -31,3 +31,4 @@ pub mod ReadableLaws
 pub mod AcceptedLaws
 pub mod AroundLaws
 pub mod RefusedLaws
+pub mod CrowdedLaws

@@ -8,13 +8,13 @@ use Rattle.px_xmp.specs.Tags.{with_prefix, declared, names_language, language_af
 use Rattle.px_xmp.specs.calls.Listed.{AreListed, ArePlain, IsNextPlain, first_after, or_rest}
 
 -- n is the first attribute, and others follow it
-abbrev Follows : Next → List Attr → Type 0
+abbrev pub Follows : Next → List Attr → Type 0
 Follows n attributes = (more : List Attr) × (attributes ≡ n.attribute ∷ more) × AreListed n.rest more
 
-next_listed : AttributesInOrder → (x : List ℕ) (tail : List Attr) (n : Next) → AreListed x tail → next_attribute x ≡ Some n → Follows n tail
+pub next_listed : AttributesInOrder → (x : List ℕ) (tail : List Attr) (n : Next) → AreListed x tail → next_attribute x ≡ Some n → Follows n tail
 next_listed law x tail n l e = subst (λ (q : Option Next). MatchOption q (tail ≡ []) (λ (m : Next). Follows m tail)) e (law x tail l)
 
-none_listed : AttributesInOrder → (x : List ℕ) (tail : List Attr) → AreListed x tail → next_attribute x ≡ None → tail ≡ []
+pub none_listed : AttributesInOrder → (x : List ℕ) (tail : List Attr) → AreListed x tail → next_attribute x ≡ None → tail ≡ []
 none_listed law x tail l e = subst (λ (q : Option Next). MatchOption q (tail ≡ []) (λ (m : Next). Follows m tail)) e (law x tail l)
 
 -- ---- the next one that declares nothing

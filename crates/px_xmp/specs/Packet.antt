@@ -1,5 +1,6 @@
 -- A packet: its document, and what is around it.
-use Rattle.std.specs.Prelude.{◌≡◌, ◌≢◌, ◌≤◌, ◌==◌, ◌||◌, ◌⊎◌, ◌++◌, ℕ, Bool, true, List, [], ◌∷◌, length}
+use Rattle.std.specs.Prelude.{◌≡◌, ◌≢◌, ◌≤◌, ◌==◌, ◌||◌, ◌⊎◌, ◌++◌, ℕ, Bool, true, nat_eq, List, [], ◌∷◌, length}
+use Rattle.std.specs.List.{starts_with}
 use Rattle.px_bytes.specs.Parts.{limit}
 use Rattle.px_xmp_marks.specs.Declarations.{every}
 use Rattle.px_xmp_document.specs.Document.{IsFile}
@@ -15,6 +16,12 @@ is_around o = is_padding o || (o == 239) || (o == 187) || (o == 191)
 -- an octet of padding, or the byte order mark of UTF-8
 abbrev pub IsAround : List ℕ → Type 0
 IsAround m = ((o : ℕ) × (is_padding o ≡ true) × (m ≡ o ∷ [])) ⊎ (m ≡ 239 ∷ 187 ∷ 191 ∷ [])
+
+-- octets begin as UTF-16 or UTF-32 does: with its byte order mark, or with a `<` of two octets or four (XML 1.0, F.1)
+abbrev pub is_wide : List ℕ → Bool
+is_wide x =
+    starts_with nat_eq x (255 ∷ 254 ∷ []) || starts_with nat_eq x (254 ∷ 255 ∷ []) || starts_with nat_eq x (0 ∷ 0 ∷ 254 ∷ 255 ∷ [])
+    || starts_with nat_eq x (60 ∷ 0 ∷ []) || starts_with nat_eq x (0 ∷ 60 ∷ []) || starts_with nat_eq x (0 ∷ 0 ∷ 0 ∷ 60 ∷ [])
 
 -- x is such pieces in a row
 abbrev pub AreAround : List (List ℕ) → List ℕ → Type 0

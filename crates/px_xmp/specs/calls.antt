@@ -6,3 +6,4 @@ pub mod Contents
 pub mod Roots
 pub mod Around
 pub mod Refused
+pub mod Crowded

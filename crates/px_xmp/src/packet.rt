@@ -1,16 +1,19 @@
 // A packet: its document, and what is around it.
-ghost use Rattle.std.specs.Prelude.{◌≡◌, ◌≤◌, ◌+◌, ℕ, Option, List, length, take, drop, true, IfOk, OnOk};
+ghost use Rattle.std.specs.Prelude.{◌≡◌, ◌≤◌, ◌+◌, ℕ, Option, List, length, take, drop, true, IfSome, IfOk, OnOk};
 ghost use Rattle.px_bytes.specs.Parts.{limit};
 ghost use Rattle.px_xmp_marks.specs.Declarations.{every};
+ghost use Rattle.px_xmp_marks.specs.Reading.{Attr};
 ghost use Rattle.px_xmp_text.specs.Values.{Content};
 ghost use Rattle.px_xmp_document.specs.Document.{IsSplit, order_mark_len, IsFile};
 ghost use Rattle.px_xmp_forms.specs.Forms.{IsNormal};
 ghost use Rattle.px_xmp_forms.specs.Allocations.{CountsAllocFailureInPacket};
 ghost use Rattle.px_xmp_forms.specs.Causes.{IfWrong};
 ghost use Rattle.px_xmp_forms.specs.declared.items.BagOrder.TheVariants.{Sorted};
-ghost use Rattle.px_xmp.specs.Packet.{is_padding, AreAround, BeginsBare, EndsBare, IsPacket};
+ghost use Rattle.px_xmp.specs.Packet.{is_padding, is_wide, AreAround, BeginsBare, EndsBare, IsPacket};
 ghost use Rattle.px_xmp.specs.Meaning.{HasMeaning};
 ghost use Rattle.px_xmp.specs.calls.Around.{BeginsAround};
+ghost use Rattle.px_xmp.specs.calls.Listed.{AreListed};
+ghost use Rattle.px_xmp.specs.calls.Crowded.{AreMany, HasMany, IsCrowded};
 ghost use Rattle.px_xmp.specs.Laws.{IsFormOf, IsFormOfPacket, HasNoMeaning, IsReadableForm};
 
 use crate::causes::cause_of;
@@ -81,7 +84,9 @@ fn unpadded_len(octets: &[u8]) -> usize
 }
 
 // Whether a packet begins as UTF-16 or UTF-32 does.
-fn is_wide(packet: &[u8]) -> bool {
+fn is_wide(packet: &[u8]) -> bool
+    ensures { result ≡ is_wide packet.now }
+{
     packet.starts_with(b"\xFF\xFE")
         || packet.starts_with(b"\xFE\xFF")
         || packet.starts_with(b"\x00\x00\xFE\xFF")
@@ -154,13 +159,13 @@ fn can_be_crowded(octets: &[u8]) -> bool {
     false
 }
 
-// Whether a tag has more attributes than this reader judges.
-fn has_many(tag: Option<StartTag>) -> bool {
-    let Some(tag) = tag else {
-        return false;
-    };
+// Whether more attributes than this reader judges are at the start, up to the end of a tag.
+fn are_many(octets: &[u8]) -> bool
+    ensures { (attributes : List Attr) → AreListed octets.now attributes → AreMany result attributes }
+{
+    px_xmp_marks::laws::attributes_in_order();
     let mut left = ATTRIBUTE_LIMIT;
-    let mut rest = tag.rest;
+    let mut rest = octets;
     while let Some(next) = next_attribute(rest) {
         if left == 0 {
             return true;
@@ -171,8 +176,22 @@ fn has_many(tag: Option<StartTag>) -> bool {
     false
 }
 
+// Whether a mark is a tag with more of them.
+fn has_many(tag: Option<StartTag>) -> bool
+    ensures { HasMany tag.entry result }
+{
+    match tag {
+        Some(tag) => are_many(tag.rest),
+        None => false,
+    }
+}
+
 // The offset of the first tag with so many attributes, of the marks up to the first place where none is.
-fn first_crowded(octets: &[u8]) -> Option<usize> {
+fn first_crowded(octets: &[u8]) -> Option<usize>
+    ensures { IfSome result (IsCrowded octets.now) }
+{
+    px_xmp_marks::laws::only_marks_are_read();
+    px_xmp_marks::laws::only_start_tags_are_read();
     if !can_be_crowded(octets) {
         return None;
     }
