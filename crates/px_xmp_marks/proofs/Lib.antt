@@ -9,4 +9,5 @@ pub mod DeclarationLaws
 pub mod MarkLaws
 pub mod NamingLaws
 pub mod SearchLaws
+pub mod PlainLaws
 pub mod LocalLaws

@@ -1,9 +1,9 @@
 // Attributes. XML 1.0, productions 10, 25 and 41.
-ghost use Rattle.std.specs.Prelude.{◌≡◌, ◌≤◌, ◌+◌, length, option_map, IfSome};
+ghost use Rattle.std.specs.Prelude.{◌≡◌, ◌≤◌, ◌+◌, true, Some, length, option_map, IfSome};
 ghost use Rattle.px_xmp_marks.specs.Reading.{eq_len, value_len, quoted_len, att_value, attribute, attribute_view};
 
-use crate::names::{Name, begins_with, read_name, space_len};
-use memchr::memchr2;
+use crate::names::{Name, begins_with, is_space, read_name, space_len};
+use memchr::{memchr2, memchr3};
 use px_xmp_text::{TextKind, first_fault};
 
 /// An attribute, as it is written.
@@ -17,12 +17,29 @@ pub struct Attribute<'a> {
     pub size: usize,
 }
 
+// Whether an equals sign is at the start, and no white space follows it.
+fn begins_with_eq(octets: &[u8]) -> bool
+    ensures eq { result ≡ true → eq_len octets.now ≡ Some 1 }
+    ensures some { result ≡ true → 1 ≤ length octets.now }
+{
+    if octets.len() < 2 {
+        return false;
+    }
+    if octets[0] != b'=' {
+        return false;
+    }
+    !is_space(octets[1])
+}
+
 // The length of the equals sign at the start, with the white space around it.
 #[tactic(auto, unfolding(crate::specs::Reading::eq_len))]
 pub(crate) fn eq_len(octets: &[u8]) -> Option<usize>
     ensures value { result ≡ eq_len octets.now }
     ensures within { IfSome result (λ n. n ≤ length octets.now) }
 {
+    if begins_with_eq(octets) {
+        return Some(1);
+    }
     let before = space_len(octets);
     let rest = octets.split_at(before).1;
     if !begins_with(rest, b'=') {
@@ -45,9 +62,25 @@ fn quoted_len(octets: &[u8], quote: u8) -> Option<usize>
     Some(n)
 }
 
-// The length of the value before the first quotation mark of this kind, if it has a text.
+// The length of the value before the first quotation mark of this kind. None: there is none, or `<` or `&` precedes it.
+fn plain_value_len(octets: &[u8], quote: u8) -> Option<usize>
+    ensures value { IfSome result (λ n. value_len quote octets.now ≡ Some n) }
+    ensures within { IfSome result (λ n. n + 1 ≤ length octets.now) }
+{
+    px_xmp_text::laws::no_fault_unless_reference();
+    let Some(n) = memchr3(quote, b'<', b'&', octets) else {
+        return None;
+    };
+    if octets[n] != quote {
+        return None;
+    }
+    Some(n)
+}
+
+// The length of the value before the first quotation mark of this kind, if it has a text, which may have references.
 #[tactic(auto, unfolding(crate::specs::Reading::value_len))]
-fn value_len(octets: &[u8], quote: u8) -> Option<usize>
+#[inline(never)]
+fn whole_value_len(octets: &[u8], quote: u8) -> Option<usize>
     ensures value { result ≡ value_len quote octets.now }
     ensures within { IfSome result (λ n. n + 1 ≤ length octets.now) }
 {
@@ -57,6 +90,18 @@ fn value_len(octets: &[u8], quote: u8) -> Option<usize>
     match first_fault(octets.split_at(len).0, TextKind::AttributeValue) {
         Some(_) => None,
         None => Some(len),
+    }
+}
+
+// The length of the value before the first quotation mark of this kind, if it has a text. Most values have no reference, and one
+// look is enough.
+fn value_len(octets: &[u8], quote: u8) -> Option<usize>
+    ensures value { result ≡ value_len quote octets.now }
+    ensures within { IfSome result (λ n. n + 1 ≤ length octets.now) }
+{
+    match plain_value_len(octets, quote) {
+        Some(len) => Some(len),
+        None => whole_value_len(octets, quote),
     }
 }
 

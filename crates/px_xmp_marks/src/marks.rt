@@ -1,12 +1,12 @@
 // Marks in a row. XML 1.0, 2.4 and 3.1.
-ghost use Rattle.std.specs.Prelude.{◌≡◌, ◌≤◌, ◌+◌, length, option_map, IfSome, MatchOption};
+ghost use Rattle.std.specs.Prelude.{◌≡◌, ◌≤◌, ◌+◌, Some, length, option_map, IfSome, MatchOption};
 ghost use Rattle.px_xmp_marks.specs.Reading.{start_tag, start_tag_view};
 ghost use Rattle.px_xmp_marks.specs.Marks.{data_len, text_len, tag_len, other_len, mark_len, IsRow, IsFirstBadMark};
 
 use crate::comments::read_comment;
 use crate::instructions::read_instruction;
 use crate::names::begins_with;
-use crate::searching::{has_section_end, len_before};
+use crate::searching::{has_section_end, len_before, plain_len};
 use crate::sections::read_section;
 use crate::tags::{StartTag, read_end_tag, read_start_tag};
 use px_xmp_text::{TextKind, first_fault};
@@ -19,9 +19,25 @@ fn data_len(octets: &[u8]) -> usize
     len_before(octets, b'<')
 }
 
-// The length of the character data at the start, with its references.
+// The length of the character data at the start. None: there is none, or it has a reference or a `]`.
+fn plain_text_len(octets: &[u8]) -> Option<usize>
+    ensures value { IfSome result (λ n. text_len octets.now ≡ Some n) }
+    ensures within { IfSome result (λ n. (1 ≤ n) × (n ≤ length octets.now)) }
+{
+    px_xmp_text::laws::no_fault_unless_reference();
+    let Some(len) = plain_len(octets) else {
+        return None;
+    };
+    if len == 0 {
+        return None;
+    }
+    Some(len)
+}
+
+// The length of the character data at the start, which may have references.
 #[tactic(auto, unfolding(crate::specs::Marks::text_len))]
-fn text_len(octets: &[u8]) -> Option<usize>
+#[inline(never)]
+fn whole_text_len(octets: &[u8]) -> Option<usize>
     ensures value { result ≡ text_len octets.now }
     ensures within { IfSome result (λ n. (1 ≤ n) × (n ≤ length octets.now)) }
 {
@@ -37,6 +53,17 @@ fn text_len(octets: &[u8]) -> Option<usize>
         return None;
     }
     Some(len)
+}
+
+// The length of the character data at the start, with its references. Most have none, and one look is enough.
+fn text_len(octets: &[u8]) -> Option<usize>
+    ensures value { result ≡ text_len octets.now }
+    ensures within { IfSome result (λ n. (1 ≤ n) × (n ≤ length octets.now)) }
+{
+    match plain_text_len(octets) {
+        Some(len) => Some(len),
+        None => whole_text_len(octets),
+    }
 }
 
 // The length of the tag at the start.

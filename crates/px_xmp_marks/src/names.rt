@@ -1,5 +1,5 @@
 // White space and names. XML 1.0, 2.3; Namespaces in XML 1.0, 3 and 4.
-ghost use Rattle.std.specs.Prelude.{◌≡◌, ◌≤◌, ◌+◌, length, option_map, IfSome};
+ghost use Rattle.std.specs.Prelude.{◌≡◌, ◌≤◌, ◌<◌, ◌+◌, suc, true, false, length, drop, option_map, IfSome};
 ghost use Rattle.px_xmp_marks.specs.Reading.{is_space, is_name_start, is_name_char, space_len, name_len, ncname, begins_with};
 ghost use Rattle.px_xmp_marks.specs.Reading.{name, name_view};
 
@@ -59,8 +59,39 @@ pub(crate) fn space_len(octets: &[u8]) -> usize
     octets.len()
 }
 
-// The number of octets at the start that a name can contain.
-fn name_len(octets: &[u8]) -> usize
+// Whether a name can contain the octet at a place.
+fn is_char_at(octets: &[u8], at: usize) -> bool
+    requires { at < length octets.now }
+    ensures stops { result ≡ false → name_len (drop at octets.now) ≡ 0 }
+    ensures goes_on { result ≡ true → name_len (drop at octets.now) ≡ suc (name_len (drop (at + 1) octets.now)) }
+{
+    is_name_char(octets[at])
+}
+
+// How many of four octets from a place on a name can contain, before the first that it can not.
+fn four_len(octets: &[u8], at: usize) -> usize
+    requires { at + 4 ≤ length octets.now }
+    ensures few { result < 4 → name_len (drop at octets.now) ≡ result }
+    ensures all { result ≡ 4 → name_len (drop at octets.now) ≡ 4 + name_len (drop (at + 4) octets.now) }
+    ensures within { result ≤ 4 }
+{
+    if !is_char_at(octets, at) {
+        return 0;
+    }
+    if !is_char_at(octets, at + 1) {
+        return 1;
+    }
+    if !is_char_at(octets, at + 2) {
+        return 2;
+    }
+    if !is_char_at(octets, at + 3) {
+        return 3;
+    }
+    4
+}
+
+// The number of octets at the start that a name can contain, one after another.
+fn short_len(octets: &[u8]) -> usize
     ensures value { result ≡ name_len octets.now }
     ensures within { result ≤ length octets.now }
 {
@@ -70,6 +101,22 @@ fn name_len(octets: &[u8]) -> usize
         }
     }
     octets.len()
+}
+
+// The number of octets at the start that a name can contain.
+fn name_len(octets: &[u8]) -> usize
+    ensures value { result ≡ name_len octets.now }
+    ensures within { result ≤ length octets.now }
+{
+    let mut at = 0;
+    while octets.len() - at >= 4 {
+        let len = four_len(octets, at);
+        if len < 4 {
+            return at + len;
+        }
+        at += 4;
+    }
+    at + short_len(octets.split_at(at).1)
 }
 
 // The length of the name without a colon at the start.

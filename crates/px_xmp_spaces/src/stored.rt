@@ -1,8 +1,9 @@
 // Tags whose attributes are stored, which need not be read again.
-ghost use Rattle.std.specs.Prelude.{◌≡◌, ◌≤◌, length, map};
+ghost use Rattle.std.specs.Prelude.{◌≡◌, ◌≤◌, ◌||◌, [], true, is_some, length, map};
 ghost use Rattle.px_xmp_marks.specs.Reading.{name_view, attribute_view};
 ghost use Rattle.px_xmp_spaces.specs.Bindings.{with_attributes};
-ghost use Rattle.px_xmp_spaces.specs.Tags.{attribute_limit, are_bound, is_among, are_unique, judged, opened, passed};
+ghost use Rattle.px_xmp_spaces.specs.Scopes.{is_same, space_of};
+ghost use Rattle.px_xmp_spaces.specs.Tags.{attribute_limit, is_attribute_bound, are_bound, is_among, are_unique, judged, opened, passed};
 ghost use Rattle.px_xmp_spaces.specs.calls.Passing.{Gives, start_piece};
 
 use crate::faults::Cause;
@@ -22,14 +23,27 @@ impl<'a> Scope<'a> {
         None
     }
 
-    // Whether the prefixes of attributes are bound.
+    // Whether an attribute's prefix is bound, if it has one, after an attribute whose prefix is.
+    fn is_next_bound(&self, last: &[u8], name: Name) -> bool
+        requires { (is_same last.now [] || is_some (space_of last.now self.now)) ≡ true }
+        ensures { result ≡ is_attribute_bound self.now (name_view name.entry) }
+    {
+        if name.prefix == last {
+            return true;
+        }
+        self.is_attribute_bound(name)
+    }
+
+    // Whether the prefixes of attributes are bound. Those with one prefix mostly follow one another, and it is looked up once.
     fn is_each_bound(&self, attributes: &[Attribute]) -> bool
         ensures { result ≡ are_bound self.now (map attribute_view attributes.now) }
     {
+        let mut last: &[u8] = b"";
         for attribute in attributes {
-            if !self.is_attribute_bound(attribute.name) {
+            if !self.is_next_bound(last, attribute.name) {
                 return false;
             }
+            last = attribute.name.prefix;
         }
         true
     }

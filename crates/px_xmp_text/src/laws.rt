@@ -1,7 +1,7 @@
 //! The laws of texts: what follows from the definitions. Each is the contract of a function that does nothing.
 ghost use Rattle.px_xmp_text.specs.Characters.{CharactersOrFault};
 ghost use Rattle.px_xmp_text.specs.Grammar.{ReferencesAreRead, OnlyReferencesAreRead};
-ghost use Rattle.px_xmp_text.specs.Laws.{NormalReadsBack, NormalIsInjective, NormalBound, FaultOrText};
+ghost use Rattle.px_xmp_text.specs.Laws.{NormalReadsBack, NormalIsInjective, NormalBound, FaultOrText, NoFaultUnlessReference};
 ghost use Rattle.px_xmp_text.specs.Values.{PacketIsInjective};
 
 /// Octets with a first place where no character begins that XML allows are not all such characters, and have no other
@@ -24,6 +24,11 @@ pub fn only_references_are_read()
 /// Octets have a text exactly if they have no fault.
 pub fn fault_or_text()
     ensures { FaultOrText }
+{}
+
+/// Octets without an `&` have no fault.
+pub fn no_fault_unless_reference()
+    ensures { NoFaultUnlessReference }
 {}
 
 /// The normal form of a text, read as character data, is that text.

@@ -1,6 +1,6 @@
 // The normal form of a text.
-ghost use Rattle.std.specs.Prelude.{◌≡◌, ◌≤◌, ◌+◌, ◌*◌, ◌++◌, ℕ, List, Some, length, true, is_some, IfSome, IsOk, OnOk, OnErr};
-ghost use Rattle.std.specs.Prelude.{vec_len, vec_capacity};
+ghost use Rattle.std.specs.Prelude.{◌≡◌, ◌≤◌, ◌<◌, ◌+◌, ◌*◌, ◌++◌, ℕ, suc, List, Some, length, drop, true, false, is_some};
+ghost use Rattle.std.specs.Prelude.{IfSome, IsOk, OnOk, OnErr, vec_len, vec_capacity};
 ghost use Rattle.std.specs.Char.{encode_utf8};
 ghost use Rattle.px_bytes.specs.Allocations.{CountsAllocFailure, AsksAtMost, enlarged};
 ghost use Rattle.px_bytes.specs.Parts.{limit};
@@ -110,15 +110,57 @@ fn append_piece(memory: &mut Memory, out: &mut Vec<u8>, octets: &[u8], kind: Tex
     1
 }
 
+// A plus at the place of each octet that means itself and is its own normal form, and a point at every other place.
+static PLAIN: [u8; 256] = *b"\
+    ................................\
+    ++++++.+++++++++++++++++++++.+.+\
+    ++++++++++++++++++++++++++++++++\
+    ++++++++++++++++++++++++++++++++\
+    ++++++++++++++++++++++++++++++++\
+    ++++++++++++++++++++++++++++++++\
+    ++++++++++++++++++++++++++++++++\
+    ++++++++++++++++++++++++++++++++";
+
 // Whether an octet means itself and is its own normal form.
 fn is_plain(octet: u8) -> bool
     ensures { result ≡ is_plain octet }
 {
-    b' ' <= octet && octet != b'&' && octet != b'<' && octet != b'>'
+    PLAIN[octet as usize] == b'+'
 }
 
-// The number of plain octets at the start.
-fn plain_len(octets: &[u8]) -> usize
+// Whether the octet at a place is plain.
+fn is_plain_at(octets: &[u8], at: usize) -> bool
+    requires { at < length octets.now }
+    ensures stops { result ≡ false → plain_len (drop at octets.now) ≡ 0 }
+    ensures goes_on { result ≡ true → plain_len (drop at octets.now) ≡ suc (plain_len (drop (at + 1) octets.now)) }
+{
+    is_plain(octets[at])
+}
+
+// How many of four octets from a place on are plain, before the first that is not.
+fn four_len(octets: &[u8], at: usize) -> usize
+    requires { at + 4 ≤ length octets.now }
+    ensures few { result < 4 → plain_len (drop at octets.now) ≡ result }
+    ensures all { result ≡ 4 → plain_len (drop at octets.now) ≡ 4 + plain_len (drop (at + 4) octets.now) }
+    ensures within { result ≤ 4 }
+{
+    if !is_plain_at(octets, at) {
+        return 0;
+    }
+    if !is_plain_at(octets, at + 1) {
+        return 1;
+    }
+    if !is_plain_at(octets, at + 2) {
+        return 2;
+    }
+    if !is_plain_at(octets, at + 3) {
+        return 3;
+    }
+    4
+}
+
+// The number of plain octets at the start, one after another.
+fn short_len(octets: &[u8]) -> usize
     ensures value { result ≡ plain_len octets.now }
     ensures within { result ≤ length octets.now }
 {
@@ -128,6 +170,22 @@ fn plain_len(octets: &[u8]) -> usize
         }
     }
     octets.len()
+}
+
+// The number of plain octets at the start.
+fn plain_len(octets: &[u8]) -> usize
+    ensures value { result ≡ plain_len octets.now }
+    ensures within { result ≤ length octets.now }
+{
+    let mut at = 0;
+    while octets.len() - at >= 4 {
+        let len = four_len(octets, at);
+        if len < 4 {
+            return at + len;
+        }
+        at += 4;
+    }
+    at + short_len(octets.split_at(at).1)
 }
 
 // Appends the normal form of the plain octets at the start or, if there are none, of the first piece. Returns how many

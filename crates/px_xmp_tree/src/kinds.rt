@@ -37,10 +37,28 @@ fn is_space(octet: u8) -> bool
     octet == b' ' || octet == b'\t' || octet == b'\n' || octet == b'\r'
 }
 
+// Whether each of a few octets is white space.
+fn are_few_spaces(octets: &[u8]) -> bool
+    ensures { result ≡ every is_space octets.now }
+{
+    for octet in octets {
+        if !is_space(*octet) {
+            return false;
+        }
+    }
+    true
+}
+
+// So few octets are looked at one after another.
+const FEW: usize = 48;
+
 // Whether each octet is white space.
 fn are_spaces(octets: &[u8]) -> bool
     ensures { result ≡ every is_space octets.now }
 {
+    if octets.len() < FEW {
+        return are_few_spaces(octets);
+    }
     // without an end before the last octet, so that many are looked at at once
     let mut all = true;
     for octet in octets {
