@@ -15,7 +15,7 @@ plain_octet false false false true x y z w v e f g h = absurd (cc)
 plain_octet false false false false x y z w v e f g h = refl
 
 -- what holds of the four references and of an octet that is its own form holds of each
-octet_cases : (P : ℕ → List ℕ → Type 0) → P 38 (codes "&amp;") → P 60 (codes "&lt;") → P 62 (codes "&gt;") → P 13 (codes "&#13;")
+pub octet_cases : (P : ℕ → List ℕ → Type 0) → P 38 (codes "&amp;") → P 60 (codes "&lt;") → P 62 (codes "&gt;") → P 13 (codes "&#13;")
     → ((o : ℕ) → (o == 38) ≡ false → (o == 13) ≡ false → P o (o ∷ [])) → (o : ℕ) → P o (normal_octet o)
 octet_cases P a b c d e o =
     let Q : ℕ → Type 0 = λ j. P j (normal_octet j) in

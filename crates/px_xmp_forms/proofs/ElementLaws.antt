@@ -1,5 +1,5 @@
 -- The elements of values, as they are appended to nothing.
-use Rattle.std.proofs.Common.{◌≡◌, ◌++◌, ◌∙◌, refl, ℕ, List, [], codes, sym, ap, subst, length, append_assoc}
+use Rattle.std.proofs.Common.{◌≡◌, ◌+◌, ◌++◌, ◌∙◌, refl, ℕ, List, [], codes, sym, ap, subst, length, length-append, append_assoc, arith}
 use Rattle.px_xmp_text.specs.Texts.{normal_text}
 use Rattle.px_xmp_text.specs.Values.{Label, Compound, Content, Literal, Uri, End, Flat, Nested, IsLabel, IsContent, Without}
 use Rattle.px_xmp_text.specs.Values.{opening_tag, end_tag, compound_start, compound_end, written}
@@ -55,3 +55,28 @@ nested_element_is x l s c z o a b d e f hl hc ez eo ea eb ed ee ef ex en =
     ∙ ap (λ (w : List ℕ). w ++ z) (eb ∙ ap (λ (w : List ℕ). w ++ compound_start s []) tag)
     ∙ ap (λ (w : List ℕ). (opening_tag l [] ++ compound_start s []) ++ w) ez)) in
     record { octets = ex ∙ whole ∙ nested_is l s c; label = en ∙ ap length tag; can = (hl, hc, tt) }
+
+-- ---- their lengths, by their parts
+
+parts_length : (a b c d x : List ℕ) → a ++ b ++ c ++ d ≡ x → length x ≡ length a + length b + length c + length d
+parts_length a b c d x e =
+    omega (arith, ap length e, length-append (a ++ b ++ c) d, length-append (a ++ b) c, length-append a b)
+
+pub literal_length : (l : Label) (y t : List ℕ) → length (written (Flat l (Literal y t) End) [])
+    ≡ length (opening_tag l []) + length (language_octets y) + length (normal_text t) + length (end_tag l [])
+literal_length l y t = parts_length (opening_tag l []) (language_octets y) (normal_text t) (end_tag l []) _ (literal_is l y t)
+
+pub uri_length : (l : Label) (u : List ℕ) → length (written (Flat l (Uri u) End) []) ≡ length (opening_tag l []) + 15 + length (normal_text u) + 3
+uri_length l u = parts_length (opening_tag l []) (codes " rdf:resource=\"") (normal_text u) (codes "\"/>") _ (uri_is l u)
+
+pub nested_length : (l : Label) (s : Compound) (c : Content) → length (written (Nested l s c End) [])
+    ≡ length (opening_tag l []) + length (compound_start s []) + length (written c []) + length (compound_end s []) + length (end_tag l [])
+nested_length l s c =
+    omega (
+      arith,
+      ap length (nested_is l s c),
+      length-append (opening_tag l [] ++ compound_start s [] ++ written c [] ++ compound_end s []) (end_tag l []),
+      length-append (opening_tag l [] ++ compound_start s [] ++ written c []) (compound_end s []),
+      length-append (opening_tag l [] ++ compound_start s []) (written c []),
+      length-append (opening_tag l []) (compound_start s []),
+    )

@@ -1,11 +1,13 @@
 -- Entries and items: in a row, sorted, and with a label twice.
 use Rattle.std.proofs.Common.{◌≡◌, ◌≢◌, ◌≤◌, ◌<◌, ◌+◌, ◌-◌, ◌++◌, ◌∙◌, ◌==◌, ◌⊎◌, inl, inr, refl, ℕ, zero, suc, Bool, true, false, cond, List, [], ◌∷◌, codes, sym, ap}
-use Rattle.std.proofs.Common.{Option, Some, None, MatchOption, length, take, get_or, subst, arith, max, nat_lt, ltb, eqb-true, eq-eqb}
+use Rattle.std.proofs.Common.{Option, Some, None, MatchOption, length, length-append, take, get_or, subst, arith, max, nat_lt, ltb, eqb-true, eq-eqb}
 use Rattle.std.proofs.lemmas.List.{append_cancel_left, take_at}
 use Rattle.std.proofs.lemmas.Bool.{cases_Bool, eqb-false, ltb-true, ltb-false}
 use Rattle.std.proofs.lemmas.List.Sorted.{IsPermutation-refl, IsPermutation-trans, IsPermutation-swap, IsPermutation-keeps, sorted_far, ranks_by}
+use Rattle.std.proofs.lemmas.List.Sorted.{sum_by-IsPermutation}
+use Rattle.std.proofs.lemmas.List.Sums.{sum_by-cons}
 use Rattle.std.proofs.lemmas.List.Edits.{Swapped, swapped_from_swap, length-swap}
-use Rattle.std.specs.List.{swap}
+use Rattle.std.specs.List.{swap, sum_by}
 use Rattle.std.specs.List.Sorted.{IsPermutation, IsSorted}
 use Rattle.std.specs.Cmp.Lexicographic.{slice_cmp, nat_list_cmp_total}
 use Rattle.std.specs.Ordering.{nat_cmp, is_lt, ordering_then}
@@ -73,6 +75,16 @@ row_more e es =
 
 pub row_can : (e : Entry) (es : List Entry) → IsContent (before e.label e.value End) → IsContent (row es) → IsContent (row (e ∷ es))
 row_can e es h k = subst IsContent (sym (before_row e.label e.value (row es))) (join_content (before e.label e.value End) (row es) h k)
+
+-- entries in another order have as many octets
+pub row_length : (es fs : List Entry) → IsPermutation es fs → length (written (row fs) []) ≡ length (written (row es) [])
+row_length es fs p = as_sum fs ∙ sum_by-IsPermutation (λ e. length (entry_octets e)) es fs p ∙ sym (as_sum es)
+  where
+    as_sum : (es : List Entry) → length (written (row es) []) ≡ sum_by (λ e. length (entry_octets e)) es
+    as_sum [] = refl
+    as_sum (e ∷ es) =
+        ap length (row_more e es) ∙ length-append (entry_octets e) (written (row es) [])
+        ∙ ap (λ (n : ℕ). length (entry_octets e) + n) (as_sum es) ∙ sym (sum_by-cons (λ e. length (entry_octets e)) e es)
 
 -- ---- items, one for each entry
 

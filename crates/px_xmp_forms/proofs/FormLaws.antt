@@ -1,13 +1,14 @@
 -- Content in a row, and its normal form.
-use Rattle.std.proofs.Common.{◌≡◌, ◌++◌, ◌∙◌, ◌==◌, ◌||◌, refl, ℕ, Bool, true, false, List, [], ◌∷◌, codes, sym, ap, append_assoc}
-use Rattle.std.proofs.Common.{◌≤◌, length, subst, arith}
-use Rattle.std.proofs.lemmas.Bool.{eqb-false}
+use Rattle.std.proofs.Common.{◌≡◌, ◌≢◌, ◌++◌, ◌∙◌, ◌==◌, ◌||◌, refl, ℕ, Bool, true, false, List, [], ◌∷◌, codes, sym, ap, append_assoc}
+use Rattle.std.proofs.Common.{◌≤◌, ◌+◌, length, length-append, subst, arith}
+use Rattle.std.proofs.lemmas.Bool.{eqb-false, ne_eqb, or_from}
 use Rattle.std.proofs.lemmas.Grind.{flat_map-append}
 use Rattle.px_xmp_text.specs.Texts.{normal_text, normal_octet}
 use Rattle.px_xmp_text.specs.Values.{Label, Simple, Compound, Content, IsLabel, IsContent, Without}
 use Rattle.px_xmp_text.specs.Values.{Property, Item, Literal, Uri, Structure, Bag, Seq, Alt, End, Flat, Nested}
 use Rattle.px_xmp_text.specs.Values.{opening_tag, end_tag, simple, compound_start, compound_end, written, packet_end, normal_packet}
 use Rattle.px_xmp_forms.specs.Forms.{IsForm, IsTextForm, IsNormal, has, language_octets}
+use Rattle.px_xmp_forms.proofs.BlankLaws.{octet_cases}
 
 -- ---- an octet that is not there
 
@@ -19,9 +20,25 @@ without_from d (o ∷ x) h = let p = parts (o == d) (has d x) h in (eqb-false o 
     parts true b h = absurd (cc)
     parts false b h = (refl, h)
 
+has_none : (d : ℕ) (x : List ℕ) → Without d x → has d x ≡ false
+has_none d [] h = refl
+has_none d (o ∷ x) h = or_from (o == d) (has d x) (ne_eqb o d h.0) (has_none d x h.1)
+
+-- an octet that is there and is not
+pub both_has : (d : ℕ) (x : List ℕ) → true ≡ has d x → Without d x → ⊥
+both_has d x e h = let none = has_none d x h in absurd (cc)
+
 pub without_append : (d : ℕ) (a b : List ℕ) → Without d a → Without d b → Without d (a ++ b)
 without_append d [] b h k = k
 without_append d (o ∷ a) b h k = (h.0, without_append d a b h.1 k)
+
+pub without_front : (d : ℕ) (a b : List ℕ) → Without d (a ++ b) → Without d a
+without_front d [] b h = tt
+without_front d (o ∷ a) b h = (h.0, without_front d a b h.1)
+
+pub without_back : (d : ℕ) (a b : List ℕ) → Without d (a ++ b) → Without d b
+without_back d [] b h = h
+without_back d (o ∷ a) b h = without_back d a b h.1
 
 -- ---- what follows is appended
 
@@ -143,10 +160,6 @@ pub text_more : (x y t : List ℕ) → IsTextForm x → y ≡ x ++ normal_text t
 text_more x y t h e =
     let (s, es) = h in (s ++ t, e ∙ ap (λ (z : List ℕ). z ++ normal_text t) es ∙ sym (flat_map-append normal_octet s t))
 
-pub without_back : (d : ℕ) (a b : List ℕ) → Without d (a ++ b) → Without d b
-without_back d [] b h = h
-without_back d (o ∷ a) b h = without_back d a b h.1
-
 -- a normal form without a quotation mark is of a text without one
 pub without_normal : (t : List ℕ) → Without 34 (normal_text t) → Without 34 t
 without_normal [] h = tt
@@ -154,6 +167,16 @@ without_normal (o ∷ t) h = (not_quote, without_normal t (without_back 34 (norm
   where
     not_quote : o ≡ 34 → ⊥
     not_quote e = let P : ℕ → Type 0 = λ z. Without 34 (normal_octet z ++ normal_text t) in (subst P e h).0 refl
+
+-- and that of such a text has none
+pub normal_without : (t : List ℕ) → Without 34 t → Without 34 (normal_text t)
+normal_without [] h = tt
+normal_without (o ∷ t) h = without_append 34 (normal_octet o) (normal_text t) (octet o h.0) (normal_without t h.1)
+  where
+    octet : (o : ℕ) → o ≢ 34 → Without 34 (normal_octet o)
+    octet =
+        octet_cases (λ o z. o ≢ 34 → Without 34 z) (λ n. without_from 34 (codes "&amp;") refl) (λ n. without_from 34 (codes "&lt;") refl)
+        (λ n. without_from 34 (codes "&gt;") refl) (λ n. without_from 34 (codes "&#13;") refl) (λ o p q n. (n, tt))
 
 pub packet_written : (a b d e x p : List ℕ) → a ≡ []
     → b ≡ a ++ codes "<x:xmpmeta xmlns:x=\"adobe:ns:meta/\"><rdf:RDF xmlns:rdf=\"http://www.w3.org/1999/02/22-rdf-syntax-ns#\">"
@@ -218,3 +241,13 @@ packet_is a b d e x p c ea eb ed ee ex ec =
     (eb ∙ ap (λ (z : List ℕ). z ++ codes "<x:xmpmeta xmlns:x=\"adobe:ns:meta/\"><rdf:RDF xmlns:rdf=\"http://www.w3.org/1999/02/22-rdf-syntax-ns#\">") ea))
     ∙ append_assoc (codes "<x:xmpmeta xmlns:x=\"adobe:ns:meta/\"><rdf:RDF xmlns:rdf=\"http://www.w3.org/1999/02/22-rdf-syntax-ns#\">")
     (codes "<rdf:Description rdf:about=\"\">") (written c packet_end)
+
+-- no part of it is longer
+pub packet_short : (a b d e p : List ℕ) (c : Content) (n : ℕ) → a ≡ []
+    → b ≡ a ++ codes "<x:xmpmeta xmlns:x=\"adobe:ns:meta/\"><rdf:RDF xmlns:rdf=\"http://www.w3.org/1999/02/22-rdf-syntax-ns#\">"
+    → d ≡ b ++ codes "<rdf:Description rdf:about=\"\">" → e ≡ d ++ p → p ≡ written c [] → length (normal_packet c) ≤ n
+    → length e + length packet_end ≤ n
+packet_short a b d e p c n ea eb ed ee ec short =
+    let whole : length (e ++ packet_end) ≤ n =
+    subst (λ (z : List ℕ). length z ≤ n) (sym (packet_is a b d e (e ++ packet_end) p c ea eb ed ee refl ec)) short in
+    omega (arith, whole, length-append e packet_end)

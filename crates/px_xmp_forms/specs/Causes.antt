@@ -34,3 +34,9 @@ abbrev pub IfWrong : {X : Type 0} → Result X Refusal → Type 0 → Type 0
 IfWrong (Ok x) P = ⊤
 IfWrong (Err (Content cause place)) P = is_rare cause ≡ false → P
 IfWrong (Err OutOfMemory) P = ⊤
+
+-- a call fails only for want of memory
+abbrev pub FailsByMemory : {X : Type 0} → Result X Refusal → Type 0
+FailsByMemory (Ok x) = ⊤
+FailsByMemory (Err (Content cause place)) = ⊥
+FailsByMemory (Err OutOfMemory) = ⊤

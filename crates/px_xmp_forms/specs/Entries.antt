@@ -1,9 +1,10 @@
 -- Properties and members with their values, one after another, and their order.
-use Rattle.std.specs.Prelude.{◌≡◌, ◌≢◌, ◌<◌, ℕ, List, [], ◌∷◌, length, slice_index_or, max}
+use Rattle.std.specs.Prelude.{◌≡◌, ◌≢◌, ◌<◌, ◌≤◌, ℕ, List, [], ◌∷◌, length, slice_index_or, max}
 use Rattle.std.specs.List.Sorted.{IsPermutation, IsSorted}
 use Rattle.std.specs.Cmp.Lexicographic.{slice_cmp}
 use Rattle.std.specs.Ordering.{nat_cmp}
-use Rattle.px_xmp_text.specs.Values.{Label, Simple, Compound, Content, End, Flat, Nested, written}
+use Rattle.px_xmp_text.specs.Values.{Label, Simple, Compound, Content, End, Flat, Nested, IsContent, written}
+use Rattle.px_xmp_forms.specs.Forms.{most}
 
 -- a value: a text or a URI; or a structure or an array of others
 pub data Value : Type 0 where
@@ -20,6 +21,10 @@ pub record Entry : Type 0 where
 abbrev pub before : Label → Value → Content → Content
 before l (Plain p) rest = Flat l p rest
 before l (Inside s inner) rest = Nested l s inner rest
+
+-- a value with its label can be written, and is not too long
+abbrev pub ValueFits : Label → Value → Type 0
+ValueFits l v = IsContent (before l v End) × (length (written (before l v End) []) ≤ most)
 
 -- entries in a row
 abbrev pub row : List Entry → Content

@@ -1,8 +1,18 @@
 -- What is written is the normal form of content, as px_xmp_text defines it.
-use Rattle.std.specs.Prelude.{◌≡◌, ◌≢◌, ◌++◌, ◌==◌, ◌||◌, ◌&&◌, ℕ, Bool, true, false, List, [], ◌∷◌, codes, Some}
+use Rattle.std.specs.Prelude.{◌≡◌, ◌≢◌, ◌≤◌, ◌+◌, ◌++◌, ◌==◌, ◌||◌, ◌&&◌, ℕ, Bool, true, false, List, [], ◌∷◌, codes, length, Some}
+use Rattle.px_bytes.specs.Parts.{limit}
 use Rattle.px_xmp_text.specs.Texts.{text_of, normal_text}
+use Rattle.px_xmp_text.specs.declared.pieces.TextKind.{TextKind}
 use Rattle.px_xmp_text.specs.declared.pieces.TextKind.TheVariants.{AttributeValue}
 use Rattle.px_xmp_text.specs.Values.{Content, IsContent, written, normal_packet}
+
+-- the most octets of a form that is not finished, a limit of this reader
+abbrev pub most : ℕ
+most = 33554432
+
+-- octets have a text, whose normal form may follow n octets of a form
+abbrev pub TextFits : TextKind → List ℕ → ℕ → Type 0
+TextFits kind x n = (t : List ℕ) × (text_of kind x ≡ Some t) × (length x ≤ limit) × (n + length (normal_text t) ≤ most)
 
 -- these octets are the normal form of properties or members
 abbrev pub IsForm : List ℕ → Type 0

@@ -2,6 +2,7 @@ pub mod Causes
 pub mod Languages
 pub mod Uris
 pub mod Labels
+pub mod Spaces
 pub mod Allocations
 pub mod Forms
 pub mod Entries

@@ -1,10 +1,11 @@
 // Octets and texts, appended to a form.
-ghost use Rattle.std.specs.Prelude.{◌≡◌, ◌≤◌, ◌++◌, ◌∷◌, length, List, ℕ, Some, OnOk, IfOk};
+ghost use Rattle.std.specs.Prelude.{◌≡◌, ◌≤◌, ◌+◌, ◌++◌, ◌∷◌, length, List, ℕ, true, Some, OnOk, IfOk};
 ghost use Rattle.px_xmp_text.specs.Texts.{text_of, normal_text};
-ghost use Rattle.px_xmp_forms.specs.Forms.{is_space, is_white, IsSameText};
+ghost use Rattle.px_xmp_text.specs.declared.pieces.TextKind.TheVariants.{AttributeValue};
+ghost use Rattle.px_xmp_forms.specs.Forms.{most, TextFits, is_space, is_white, IsSameText};
 ghost use Rattle.px_xmp_forms.specs.calls.Blanks.{BeginsWithSpace};
 ghost use Rattle.px_xmp_forms.specs.Allocations.{CountsAllocFailureInPacket};
-ghost use Rattle.px_xmp_forms.specs.Causes.{IsRare};
+ghost use Rattle.px_xmp_forms.specs.Causes.{IsRare, FailsByMemory};
 
 use crate::faults::{Cause, Refusal};
 use px_bytes::Memory;
@@ -17,7 +18,9 @@ pub const LIMIT: usize = 16777216;
 const MOST: usize = 33554432;
 
 // Whether so many octets may be followed by so many more.
-fn has_space(len: usize, more: usize) -> bool {
+fn has_space(len: usize, more: usize) -> bool
+    ensures { len + more ≤ most → result ≡ true }
+{
     len <= MOST && more <= MOST - len
 }
 
@@ -26,6 +29,7 @@ pub(crate) fn reserve(memory: &mut Memory, out: &mut Vec<u8>, more: usize) -> Re
     ensures items { OnOk result (out.new.items ≡ out.old.items) }
     ensures memory { CountsAllocFailureInPacket result memory.old memory.new }
     ensures rare { IsRare result }
+    ensures usual { FailsByMemory result }
 {
     memory.reserve(out, more.min(MOST))?;
     Ok(())
@@ -36,6 +40,7 @@ pub fn append(memory: &mut Memory, out: &mut Vec<u8>, octets: &[u8]) -> Result<(
     ensures items { OnOk result (out.new.items ≡ out.old.items ++ octets.now) }
     ensures memory { CountsAllocFailureInPacket result memory.old memory.new }
     ensures rare { IsRare result }
+    ensures usual { length out.old.items + length octets.now ≤ most → FailsByMemory result }
 {
     if octets.is_empty() {
         return Ok(());
@@ -58,6 +63,7 @@ pub fn append_text(
     ensures items { OnOk result ((t : List ℕ) × (text_of kind octets.now ≡ Some t) × (out.new.items ≡ out.old.items ++ normal_text t)) }
     ensures memory { CountsAllocFailureInPacket result memory.old memory.new }
     ensures rare { IsRare result }
+    ensures usual { TextFits kind octets.now (length out.old.items) → FailsByMemory result }
 {
     px_xmp_text::laws::fault_or_text();
     if octets.len() > LIMIT {
@@ -78,6 +84,7 @@ pub fn same_text(memory: &mut Memory, a: &[u8], b: &[u8]) -> Result<bool, Refusa
     ensures value { IfOk result (λ same. IsSameText a.now b.now same) }
     ensures memory { CountsAllocFailureInPacket result memory.old memory.new }
     ensures rare { IsRare result }
+    ensures usual { TextFits AttributeValue a.now 0 → TextFits AttributeValue b.now 0 → FailsByMemory result }
 {
     if a == b {
         return Ok(true);

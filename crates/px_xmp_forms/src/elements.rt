@@ -1,15 +1,15 @@
 // The elements of the normal form: a property or a member with its value.
-ghost use Rattle.std.specs.Prelude.{◌≡◌, ◌≤◌, ◌++◌, [], ℕ, List, length, OnOk, IfOk};
+ghost use Rattle.std.specs.Prelude.{◌≡◌, ◌≤◌, ◌+◌, ◌++◌, [], ℕ, List, length, OnOk, IfOk};
 ghost use Rattle.std.specs.Str.{str_to_ascii_lowercase};
 ghost use Rattle.px_xmp_text.specs.Texts.{normal_text};
 ghost use Rattle.px_xmp_text.specs.Values.{IsLabel, IsContent, Without, Literal, Uri, written};
 ghost use Rattle.px_xmp_text.specs.Values as values;
-ghost use Rattle.px_xmp_forms.specs.Entries.{Plain, Inside};
+ghost use Rattle.px_xmp_forms.specs.Entries.{ValueFits, Plain, Inside};
 ghost use Rattle.px_xmp_forms.specs.Outputs.{IsElement, value_of};
-ghost use Rattle.px_xmp_forms.specs.Forms.{language_octets};
+ghost use Rattle.px_xmp_forms.specs.Forms.{most, language_octets};
 ghost use Rattle.px_xmp_forms.specs.Labels.{label_view, compound_view};
 ghost use Rattle.px_xmp_forms.specs.Allocations.{CountsAllocFailureInPacket};
-ghost use Rattle.px_xmp_forms.specs.Causes.{IsRare};
+ghost use Rattle.px_xmp_forms.specs.Causes.{IsRare, FailsByMemory};
 
 use crate::appending::{LIMIT, append, reserve};
 use crate::faults::{Cause, Refusal};
@@ -43,6 +43,7 @@ fn lower(memory: &mut Memory, language: &[u8]) -> Result<Vec<u8>, Refusal>
     ensures value { IfOk result (λ v. v.items ≡ str_to_ascii_lowercase language.now) }
     ensures memory { CountsAllocFailureInPacket result memory.old memory.new }
     ensures rare { IsRare result }
+    ensures usual { FailsByMemory result }
 {
     let mut octets = memory.list();
     reserve(memory, &mut octets, language.len())?;
@@ -58,6 +59,7 @@ fn append_attribute(memory: &mut Memory, out: &mut Vec<u8>, language: &[u8]) -> 
     ensures items { OnOk result (out.new.items ≡ out.old.items ++ language_octets language.now) }
     ensures memory { CountsAllocFailureInPacket result memory.old memory.new }
     ensures rare { IsRare result }
+    ensures usual { length out.old.items + length (language_octets language.now) ≤ most → FailsByMemory result }
 {
     append(memory, out, b" xml:lang=\"")?;
     append(memory, out, language)?;
@@ -70,6 +72,8 @@ fn append_language(memory: &mut Memory, out: &mut Vec<u8>, language: &[u8]) -> R
     ensures can { OnOk result (Without 34 (str_to_ascii_lowercase language.now)) }
     ensures memory { CountsAllocFailureInPacket result memory.old memory.new }
     ensures rare { IsRare result }
+    ensures usual { Without 34 (str_to_ascii_lowercase language.now)
+        → length out.old.items + length (language_octets (str_to_ascii_lowercase language.now)) ≤ most → FailsByMemory result }
 {
     let octets = lower(memory, language)?;
     let language = octets.as_slice();
@@ -83,6 +87,7 @@ fn append_language(memory: &mut Memory, out: &mut Vec<u8>, language: &[u8]) -> R
 }
 
 // The element of a text.
+#[tactic(auto, using(crate::proofs::ElementLaws::literal_length))]
 fn literal_element(
     memory: &mut Memory,
     label: Label,
@@ -94,6 +99,8 @@ fn literal_element(
         IfOk result (λ x. IsElement x (label_view label.entry) (Plain (Literal (str_to_ascii_lowercase language.now) t))) }
     ensures memory { CountsAllocFailureInPacket result memory.old memory.new }
     ensures rare { IsRare result }
+    ensures usual { (t : List ℕ) → text.now ≡ normal_text t
+        → ValueFits (label_view label.entry) (Plain (Literal (str_to_ascii_lowercase language.now) t)) → FailsByMemory result }
 {
     let mut octets = memory.list();
     let content = text.octets();
@@ -111,11 +118,13 @@ fn literal_element(
 }
 
 // The element of a resource.
+#[tactic(auto, using(crate::proofs::ElementLaws::uri_length))]
 fn resource_element(memory: &mut Memory, label: Label, uri: &TextForm) -> Result<Element, Refusal>
     requires { IsLabel (label_view label) }
     ensures value { (t : List ℕ) → uri.now ≡ normal_text t → IfOk result (λ x. IsElement x (label_view label.entry) (Plain (Uri t))) }
     ensures memory { CountsAllocFailureInPacket result memory.old memory.new }
     ensures rare { IsRare result }
+    ensures usual { (t : List ℕ) → uri.now ≡ normal_text t → ValueFits (label_view label.entry) (Plain (Uri t)) → FailsByMemory result }
 {
     let uri = uri.octets();
     if has(uri, b'"') {
@@ -135,6 +144,7 @@ fn resource_element(memory: &mut Memory, label: Label, uri: &TextForm) -> Result
 }
 
 // The element of a container or, without one, of a structure.
+#[tactic(auto, using(crate::proofs::ElementLaws::nested_length))]
 fn nested_element(
     memory: &mut Memory,
     label: Label,
@@ -146,6 +156,8 @@ fn nested_element(
         IfOk result (λ x. IsElement x (label_view label.entry) (Inside (compound_view container) c)) }
     ensures memory { CountsAllocFailureInPacket result memory.old memory.new }
     ensures rare { IsRare result }
+    ensures usual { (c : values.Content) → inner.now ≡ written c []
+        → ValueFits (label_view label.entry) (Inside (compound_view container) c) → FailsByMemory result }
 {
     let mut octets = memory.list();
     let content = inner.octets();
@@ -174,6 +186,8 @@ pub(crate) fn write_element(
         IfOk result (λ x. IsElement x (label_view label.entry) (value_of content.entry t c)) }
     ensures memory { CountsAllocFailureInPacket result memory.old memory.new }
     ensures rare { IsRare result }
+    ensures usual { (t : List ℕ) (c : values.Content) → text.now ≡ normal_text t → inner.now ≡ written c []
+        → ValueFits (label_view label.entry) (value_of content.entry t c) → FailsByMemory result }
 {
     if !is_label(label) {
         return Err(Cause::RareNamespace.at(LIMIT));

@@ -1,15 +1,16 @@
 // Properties and members, and their order.
-ghost use Rattle.std.specs.Prelude.{◌≡◌, ◌⊎◌, [], List, Some, refl, bytes_eq, take, IfOk, MatchOption};
+ghost use Rattle.std.specs.Prelude.{◌≡◌, ◌≤◌, ◌⊎◌, [], List, Some, length, refl, bytes_eq, take, IfOk, MatchOption};
 ghost use Rattle.std.specs.Cmp.Lexicographic.{slice_cmp, nat_list_eq_equiv, nat_list_cmp_total, texts_ties, texts_po};
 ghost use Rattle.std.specs.Cmp.{on_equiv, on_total, on_po, on_per, partial_equiv_from_equiv};
 ghost use Rattle.std.specs.List.Sorted.{IsPermutation, IsSorted};
 ghost use Rattle.std.specs.Ordering.{nat_cmp};
 ghost use Rattle.px_xmp_text.specs.Values.{written};
+ghost use Rattle.px_xmp_forms.specs.Forms.{most};
 ghost use Rattle.px_xmp_forms.specs.Entries.{Entry, entry_octets, row, AreDistinct, IsRepeated};
 ghost use Rattle.px_xmp_forms.specs.Outputs.{AreItems};
 ghost use Rattle.px_xmp_forms.specs.declared.items.BagOrder.TheVariants.{Sorted, AsWritten};
 ghost use Rattle.px_xmp_forms.specs.Allocations.{CountsAllocFailureInPacket};
-ghost use Rattle.px_xmp_forms.specs.Causes.{IsRare};
+ghost use Rattle.px_xmp_forms.specs.Causes.{IsRare, FailsByMemory};
 
 use crate::appending::{append, reserve};
 use crate::elements::Element;
@@ -150,6 +151,7 @@ pub(crate) fn join_items(memory: &mut Memory, items: &[Item]) -> Result<Piece, R
     ensures value { (es : List Entry) → AreItems items.now es → IfOk result (λ p. p ≡ written (row es) []) }
     ensures memory { CountsAllocFailureInPacket result memory.old memory.new }
     ensures rare { IsRare result }
+    ensures usual { (es : List Entry) → AreItems items.now es → length (written (row es) []) ≤ most → FailsByMemory result }
 {
     let mut joined = memory.list();
     reserve(memory, &mut joined, items_len(items))?;

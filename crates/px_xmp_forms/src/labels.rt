@@ -1,11 +1,11 @@
 // The tags of the normal form.
-ghost use Rattle.std.specs.Prelude.{◌≡◌, ◌++◌, [], true, OnOk};
+ghost use Rattle.std.specs.Prelude.{◌≡◌, ◌≤◌, ◌+◌, ◌++◌, ◌↔◌, [], true, length, OnOk};
 ghost use Rattle.px_xmp_text.specs.Values.{opening_tag, end_tag, compound_start, compound_end, IsLabel};
-ghost use Rattle.px_xmp_forms.specs.Forms.{has};
+ghost use Rattle.px_xmp_forms.specs.Forms.{most, has};
 ghost use Rattle.px_xmp_forms.specs.Labels.{label_of};
 ghost use Rattle.px_xmp_forms.specs.Labels.{label_view, property_view, local_octets, container_view, compound_view, container_octets};
 ghost use Rattle.px_xmp_forms.specs.Allocations.{CountsAllocFailureInPacket};
-ghost use Rattle.px_xmp_forms.specs.Causes.{IsRare};
+ghost use Rattle.px_xmp_forms.specs.Causes.{IsRare, FailsByMemory};
 
 use crate::appending::append;
 use crate::faults::Refusal;
@@ -108,6 +108,7 @@ fn append_local(memory: &mut Memory, out: &mut Vec<u8>, name: Property) -> Resul
     ensures items { OnOk result (out.new.items ≡ out.old.items ++ local_octets name.entry) }
     ensures memory { CountsAllocFailureInPacket result memory.old memory.new }
     ensures rare { IsRare result }
+    ensures usual { length out.old.items + length (local_octets name.entry) ≤ most → FailsByMemory result }
 {
     append(memory, out, name.head)?;
     append(memory, out, name.local)
@@ -118,6 +119,7 @@ fn append_property(memory: &mut Memory, out: &mut Vec<u8>, name: Property) -> Re
     ensures items { OnOk result (out.new.items ≡ out.old.items ++ opening_tag (property_view name.entry) []) }
     ensures memory { CountsAllocFailureInPacket result memory.old memory.new }
     ensures rare { IsRare result }
+    ensures usual { length out.old.items + length (opening_tag (property_view name.entry) []) ≤ most → FailsByMemory result }
 {
     append(memory, out, b"<p:")?;
     append_local(memory, out, name)?;
@@ -135,6 +137,7 @@ pub(crate) fn append_label(
     ensures items { OnOk result (out.new.items ≡ out.old.items ++ opening_tag (label_view label.entry) []) }
     ensures memory { CountsAllocFailureInPacket result memory.old memory.new }
     ensures rare { IsRare result }
+    ensures usual { length out.old.items + length (opening_tag (label_view label.entry) []) ≤ most → FailsByMemory result }
 {
     match label {
         Label::Property(name) => append_property(memory, out, name),
@@ -151,6 +154,7 @@ fn append_property_end(
     ensures items { OnOk result (out.new.items ≡ out.old.items ++ end_tag (property_view name.entry) []) }
     ensures memory { CountsAllocFailureInPacket result memory.old memory.new }
     ensures rare { IsRare result }
+    ensures usual { length out.old.items + length (end_tag (property_view name.entry) []) ≤ most → FailsByMemory result }
 {
     append(memory, out, b"</p:")?;
     append_local(memory, out, name)?;
@@ -166,6 +170,7 @@ pub(crate) fn append_label_end(
     ensures items { OnOk result (out.new.items ≡ out.old.items ++ end_tag (label_view label.entry) []) }
     ensures memory { CountsAllocFailureInPacket result memory.old memory.new }
     ensures rare { IsRare result }
+    ensures usual { length out.old.items + length (end_tag (label_view label.entry) []) ≤ most → FailsByMemory result }
 {
     match label {
         Label::Property(name) => append_property_end(memory, out, name),
@@ -182,6 +187,7 @@ fn append_container(
     ensures items { OnOk result (out.new.items ≡ out.old.items ++ compound_start (container_view container) []) }
     ensures memory { CountsAllocFailureInPacket result memory.old memory.new }
     ensures rare { IsRare result }
+    ensures usual { length out.old.items + length (compound_start (container_view container) []) ≤ most → FailsByMemory result }
 {
     append(memory, out, b"><")?;
     append(memory, out, container.name())
@@ -196,6 +202,7 @@ fn append_container_end(
     ensures items { OnOk result (out.new.items ≡ out.old.items ++ compound_end (container_view container) []) }
     ensures memory { CountsAllocFailureInPacket result memory.old memory.new }
     ensures rare { IsRare result }
+    ensures usual { length out.old.items + length (compound_end (container_view container) []) ≤ most → FailsByMemory result }
 {
     append(memory, out, b"</")?;
     append(memory, out, container.name())
@@ -210,6 +217,7 @@ pub(crate) fn append_start(
     ensures items { OnOk result (out.new.items ≡ out.old.items ++ compound_start (compound_view container) []) }
     ensures memory { CountsAllocFailureInPacket result memory.old memory.new }
     ensures rare { IsRare result }
+    ensures usual { length out.old.items + length (compound_start (compound_view container) []) ≤ most → FailsByMemory result }
 {
     match container {
         Some(container) => append_container(memory, out, container),
@@ -226,6 +234,7 @@ pub(crate) fn append_stop(
     ensures items { OnOk result (out.new.items ≡ out.old.items ++ compound_end (compound_view container) []) }
     ensures memory { CountsAllocFailureInPacket result memory.old memory.new }
     ensures rare { IsRare result }
+    ensures usual { length out.old.items + length (compound_end (compound_view container) []) ≤ most → FailsByMemory result }
 {
     match container {
         Some(container) => append_container_end(memory, out, container),
@@ -242,7 +251,7 @@ pub(crate) fn has(octets: &[u8], octet: u8) -> bool
 
 // Whether the name of a property can be written.
 fn is_property(name: Property) -> bool
-    ensures { result ≡ true → IsLabel (property_view name.entry) }
+    ensures { result ≡ true ↔ IsLabel (property_view name.entry) }
 {
     if has(name.space, b'"') {
         return false;
@@ -258,7 +267,7 @@ fn is_property(name: Property) -> bool
 
 // Whether a label can be written.
 pub(crate) fn is_label(label: Label) -> bool
-    ensures { result ≡ true → IsLabel (label_view label.entry) }
+    ensures { result ≡ true ↔ IsLabel (label_view label.entry) }
 {
     match label {
         Label::Property(name) => is_property(name),

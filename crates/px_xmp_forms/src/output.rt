@@ -4,16 +4,17 @@ ghost use Rattle.px_bytes.specs.Parts.{limit};
 ghost use Rattle.px_xmp_text.specs.Texts.{text_of, normal_text};
 ghost use Rattle.px_xmp_text.specs.Values.{End, IsContent, written, normal_packet};
 ghost use Rattle.px_xmp_text.specs.declared.pieces.TextKind.TheVariants.{AttributeValue};
-ghost use Rattle.px_xmp_forms.specs.Forms.{IsNormal};
+ghost use Rattle.px_xmp_forms.specs.Forms.{most, TextFits, IsNormal};
 ghost use Rattle.px_xmp_forms.specs.declared.items.BagOrder.TheVariants.{Sorted};
-ghost use Rattle.px_xmp_forms.specs.Entries.{Entry, row};
+ghost use Rattle.px_xmp_forms.specs.Entries.{Entry, ValueFits, AreDistinct, row};
 ghost use Rattle.px_xmp_forms.specs.Outputs.{State, Open, Has, IsItem, AreItems, IsLevel};
 ghost use Rattle.px_xmp_forms.specs.Outputs.{nothing, begun, changed, with_text, with_inner, with_entry};
+ghost use Rattle.px_xmp_forms.specs.Labels.{label_view};
 ghost use Rattle.px_xmp_forms.specs.Outputs.{attribute_entry, element_ended, node_ended, properties_ended};
-ghost use Rattle.px_xmp_forms.specs.Outputs.{PutsText, JoinsMembers, JoinsProperties};
+ghost use Rattle.px_xmp_forms.specs.Outputs.{PutsText, JoinsMembers, JoinsProperties, first_entries, value_of};
 ghost use Rattle.px_xmp_text.specs.Values as values;
 ghost use Rattle.px_xmp_forms.specs.Allocations.{CountsAllocFailureInPacket};
-ghost use Rattle.px_xmp_forms.specs.Causes.{IsRare};
+ghost use Rattle.px_xmp_forms.specs.Causes.{IsRare, FailsByMemory};
 
 use crate::appending::{LIMIT, append, is_blank, reserve};
 use crate::elements::write_element;
@@ -57,6 +58,8 @@ fn attribute_item(
         × IsItem x (attribute_entry label.entry origin.entry t)) }
     ensures memory { CountsAllocFailureInPacket result memory.old memory.new }
     ensures rare { IsRare result }
+    ensures usual { (t : List ℕ) → text_of AttributeValue value.now ≡ Some t → length value.now ≤ limit
+        → ValueFits (label_view label.entry) (attribute_entry label.entry origin.entry t).value → FailsByMemory result }
 {
     let none = Piece::new(memory);
     let text = TextForm::new(memory).followed_by(memory, value, TextKind::AttributeValue)?;
@@ -102,6 +105,7 @@ impl Output {
         ensures value { (s : State) (o : Open) → Has self.old s → IsLevel level o → OnOk result (Has self.new (begun o s)) }
         ensures memory { CountsAllocFailureInPacket result memory.old memory.new }
         ensures rare { IsRare result }
+        ensures usual { FailsByMemory result }
     {
         memory.push(&mut self.levels, level)?;
         Ok(())
@@ -112,6 +116,7 @@ impl Output {
         ensures value { (s : State) → Has self.old s → OnOk result (Has self.new (begun nothing s)) }
         ensures memory { CountsAllocFailureInPacket result memory.old memory.new }
         ensures rare { IsRare result }
+        ensures usual { FailsByMemory result }
     {
         let level = Level {
             text: TextForm::new(memory),
@@ -132,6 +137,8 @@ impl Output {
             IfOk result (λ more. (after : State) × Has self.new after × PutsText kind octets.now s more after) }
         ensures memory { CountsAllocFailureInPacket result memory.old memory.new }
         ensures rare { IsRare result }
+        ensures usual { (s : State) (o : Open) (os : List Open) → Has self.old s → s.opened ≡ o ∷ os
+            → TextFits kind octets.now (length (normal_text o.text)) → FailsByMemory result }
     {
         let Some(level) = self.pop() else {
             return Ok(false);
@@ -154,6 +161,7 @@ impl Output {
             → OnOk result (Has self.new (changed (with_text t) s)) }
         ensures memory { CountsAllocFailureInPacket result memory.old memory.new }
         ensures rare { IsRare result }
+        ensures usual { FailsByMemory result }
     {
         let Some(level) = self.pop() else {
             return Ok(());
@@ -171,6 +179,7 @@ impl Output {
         ensures value { (s : State) → Has self.old s → OnOk result (Has self.new (changed (with_text []) s)) }
         ensures memory { CountsAllocFailureInPacket result memory.old memory.new }
         ensures rare { IsRare result }
+        ensures usual { FailsByMemory result }
     {
         let text = TextForm::new(memory);
         self.replace_text(memory, text)
@@ -182,6 +191,7 @@ impl Output {
             OnOk result ((t : List ℕ) × (text_of AttributeValue uri.now ≡ Some t) × Has self.new (changed (with_text t) s)) }
         ensures memory { CountsAllocFailureInPacket result memory.old memory.new }
         ensures rare { IsRare result }
+        ensures usual { TextFits AttributeValue uri.now 0 → FailsByMemory result }
     {
         let text = TextForm::new(memory).followed_by(memory, uri, TextKind::AttributeValue)?;
         self.replace_text(memory, text)
@@ -192,6 +202,7 @@ impl Output {
         ensures value { (s : State) (e : Entry) → Has self.old s → IsItem item e → OnOk result (Has self.new (changed (with_entry e) s)) }
         ensures memory { CountsAllocFailureInPacket result memory.old memory.new }
         ensures rare { IsRare result }
+        ensures usual { FailsByMemory result }
     {
         let Some(level) = self.pop() else {
             return Ok(());
@@ -218,6 +229,8 @@ impl Output {
             × Has self.new (changed (with_entry (attribute_entry label.entry origin.entry t)) s)) }
         ensures memory { CountsAllocFailureInPacket result memory.old memory.new }
         ensures rare { IsRare result }
+        ensures usual { (t : List ℕ) → text_of AttributeValue value.now ≡ Some t → length value.now ≤ limit
+            → ValueFits (label_view label.entry) (attribute_entry label.entry origin.entry t).value → FailsByMemory result }
     {
         let item = attribute_item(memory, label, value, origin)?;
         self.put_item(memory, item)
@@ -229,6 +242,7 @@ impl Output {
             OnOk result (Has self.new (changed (with_inner c) s)) }
         ensures memory { CountsAllocFailureInPacket result memory.old memory.new }
         ensures rare { IsRare result }
+        ensures usual { FailsByMemory result }
     {
         let Some(level) = self.pop() else {
             return Ok(());
@@ -252,6 +266,7 @@ impl Output {
             OnOk result (Has self.new (begun (record { text = t; inner = row es; entries = [] }) s)) }
         ensures memory { CountsAllocFailureInPacket result memory.old memory.new }
         ensures rare { IsRare result }
+        ensures usual { (es : List Entry) → AreItems items.items es → length (written (row es) []) ≤ most → FailsByMemory result }
     {
         let level = Level {
             text,
@@ -266,6 +281,8 @@ impl Output {
         ensures value { (s : State) → Has self.old s → OnOk result ((after : State) × Has self.new after × JoinsProperties s after) }
         ensures memory { CountsAllocFailureInPacket result memory.old memory.new }
         ensures rare { IsRare result }
+        ensures usual { (s : State) → Has self.old s → AreDistinct (first_entries s.opened)
+            → length (written (row (first_entries s.opened)) []) ≤ most → FailsByMemory result }
     {
         let Some(level) = self.pop() else {
             return Ok(());
@@ -282,6 +299,7 @@ impl Output {
         ensures value { (s : State) → Has self.old s → OnOk result ((after : State) × Has self.new after × JoinsMembers is_bag s after) }
         ensures memory { CountsAllocFailureInPacket result memory.old memory.new }
         ensures rare { IsRare result }
+        ensures usual { (s : State) → Has self.old s → length (written (row (first_entries s.opened)) []) ≤ most → FailsByMemory result }
     {
         let Some(level) = self.pop() else {
             return Ok(());
@@ -298,6 +316,7 @@ impl Output {
         ensures value { (s : State) → Has self.old s → OnOk result (Has self.new (node_ended s)) }
         ensures memory { CountsAllocFailureInPacket result memory.old memory.new }
         ensures rare { IsRare result }
+        ensures usual { FailsByMemory result }
     {
         let Some(level) = self.pop() else {
             return Ok(());
@@ -316,6 +335,8 @@ impl Output {
         ensures value { (s : State) → Has self.old s → OnOk result (Has self.new (element_ended label.entry content.entry place s)) }
         ensures memory { CountsAllocFailureInPacket result memory.old memory.new }
         ensures rare { IsRare result }
+        ensures usual { (s : State) (o : Open) (os : List Open) → Has self.old s → s.opened ≡ o ∷ os
+            → ValueFits (label_view label.entry) (value_of content.entry o.text o.inner) → FailsByMemory result }
     {
         let Some(level) = self.pop() else {
             return Ok(());
@@ -340,6 +361,7 @@ impl Output {
         ensures bound { IfOk result (λ form. length form.items ≤ limit) }
         ensures memory { CountsAllocFailureInPacket result memory.old memory.new }
         ensures rare { IsRare result }
+        ensures usual { (s : State) → Has self.now s → length (normal_packet s.properties) ≤ limit → FailsByMemory result }
     {
         let mut form = memory.list();
         let properties = self.properties.octets();

@@ -1,9 +1,9 @@
 // Octets that are a normal form: of a text, or of properties or members.
-ghost use Rattle.std.specs.Prelude.{◌≡◌, ◌++◌, [], ℕ, List, Some, IfOk};
+ghost use Rattle.std.specs.Prelude.{◌≡◌, ◌++◌, [], ℕ, List, Some, length, IfOk};
 ghost use Rattle.px_xmp_text.specs.Texts.{text_of, normal_text};
-ghost use Rattle.px_xmp_forms.specs.Forms.{IsForm, IsTextForm};
+ghost use Rattle.px_xmp_forms.specs.Forms.{IsForm, IsTextForm, TextFits};
 ghost use Rattle.px_xmp_forms.specs.Allocations.{CountsAllocFailureInPacket};
-ghost use Rattle.px_xmp_forms.specs.Causes.{IsRare};
+ghost use Rattle.px_xmp_forms.specs.Causes.{IsRare, FailsByMemory};
 
 use crate::appending::append_text;
 use crate::faults::Refusal;
@@ -56,6 +56,7 @@ impl TextForm {
         ensures value { IfOk result (λ f. (t : List ℕ) × (text_of kind octets.now ≡ Some t) × (f ≡ self ++ normal_text t)) }
         ensures memory { CountsAllocFailureInPacket result memory.old memory.new }
         ensures rare { IsRare result }
+        ensures usual { TextFits kind octets.now (length self) → FailsByMemory result }
     {
         let mut form = self.octets;
         append_text(memory, &mut form, octets, kind)?;
