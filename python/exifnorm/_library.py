@@ -174,6 +174,7 @@ ARGUMENTS = {
     "exifnorm_jpeg_xmp": [*_BLOCK, ctypes.POINTER(PacketStruct), ctypes.POINTER(UnreadStruct), _JPEG_FAULT],
     "exifnorm_xmp_check": [*_BLOCK, _FAULT],
     "exifnorm_xmp_normalise": [*_BLOCK, *_OUT, _FAULT],
+    "exifnorm_xmp_unsorted": [*_BLOCK, *_OUT, _FAULT],
     "exifnorm_cause_name": [ctypes.c_uint32, *_OUT],
     "exifnorm_version": _OUT,
 }
@@ -181,6 +182,7 @@ _OF_EXTENSION = list(ARGUMENTS)[:10]
 _NEWER = {
     "exifnorm_jpeg_xmp",
     "exifnorm_jpeg_same_blocks",
+    "exifnorm_xmp_unsorted",
 }  # calls that a library may lack which is older than this package: all others work
 
 
@@ -313,6 +315,11 @@ class ByCtypes:
         """A form, which repeats each namespace, has seldom more than twice as many bytes as its packet. A second call reads the packet again."""
         return self._text(self._library.exifnorm_xmp_normalise, packet, min(2 * len(packet) + 1024, LIMIT))
 
+    def xmp_unsorted(self, packet: bytes) -> Text:
+        if not hasattr(self._library, "exifnorm_xmp_unsorted"):
+            raise LibraryMissing("the library has no exifnorm_xmp_unsorted: it is older than this package")
+        return self._text(self._library.exifnorm_xmp_unsorted, packet, min(2 * len(packet) + 1024, LIMIT))
+
     def _rows(self, call: Callable[..., int], octets: bytes, most: int, kind: Type[ctypes.Structure]) -> Rows:
         """The rows of a call, which is made again if they are more than a few, and not more than so many."""
         try:
@@ -367,7 +374,8 @@ class Library:
         self.jpeg_parts, self.photoshop_resources, self.jpeg_same, self.jpeg_same_blocks, self.jpeg_blocks = jpegs
         if not hasattr(self._library, "exifnorm_jpeg_same_blocks"):
             self.jpeg_same = _without_xmp
-        self.jpeg_unread, self.jpeg_xmp, self.xmp_normalise = calls.jpeg_unread, calls.jpeg_xmp, calls.xmp_normalise  # which take longer
+        self.jpeg_unread, self.jpeg_xmp = calls.jpeg_unread, calls.jpeg_xmp  # these take longer
+        self.xmp_normalise, self.xmp_unsorted = calls.xmp_normalise, calls.xmp_unsorted
 
     def cause_name(self, cause: int) -> str:
         """The name of a cause."""

@@ -29,7 +29,7 @@ class XmpResource(NamedTuple):
 class XmpContainer(NamedTuple):
     """A container of XMP.
 
-    - `kind`: "Bag", whose members have no order and are sorted; "Seq", whose members have one; "Alt", whose members are alternatives, as a text
+    - `kind`: "Bag", whose members have no order; "Seq", whose members have one; "Alt", whose members are alternatives, as a text
       in several languages
     - `members`: its values
     """

@@ -2,11 +2,11 @@
 
 from __future__ import annotations
 
-from typing import List
+from typing import Callable, List
 
 from ._calls import Block, _copied
 from ._errors import XmpRefused
-from ._library import Status, library
+from ._library import Status, Text, library
 from ._properties import XmpProperty, properties_of_form
 
 
@@ -28,8 +28,13 @@ def xmp_normal(packet: Block) -> bytes:
     >>> xmp_normal(first)[131:-40]
     b'<p:a xmlns:p="http://d/">Vase</p:a>'
     """
+    return _form_by(library().xmp_normalise, packet)
+
+
+def _form_by(call: Callable[[bytes], Text], packet: Block) -> bytes:
+    """The form that a call of the library writes for a packet."""
     octets = packet if type(packet) is bytes else _copied(packet)
-    form = library().xmp_normalise(octets)
+    form = call(octets)
     if not isinstance(form, tuple):
         return form
     status, cause, place = form
@@ -40,9 +45,12 @@ def xmp_normal(packet: Block) -> bytes:
     raise AssertionError(f"libexifnorm answered the status {status}")
 
 
-def xmp_properties(packet: Block) -> List[XmpProperty]:
+def xmp_properties(packet: Block, *, sort: bool = True) -> List[XmpProperty]:
     """The packet's properties, in the order of its normal form. Two packets have equal properties exactly if their forms are equal. So the
     members of a Bag, which have no order, are sorted; those of a Seq and an Alt are in their order.
+
+    `sort=False` leaves the members of a Bag in the packet's order, in which programs show keywords. Don't compare these properties: two
+    packets that mean the same may have their members in different orders.
 
     Raises what `xmp_normal` raises. What the properties are is tested, and not proved.
 
@@ -52,5 +60,8 @@ def xmp_properties(packet: Block) -> List[XmpProperty]:
     ...     print(namespace, name, value)
     http://d/ a XmpText(text='Vase', language='')
     http://d/ b XmpContainer(kind='Bag', members=(XmpText(text='bowl', language=''), XmpText(text='urn', language='')))
+    >>> [member.text for member in xmp_properties(packet, sort=False)[1].value.members]
+    ['urn', 'bowl']
     """
-    return properties_of_form(xmp_normal(packet))
+    calls = library()
+    return properties_of_form(_form_by(calls.xmp_normalise if sort else calls.xmp_unsorted, packet))

@@ -86,7 +86,7 @@ class Watch:
     """The counts of watched.c."""
 
     CALLS = ("check", "normalise", "compare", "show", "captions", "cause_name", "version", "jpeg_parts", "photoshop_resources", "jpeg_same")
-    CALLS += ("jpeg_blocks", "jpeg_unread", "xmp_check", "xmp_normalise", "jpeg_xmp", "jpeg_same_blocks")
+    CALLS += ("jpeg_blocks", "jpeg_unread", "xmp_check", "xmp_normalise", "jpeg_xmp", "jpeg_same_blocks", "xmp_unsorted")
 
     def __init__(self, path):
         self.library = ctypes.CDLL(str(path))

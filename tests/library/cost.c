@@ -1,5 +1,5 @@
 /* What one call of the library costs: cost CALL FILE, where CALL is check, normalise, show, captions, compare (with itself), jpeg_parts,
- * photoshop_resources, jpeg_same or jpeg_same_blocks (with itself), jpeg_unread, jpeg_xmp, xmp_check or xmp_normalise. It prints the most bytes that the call has allocated at once, the number of its allocations, how many of these made
+ * photoshop_resources, jpeg_same or jpeg_same_blocks (with itself), jpeg_unread, jpeg_xmp, xmp_check, xmp_normalise or xmp_unsorted. It prints the most bytes that the call has allocated at once, the number of its allocations, how many of these made
  * something longer, the bytes that they asked for, and the length of the output. test_costs.py runs it, also under callgrind, which counts the
  * instructions of the call.
  *
@@ -66,6 +66,8 @@ static uint32_t called(const char *name, struct block block, void *out, size_t r
         return exifnorm_xmp_check(block.bytes, block.length, &fault);
     if (!strcmp(name, "xmp_normalise"))
         return exifnorm_xmp_normalise(block.bytes, block.length, out, room, written, &fault);
+    if (!strcmp(name, "xmp_unsorted"))
+        return exifnorm_xmp_unsorted(block.bytes, block.length, out, room, written, &fault);
     exit(2);
 }
 

@@ -144,6 +144,9 @@ static void try_no_packet(const unsigned char *none, unsigned char *out) {
     fault.cause = UNSET;
     REQUIRE(exifnorm_xmp_normalise((const unsigned char *)EMPTY_PACKET, sizeof EMPTY_PACKET - 1, out, 0, &written, &fault) == EXIFNORM_TOO_LITTLE_ROOM);
     REQUIRE(written == sizeof EMPTY_FORM - 1 && fault.cause == UNSET);
+    written = UNSET;
+    REQUIRE(exifnorm_xmp_unsorted(none, 0, out, 0, &written, &fault) == EXIFNORM_REFUSED);
+    REQUIRE(is_fault(fault, EXIFNORM_XMP_NO_ROOT, 0) && written == UNSET);
 }
 
 /* With pointers to bytes that may not be read or written, and with NULL. */

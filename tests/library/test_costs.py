@@ -255,7 +255,7 @@ PACKETS = {
 @pytest.mark.parametrize("octets, most", PACKETS.values(), ids=PACKETS)
 def test_memory_of_packets(costs, octets, most):
     """In proportion to the packet."""
-    for call in ("xmp_check", "xmp_normalise"):
+    for call in ("xmp_check", "xmp_normalise", "xmp_unsorted"):
         assert costs.counts(call, octets).peak <= most * len(octets), call
 
 

@@ -36,6 +36,7 @@ CALLS = (
     "jpeg_xmp",
     "xmp_check",
     "xmp_normalise",
+    "xmp_unsorted",
 )
 pytestmark = pytest.mark.xdist_group("fuzz targets")  # they are built once
 

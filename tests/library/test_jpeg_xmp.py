@@ -248,7 +248,8 @@ def test_one_call_of_the_library(watch):
         assert watch.of(exifnorm.jpeg_xmp, octets) == {"jpeg_xmp": 1}
 
 
-def test_an_older_library_has_all_other_calls(shared, monkeypatch):
+@pytest.mark.parametrize("missing, octets", [("jpeg_xmp", picture(ONLY)), ("xmp_unsorted", VASE)], ids=["jpeg_xmp", "xmp_unsorted"])
+def test_an_older_library_has_all_other_calls(missing, octets, shared, monkeypatch):
     """One without this call is loaded, and this call alone is missing."""
 
     class Older:
@@ -256,7 +257,7 @@ def test_an_older_library_has_all_other_calls(shared, monkeypatch):
             self._library = library
 
         def __getattr__(self, name):
-            if name == "exifnorm_jpeg_xmp":
+            if name == f"exifnorm_{missing}":
                 raise AttributeError(name)
             return getattr(self._library, name)
 
@@ -264,5 +265,5 @@ def test_an_older_library_has_all_other_calls(shared, monkeypatch):
     monkeypatch.setattr(_library.ctypes, "CDLL", lambda place: Older(plain(place)))
     older = _library.Library(str(shared))
     assert older.version() and older.jpeg_unread(picture()) == ()
-    with pytest.raises(exifnorm.LibraryMissing, match="exifnorm_jpeg_xmp"):
-        older.jpeg_xmp(picture(ONLY))
+    with pytest.raises(exifnorm.LibraryMissing, match=f"exifnorm_{missing}"):
+        getattr(older, missing)(octets)

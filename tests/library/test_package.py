@@ -6,6 +6,7 @@ The blocks were written by other tools, or come from meanings.py; reading.py jud
 import array
 import ctypes
 import doctest
+import functools
 import gc
 import hashlib
 import importlib
@@ -131,6 +132,8 @@ def test_properties_of_a_packet(written):
         found = exifnorm.xmp_properties(it)
         assert found == [("http://d/", name, value), ("http://e/", "ef", TEXT("last"))] and type(found) is list
         assert type(found[0].value) is type(value), "two kinds of value are equal as tuples"
+    (unsorted, _) = exifnorm.xmp_properties(packet, sort=False)
+    assert unsorted.value == (exifnorm.XmpContainer("Bag", MEMBERS) if "<r:li>b</r:li><r:li>a</r:li></r:Bag>" in written else value)
     assert exifnorm.xmp_properties(f"<r:RDF {spaces}/>".encode()) == []
 
 
@@ -509,6 +512,7 @@ BY_CALL = {
     "xmp_normal of a form that is longer than expected": ({"xmp_normalise": 2}, exifnorm.xmp_normal, LONG_NAMES),
     "xmp_normal of a refused packet": ({"xmp_normalise": 1, "cause_name": 1}, exifnorm.xmp_normal, b"<a/>"),
     "xmp_properties": ({"xmp_normalise": 1}, exifnorm.xmp_properties, small_packets()[0]),
+    "xmp_properties that are not sorted": ({"xmp_unsorted": 1}, functools.partial(exifnorm.xmp_properties, sort=False), small_packets()[0]),
     "version": ({"version": 1}, exifnorm.version),
 }
 

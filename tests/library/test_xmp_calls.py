@@ -29,14 +29,20 @@ CASES = {
     "another end tag": ("<d:a></d:b>", None, Status.REFUSED),
     "a rare form": ("<d:a><d:b/></d:a>", None, Status.RARE),
 }
+# Of exifnorm_xmp_unsorted: a bag has its members in the order of the packet.
+UNSORTED = {
+    **CASES,
+    "a bag": (CASES["a bag"][0], PROPERTY.format("b", "><rdf:Bag><rdf:li>urn</rdf:li><rdf:li>bowl</rdf:li></rdf:Bag>"), Status.DONE),
+}
 
 
 @pytest.mark.parametrize("case", CASES)
-def test_each_length_and_each_failed_allocation(case, folder, shared):
+@pytest.mark.parametrize("call, cases", [("xmp_normalise", CASES), ("xmp_unsorted", UNSORTED)], ids=["normalise", "unsorted"])
+def test_each_length_and_each_failed_allocation(call, cases, case, folder, shared):
     """xmp.c prints a line for each failure, and the number of its checks at the end."""
-    properties, form, status = CASES[case]
+    properties, form, status = cases[case]
     packet, whole, program = folder / "packet", folder / "form", folder / "xmp"
     packet.write_text(f"<r:RDF {SPACES}><r:Description r:about=''>{properties}</r:Description></r:RDF>", encoding="ascii")
     whole.write_text("" if form is None else HEAD + form + TAIL, encoding="ascii")
     run("cc", "-std=c99", "-O1", *STRICT, HERE / "xmp.c", "-o", program, shared, f"-Wl,-rpath,{shared.parent}")
-    assert re.fullmatch(r"[1-9]\d* checks\n", run(program, packet, whole, int(status)))
+    assert re.fullmatch(r"[1-9]\d* checks\n", run(program, call, packet, whole, int(status)))

@@ -15,8 +15,8 @@
 #include <time.h>
 
 /* How often each call was made: check, normalise, compare, show, captions, cause_name, version, jpeg_parts, photoshop_resources,
- * jpeg_same, jpeg_blocks, jpeg_unread, xmp_check, xmp_normalise, jpeg_xmp, jpeg_same_blocks. */
-unsigned long watched_calls[16];
+ * jpeg_same, jpeg_blocks, jpeg_unread, xmp_check, xmp_normalise, jpeg_xmp, jpeg_same_blocks, xmp_unsorted. */
+unsigned long watched_calls[17];
 /* The length of the output of the calls for texts: of the last one, and of all together. */
 unsigned long watched_room, watched_rooms;
 /* The most threads that were inside such a call at once. */
@@ -107,6 +107,7 @@ TEXT(exifnorm_normalise, 1)
 TEXT(exifnorm_show, 3)
 TEXT(exifnorm_captions, 4)
 TEXT(exifnorm_xmp_normalise, 13)
+TEXT(exifnorm_xmp_unsorted, 16)
 
 uint32_t exifnorm_xmp_check(const unsigned char *packet, size_t length, struct exifnorm_fault *fault) {
     uint32_t (*call)(const unsigned char *, size_t, struct exifnorm_fault *);

@@ -1,7 +1,8 @@
 /* Calls the exports for packets of XMP: with an output of each length, and with the first allocation failing, then the second, and so on
  * until none fails. Each printed line is a failure, except the last one, which has the number of checks.
  *
- *   xmp PACKET FORM STATUS     files, and the status that is expected if no allocation fails; without a form, its file is empty
+ *   xmp CALL PACKET FORM STATUS     xmp_normalise or xmp_unsorted, files, and the status that is expected if no allocation fails; without a form, its
+ *                                   file is empty
  */
 #include <exifnorm.h>
 #include <stdio.h>
@@ -48,6 +49,7 @@ void *realloc(void *old, size_t size) {
     } while (0)
 
 static const struct exifnorm_fault NO_FAULT = {0xABCDEF01, 0x10FEDCBA};
+static uint32_t (*call)(const unsigned char *, size_t, unsigned char *, size_t, size_t *, struct exifnorm_fault *);
 static unsigned char packet[MOST], form[MOST], out[MOST];
 static size_t packet_length, form_length;
 
@@ -80,7 +82,7 @@ static void try_room(size_t room, uint32_t expected) {
     uint32_t status;
     memset(out, FILLER, sizeof out);
     has_failed = 0;
-    status = exifnorm_xmp_normalise(packet, packet_length, out, room, &written, &fault);
+    status = call(packet, packet_length, out, room, &written, &fault);
     left = 0;
     expected = has_failed ? EXIFNORM_NO_MEMORY : expected == EXIFNORM_DONE && room < form_length ? EXIFNORM_TOO_LITTLE_ROOM : expected;
     REQUIRE(status == expected);
@@ -103,11 +105,12 @@ static void try_check(uint32_t expected) {
 int main(int count, char **words) {
     uint32_t expected;
     long number = 0;
-    if (count != 4)
+    if (count != 5)
         return 2;
-    packet_length = read_file(words[1], packet);
-    form_length = read_file(words[2], form);
-    expected = (uint32_t)atoi(words[3]);
+    call = strcmp(words[1], "xmp_unsorted") == 0 ? exifnorm_xmp_unsorted : exifnorm_xmp_normalise;
+    packet_length = read_file(words[2], packet);
+    form_length = read_file(words[3], form);
+    expected = (uint32_t)atoi(words[4]);
     for (size_t room = 0; room <= form_length + 2; room++)
         try_room(room, expected);
     do {

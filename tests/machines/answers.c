@@ -68,6 +68,7 @@ static void print_packet(octets packet) {
     printf("packet %u %u %u\n", (unsigned)status, (unsigned)fault.cause, (unsigned)fault.place);
     print_written("packet's form", exifnorm_xmp_normalise, packet, room);
     print_written("packet's form into none", exifnorm_xmp_normalise, packet, 0);
+    print_written("packet's form with bags as they are", exifnorm_xmp_unsorted, packet, room);
 }
 
 static void print_parts(octets picture, size_t room) {

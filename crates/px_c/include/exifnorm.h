@@ -441,6 +441,19 @@ uint32_t exifnorm_xmp_normalise(const unsigned char *packet, size_t packet_lengt
                                 size_t *written,                                   /* is set to its length */
                                 struct exifnorm_fault *fault);                     /* is set to the cause of a refusal */
 
+/* Writes the form of a packet of XMP for showing it: the form that exifnorm_xmp_normalise writes, except that the members of each rdf:Bag are
+ * in the order of the packet, which programs show, as of keywords. To compare packets, use exifnorm_xmp_normalise: two packets that mean the
+ * same may have their members in different orders. Statuses and changes are as for exifnorm_xmp_normalise.
+ *
+ * It is proved that the call ends and is safe for any bytes, that DONE and TOO_LITTLE_ROOM come with a form of at most EXIFNORM_LIMIT bytes
+ * and only for a document of XML, and that it returns NO_MEMORY exactly if an allocation failed. That the form has the properties of the
+ * packet, and that it is refused with the fault of exifnorm_xmp_normalise, is tested and not proved.
+ */
+uint32_t exifnorm_xmp_unsorted(const unsigned char *packet, size_t packet_length, /* the packet */
+                               unsigned char *out, size_t out_length,             /* receives the form */
+                               size_t *written,                                   /* is set to its length */
+                               struct exifnorm_fault *fault);                     /* is set to the cause of a refusal */
+
 /* Writes the name of a cause, as "Overlap", "JpegCut" or "XmpNoRdf", and a zero byte to the beginning of out. A number that is no cause has the
  * empty name.
  * EXIFNORM_NAME_ROOM bytes are always enough.

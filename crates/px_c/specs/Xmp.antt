@@ -11,6 +11,8 @@ use Rattle.px_xmp_forms.specs.declared.faults.Cause.TheVariants.{RareEncoding, R
 use Rattle.px_xmp_forms.specs.declared.faults.Cause.TheVariants.{RareElement, RareAttribute, RareText, RareLanguage}
 use Rattle.px_xmp_forms.specs.declared.faults.Cause.TheVariants.{RareResource, RareRepeated, RareLength, RareDepth}
 use Rattle.px_xmp_forms.specs.Causes.{is_rare}
+use Rattle.px_xmp_forms.specs.Forms.{IsNormal}
+use Rattle.px_xmp.specs.Packet.{IsPacket}
 use Rattle.px_xmp.specs.Laws.{IsFormOfPacket, IsReadableForm, HasNoMeaning}
 use Rattle.px_c.specs.declared.faults.ExifnormFault.{ExifnormFault}
 
@@ -45,6 +47,10 @@ xmp_cause RareDepth = 262
 abbrev pub PutsXmp : List ℕ → Given → List ℕ → List ℕ → Type 0
 PutsXmp packet given old new =
     (form : List ℕ) × IsFormOfPacket packet form × IsReadableForm form × (length form ≤ limit) × IsPut given form old new
+
+-- a normal packet is put into the caller's buffer for a packet, or the buffer is too small
+abbrev pub PutsUnsorted : List ℕ → Given → List ℕ → List ℕ → Type 0
+PutsUnsorted packet given old new = IsPacket packet × ((form : List ℕ) × IsNormal form × (length form ≤ limit) × IsPut given form old new)
 
 -- a packet is wrong: a number of such a cause, and an offset
 abbrev pub RefusesXmp : ExifnormFault → Type 0

@@ -28,7 +28,7 @@ ghost use Rattle.px_c.specs.Outcomes.{Refuses, PutsText, PutsTextOf, IsOfKind, A
 ghost use Rattle.px_c.specs.Packets.{ShowsPacket, LeavesRest, RefusesHead};
 ghost use Rattle.px_c.specs.Pictures.{ArePicturesCompared, LeavesUnread, RefusesPicture};
 ghost use Rattle.px_c.specs.Unread.{ShowsUnread, RefusesJoining};
-ghost use Rattle.px_c.specs.Xmp.{PutsXmp, RefusesPacket, LeavesXmp};
+ghost use Rattle.px_c.specs.Xmp.{PutsXmp, PutsUnsorted, RefusesXmp, RefusesPacket, LeavesXmp};
 ghost use Rattle.px_c.specs.Numbers as status;
 
 mod blocks;
@@ -63,7 +63,7 @@ use px_jpeg::{find_front, find_resources, read_head};
 use statuses::{DONE, NO_MEMORY, REFUSED, SECOND_REFUSED, TOO_LITTLE_ROOM, TOO_LONG};
 use std::alloc::Global;
 pub use unread::ExifnormUnreadPart;
-use xmp::{xmp_check_in, xmp_normalise_in};
+use xmp::{xmp_check_in, xmp_normalise_in, xmp_unsorted_in};
 
 /// Stores the kind of the block in a file in `kind`: 1 for Exif, 2 for IIM. It keeps nothing of the block.
 /// Allocates a bit for each byte of an Exif block, and the fields of its thumbnail directory.
@@ -454,6 +454,33 @@ pub extern "C" fn exifnorm_xmp_normalise(
     ensures fault { result ≢ status.refused → result ≢ status.rare → fault.new ≡ fault.old }
 {
     xmp_normalise_in(&mut Memory::new(alloc), packet, out, written, fault)
+}
+
+/// Writes the form of a packet of XMP for showing it to the start of `out`, and its length to `written`: the normal form, except
+/// that the members of each bag are in the packet's order. Two packets that mean the same may differ in it. Allocates as
+/// `exifnorm_xmp_normalise` does.
+///
+/// Statuses and changes are as for `exifnorm_xmp_normalise`. That the form is that of the packet, and that a refused packet has no
+/// meaning, is tested, and no contract states it.
+#[unsafe(no_mangle)]
+pub extern "C" fn exifnorm_xmp_unsorted(
+    alloc: Global,
+    packet: &[u8],
+    out: &mut [u8],
+    written: &mut usize,
+    fault: &mut ExifnormFault,
+) -> u32
+    ensures known { (result ≡ status.done) ⊎ (result ≡ status.refused) ⊎ (result ≡ status.rare) ⊎ (result ≡ status.no_memory)
+        ⊎ (result ≡ status.too_little_room) }
+    ensures done { result ≡ status.done → PutsUnsorted packet.now (Whole written.new) out.old out.new }
+    ensures refused { result ≡ status.refused → RefusesXmp fault.new }
+    ensures rare { result ≡ status.rare → LeavesXmp fault.new }
+    ensures short { result ≡ status.too_little_room → PutsUnsorted packet.now (Needs written.new) out.old out.new }
+    ensures out { result ≢ status.done → out.new ≡ out.old }
+    ensures written { result ≢ status.done → result ≢ status.too_little_room → written.new ≡ written.old }
+    ensures fault { result ≢ status.refused → result ≢ status.rare → fault.new ≡ fault.old }
+{
+    xmp_unsorted_in(&mut Memory::new(alloc), packet, out, written, fault)
 }
 
 /// Writes the name of the cause with this number, of a block, of a JPEG's head or of a packet of XMP, and a zero byte to the

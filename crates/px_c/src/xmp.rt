@@ -4,7 +4,7 @@ ghost use Rattle.px_bytes.specs.Parts.{limit};
 ghost use Rattle.px_engine.specs.declared.normal.Given.TheVariants.{Whole, Needs};
 ghost use Rattle.px_xmp_forms.specs.Causes.{is_rare};
 ghost use Rattle.px_c.specs.Numbers as status;
-ghost use Rattle.px_c.specs.Xmp.{xmp_cause, PutsXmp, RefusesXmp, RefusesPacket, LeavesXmp};
+ghost use Rattle.px_c.specs.Xmp.{xmp_cause, PutsXmp, PutsUnsorted, RefusesXmp, RefusesPacket, LeavesXmp};
 
 use crate::faults::ExifnormFault;
 use crate::giving::give;
@@ -98,6 +98,33 @@ pub(crate) fn xmp_normalise_in(
     ensures memory { result ≢ status.no_memory → memory.new.failed_allocations ≡ memory.old.failed_allocations }
 {
     match px_xmp::normal_form_in(memory, packet) {
+        Ok(form) => give(form.as_slice(), out, written),
+        Err(Refusal::Content { cause, place }) => refuse(cause, place, fault),
+        Err(Refusal::OutOfMemory) => NO_MEMORY,
+    }
+}
+
+// Writes the form of a packet whose bags are in the packet's order to the start of `out`.
+pub(crate) fn xmp_unsorted_in(
+    memory: &mut Memory,
+    packet: &[u8],
+    out: &mut [u8],
+    written: &mut usize,
+    fault: &mut ExifnormFault,
+) -> u32
+    ensures known { (result ≡ status.done) ⊎ (result ≡ status.refused) ⊎ (result ≡ status.rare) ⊎ (result ≡ status.no_memory)
+        ⊎ (result ≡ status.too_little_room) }
+    ensures done { result ≡ status.done → PutsUnsorted packet.now (Whole written.new) out.old out.new }
+    ensures refused { result ≡ status.refused → RefusesXmp fault.new }
+    ensures rare { result ≡ status.rare → LeavesXmp fault.new }
+    ensures short { result ≡ status.too_little_room → PutsUnsorted packet.now (Needs written.new) out.old out.new }
+    ensures out { result ≢ status.done → out.new ≡ out.old }
+    ensures written { result ≢ status.done → result ≢ status.too_little_room → written.new ≡ written.old }
+    ensures fault { result ≢ status.refused → result ≢ status.rare → fault.new ≡ fault.old }
+    ensures lacking { result ≡ status.no_memory → memory.new.failed_allocations ≡ memory.old.failed_allocations + 1 }
+    ensures memory { result ≢ status.no_memory → memory.new.failed_allocations ≡ memory.old.failed_allocations }
+{
+    match px_xmp::unsorted_form_in(memory, packet) {
         Ok(form) => give(form.as_slice(), out, written),
         Err(Refusal::Content { cause, place }) => refuse(cause, place, fault),
         Err(Refusal::OutOfMemory) => NO_MEMORY,

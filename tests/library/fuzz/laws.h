@@ -72,6 +72,7 @@
     LAW(PACKET_PROPERTIES, "exifnorm_fields.h finds a property for each start tag of a packet's form, and passes all of it") \
     LAW(PACKET_CHANGES, "what is around a packet, comments, white space, x:xmpmeta and another description change no form") \
     LAW(PACKET_ORDER, "the properties of two packets have one form in both orders, or stand twice in both") \
+    LAW(PACKET_AS_WRITTEN, "xmp_unsorted writes as much as xmp_normalise, of the same normal form, and has the same fault otherwise") \
     LAW(PACKET_MEMORY, "a failed allocation is NO_MEMORY for a packet, and sets nothing")
 
 #define LAW_NUMBER(name, text) LAW_##name,

@@ -54,6 +54,12 @@ static struct answer normalise(const unsigned char *packet, size_t length, size_
     return it;
 }
 
+static struct answer as_written(const unsigned char *packet, size_t length, size_t room) {
+    struct answer it = {0, UNSET, memset(out_end - room, FILLER, room), NO_FAULT};
+    it.status = exifnorm_xmp_unsorted(packet, length, it.bytes, room, &it.written, &it.fault);
+    return it;
+}
+
 /* ---- answers */
 
 /* A packet that is wrong has another cause than one that is left to other readers. */
@@ -135,6 +141,14 @@ static size_t laid_changed(const unsigned char *packet, size_t length, const uns
     }
 }
 
+/* The form with the members of bags as they are in the packet. */
+static void judge_as_written(const unsigned char *packet, size_t length, const unsigned char *form, size_t form_length) {
+    struct answer it = as_written(packet, length, form_length);
+    int is_made = it.status == EXIFNORM_DONE && it.written == form_length && is_fault(it.fault, NO_FAULT);
+    if (holds(LAW_PACKET_AS_WRITTEN, is_made))
+        holds(LAW_PACKET_AS_WRITTEN, has_form(LAID({it.bytes, form_length}), form, form_length));
+}
+
 /* From packet to packet another change. */
 static void judge_change(const unsigned char *packet, size_t length, const unsigned char *form, size_t form_length) {
     size_t changed = laid_changed(packet, length, form, form_length, seen.looked[LAW_PACKET_CHANGES] % 5);
@@ -201,6 +215,7 @@ static void judge_form(const unsigned char *packet, size_t length, size_t form_l
         return;
     holds(LAW_PACKET_FORM, has_form(LAID({form, form_length}), form, form_length));
     holds(LAW_PACKET_PROPERTIES, has_properties(form_length, count_of("<p:", form, form_length) + count_of("<rdf:li", form, form_length)));
+    judge_as_written(packet, length, form, form_length);
     judge_change(packet, length, form, form_length);
     if (seen.looked[LAW_PACKET_FORM] % 4 == 0)
         judge_order();
@@ -233,6 +248,7 @@ uint32_t judge_packet(const unsigned char *block, size_t length) {
     } else {
         holds(LAW_PACKET, is_cause_of(checked.fault.cause, checked.status) && checked.fault.place <= length);
         holds(LAW_PACKET_CHECK, is_refusal(normalise(block, length, 64), checked, 64));
+        holds(LAW_PACKET_AS_WRITTEN, is_refusal(as_written(block, length, 64), checked, 64));
     }
     judge_memory(block, length, first, 0);
     return checked.status;

@@ -6,7 +6,7 @@
 #include <stdlib.h>
 #include <string.h>
 
-enum { THREADS = 3, ROOM = 1 << 14, CALLS = 6 };
+enum { THREADS = 3, ROOM = 1 << 14, CALLS = 7 };
 
 typedef uint32_t Call(const unsigned char *, size_t, unsigned char *, size_t, size_t *, struct exifnorm_fault *);
 
@@ -22,12 +22,12 @@ struct work {
 static struct work works[THREADS];
 
 static void *run(void *given) {
-    static Call *const calls[] = {exifnorm_normalise, exifnorm_show, exifnorm_captions, exifnorm_xmp_normalise};
+    static Call *const calls[] = {exifnorm_normalise, exifnorm_show, exifnorm_captions, exifnorm_xmp_normalise, exifnorm_xmp_unsorted};
     struct work *it = given;
-    for (int i = 0; i < 4; i++)
+    for (int i = 0; i < 5; i++)
         it->status[i] = calls[i](it->block, it->length, it->out[i], ROOM, &it->written[i], &it->fault[i]);
-    it->status[4] = exifnorm_check(it->block, it->length, &it->number[4], &it->fault[4]);
-    it->status[5] = exifnorm_compare(it->block, it->length, it->block, it->length / 2, &it->number[5], &it->fault[5]);
+    it->status[5] = exifnorm_check(it->block, it->length, &it->number[5], &it->fault[5]);
+    it->status[6] = exifnorm_compare(it->block, it->length, it->block, it->length / 2, &it->number[6], &it->fault[6]);
     return NULL;
 }
 

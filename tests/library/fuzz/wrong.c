@@ -143,6 +143,9 @@
     MISTAKE(PACKET_WITH_COMMENT, "a packet with a comment is refused") \
     MISTAKE(PACKET_BARE, "a packet without x:xmpmeta is refused") \
     MISTAKE(PACKET_UNSORTED, "the form of a packet that looks like a form is the packet") \
+    MISTAKE(UNSORTED_REFUSES_RARE, "xmp_unsorted calls a packet wrong that is left to other readers") \
+    MISTAKE(UNSORTED_LENGTH, "xmp_unsorted returns the length of the packet") \
+    MISTAKE(UNSORTED_CUT, "xmp_unsorted writes a space in place of the last byte of a form") \
     MISTAKE(PACKET_LEAKS, "every tenth xmp_check keeps its memory") \
     MISTAKE(PACKET_TAKES_MUCH, "xmp_check allocates two megabytes") \
     MISTAKE(PACKET_IGNORES_NULL, "a failed allocation is returned as a refusal of the packet") \
@@ -176,7 +179,7 @@ static Unread *right_unread;
 static Xmp *right_xmp;
 static Same *right_same, *right_same_blocks;
 static Packet *right_xmp_check;
-static Text *right_xmp_normalise;
+static Text *right_xmp_normalise, *right_xmp_unsorted;
 static int wrong;
 static const char *alone;
 static unsigned long calls;
@@ -192,7 +195,7 @@ Unread its_jpeg_unread;
 Xmp its_jpeg_xmp;
 Same its_jpeg_same, its_jpeg_same_blocks;
 Packet its_xmp_check;
-Text its_xmp_normalise;
+Text its_xmp_normalise, its_xmp_unsorted;
 #define ITS(type, name) its_##name
 #define FIND_RIGHT()
 #else
@@ -223,6 +226,7 @@ __attribute__((constructor)) static void open_right(void) {
     right_same_blocks = ITS(Same, jpeg_same_blocks);
     right_xmp_check = ITS(Packet, xmp_check);
     right_xmp_normalise = ITS(Text, xmp_normalise);
+    right_xmp_unsorted = ITS(Text, xmp_unsorted);
     while (wrong < COUNT && strcmp(names[wrong], name) != 0)
         wrong++;
     if (wrong == COUNT)
@@ -813,5 +817,20 @@ uint32_t exifnorm_xmp_normalise(const unsigned char *packet, size_t length, unsi
     }
     if ((status == EXIFNORM_NO_MEMORY && wrong == PACKET_SETS_WITHOUT_MEMORY) || (status != EXIFNORM_NO_MEMORY && wrong == PACKET_WRITES_REFUSED))
         *written = 0;
+    return status;
+}
+
+uint32_t exifnorm_xmp_unsorted(const unsigned char *packet, size_t length, unsigned char *out, size_t room, size_t *written, struct exifnorm_fault *fault) {
+    if (wrong == NONE_OF_THEM_ANSWERS && !is_right("xmp_unsorted"))
+        return EXIFNORM_DONE;
+    uint32_t status = right_xmp_unsorted(packet, length, out, room, written, fault);
+    if (is_right("xmp_unsorted"))
+        return status;
+    if (wrong == UNSORTED_REFUSES_RARE && status == EXIFNORM_RARE)
+        return EXIFNORM_REFUSED;
+    if (wrong == UNSORTED_LENGTH && status == EXIFNORM_DONE)
+        *written = length;
+    if (wrong == UNSORTED_CUT && status == EXIFNORM_DONE)
+        out[*written - 1] = ' ';
     return status;
 }
