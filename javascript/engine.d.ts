@@ -24,6 +24,7 @@ export class Engine {
   photoshopResources(bytes: Uint8Array, most?: number): Resource[];
   xmpCheck(packet: Uint8Array): void;
   xmpNormalise(packet: Uint8Array): Uint8Array;
+  xmpUnsorted(packet: Uint8Array): Uint8Array;
   version(): string;
 }
 

@@ -303,8 +303,16 @@ export class Engine {
   }
 
   xmpNormalise(packet) {
+    return this.#form("exifnorm_xmp_normalise", packet);
+  }
+
+  xmpUnsorted(packet) {
+    return this.#form("exifnorm_xmp_unsorted", packet);
+  }
+
+  #form(name, packet) {
     const room = Math.min(packet.length, LIMIT) + 1024, read = (start, size) => this.#slice(start, size);
-    return this.#written("exifnorm_xmp_normalise", packet, room, read, (status) => this.#requireForm(status));
+    return this.#written(name, packet, room, read, (status) => this.#requireForm(status));
   }
 
   // ---- pictures

@@ -51,7 +51,7 @@ export interface XmpResource {
   uri: string;
 }
 
-/** A list of XMP. The members of a "Bag" have no order: they stand in the order of their bytes. */
+/** A list of XMP. The members of a "Bag" have no order: a normal form has them in the order of their bytes. */
 export interface XmpList {
   kind: "Bag" | "Seq" | "Alt";
   members: XmpValue[];
@@ -199,7 +199,13 @@ export function xmpCheck(packet: Uint8Array): void;
 export function xmpNormalise(packet: Uint8Array): Uint8Array;
 
 /**
- * The properties of a packet of XMP, from its normal form. Throws SyntaxError for bytes that aren't laid out as one. Bytes without that error
+ * The same form, except that the members of each "Bag" are in the packet's order, in which programs show keywords. Don't compare it: two
+ * packets that mean the same may have their members in different orders. Throws XmpRefused, OutOfMemory.
+ */
+export function xmpUnsorted(packet: Uint8Array): Uint8Array;
+
+/**
+ * The properties of a packet of XMP, from its normal form or that of xmpUnsorted. Throws SyntaxError for bytes that aren't laid out as one. Bytes without that error
  * may still be no normal form: with properties in another order, for instance.
  */
 export function xmpProperties(form: Uint8Array): XmpProperty[];

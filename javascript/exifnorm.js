@@ -18,5 +18,6 @@ export const jpegSameBlocks = (first, second) => engine.jpegSameBlocks(first, se
 export const jpegXmp = (picture) => engine.jpegXmp(picture);
 export const xmpCheck = (packet) => engine.xmpCheck(packet);
 export const xmpNormalise = (packet) => engine.xmpNormalise(packet);
+export const xmpUnsorted = (packet) => engine.xmpUnsorted(packet);
 export const version = () => engine.version();
 export { HeadRefused, LIMIT, NormalTooLong, NotRead, OutOfMemory, PictureRefused, Refused, TooMany, XmpNotRead, XmpRefused, xmpProperties } from "./engine.js";

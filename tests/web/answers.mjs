@@ -27,7 +27,7 @@ async function answer(name, blocks) {
     if (error instanceof exifnorm.XmpRefused) return [error.name, error.message, error.isRare];
     return [error.name, error.message, ...(isHead ? [error.parts.map(ofPart), await Promise.all(error.blocks.map(ofBlock))] : [])];
   }
-  if (["normalise", "show", "captions", "xmpNormalise"].includes(name)) return digest(value);
+  if (["normalise", "show", "captions", "xmpNormalise", "xmpUnsorted"].includes(name)) return digest(value);
   if (name === "jpegXmp" && value) return digest(value);
   if (name === "jpegBlocks") return Promise.all(value.map(ofBlock));
   if (name === "jpegParts") return value.map(ofPart);

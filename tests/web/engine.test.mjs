@@ -74,6 +74,9 @@ test("the properties of a form", () => {
     { namespace: "http://d/", name: "b", value: { kind: "Alt", members } },
   ]);
   assert.deepEqual(exifnorm.xmpProperties(exifnorm.xmpNormalise(packet(""))), []);
+  const bag = packet("<d:a><r:Bag><r:li>urn</r:li><r:li>bowl</r:li></r:Bag></d:a>");
+  const keywords = (form) => exifnorm.xmpProperties(form)[0].value.members.map((member) => member.text);
+  assert.deepEqual([keywords(exifnorm.xmpNormalise(bag)), keywords(exifnorm.xmpUnsorted(bag))], [["bowl", "urn"], ["urn", "bowl"]]);
 });
 
 test("what is no form has no properties", () => {

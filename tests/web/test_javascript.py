@@ -79,11 +79,12 @@ CALLS = {
     "photoshopResources": lambda bytes_: [list(resource) for resource in exifnorm.photoshop_resources(bytes_)],
     "xmpCheck": lambda packet: exifnorm.xmp_normal(packet) and None,
     "xmpNormalise": lambda packet: digest(exifnorm.xmp_normal(packet)),
+    "xmpUnsorted": lambda packet: digest(exifnorm._xmp._form_by(exifnorm._library.library().xmp_unsorted, packet)),
     "xmpProperties": properties,
 }
 OF_BLOCK, OF_BLOCKS = ("check", "normalise", "show", "captions"), ("compare",)
 OF_PICTURE, OF_PICTURES = ("jpegParts", "jpegBlocks", "jpegUnread", "jpegXmp"), ("jpegSame", "jpegSameBlocks")
-OF_PACKET = ("xmpCheck", "xmpNormalise", "xmpProperties")
+OF_PACKET = ("xmpCheck", "xmpNormalise", "xmpUnsorted", "xmpProperties")
 
 
 def native(name, blocks):
