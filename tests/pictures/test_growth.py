@@ -193,15 +193,26 @@ def grown(counting, start, folder, put, size, is_long, commands, look):
     return bad, once, twice
 
 
-@pytest.fixture(scope="module")
-def start(counting, tmp_path_factory):
-    """The work of each command for hardly anything, which is about the command and not its input."""
+def of_little(counting, folder, packets):
+    """The work of each command for hardly anything, which is about the command and not its input: with a packet of XMP or without."""
     ending, make = next(iter(MAKERS.values()))
 
     def put(number, mark, side):
-        (side / f"a.{ending}").write_bytes(make(IN_EACH_FORMAT["fields"].make(number, mark).parts))
+        parts = IN_EACH_FORMAT["fields"].make(number, mark).parts
+        (side / f"a.{ending}").write_bytes(make(parts._replace(packets=parts.packets[:packets])))
 
-    return of_size(counting, tmp_path_factory.mktemp("start"), put, 1).works(list(dict.fromkeys([*EACH, *OF_SHARED])))
+    return of_size(counting, folder, put, 1).works(list(dict.fromkeys([*EACH, *OF_SHARED])))
+
+
+@pytest.fixture(scope="module")
+def start(counting, tmp_path_factory):
+    return of_little(counting, tmp_path_factory.mktemp("start"), 1)
+
+
+@pytest.fixture(scope="module")
+def start_without_xmp(counting, tmp_path_factory):
+    """Without the work by which the first packet of XMP is read, as modules that it needs."""
+    return of_little(counting, tmp_path_factory.mktemp("start"), 0)
 
 
 @pytest.fixture
@@ -234,7 +245,7 @@ def test_pictures_of_a_format(name, growth, counting, start, folder, is_long):
 
 
 @pytest.mark.parametrize("name", OTHERS)
-def test_pictures(name, counting, start, folder, is_long):
+def test_pictures(name, counting, start, start_without_xmp, folder, is_long):
     ending, growth = OTHERS[name]
 
     def put(number, mark, side):
@@ -249,7 +260,8 @@ def test_pictures(name, counting, start, folder, is_long):
         assert what_is_read(archive) == (whole.texts, {whole.cause} - {None})
 
     commands = growth.commands or (EACH if is_long else OF_FORMS)
-    bad, once, twice = grown(counting, start, folder, put, size, is_long, commands, look)
+    of_command = start if b"xmpmeta" in whole.octets or "xmp" in whole.texts else start_without_xmp
+    bad, once, twice = grown(counting, of_command, folder, put, size, is_long, commands, look)
     for words, what in itertools.product(once, growth.free):
         grows = getattr(twice[words], what) - getattr(once[words], what)
         if grows > FEW[what]:

@@ -13,7 +13,8 @@ from exifnorm_pictures.fields import xmp_properties as properties
 from attacks import rare_text
 from exifnorm_pictures.model.budgets import Budget, TooLong, TooMuch
 from exifnorm_pictures.xmp import CAUSES, by_rdflib, reader, reading, tree
-from exifnorm_pictures.xmp.packets import Unreadable, rdf_of
+from exifnorm_pictures.xmp.elements import rdf_of
+from exifnorm_pictures.xmp.packets import Unreadable
 from exifnorm_pictures.xmp.repeated import check_repeated
 from hypothesis import assume, given, settings
 from made_files import SPACES, title, xmp
@@ -129,7 +130,7 @@ class Packets(unittest.TestCase):
         self.assertEqual(cause(xmp(inside)), "Shared")
 
     def test_rare_forms_are_left_to_rdflib(self):
-        from exifnorm_pictures.xmp import packets as rdf, reader
+        from exifnorm_pictures.xmp import elements, reader
 
         for inside in (
             "<xmp:d><rdf:Description rdf:about='http://x/' xmp:a='7'/></xmp:d>",
@@ -161,7 +162,7 @@ class Packets(unittest.TestCase):
             "<xmp:d><rdf:Bag><rdf:li>1</rdf:li>text</rdf:Bag></xmp:d>",
         ):
             with self.assertRaises(reader.Unusual, msg=inside):
-                reader.statements(rdf.rdf_of(xmp(inside)))
+                reader.statements(elements.rdf_of(xmp(inside)))
         for attribute, inside in (
             ("xml:base='http://b/'", "<rdf:Description/>"),
             ("", "text<rdf:Description/>"),
@@ -169,14 +170,14 @@ class Packets(unittest.TestCase):
             ("", "<dc:a/>"),
         ):
             with self.assertRaises(reader.Unusual, msg=(attribute, inside)):
-                reader.statements(rdf.rdf_of(f"<rdf:RDF {SPACES} {attribute}>{inside}</rdf:RDF>".encode()))
+                reader.statements(elements.rdf_of(f"<rdf:RDF {SPACES} {attribute}>{inside}</rdf:RDF>".encode()))
 
     def test_usual_forms_are_read_without_rdflib(self):
         """URIs (RFC 3986, 3 and 4.3) and languages (RFC 5646, 2.1) of any kind, in the nodes that writers use."""
-        from exifnorm_pictures.xmp import packets as rdf, reader, tree
+        from exifnorm_pictures.xmp import elements, reader, tree
 
         def value(inside):
-            (found,) = reader.statements(rdf.rdf_of(xmp(inside)))
+            (found,) = reader.statements(elements.rdf_of(xmp(inside)))
             return found.value
 
         for uri in ("http://x/", "HTTP://x/%20?a=b#c", "urn:uuid:1-2", "a1+.-b:", "mailto:a@b"):

@@ -9,7 +9,7 @@ import pytest
 from exifnorm_pictures import xmp as reading
 from exifnorm_pictures.model.budgets import Budget
 from exifnorm_pictures.xmp import by_rdflib
-from exifnorm_pictures.xmp.packets import rdf_of
+from exifnorm_pictures.xmp.elements import rdf_of
 from hypothesis import given, settings
 from hypothesis import strategies as st
 from made_files import SPACES

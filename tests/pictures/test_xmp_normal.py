@@ -11,8 +11,8 @@ import pytest
 import exifnorm
 from exifnorm_pictures import xmp as reading
 from exifnorm_pictures.model.budgets import Budget
-from exifnorm_pictures.xmp import by_rdflib
-from exifnorm_pictures.xmp.packets import rdf_of
+from exifnorm_pictures.xmp import by_rdflib, rare, usual
+from exifnorm_pictures.xmp.elements import rdf_of
 from exifnorm_pictures.xmp.tree import Node, Uri
 from hypothesis import given, settings
 from hypothesis import strategies as st
@@ -27,7 +27,7 @@ SAMPLES = Path(__file__).resolve().parents[2] / "samples"
 def said(packet):
     """The digest of a packet's statements by the Python reader, or None if it is unreadable."""
     try:
-        return reading.digest_of_packet(reading.statements(packet, {}, set()))
+        return reading.digest_of_packet(rare.statements(packet, Budget()))
     except reading.Unreadable:
         return None
 
@@ -50,15 +50,22 @@ def check(packet):
     if b"<!DOCTYPE" not in packet:  # the Python reader refuses it in a comment or a text, too
         assert digest is not None, "accepted, and the Python reader refuses it"
         assert said(form) == digest, "the form makes other statements than the packet"
+        in_library, in_packet = (listed(call(packet)) for call in (usual.statements, lambda it: rare.statements(it, Budget())))
+        assert in_library == in_packet, "exifnorm-pictures reads other statements by the library, or another order of a Bag"
     assert exifnorm.xmp_normal(form) == form, "the form is not its own normal form"
     check_properties(form)
     return form
 
 
+def listed(statements):
+    """Statements in the order of their predicates, each with its value: members of an array are in their order."""
+    return sorted((it.predicate, listed(it.value.statements) if isinstance(it.value, Node) else it.value) for it in statements)
+
+
 def check_properties(form):
     """The properties of a form are those that the Python reader finds in it, in the order of the form."""
     properties = [(it.namespace + it.name, value_of(it.value)) for it in exifnorm.xmp_properties(form)]
-    assert properties == [(it.predicate, read_value_of(it.value)) for it in reading.statements(form, {}, set())]
+    assert properties == [(it.predicate, read_value_of(it.value)) for it in rare.statements(form, Budget())]
 
 
 def value_of(value):
@@ -84,6 +91,12 @@ def test_packets_of_the_samples():
     found = {it for path in SAMPLES.glob("*/*/*") for it in whole.findall(path.read_bytes())}
     assert len(found) > 3, "the samples have packets"
     assert [it for it in found if isinstance(check(it), exifnorm.XmpRefused)] == []
+
+
+def test_usual_packets_are_read_by_the_library(monkeypatch):
+    """Without it each packet would still be read, in twice the time and after a parser of XML was imported."""
+    monkeypatch.delattr(rare, "statements")
+    assert reading.statements(PACKET.encode(), {}, set())
 
 
 @settings(max_examples=400)

@@ -11,6 +11,8 @@ Two packets mean the same if they make the same statements about the picture. Th
 Dates and identifiers that programs renew at each saving are statements like all others. Extended XMP belongs to the packet with its
 digest. A packet that is not well-formed, that has a document type declaration, that is too long or nested too deep is unreadable: no
 entity is expanded and nothing is fetched.
+
+`usual` reads packets by the library, `rare` those that it doesn't read, by `reader` and `by_rdflib`.
 """
 
 from .packets import CAUSES, Unreadable

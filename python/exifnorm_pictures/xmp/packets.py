@@ -1,14 +1,9 @@
-"""The element rdf:RDF of a packet, after a check for parts that a packet must not have."""
+"""Why a packet can't be read, and what its file may cost."""
 
 from __future__ import annotations
 
-import codecs
-import re
-from xml.etree import ElementTree
-
 from ..model import budgets
 from ..model.budgets import LANGUAGE, LIMITS, NESTED, PACKET_BYTES, Budget
-from .tree import RDF
 
 CAUSES = {
     "TooLong": f"The packet has more than {PACKET_BYTES:,} bytes, or the packets of its file together have more than"
@@ -30,23 +25,6 @@ CAUSES = {
     "ExtensionDamaged": "The extended XMP is not the one that the packet names, by its MD5.",
     "NeedsRdflib": "The packet has a rare form of RDF/XML, for which the Python package rdflib is needed (package python3-rdflib).",
 }
-
-_OUTER = ("{adobe:ns:meta/}xmpmeta", "{adobe:ns:meta/}xapmeta")
-_RDF = f"{{{RDF}}}RDF"
-_MARKS = (
-    (codecs.BOM_UTF32_LE, "utf-32-le"),
-    (codecs.BOM_UTF32_BE, "utf-32-be"),
-    (codecs.BOM_UTF16_LE, "utf-16-le"),
-    (codecs.BOM_UTF16_BE, "utf-16-be"),
-    (codecs.BOM_UTF8, "utf-8"),
-    (b"<\0\0\0", "utf-32-le"),
-    (b"\0\0\0<", "utf-32-be"),
-    (b"<\0", "utf-16-le"),
-    (b"\0<", "utf-16-be"),
-)
-_ANY_MARK = tuple(mark for mark, _ in _MARKS)
-_DECLARATION = re.compile(r"""<\?xml\s[^>]*?\?>\s*""")
-_ENCODING = re.compile(r"""encoding\s*=\s*["']\s*(utf-?(8|16|16-?le|16-?be|32|32-?le|32-?be))\s*["']""", re.I)
 
 
 class Unreadable(ValueError):
@@ -70,53 +48,3 @@ def spend(packet: bytes, budget: Budget) -> None:
         raise
     except budgets.TooMuch:
         raise Unreadable("TooLong") from None
-
-
-def rdf_of(packet: bytes) -> ElementTree.Element:
-    """The packet's rdf:RDF element. Raises `Unreadable`.
-
-    >>> rdf_of(b"<x:xmpmeta xmlns:x='adobe:ns:meta/'/>")
-    Traceback (most recent call last):
-    exifnorm_pictures.xmp.packets.Unreadable: NoRDF: The packet is not x:xmpmeta around one rdf:RDF, nor rdf:RDF by itself.
-    """
-    text = _text(packet)
-    if "<!DOCTYPE" in text:
-        raise Unreadable("DocumentType")
-    try:
-        root = ElementTree.fromstring(text)
-    except (ElementTree.ParseError, ValueError):
-        raise Unreadable("NotWellFormed") from None
-    if packet.count(b"<") > NESTED:  # fewer can't be nested too deep
-        _check_depth(root)
-    if root.tag in _OUTER:
-        inner = list(root)
-        if len(inner) == 1 and not (root.text or "").strip() and not (inner[0].tail or "").strip():
-            root = inner[0]
-    if root.tag != _RDF:
-        raise Unreadable("NoRDF")
-    root.tail = None
-    return root
-
-
-def _text(packet: bytes) -> str:
-    """The text of a packet without the bytes around its XML."""
-    encoding = next(it[1] for it in _MARKS if packet.startswith(it[0])) if packet.startswith(_ANY_MARK) else "utf-8"
-    try:
-        text = packet.decode(encoding).lstrip("\ufeff").strip("\0 \t\r\n")
-    except UnicodeDecodeError:
-        raise Unreadable("NotText") from None
-    declared = _DECLARATION.match(text) if text.startswith("<?xml") else None
-    if declared:
-        if "encoding" in declared[0] and not _ENCODING.search(declared[0]):
-            raise Unreadable("NotText")
-        text = text[declared.end() :]
-    return text
-
-
-def _check_depth(root: ElementTree.Element) -> None:
-    row = [root]
-    for _ in range(NESTED):
-        row = [child for it in row for child in it]
-        if not row:
-            return
-    raise Unreadable("TooDeep")

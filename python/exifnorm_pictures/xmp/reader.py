@@ -1,4 +1,4 @@
-"""The usual forms of RDF/XML, as XMP writers use them (XMP part 1, 7). rdflib reads the others."""
+"""The forms of RDF/XML that XMP writers use (XMP part 1, 7), and a few rare ones, from the elements of a packet. rdflib reads the others."""
 
 from __future__ import annotations
 

@@ -5,10 +5,9 @@ from __future__ import annotations
 import hashlib
 from typing import Dict, Mapping, Optional, Set, Tuple, Union
 
-from ..model.budgets import RARE_ELEMENTS, Budget, TooLong, TooMuch
-from . import by_rdflib, reader
-from .packets import Unreadable, rdf_of, spend
-from .repeated import check_repeated
+from ..model.budgets import Budget
+from . import usual
+from .packets import Unreadable, spend
 from .tree import Literal, Statements, digest_of_statements
 
 NOTE = "http://ns.adobe.com/xmp/note/HasExtendedXMP"
@@ -65,19 +64,12 @@ def statements(packet: bytes, extensions: Union[Extensions, Mapping[str, bytes]]
 
 
 def _parsed(packet: bytes, budget: Budget) -> Statements:
-    root = rdf_of(packet)
     try:
-        return reader.statements(root)
-    except reader.Unusual:
-        try:
-            budget.spend(RARE_ELEMENTS, sum(1 for _ in root.iter()))
-        except TooLong:
-            raise
-        except TooMuch:
-            raise Unreadable("TooRare") from None
-        parsed = by_rdflib.statements(root, budget)
-    check_repeated(parsed)  # rdflib doesn't keep the order
-    return parsed
+        return usual.statements(packet)
+    except usual.NotUsual:
+        from . import rare  # which imports a parser of XML, and few packets are rare
+
+        return rare.statements(packet, budget)
 
 
 def _named(statements: Statements) -> Tuple[str, ...]:
