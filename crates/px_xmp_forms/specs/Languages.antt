@@ -1,5 +1,5 @@
 -- Languages. RFC 3066, 2.1.
-use Rattle.std.specs.Prelude.{◌≡◌, ◌≤◌, ◌++◌, ◌&&◌, ◌||◌, ℕ, Bool, true, false, not, nat_le, List, [], ◌∷◌, length}
+use Rattle.std.specs.Prelude.{◌≡◌, ◌≤◌, ◌⊎◌, ◌++◌, ◌&&◌, ◌||◌, ℕ, Bool, true, false, not, nat_le, List, [], ◌∷◌, length}
 use Rattle.std.specs.List.{list_all}
 
 abbrev pub is_letter : ℕ → Bool
@@ -21,6 +21,10 @@ abbrev pub AreParts : Bool → List (List ℕ) → List ℕ → Type 0
 AreParts first [] x = ⊥
 AreParts first (p ∷ []) x = IsPart first p × (x ≡ p)
 AreParts first (p ∷ q ∷ ps) x = IsPart first p × (rest : List ℕ) × (x ≡ p ++ 45 ∷ rest) × AreParts false (q ∷ ps) rest
+
+-- what may follow a part: nothing, or a hyphen
+abbrev pub EndsPart : List ℕ → Type 0
+EndsPart x = (x ≡ []) ⊎ ((rest : List ℕ) × (x ≡ 45 ∷ rest))
 
 abbrev pub IsLanguage : List ℕ → Type 0
 IsLanguage x = (ps : List (List ℕ)) × AreParts true ps x

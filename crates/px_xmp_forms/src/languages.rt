@@ -1,7 +1,7 @@
 // Languages. RFC 3066, 2.1.
-ghost use Rattle.std.specs.Prelude.{◌≡◌, ◌≤◌, ◌<◌, ◌++◌, ◌∷◌, ◌⊎◌, [], ℕ, List, true, length, take, IfSome};
-ghost use Rattle.std.specs.List.{list_all};
-ghost use Rattle.px_xmp_forms.specs.Languages.{is_part_octet, IsPart, IsLanguage};
+ghost use Rattle.std.specs.Prelude.{◌≡◌, ◌≤◌, ◌<◌, ◌++◌, ◌∷◌, ◌⊎◌, ◌↔◌, [], ℕ, List, true, length, take, IfSome, MatchOption};
+ghost use Rattle.std.specs.List.{list_all, prefix_len};
+ghost use Rattle.px_xmp_forms.specs.Languages.{is_part_octet, IsPart, EndsPart, IsLanguage};
 
 use crate::spaces::{is_digit, is_letter};
 
@@ -22,6 +22,7 @@ fn is_part_octet(is_first: bool, octet: u8) -> bool
 fn part_len(octets: &[u8], is_first: bool) -> usize
     ensures within { result ≤ length octets.now }
     ensures part { list_all (is_part_octet is_first) (take result octets.now) ≡ true }
+    ensures longest { result ≡ prefix_len (is_part_octet is_first) octets.now }
 {
     for (n, octet) in octets.iter().enumerate() {
         if !is_part_octet(is_first, *octet) {
@@ -35,6 +36,8 @@ fn part_len(octets: &[u8], is_first: bool) -> usize
 fn after_part<'a>(octets: &'a [u8], is_first: bool) -> Option<&'a [u8]>
     ensures part { IfSome result (λ rest. (part : List ℕ) × IsPart is_first part × (octets.now ≡ part ++ rest.now)) }
     ensures shorter { IfSome result (λ rest. length rest.now ≤ length octets.now) }
+    ensures longest { (part rest : List ℕ) → IsPart is_first part → EndsPart rest → octets.now ≡ part ++ rest →
+        MatchOption result ⊥ (λ after. after.now ≡ rest) }
 {
     let len = part_len(octets, is_first);
     if len == 0 {
@@ -50,6 +53,7 @@ fn after_part<'a>(octets: &'a [u8], is_first: bool) -> Option<&'a [u8]>
 fn after_hyphen<'a>(octets: &'a [u8]) -> Option<&'a [u8]>
     ensures hyphen { IfSome result (λ rest. octets.now ≡ 45 ∷ rest.now) }
     ensures shorter { IfSome result (λ rest. length rest.now < length octets.now) }
+    ensures found { (rest : List ℕ) → octets.now ≡ 45 ∷ rest → MatchOption result ⊥ (λ after. after.now ≡ rest) }
 {
     let Some((first, rest)) = octets.split_first() else {
         return None;
@@ -62,7 +66,7 @@ fn after_hyphen<'a>(octets: &'a [u8]) -> Option<&'a [u8]>
 
 // Whether octets are parts of a language, with hyphens between them.
 fn are_parts(octets: &[u8]) -> bool
-    ensures { result ≡ true → IsLanguage octets.now }
+    ensures { result ≡ true ↔ IsLanguage octets.now }
 {
     let mut rest = octets;
     let mut is_first = true;
@@ -82,7 +86,8 @@ fn are_parts(octets: &[u8]) -> bool
 /// Whether octets are a language: parts of at most 8 letters, after the first one also digits, with hyphens between them; or
 /// nothing, which ends an outer language. It has at most 100 characters.
 pub fn is_language(octets: &[u8]) -> bool
-    ensures { result ≡ true → (octets.now ≡ []) ⊎ IsLanguage octets.now }
+    ensures is { result ≡ true → (octets.now ≡ []) ⊎ IsLanguage octets.now }
+    ensures usual { (octets.now ≡ []) ⊎ IsLanguage octets.now → length octets.now ≤ 100 → result ≡ true }
 {
     if octets.is_empty() {
         return true;

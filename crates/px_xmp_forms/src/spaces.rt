@@ -1,7 +1,8 @@
 // Namespaces, and the URIs of resources.
-ghost use Rattle.std.specs.Prelude.{◌≡◌, ◌≤◌, ◌++◌, ◌&&◌, ◌||◌, ◌==◌, true, not, nat_eq, codes, length, take, drop};
-ghost use Rattle.std.specs.List.{list_all, starts_with};
+ghost use Rattle.std.specs.Prelude.{◌≡◌, ◌≤◌, ◌++◌, ◌&&◌, ◌||◌, ◌==◌, ◌↔◌, true, not, nat_eq, codes, length, take, drop};
+ghost use Rattle.std.specs.List.{list_all, starts_with, position_or_len};
 ghost use Rattle.px_xmp_forms.specs.Languages.{is_letter, is_digit};
+ghost use Rattle.px_xmp_forms.specs.Spaces.{is_known_space, is_space_octet, is_rare_space};
 ghost use Rattle.px_xmp_forms.specs.Uris.{is_excluded, is_uri_octet, are_uri_octets, is_scheme_octet, is_scheme, IsAbsolute};
 ghost use Rattle.px_xmp_forms.specs.Labels.{is_name_start, is_name_char, are_name_chars, name_at_end, before_name};
 ghost use Rattle.px_xmp_forms.specs.calls.Ends.{before_start};
@@ -105,23 +106,41 @@ pub fn split_space<'a>(space: &'a [u8]) -> (&'a [u8], &'a [u8])
     space.split_at(size)
 }
 
-// Whether each octet can be in a namespace that this reader compares.
-fn are_space_chars(space: &[u8]) -> bool {
+// Whether a namespace that this reader compares can have an octet.
+fn is_space_octet(octet: u8) -> bool
+    ensures { result ≡ is_space_octet octet }
+{
+    is_uri_octet(octet) && octet != b'&' && octet != b'\''
+}
+
+// Whether it can have each octet.
+fn are_space_octets(space: &[u8]) -> bool
+    ensures { result ≡ list_all is_space_octet space.now }
+{
     for octet in space {
-        if !is_uri_octet(*octet) || *octet == b'&' || *octet == b'\'' {
+        if !is_space_octet(*octet) {
             return false;
         }
     }
     true
 }
 
+// Whether a namespace is RDF's, that of `x:xmpmeta`, or XML's.
+fn is_known_space(space: &[u8]) -> bool
+    ensures { result ≡ is_known_space space.now }
+{
+    space == RDF || space == META || space == XML
+}
+
 /// Whether a namespace, which is not empty, is for another reader: it has odd characters, could be part of a name, or begins
 /// as one of XML's own.
-pub fn is_rare_space(space: &[u8]) -> bool {
-    if space == RDF || space == META || space == XML {
+pub fn is_rare_space(space: &[u8]) -> bool
+    ensures { result ≡ is_rare_space space.now }
+{
+    if is_known_space(space) {
         return false;
     }
-    if !are_space_chars(space) || split_space(space).0.is_empty() {
+    if !are_space_octets(space) || split_space(space).0.is_empty() {
         return true;
     }
     space.starts_with(RDF) || space.starts_with(XML) || space.starts_with(XMLNS)
@@ -129,7 +148,8 @@ pub fn is_rare_space(space: &[u8]) -> bool {
 
 // The number of octets before the first colon. It is that of all octets if there is none.
 fn scheme_len(uri: &[u8]) -> usize
-    ensures { result ≤ length uri.now }
+    ensures within { result ≤ length uri.now }
+    ensures first { result ≡ position_or_len (λ o. o == 58) uri.now }
 {
     for (n, octet) in uri.iter().enumerate() {
         if *octet == b':' {
@@ -192,7 +212,7 @@ fn are_uri_octets(octets: &[u8]) -> bool
 
 /// Whether the value of an attribute is an absolute URI of ASCII.
 pub fn is_absolute(value: &[u8]) -> bool
-    ensures { result ≡ true → IsAbsolute value.now }
+    ensures { result ≡ true ↔ IsAbsolute value.now }
 {
     let (scheme, rest) = value.split_at(scheme_len(value));
     if !rest.starts_with(b":") {

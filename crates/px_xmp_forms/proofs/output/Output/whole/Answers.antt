@@ -1,7 +1,7 @@
 use Rattle.std.proofs.Common.{◌≤◌, ◌+◌, ◌++◌, ◌∙◌, refl, ap, arith, length, length-append}
 use Rattle.std.proofs.lemmas.Result.{err_from_is_err_and}
 use Rattle.px_bytes.specs.Parts.{limit}
-use Rattle.px_xmp_text.specs.Values.{packet_end, normal_packet}
+use Rattle.px_xmp_text.specs.Values.{packet_end}
 use Rattle.px_xmp_forms.specs.Forms.{most}
 use Rattle.px_xmp_forms.proofs.FormLaws.{packet_written, packet_is, packet_short}
 use Rattle.px_xmp_forms.proofs.output.Output.whole.Goals as goal
