@@ -1,6 +1,8 @@
 -- A walk over elements in which nothing is wrong.
-use Rattle.std.proofs.Common.{◌≡◌, ◌≤◌, ℕ, Bool, true, false, Option, Some, None, option_map, IfSome, List, [], ◌∷◌, ◌++◌, length, drop, Ok, refl, sym, ap, subst, ◌∙◌, inl, inr}
-use Rattle.std.specs.List.{AllByRecursion}
+use Rattle.std.proofs.Common.{◌≡◌, ◌≤◌, ◌==◌, ◌&&◌, nat_eq, get_or, take, codes, arith, ℕ, Bool, true, false, Option, Some, None, option_map, IfSome, List, [], ◌∷◌, ◌++◌, length, drop, Ok, refl, sym, ap, subst, ◌∙◌, inl, inr}
+use Rattle.std.specs.List.{AllByRecursion, starts_with}
+use Rattle.std.specs.Cmp.Lexicographic.{pointwise}
+use Rattle.std.proofs.lemmas.Bool.{cond-false, eqb-true, eqb-false}
 use Rattle.std.proofs.lemmas.List.{drop_at}
 use Rattle.px_xmp_marks.specs.Reading.{Named, Attr, attributes_of, Start, start_tag, End, end_tag}
 use Rattle.px_xmp_marks.specs.Grammar.{IsStartTag}
@@ -25,6 +27,26 @@ some_same : {A : Type 0} (p q : A) → Some p ≡ Some q → p ≡ q
 some_same p q h = cc
 
 -- ---- one mark
+
+-- a tag begins with `<`
+pub no_start_tag : (x : List ℕ) → 1 ≤ length x → nat_eq (get_or x 0 0) 60 ≡ false → start_tag x ≡ None
+unfolding start_tag
+no_start_tag [] l h = absurd (omega (arith, l))
+no_start_tag (o ∷ x) l h = cond-false (o == 60) _ None h
+
+pub no_end_tag : (x : List ℕ) → 1 ≤ length x → nat_eq (get_or x 0 0) 60 ≡ false → end_tag x ≡ None
+unfolding end_tag
+no_end_tag [] l h = absurd (omega (arith, l))
+no_end_tag (o ∷ x) l h = cond-false (starts_with nat_eq (o ∷ x) (codes "</")) _ None (other o x h)
+  where
+    fails : (b : Bool) → (b ≡ true → ⊥) → b ≡ false
+    fails true h = absurd (h refl)
+    fails false h = refl
+
+    other : (o : ℕ) (x : List ℕ) → (o == 60) ≡ false → starts_with nat_eq (o ∷ x) (codes "</") ≡ false
+    other o x f =
+        ap (λ (b : Bool). b && pointwise nat_eq (codes "/") (take 1 x))
+        (fails (60 == o) (λ t. eqb-false o 60 f (sym (eqb-true 60 o t))))
 
 -- the attributes of a tag are those that are read
 tag_distinct : StartTagsAreRead → (x : List ℕ) (t : Start) (attributes : List Attr) → start_tag x ≡ Some t → HasAttributes t attributes

@@ -1,11 +1,12 @@
 // One walk over the elements, in which each tag is read once. It finds that nothing is wrong, or the first fault of the nesting if
 // nothing else is wrong before it.
-ghost use Rattle.std.specs.Prelude.{◌≡◌, ◌≤◌, None, Some, length, map, take, option_map, MatchOption, IfSome, IfOk, IfErr, IsOk};
+ghost use Rattle.std.specs.Prelude.{◌≡◌, ◌≤◌, false, None, Some, List, length, map, take, option_map};
+ghost use Rattle.std.specs.Prelude.{MatchOption, IfSome, IfOk, IfErr, IsOk};
 ghost use Rattle.px_xmp_marks.specs.Reading.{attribute_view, attributes_of, name_view, start_tag, end_tag, start_tag_view};
 ghost use Rattle.px_xmp_tree.specs.Kinds.{Closing, start_kind};
 ghost use Rattle.px_xmp_tree.specs.Faults.{IsWrong, IsFaulty, IsFault as IsTreeFault};
 ghost use Rattle.px_xmp_tree.specs.calls.Steps.{Step};
-ghost use Rattle.px_xmp_spaces.specs.Scopes.{ended};
+ghost use Rattle.px_xmp_spaces.specs.Scopes.{Item, ended};
 ghost use Rattle.px_xmp_document.specs.Elements.{AreElements};
 ghost use Rattle.px_xmp_document.specs.calls.Walks.{GoesOn, PassesTag};
 
@@ -116,6 +117,36 @@ fn pass_large<'a>(
     }
 }
 
+// Whether octets begin with `<`, as a tag does.
+fn begins_markup(octets: &[u8]) -> bool
+    requires { 1 ≤ length octets.now }
+    ensures start { result ≡ false → start_tag octets.now ≡ None }
+    ensures end { result ≡ false → end_tag octets.now ≡ None }
+{
+    octets[0] == b'<'
+}
+
+// Passes the mark at the start, which is no tag. Returns its length, or what is wrong with its nesting.
+fn pass_mark<'a>(octets: &'a [u8], nesting: &mut Nesting<'a>) -> Result<usize, Cause>
+    requires some { 1 ≤ length octets.now }
+    requires start { start_tag octets.now ≡ None }
+    requires end { end_tag octets.now ≡ None }
+    ensures passed { (scope : List Item) → IfOk result (λ n. GoesOn octets.now n nesting.old nesting.new scope scope) }
+    ensures wrong { IfErr result (λ c. IsFaulty nesting.old octets.now c) }
+{
+    px_xmp_marks::laws::start_tags_are_read();
+    px_xmp_marks::laws::end_tags_are_read();
+    px_xmp_tree::laws::kinds_are_read();
+    px_xmp_tree::laws::only_kinds_are_read();
+    let Some(mark) = read_other_mark(octets) else {
+        return Err(nesting.unread(octets));
+    };
+    match nesting.pass(mark.kind) {
+        Some(cause) => Err(cause),
+        None => Ok(mark.size),
+    }
+}
+
 // Passes the mark at the start, which is no start tag. Returns its length, or what is wrong with its nesting.
 fn pass_other<'a>(
     octets: &'a [u8],
@@ -128,22 +159,13 @@ fn pass_other<'a>(
     ensures wrong { IfErr result (λ c. IsFaulty nesting.old octets.now c) }
 {
     px_xmp_marks::laws::start_tags_are_read();
-    px_xmp_marks::laws::end_tags_are_read();
     px_xmp_marks::laws::only_end_tags_are_read();
-    px_xmp_tree::laws::kinds_are_read();
-    px_xmp_tree::laws::only_kinds_are_read();
-    if let Some(tag) = read_end_tag(octets) {
-        match pass_end(tag, nesting, scope) {
-            Some(cause) => return Err(cause),
-            None => return Ok(tag.size),
-        }
-    }
-    let Some(mark) = read_other_mark(octets) else {
-        return Err(nesting.unread(octets));
+    let Some(tag) = read_end_tag(octets) else {
+        return pass_mark(octets, nesting);
     };
-    match nesting.pass(mark.kind) {
+    match pass_end(tag, nesting, scope) {
         Some(cause) => Err(cause),
-        None => Ok(mark.size),
+        None => Ok(tag.size),
     }
 }
 
@@ -159,6 +181,12 @@ fn pass<'a>(
     ensures passed { IfOk result (λ n. GoesOn octets.now n nesting.old nesting.new scope.old scope.new) }
     ensures wrong { IfErr result (λ e. IfSome e (λ c. IsFaulty nesting.old octets.now c)) }
 {
+    if !begins_markup(octets) {
+        return match pass_mark(octets, nesting) {
+            Ok(size) => Ok(size),
+            Err(cause) => Err(Some(cause)),
+        };
+    }
     let Some(stored) = read_stored_tag(octets, space) else {
         return match pass_other(octets, nesting, scope) {
             Ok(size) => Ok(size),

@@ -1,7 +1,6 @@
 use Rattle.std.proofs.Common.{sym}
 use Rattle.px_xmp_marks.specs.Reading.{end_tag_view}
-use Rattle.px_xmp_tree.specs.Kinds.{mark_view}
-use Rattle.px_xmp_document.proofs.WalkLaws.{end_goes, other_goes, end_wrong, other_wrong}
+use Rattle.px_xmp_document.proofs.WalkLaws.{end_goes, end_wrong}
 use Rattle.px_xmp_document.proofs.walk.pass_other.Goals as goal
 
 pub returns-in-Some-pass_end-clause-wrong : goal.returns-in-Some-pass_end-clause-wrong
@@ -16,18 +15,4 @@ returns-in-None-clause-passed c = (
   end_goes c.start_tags_are_read.ensures c.only_end_tags_are_read.ensures c.args.octets.now (end_tag_view c.in-Some.tag) c.args.nesting.now
       c.pass_end.new.nesting c.args.scope.now c.pass_end.new.scope c.requires.start (sym c.in-Some.ensures.value)
       c.in-None.ensures.step c.in-None.ensures.scope,
-)
-
-pub returns-in-Some-pass-clause-wrong : goal.returns-in-Some-pass-clause-wrong
-returns-in-Some-pass-clause-wrong c =
-    other_wrong c.only_kinds_are_read.ensures c.args.octets.now (mark_view c.in-Some-read_other_mark.mark) c.args.nesting.now
-    c.in-Some-pass.cause (sym c.in-Some-read_other_mark.ensures.value) c.in-Some-pass.ensures
-
-pub returns-in-None-pass-clause-passed : goal.returns-in-None-pass-clause-passed
-returns-in-None-pass-clause-passed c = (
-  c.in-Some-read_other_mark.ensures.within.0,
-  c.in-Some-read_other_mark.ensures.within.1,
-  other_goes c.start_tags_are_read.ensures c.end_tags_are_read.ensures c.only_kinds_are_read.ensures c.args.octets.now
-      (mark_view c.in-Some-read_other_mark.mark) c.args.nesting.now c.pass.new.self c.args.scope.now c.requires.start
-      (sym c.in_default.ensures.value) (sym c.in-Some-read_other_mark.ensures.value) c.in-None-pass.ensures,
 )
