@@ -149,7 +149,7 @@ low_characters c h low = elim (cases_Bool (c == 38)) [
   ]
 ]
 
-normal_append : (x y : List ℕ) → normal_text (x ++ y) ≡ normal_text x ++ normal_text y
+pub normal_append : (x y : List ℕ) → normal_text (x ++ y) ≡ normal_text x ++ normal_text y
 normal_append [] y = refl
 normal_append (o ∷ x) y =
     ap (λ (z : List ℕ). normal_octet o ++ z) (normal_append x y) ∙ sym (append_assoc (normal_octet o) (normal_text x) (normal_text y))

@@ -32,3 +32,8 @@ pub mod AcceptedLaws
 pub mod AroundLaws
 pub mod RefusedLaws
 pub mod CrowdedLaws
+pub mod UsualLaws
+pub mod FitLaws
+pub mod LiteralLaws
+pub mod ItemLaws
+pub mod SubjectLaws

@@ -6,7 +6,8 @@ use Rattle.std.proofs.lemmas.List.Sorted.{IsPermutation-sym, All-permutation}
 use Rattle.std.proofs.lemmas.List.Elements.{All-from_recursion, recursion_from_All}
 use Rattle.px_xmp_text.specs.Texts.{text_of}
 use Rattle.px_xmp_text.specs.declared.pieces.TextKind.TheVariants.{AttributeValue}
-use Rattle.px_xmp_text.specs.Values.{Label, Item, Uri, Compound, Structure, Bag, Seq, Alt, Content, End, IsContent, PacketIsInjective}
+use Rattle.std.specs.Bool.{⊤}
+use Rattle.px_xmp_text.specs.Values.{Label, Uri, Compound, Structure, Bag, Seq, Alt, Content, End, IsContent, PacketIsInjective}
 use Rattle.px_xmp_spaces.specs.Scopes.{is_same}
 use Rattle.px_xmp_forms.specs.Entries.{Value, Plain, Inside, Entry, before, row}
 use Rattle.px_xmp.specs.Names.{Name, is_rdf, is_root, rdf_space}
@@ -28,7 +29,7 @@ Can e = IsContent (before e.label e.value End)
 abbrev pub CanAll : List Entry → Type 0
 CanAll es = AllByRecursion Can es
 
-row_parts : (l : Label) (v : Value) (c : Content) → IsContent (before l v c) → IsContent (before l v End) × IsContent c
+pub row_parts : (l : Label) (v : Value) (c : Content) → IsContent (before l v c) → IsContent (before l v End) × IsContent c
 row_parts l (Plain p) c k = ((k.0, k.1, tt), k.2)
 row_parts l (Inside s inner) c k = ((k.0, k.1, tt), k.2)
 
@@ -48,16 +49,17 @@ can_moved : (es fs : List Entry) → IsPermutation es fs → CanAll fs → CanAl
 can_moved es fs h can =
     recursion_from_All Can es (All-permutation Can fs es (IsPermutation-sym es fs h) (All-from_recursion Can fs can))
 
--- the value of an item
+-- what is inside a value
 abbrev pub CanValue : Value → Type 0
-CanValue v = IsContent (before Item v End)
+CanValue (Plain p) = ⊤
+CanValue (Inside s c) = IsContent c
 
 pub value_can : (l : Label) (v : Value) → IsContent (before l v End) → CanValue v
-value_can l (Plain p) h = (tt, h.1, tt)
-value_can l (Inside s c) h = (tt, h.1, tt)
+value_can l (Plain p) h = tt
+value_can l (Inside s c) h = h.1
 
 pub inside_can : (v : Value) (s : Compound) (c : Content) → v ≡ Inside s c → CanValue v → IsContent c
-inside_can v s c e h = (subst CanValue e h).1
+inside_can v s c e h = subst CanValue e h
 
 -- ---- rows
 
@@ -105,7 +107,7 @@ has_once Alt l place fields es fs h k = h.1 ∙ sym k.1
 
 -- ---- names
 
-abbrev name_in : List ℕ → List ℕ → Name
+abbrev pub name_in : List ℕ → List ℕ → Name
 name_in space local = record { space = space; local = local }
 
 both : (a b : Bool) → (a && b) ≡ true → (a ≡ true) × (b ≡ true)
@@ -128,27 +130,27 @@ rdf_name local n h =
 
 -- ---- by the attributes of an element it has one production
 
-abbrev way_if : Bool → Bool → ℕ
+abbrev pub way_if : Bool → Bool → ℕ
 way_if true b = 1
 way_if false true = 2
 way_if false false = 3
 
-abbrev way_by : Name → ℕ
+abbrev pub way_by : Name → ℕ
 way_by n = way_if (is_rdf (codes "parseType") n) (is_rdf (codes "resource") n)
 
-abbrev way_of : List Field → ℕ
+abbrev pub way_of : List Field → ℕ
 way_of [] = 0
 way_of (f ∷ []) = way_by f.name
 way_of (f ∷ g ∷ more) = 3
 
-parsed_way : (fields : List Field) (f : Field) → fields ≡ f ∷ [] → is_rdf (codes "parseType") f.name ≡ true → way_of fields ≡ 1
+pub parsed_way : (fields : List Field) (f : Field) → fields ≡ f ∷ [] → is_rdf (codes "parseType") f.name ≡ true → way_of fields ≡ 1
 parsed_way fields f e h = ap way_of e ∙ ap way_by (rdf_name (codes "parseType") f.name h)
 
-uri_way : (fields : List Field) (f : Field) → fields ≡ f ∷ [] → is_rdf (codes "resource") f.name ≡ true → way_of fields ≡ 2
+pub uri_way : (fields : List Field) (f : Field) → fields ≡ f ∷ [] → is_rdf (codes "resource") f.name ≡ true → way_of fields ≡ 2
 uri_way fields f e h = ap way_of e ∙ ap way_by (rdf_name (codes "resource") f.name h)
 
 -- no property has a name of the syntax
-no_property : (local : List ℕ) (n : Name) (label : Label) → label_in Structure (name_in rdf_space local) ≡ None → is_rdf local n ≡ true
+pub no_property : (local : List ℕ) (n : Name) (label : Label) → label_in Structure (name_in rdf_space local) ≡ None → is_rdf local n ≡ true
     → label_in Structure n ≡ Some label → ⊥
 no_property local n label none h k =
     let wrong : None ≡ Some label = sym none ∙ sym (ap (label_in Structure) (rdf_name local n h)) ∙ k in absurd (cc)
@@ -166,8 +168,8 @@ described_way l place [] es some h = absurd (some refl)
 described_way l place (f ∷ []) es some (label, t, more, named, text, e, rest) = way_by_property f.name label named
 described_way l place (f ∷ g ∷ fields) es some h = refl
 
-clash : (fields : List Field) (m n : ℕ) → way_of fields ≡ m → way_of fields ≡ n → (m == n) ≡ false → ⊥
-clash fields m n e f h = let same = eq-eqb m n (sym e ∙ f) in absurd (cc)
+pub ways_clash : (fields : List Field) (m n : ℕ) → way_of fields ≡ m → way_of fields ≡ n → (m == n) ≡ false → ⊥
+ways_clash fields m n e f h = let same = eq-eqb m n (sym e ∙ f) in absurd (cc)
 
 -- ---- values
 
@@ -201,7 +203,7 @@ module _ (law : PacketIsInjective) (l : List ℕ) (place : ℕ) (fields : List F
 
   apart : (v w : Value) (h : IsValue l place fields inner IsInside AreInside v) (k : IsValue l place fields inner IsInside AreInside w)
       → (value_way v h == value_way w k) ≡ false → ⊥
-  apart v w h k e = clash fields (value_way v h) (value_way w k) (way_is v h) (way_is w k) e
+  apart v w h k e = ways_clash fields (value_way v h) (value_way w k) (way_is v h) (way_is w k) e
 
   parsed_once : EntriesOnce AreInside → (v w : Value) → IsParsed fields AreInside v → IsParsed fields AreInside w → CanValue v → CanValue w → v ≡ w
   parsed_once once v w (f, one, named, is, es, c, p, r, e) (g, other, called, are, fs, d, q, k, h) can could =
@@ -236,7 +238,7 @@ module _ (law : PacketIsInjective) (l : List ℕ) (place : ℕ) (fields : List F
   resource_once once v w (n, s, c, i, e) (m, t, d, j, f) can could =
       inside_once v w s t c d e f (once s t c d i j (inside_can v s c e can) (inside_can w t d f could))
 
-  value_once : NodeOnce IsInside → EntriesOnce AreInside → NoNode inner IsInside → (v w : Value)
+  pub value_once : NodeOnce IsInside → EntriesOnce AreInside → NoNode inner IsInside → (v w : Value)
       → IsValue l place fields inner IsInside AreInside v → IsValue l place fields inner IsInside AreInside w → CanValue v → CanValue w → v ≡ w
   value_once once all none v w (inl h) (inl k) can could = literal_once v w h k
   value_once once all none v w (inl (n, t, is, e)) (inr (inl (m, s, c, j, f))) can could = absurd (none t s c is j)
@@ -266,13 +268,13 @@ module _ (law : PacketIsInjective) (l : List ℕ) (place : ℕ) (fields : List F
 
 -- ---- nodes
 
-no_node : (l : List ℕ) (nodes : Nodes) (t : List ℕ) (s : Compound) (c : Content) → IsText nodes t → IsNode l nodes s c → ⊥
+pub no_node : (l : List ℕ) (nodes : Nodes) (t : List ℕ) (s : Compound) (c : Content) → IsText nodes t → IsNode l nodes s c → ⊥
 no_node l Nothing t s c h k = absurd k
 no_node l (Words w more) t s c (u, e, h) k = no_node l more u s c h k.1
 no_node l (Element tag place inner more) t s c h k = absurd h
 
 mutual
-  entries_once : PacketIsInjective → (s : Compound) (l : List ℕ) (nodes : Nodes) (es fs : List Entry) → AreEntries s l nodes es → AreEntries s l nodes fs
+  pub entries_once : PacketIsInjective → (s : Compound) (l : List ℕ) (nodes : Nodes) (es fs : List Entry) → AreEntries s l nodes es → AreEntries s l nodes fs
       → CanAll es → CanAll fs → es ≡ fs
   entries_once law s l Nothing es fs e f can could = e ∙ sym f
   entries_once law s l (Words t more) es fs e f can could = entries_once law s l more es fs e.1 f.1 can could
@@ -286,7 +288,7 @@ mutual
       e ∙ entry_once a b v w place others more_others (some_same a b (sym named ∙ called)) values
       (entries_once law s l more others more_others rest after i.1 j.1) ∙ sym f
 
-  node_once : PacketIsInjective → (l : List ℕ) (nodes : Nodes) (s t : Compound) (c d : Content) → IsNode l nodes s c → IsNode l nodes t d
+  pub node_once : PacketIsInjective → (l : List ℕ) (nodes : Nodes) (s t : Compound) (c d : Content) → IsNode l nodes s c → IsNode l nodes t d
       → IsContent c → IsContent d → (s ≡ t) × (c ≡ d)
   node_once law l Nothing s t c d e f can could = absurd e
   node_once law l (Words u more) s t c d e f can could = node_once law l more s t c d e.1 f.1 can could
@@ -304,7 +306,7 @@ mutual
 
 -- ---- documents
 
-subjects_once : PacketIsInjective → (u w : Option (List ℕ)) (l : List ℕ) (nodes : Nodes) (all whole : List Entry) → AreSubjects u l nodes all
+pub subjects_once : PacketIsInjective → (u w : Option (List ℕ)) (l : List ℕ) (nodes : Nodes) (all whole : List Entry) → AreSubjects u l nodes all
     → AreSubjects w l nodes whole → CanAll all → CanAll whole → all ≡ whole
 subjects_once law u w l Nothing all whole e f can could = e ∙ sym f
 subjects_once law u w l (Words t more) all whole e f can could = subjects_once law u w l more all whole e.1 f.1 can could

@@ -1,5 +1,5 @@
 -- Attributes that are properties, one after another.
-use Rattle.std.proofs.Common.{◌≡◌, ◌+◌, ℕ, Option, Some, None, option_map, is_some, Bool, true, false, not, nat_eq, List, [], ◌∷◌, ◌++◌, length, refl, sym, ap, subst, ◌∙◌, append_assoc, append-nil, map}
+use Rattle.std.proofs.Common.{◌≡◌, ◌+◌, ℕ, Option, Some, None, option_map, is_some, Bool, true, false, not, nat_eq, List, [], ◌∷◌, ◌++◌, length, refl, sym, ap, subst, ◌∙◌, append_assoc, append-nil, map, inl, inr}
 use Rattle.std.specs.Cmp.Lexicographic.{pointwise, same_text}
 use Rattle.px_xmp_text.specs.Texts.{text_of}
 use Rattle.px_xmp_text.specs.declared.pieces.TextKind.TheVariants.{AttributeValue}
@@ -14,6 +14,7 @@ use Rattle.px_xmp.specs.Names.{Name, attribute_name}
 use Rattle.px_xmp.specs.Tags.{Field, field_of, fields_in, plain}
 use Rattle.px_xmp.specs.Meaning.{label_in, AreAttributes}
 use Rattle.px_xmp.specs.calls.Listed.{AreListed, IsNextPlain}
+use Rattle.px_xmp.specs.calls.Fits.{OneFits, FillingFits}
 use Rattle.px_xmp.specs.calls.Contents.{with_entries, attribute, AreShallow, PropertyPut, PropertiesPut}
 use Rattle.px_xmp.proofs.DepthLaws.{shallow_append}
 
@@ -143,3 +144,36 @@ same_octets x y h = same_text x y (sym (by_not (pointwise nat_eq x y) h))
     by_not : (b : Bool) → not b ≡ false → b ≡ true
     by_not true e = refl
     by_not false e = absurd (cc)
+
+-- ---- attributes that are no properties
+
+pub none_some_is : {A : Type 0} (o : Option A) (x : A) → o ≡ None → o ≡ Some x → ⊥
+none_some_is o x e f = let wrong = sym e ∙ f in absurd (cc)
+
+map_none : (scope : List Item) (xs : List Attr) → map (field_of scope) xs ≡ [] → xs ≡ []
+map_none scope [] e = refl
+map_none scope (a ∷ xs) e = absurd (cc)
+
+pub none_next : (n : Option NextAttribute) (all : List Attr) → plain all ≡ [] → IsNextPlain (option_map next_view n) all → n ≡ None
+none_next None all e next = refl
+none_next (Some x) all e (more, listed, same) = let wrong = sym e ∙ same in absurd (cc)
+
+pub no_field : (n : Option NextAttribute) (scope : List Item) (all : List Attr) → fields_in scope all ≡ [] → IsNextPlain (option_map next_view n) all
+    → n ≡ None
+no_field n scope all e next = none_next n all (map_none scope (plain all) e) next
+
+-- the first attribute of a property or an item is the only one
+pub filling_first : (scope : List Item) (all more : List Attr) (n : Next) → plain all ≡ n.attribute ∷ plain more → FillingFits (fields_in scope all)
+    → (plain more ≡ []) × OneFits (field_of scope n.attribute)
+filling_first scope all more n same (inl none) =
+    let wrong = sym none ∙ ap (λ (z : List Attr). map (field_of scope) z) same in absurd (cc)
+filling_first scope all more n same (inr (f, one, fits)) =
+    let whole : field_of scope n.attribute ∷ map (field_of scope) (plain more) ≡ f ∷ [] =
+    sym (ap (λ (z : List Attr). map (field_of scope) z) same) ∙ one in
+    (map_none scope (plain more) (tails whole), subst OneFits (sym (heads whole)) fits)
+  where
+    tails : {x y : Field} {xs ys : List Field} → x ∷ xs ≡ y ∷ ys → xs ≡ ys
+    tails e = cc
+
+    heads : {x y : Field} {xs ys : List Field} → x ∷ xs ≡ y ∷ ys → x ≡ y
+    heads e = cc

@@ -27,7 +27,7 @@ pub end_more : (l : Label) (k : List ℕ) → end_tag l k ≡ end_tag l [] ++ k
 end_more (Property space local) k = simp append_assoc refl
 end_more Item k = refl
 
-start_more : (s : Compound) (k : List ℕ) → compound_start s k ≡ compound_start s [] ++ k
+pub start_more : (s : Compound) (k : List ℕ) → compound_start s k ≡ compound_start s [] ++ k
 start_more Structure k = refl
 start_more Bag k = refl
 start_more Seq k = refl
@@ -39,7 +39,7 @@ stop_more Bag k = refl
 stop_more Seq k = refl
 stop_more Alt k = refl
 
-literal_octets : (l : Label) (y t k : List ℕ) → simple l (Literal y t) k ≡ language_octets y ++ (normal_text t ++ end_tag l k)
+pub literal_octets : (l : Label) (y t k : List ℕ) → simple l (Literal y t) k ≡ language_octets y ++ (normal_text t ++ end_tag l k)
 literal_octets l [] t k = refl
 literal_octets l (o ∷ y) t k = simp append_assoc refl
 
@@ -51,7 +51,7 @@ simple_more l (Literal y t) k =
     ∙ ap (λ (z : List ℕ). language_octets y ++ z) (append_assoc (normal_text t) (end_tag l []) k))
 simple_more l (Uri u) k = simp append_assoc refl
 
-written_more : (c : Content) (k : List ℕ) → written c k ≡ written c [] ++ k
+pub written_more : (c : Content) (k : List ℕ) → written c k ≡ written c [] ++ k
 written_more End k = refl
 written_more (Flat l p rest) k =
     ap (λ (z : List ℕ). opening_tag l (simple l p z)) (written_more rest k)
@@ -109,7 +109,7 @@ neither x y h k = tied x y (not_less (order x y) h (ap is_lt (sym (nat_list_cmp_
 
 -- ---- sums over the octets of entries
 
-abbrev total : (List ℕ → ℕ) → List Entry → ℕ
+abbrev pub total : (List ℕ → ℕ) → List Entry → ℕ
 total f [] = 0
 total f (e ∷ es) = f (entry_octets e) + total f es
 
@@ -118,10 +118,10 @@ total_is f [] = refl
 total_is f (e ∷ es) =
     ap (λ (n : ℕ). f (entry_octets e) + n) (total_is f es) ∙ sym (sum_by-cons (λ (x : Entry). f (entry_octets x)) e es)
 
-abbrev SameTotals : List Entry → List Entry → Type 0
+abbrev pub SameTotals : List Entry → List Entry → Type 0
 SameTotals es fs = (f : List ℕ → ℕ) → total f es ≡ total f fs
 
-totals_moved : (es fs : List Entry) → IsPermutation es fs → SameTotals es fs
+pub totals_moved : (es fs : List Entry) → IsPermutation es fs → SameTotals es fs
 totals_moved es fs h f =
     total_is f es ∙ sym (sum_by-IsPermutation (λ (x : Entry). f (entry_octets x)) es fs h) ∙ sym (total_is f fs)
 
@@ -201,7 +201,7 @@ rise_once (e ∷ es) (f ∷ fs) s r q =
 
 -- ---- rows
 
-before_more : (l : Label) (v : Value) (c : Content) (k : List ℕ) → written (before l v c) k ≡ written (before l v End) [] ++ written c k
+pub before_more : (l : Label) (v : Value) (c : Content) (k : List ℕ) → written (before l v c) k ≡ written (before l v End) [] ++ written c k
 before_more l (Plain p) c k = written_more (Flat l p End) (written c k)
 before_more l (Inside s inner) c k = written_more (Nested l s inner End) (written c k)
 

@@ -1,17 +1,15 @@
 -- A packet that is refused as one that is wrong has no meaning.
-use Rattle.std.proofs.Common.{◌≡◌, ◌≤◌, ◌+◌, ◌-◌, ℕ, Bool, true, false, Option, Some, None, List, [], ◌++◌, length, Result, Ok, Err, refl, sym, ap, subst, ◌∙◌, inl, inr, arith, length-append}
-use Rattle.px_xmp_text.specs.Texts.{text_of}
+use Rattle.std.proofs.Common.{◌≡◌, ◌≤◌, ◌+◌, ◌-◌, ℕ, Bool, true, false, Some, None, List, [], ◌++◌, length, Result, Ok, Err, refl, sym, ap, subst, ◌∙◌, inl, inr, arith, length-append}
 use Rattle.px_xmp_text.specs.Values.{Content}
 use Rattle.px_xmp_text.specs.declared.pieces.TextKind.{TextKind}
-use Rattle.px_xmp_marks.specs.Reading.{Attr}
 use Rattle.px_xmp_spaces.specs.Scopes.{Item, ended}
 use Rattle.px_xmp_forms.specs.Causes.{is_rare, IsRare, IfWrong}
 use Rattle.px_xmp_forms.specs.Forms.{is_white}
 use Rattle.px_xmp_forms.specs.declared.faults.Cause.{Cause}
 use Rattle.px_xmp_forms.specs.declared.faults.Refusal.{Refusal}
 use Rattle.px_xmp_forms.specs.declared.faults.Refusal.TheVariants as refusals
-use Rattle.px_xmp.specs.Marks.{Mark, Start, End, Text, Other, IsKind}
-use Rattle.px_xmp.specs.Tags.{Tag, tag_of, inside}
+use Rattle.px_xmp.specs.Marks.{Mark, Start, End, Text}
+use Rattle.px_xmp.specs.Tags.{Tag, inside}
 use Rattle.px_xmp.specs.Nodes.{Nodes, Nothing, Words, Element, AreNodes}
 use Rattle.px_xmp.specs.Meaning.{AreWhite, IsRdf, HasRdf, IsRoot, Means}
 use Rattle.px_xmp.specs.Reading as reading
@@ -19,7 +17,7 @@ use Rattle.px_xmp.specs.Reading.{What, IsReadAs}
 use Rattle.px_xmp.specs.Laws.{KindsAreRead}
 use Rattle.px_xmp.specs.declared.elements.Opened.{Opened}
 use Rattle.px_xmp.specs.declared.source.Source.{Source}
-use Rattle.px_xmp.specs.calls.Steps.{IsFirst, IsStart, IsTag, Next, TagAfter, HasInside, InsideRead}
+use Rattle.px_xmp.specs.calls.Steps.{IsFirst, IsStart, Next, TagAfter, HasInside, InsideRead}
 use Rattle.px_xmp.specs.calls.Refused.{IsOther, HasText, BeginsWithText}
 use Rattle.px_xmp.proofs.StepLaws.{joined, nodes_shorter, nodes_joined, words_read}
 use Rattle.px_xmp.proofs.NodeLaws.{mark_once, some_mark, IsWords, words_mark, words_same, IsStop, at_stop, words_stop, no_tag, words_start, Same, tag_once, nodes_once}
@@ -259,7 +257,7 @@ white_at_end law white b old new z is_white tag row s =
     whole ∙ ap (λ (q : Nodes). joined white q) (nothing_at_end law left old.scope tag.at tag.octets new.rest.now z tag.is.0 others)
 
 -- what is in an element is one row
-inside_once : KindsAreRead → (b : Bool) (p q : Nodes) (scope : List Item) (at : ℕ) (x y z : List ℕ) → HasInside b p scope at x y
+pub inside_once : KindsAreRead → (b : Bool) (p q : Nodes) (scope : List Item) (at : ℕ) (x y z : List ℕ) → HasInside b p scope at x y
     → HasInside b q scope at x z → Same p q y z
 inside_once law true p q scope at x y z (e, f) (g, h) = (e ∙ sym g, sym f ∙ h)
 inside_once law false p q scope at x y z (end, r, i) (stop, s, j) =

@@ -414,7 +414,7 @@ subjects_none empty l depth old subject s output is left has =
 -- ---- rdf:RDF
 
 -- the text of the subject that was named, if one was
-has_subject : (s : Subject) → (u : Option (List ℕ)) × IsSubject s u
+pub has_subject : (s : Subject) → (u : Option (List ℕ)) × IsSubject s u
 has_subject s = by (option_map (λ x. x.now) s.value)
   where
     by : (m : Option (List ℕ)) → (u : Option (List ℕ)) × ((v : List ℕ) → m ≡ Some v → text_of AttributeValue v ≡ u)
@@ -422,7 +422,7 @@ has_subject s = by (option_map (λ x. x.now) s.value)
     by (Some x) = (text_of AttributeValue x, λ v e. ap (text_of AttributeValue) (sym (some_same x v e)))
 
 -- none was named, so that it is any
-no_subject : (s : Subject) (u : Option (List ℕ)) → s.value ≡ None → IsSubject s u
+pub no_subject : (s : Subject) (u : Option (List ℕ)) → s.value ≡ None → IsSubject s u
 no_subject s u none v e = let wrong : None ≡ Some v = sym (ap (λ m. option_map (λ x. x.now) m) none) ∙ e in absurd (cc)
 
 -- no attribute declares nothing
@@ -431,7 +431,7 @@ no_fields scope all none = ap (λ (z : List Attr). map (field_of scope) z) none
 
 -- the properties of rdf:RDF were joined, and are those of the packet
 -- nothing was put
-abbrev empty_state : State
+abbrev pub empty_state : State
 empty_state = record { opened = []; properties = End }
 
 pub rdf_row : (es : List Entry) (after : State) (first second : Output) → JoinsProperties (changed (with_entries es) (begun nothing empty_state)) after

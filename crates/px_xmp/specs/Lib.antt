@@ -6,5 +6,6 @@ pub mod Nodes
 pub mod Reading
 pub mod Meaning
 pub mod Readable
+pub mod Usual
 pub mod Laws
 pub mod calls

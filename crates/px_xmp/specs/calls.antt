@@ -7,3 +7,4 @@ pub mod Roots
 pub mod Around
 pub mod Refused
 pub mod Crowded
+pub mod Fits

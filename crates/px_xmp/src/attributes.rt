@@ -1,9 +1,10 @@
 // The attributes of a tag, apart from declarations.
-ghost use Rattle.std.specs.Prelude.{◌≡◌, ◌≤◌, ◌<◌, List, length, option_map, IfSome};
+ghost use Rattle.std.specs.Prelude.{◌≡◌, ◌≤◌, ◌<◌, List, true, length, option_map, is_some, IfSome};
 ghost use Rattle.px_xmp_marks.specs.Reading.{Attr, name_view, next_view};
 ghost use Rattle.px_xmp_spaces.specs.Bindings.{declared_prefix};
 ghost use Rattle.px_xmp.specs.Tags.{names_language, is_plain, DeclaresLanguage, inherited};
 ghost use Rattle.px_xmp.specs.calls.Listed.{AreListed, IsNextPlain};
+ghost use Rattle.px_xmp.specs.calls.Fits.{LanguageFits};
 
 use px_xmp_forms::is_language;
 use px_xmp_marks::{Name, NextAttribute, next_attribute};
@@ -61,6 +62,7 @@ pub(crate) fn next_plain<'a>(octets: &'a [u8]) -> Option<NextAttribute<'a>>
 pub(crate) fn language_of<'a>(declared: Option<&'a [u8]>, outer: &'a [u8]) -> Option<&'a [u8]>
     ensures declares { IfSome result (λ l. DeclaresLanguage (option_map (λ d. d.now) declared.entry)) }
     ensures language { IfSome result (λ l. l.now ≡ inherited outer.now (option_map (λ d. d.now) declared.entry)) }
+    ensures usual { LanguageFits (option_map (λ d. d.now) declared.entry) → is_some result ≡ true }
 {
     match declared {
         Some(language) => {

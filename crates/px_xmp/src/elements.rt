@@ -1,8 +1,9 @@
 // What is known of an element while its content is read.
-ghost use Rattle.std.specs.Prelude.{◌≡◌, ◌≤◌, suc, option_map, IfSome};
+ghost use Rattle.std.specs.Prelude.{◌≡◌, ◌≤◌, suc, true, option_map, is_some, IfSome};
 ghost use Rattle.px_xmp_tree.specs.Nesting.{limit};
 ghost use Rattle.px_xmp.specs.Tags.{DeclaresLanguage, inherited};
 ghost use Rattle.px_xmp.specs.calls.Contents.{content_of};
+ghost use Rattle.px_xmp.specs.calls.Fits.{LanguageFits};
 
 use crate::attributes::language_of;
 use crate::names::Named;
@@ -43,6 +44,7 @@ impl<'a> Around<'a> {
             a.language.now ≡ inherited self.entry.language.now (option_map (λ l. l.now) opened.entry.language)) }
         ensures place { IfSome result (λ a. a.place ≡ opened.entry.place) }
         ensures depth { IfSome result (λ a. a.depth ≡ self.entry.depth) }
+        ensures usual { LanguageFits (option_map (λ l. l.now) opened.entry.language) → is_some result ≡ true }
     {
         let Some(language) = language_of(opened.language, self.language) else {
             return None;
@@ -60,6 +62,7 @@ impl<'a> Around<'a> {
         ensures place { IfSome result (λ a. a.place ≡ self.entry.place) }
         ensures depth { IfSome result (λ a. a.depth ≡ suc self.entry.depth) }
         ensures within { IfSome result (λ a. a.depth ≤ limit) }
+        ensures usual { suc self.entry.depth ≤ limit → is_some result ≡ true }
     {
         if self.depth >= DEPTH_LIMIT {
             return None;

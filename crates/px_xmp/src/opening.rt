@@ -1,13 +1,17 @@
 // Reads the attributes of an element of RDF, some of which are properties.
-ghost use Rattle.std.specs.Prelude.{◌≡◌, ℕ, List, codes, OnOk, IfOk};
+ghost use Rattle.std.specs.Prelude.{◌≡◌, ℕ, List, [], codes, OnOk, IfOk};
 ghost use Rattle.px_xmp_marks.specs.Reading.{Attr, next_view};
 ghost use Rattle.px_xmp_forms.specs.Allocations.{CountsAllocFailureInPacket};
-ghost use Rattle.px_xmp_forms.specs.Causes.{IsRare};
+ghost use Rattle.px_xmp_forms.specs.Causes.{IsRare, FailsByMemory};
+ghost use Rattle.px_xmp_forms.specs.Forms.{TextFits};
+ghost use Rattle.px_xmp_forms.specs.Uris.{IsAbsolute};
+ghost use Rattle.px_xmp_text.specs.declared.pieces.TextKind.TheVariants.{AttributeValue};
 ghost use Rattle.px_xmp_forms.specs.Outputs.{State, Has};
-ghost use Rattle.px_xmp.specs.Tags.{fields_in};
+ghost use Rattle.px_xmp.specs.Tags.{plain, fields_in};
 ghost use Rattle.px_xmp.specs.calls.Listed.{AreListed, IsNextOf};
 ghost use Rattle.px_xmp.specs.calls.Opening.{name_of};
 ghost use Rattle.px_xmp.specs.calls.Contents.{PropertyPut, PropertiesPut, ResourcePut, IsFilled};
+ghost use Rattle.px_xmp.specs.calls.Fits.{FillingFits};
 
 use crate::attributes::next_plain;
 use crate::elements::{Around, DEPTH_LIMIT, Filling};
@@ -61,6 +65,7 @@ pub(crate) fn put_properties<'a>(
         around.entry.place s output.new) }
     ensures memory { CountsAllocFailureInPacket result memory.old memory.new }
     ensures rare { IsRare result }
+    ensures usual { (all : List Attr) → AreListed attributes.now all → fields_in scope.now all ≡ [] → FailsByMemory result }
 {
     let mut found = next_plain(attributes);
     while let Some(next) = found {
@@ -107,6 +112,9 @@ fn put_resource<'a>(
     ensures value { (s : State) → Has output.old s → OnOk result (ResourcePut (next_view first.entry) s output.new) }
     ensures memory { CountsAllocFailureInPacket result memory.old memory.new }
     ensures rare { IsRare result }
+    ensures usual { (more : List Attr) → AreListed (next_view first.entry).rest more → plain more ≡ []
+        → IsAbsolute (next_view first.entry).attribute.value → TextFits AttributeValue (next_view first.entry).attribute.value 0
+        → FailsByMemory result }
 {
     if !is_absolute(first.attribute.value) {
         return Err(Cause::RareResource.at(around.place));
@@ -131,6 +139,8 @@ fn read_filling_from<'a>(
         around.entry.place s output.new) }
     ensures memory { CountsAllocFailureInPacket result memory.old memory.new }
     ensures rare { IsRare result }
+    ensures usual { (all : List Attr) → IsNextOf (next_view first.entry) all → FillingFits (fields_in scope.now all)
+        → FailsByMemory result }
 {
     let name = scope.attribute(first.attribute.name);
     if name.is_rdf(b"parseType") {
@@ -161,6 +171,7 @@ pub(crate) fn read_filling<'a>(
         around.entry.place s output.new) }
     ensures memory { CountsAllocFailureInPacket result memory.old memory.new }
     ensures rare { IsRare result }
+    ensures usual { (all : List Attr) → AreListed attributes.now all → FillingFits (fields_in scope.now all) → FailsByMemory result }
 {
     match next_plain(attributes) {
         Some(first) => read_filling_from(memory, output, scope, first, around),

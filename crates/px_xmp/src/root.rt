@@ -1,19 +1,22 @@
 // Reads the root of a document, and rdf:RDF. XMP part 1, 7.
-ghost use Rattle.std.specs.Prelude.{◌≡◌, ◌≤◌, ◌<◌, ℕ, List, [], None, false, codes, length, OnOk};
+ghost use Rattle.std.specs.Prelude.{◌≡◌, ◌≤◌, ◌<◌, ℕ, List, [], Option, None, false, codes, length, OnOk};
 ghost use Rattle.px_xmp_text.specs.Values.{Content, End};
 ghost use Rattle.px_xmp_marks.specs.Reading.{Attr, next_view};
 ghost use Rattle.px_xmp_forms.specs.Allocations.{CountsAllocFailureInPacket};
-ghost use Rattle.px_xmp_forms.specs.Causes.{IsRare, IfWrong};
+ghost use Rattle.px_xmp_forms.specs.Causes.{IsRare, IfWrong, FailsByMemory};
+ghost use Rattle.px_xmp_forms.specs.Entries.{Entry};
 ghost use Rattle.px_xmp_forms.specs.Outputs.{State, Has};
 ghost use Rattle.px_xmp.specs.Tags.{Tag, field_of, fields_in};
 ghost use Rattle.px_xmp.specs.Names.{is_rdf};
 ghost use Rattle.px_xmp.specs.Nodes.{Nodes, AreNodes};
-ghost use Rattle.px_xmp.specs.Meaning.{IsRoot, HasRdf, Means};
+ghost use Rattle.px_xmp.specs.Meaning.{AreSubjects, IsRdf, IsRoot, HasRdf, Means};
+ghost use Rattle.px_xmp.specs.Usual.{IsUsualTag, AreUsual, AreElements};
 ghost use Rattle.px_xmp.specs.calls.Listed.{AreListed};
 ghost use Rattle.px_xmp.specs.calls.Opening.{IsOpened};
 ghost use Rattle.px_xmp.specs.calls.Steps.{IsLeft, HasInside};
 ghost use Rattle.px_xmp.specs.calls.Roots.{IsNew, AttributeRead, AttributesRead, SubjectRead, SubjectsRead};
 ghost use Rattle.px_xmp.specs.calls.Roots.{RdfRead, AroundRead, RootRead, DocumentRead};
+ghost use Rattle.px_xmp.specs.calls.Fits.{IsAhead, IsUsualInside, IsSilentSubject, ContentFits, AreFit, IsSilent, AreSilent};
 
 use crate::attributes::next_plain;
 use crate::elements::{Around, Node, Opened, SUBJECT_DEPTH};
@@ -40,6 +43,7 @@ impl<'a> Reader<'a> {
             subject.old subject.new self.new.output) }
         ensures memory { CountsAllocFailureInPacket result memory.old memory.new }
         ensures rare { IsRare result }
+        ensures usual { IsSilent (field_of self.old.source.scope (next_view next.entry).attribute) → FailsByMemory result }
     {
         let name = self.source.scope.attribute(next.attribute.name);
         if name.is_about() {
@@ -62,6 +66,8 @@ impl<'a> Reader<'a> {
             subject.old subject.new self.new.output) }
         ensures memory { CountsAllocFailureInPacket result memory.old memory.new }
         ensures rare { IsRare result }
+        ensures usual { (all : List Attr) → AreListed attributes.now all → AreSilent (fields_in self.old.source.scope all)
+            → FailsByMemory result }
     {
         let mut found = next_plain(attributes);
         while let Some(next) = found {
@@ -86,6 +92,9 @@ impl<'a> Reader<'a> {
             self.new.output) }
         ensures memory { CountsAllocFailureInPacket result memory.old memory.new }
         ensures rare { IsRare result }
+        ensures usual { (s : State) (t : Tag) (nodes : Nodes) (es : List Entry) (y : List ℕ) → Has self.old.output s
+            → IsOpened self.old.source.scope opened.entry t → IsAhead opened.entry.is_empty nodes self.old.source y
+            → IsSilentSubject outer.entry.language.now t nodes es → AreFit outer.entry.depth es → FailsByMemory result }
     {
         if !opened.name.is_rdf(b"Description") {
             return Err(Cause::RareElement.at(opened.place));
@@ -113,7 +122,11 @@ impl<'a> Reader<'a> {
             self.new.output) }
         ensures memory { CountsAllocFailureInPacket result memory.old memory.new }
         ensures rare { IsRare result }
+        ensures usual { (s : State) (nodes : Nodes) (u : Option (List ℕ)) (es : List Entry) (y : List ℕ) → Has self.old.output s
+            → IsAhead opened.entry.is_empty nodes self.old.source y → AreElements nodes
+            → AreSubjects u around.entry.language.now nodes es → AreFit around.entry.depth es → FailsByMemory result }
     {
+        crate::laws::kinds_are_read();
         if opened.is_empty {
             return Ok(());
         }
@@ -138,7 +151,13 @@ impl<'a> Reader<'a> {
         ensures memory { CountsAllocFailureInPacket result memory.old memory.new }
         ensures refused { (t : Tag) → IsOpened self.old.source.scope opened.entry t
             → IfWrong result (is_rdf (codes "RDF") t.name ≡ false) }
+        ensures usual { (t : Tag) (nodes : Nodes) (c : Content) (y : List ℕ)
+            → Has self.old.output (record { opened = []; properties = End }) → IsNew subject.old
+            → IsOpened self.old.source.scope opened.entry t → IsAhead opened.entry.is_empty nodes self.old.source y
+            → IsUsualTag t → IsUsualInside t nodes → IsRdf t nodes c → ContentFits 3 c → FailsByMemory result }
     {
+        crate::laws::kinds_are_read();
+        px_xmp_text::laws::packet_is_injective();
         if !opened.name.is_rdf(b"RDF") {
             return Err(Cause::NoRdf.at(opened.place));
         }
@@ -176,6 +195,9 @@ impl<'a> Reader<'a> {
             → IsLeft self.old.source.at self.old.source.rest.now → IsNew subject.old
             → HasInside false nodes self.old.source.scope self.old.source.at self.old.source.rest.now y
             → IfWrong result (HasRdf nodes c → ⊥) }
+        ensures usual { (nodes : Nodes) (c : Content) (y : List ℕ) → Has self.old.output (record { opened = []; properties = End })
+            → IsNew subject.old → IsAhead false nodes self.old.source y → AreElements nodes → HasRdf nodes c → ContentFits 3 c
+            → FailsByMemory result }
     {
         crate::laws::kinds_are_read();
         let Some(inner) = self.source.next_tag(memory, Cause::NoRdf)? else {
@@ -204,6 +226,10 @@ impl<'a> Reader<'a> {
             → IsLeft self.old.source.at self.old.source.rest.now → IsNew subject.old → IsOpened self.old.source.scope opened.entry t
             → HasInside opened.entry.is_empty nodes self.old.source.scope self.old.source.at self.old.source.rest.now y
             → IfWrong result (IsRoot t nodes c → ⊥) }
+        ensures usual { (t : Tag) (nodes : Nodes) (c : Content) (y : List ℕ)
+            → Has self.old.output (record { opened = []; properties = End }) → IsNew subject.old
+            → IsOpened self.old.source.scope opened.entry t → IsAhead opened.entry.is_empty nodes self.old.source y
+            → IsUsualTag t → IsUsualInside t nodes → IsRoot t nodes c → ContentFits 3 c → FailsByMemory result }
     {
         if !opened.name.is_root() {
             return self.read_rdf(memory, subject, opened);
@@ -234,6 +260,10 @@ impl<'a> Reader<'a> {
             → IsLeft self.old.source.at self.old.source.rest.now → IsNew subject.old
             → AreNodes nodes self.old.source.scope self.old.source.at self.old.source.rest.now []
             → OnOk result (Means nodes c → subject.new.other ≡ None) }
+        ensures usual { (nodes : Nodes) (c : Content) → Has self.old.output (record { opened = []; properties = End })
+            → IsLeft self.old.source.at self.old.source.rest.now → IsNew subject.old
+            → AreNodes nodes self.old.source.scope self.old.source.at self.old.source.rest.now []
+            → Means nodes c → AreElements nodes → AreUsual self.old.source.rest.now → ContentFits 3 c → FailsByMemory result }
     {
         crate::laws::kinds_are_read();
         let place = self.source.at;

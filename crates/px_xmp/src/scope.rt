@@ -4,9 +4,10 @@ ghost use Rattle.px_xmp_marks.specs.Reading.{Attr, name_view, attribute_view};
 ghost use Rattle.px_xmp_spaces.specs.Scopes.{built_in, space_of, ended};
 ghost use Rattle.px_xmp_spaces.specs.Bindings.{declared_prefix};
 ghost use Rattle.px_xmp_forms.specs.Allocations.{CountsAllocFailureInPacket};
-ghost use Rattle.px_xmp_forms.specs.Causes.{IsRare};
+ghost use Rattle.px_xmp_forms.specs.Causes.{IsRare, FailsByMemory};
 ghost use Rattle.px_xmp.specs.Names.{or_none, element_name, attribute_name};
 ghost use Rattle.px_xmp.specs.Tags.{names_language, is_plain, with_prefix, inside, tag_of};
+ghost use Rattle.px_xmp.specs.Usual.{IsUsualSpace, HaveUsualSpaces};
 ghost use Rattle.px_xmp.specs.calls.Entries.{entry_view, entries_of};
 ghost use Rattle.px_xmp.specs.calls.Listed.{AreListed, first_after, or_rest};
 ghost use Rattle.px_xmp.specs.calls.Opening.{name_of, IsDeclared, IsOpened};
@@ -147,6 +148,7 @@ impl<'a> Scope<'a> {
         ensures items { OnOk result (self.new ≡ entry_view entry.entry ∷ self.old) }
         ensures memory { CountsAllocFailureInPacket result memory.old memory.new }
         ensures rare { IsRare result }
+        ensures usual { FailsByMemory result }
     {
         memory.push(&mut self.entries, entry)?;
         Ok(())
@@ -163,6 +165,8 @@ impl<'a> Scope<'a> {
             ≡ with_prefix (declared_prefix (name_view attribute.entry.name)) attribute.entry.value.now self.old) }
         ensures memory { CountsAllocFailureInPacket result memory.old memory.new }
         ensures rare { IsRare result }
+        ensures usual { IsUsualSpace (declared_prefix (name_view attribute.entry.name)) attribute.entry.value.now
+            → FailsByMemory result }
     {
         let Some(prefix) = declared_prefix(attribute.name) else {
             return Ok(());
@@ -185,6 +189,7 @@ impl<'a> Scope<'a> {
         ensures tag { (all : List Attr) → AreListed attributes.now all → IfOk result (λ d. IsDeclared d all) }
         ensures memory { CountsAllocFailureInPacket result memory.old memory.new }
         ensures rare { IsRare result }
+        ensures usual { (all : List Attr) → AreListed attributes.now all → HaveUsualSpaces all → FailsByMemory result }
     {
         px_xmp_marks::laws::attributes_in_order();
         self.put(memory, Entry::Element)?;
@@ -218,6 +223,7 @@ impl<'a> Scope<'a> {
         ensures place { IfOk result (λ o. o.place ≡ place) }
         ensures memory { CountsAllocFailureInPacket result memory.old memory.new }
         ensures rare { IsRare result }
+        ensures usual { (all : List Attr) → AreListed tag.entry.rest.now all → HaveUsualSpaces all → FailsByMemory result }
     {
         let declared = self.open(memory, tag.rest, place)?;
         Ok(Opened {

@@ -1,14 +1,16 @@
 // Reads the marks of a document, one after another.
-ghost use Rattle.std.specs.Prelude.{◌≡◌, ◌≤◌, ◌<◌, ℕ, List, [], true, false, length, OnOk, IfOk, IfSome};
+ghost use Rattle.std.specs.Prelude.{◌≡◌, ◌≤◌, ◌<◌, ℕ, List, [], true, false, length, is_some, OnOk, IfOk, IfSome};
 ghost use Rattle.px_xmp_marks.specs.Declarations.{every};
 ghost use Rattle.px_xmp_forms.specs.Allocations.{CountsAllocFailureInPacket};
-ghost use Rattle.px_xmp_forms.specs.Causes.{is_rare, IsRare, IfWrong};
+ghost use Rattle.px_xmp_forms.specs.Causes.{is_rare, IsRare, IfWrong, FailsByMemory};
 ghost use Rattle.px_xmp_forms.specs.Forms.{is_white};
-ghost use Rattle.px_xmp.specs.Nodes.{Nodes, AreNodes};
+ghost use Rattle.px_xmp.specs.Nodes.{Nodes, Nothing, AreNodes};
 ghost use Rattle.px_xmp.specs.Meaning.{AreWhite};
 ghost use Rattle.px_xmp.specs.Reading.{Words, kind_view};
-ghost use Rattle.px_xmp.specs.calls.Steps.{IsLeft, Says, Next, TagAfter, EndRead, AfterRead, is_plain_space};
+ghost use Rattle.px_xmp.specs.Marks.{Mark, End};
+ghost use Rattle.px_xmp.specs.calls.Steps.{IsLeft, IsFirst, HasInside, Says, Next, TagAfter, EndRead, AfterRead, is_plain_space};
 ghost use Rattle.px_xmp.specs.calls.Refused.{IsOther, BeginsWithText};
+ghost use Rattle.px_xmp.specs.calls.Fits.{BeginsWithTag};
 
 use crate::elements::Opened;
 use crate::marks::{MarkKind, Text, read_mark};
@@ -36,6 +38,7 @@ impl<'a> Source<'a> {
         ensures scope { self.new.scope ≡ self.old.scope }
         ensures read { IsLeft self.old.at self.old.rest.now
             → IfSome result (λ k. Next (kind_view k) self.old.at self.old.rest.now self.new.at self.new.rest.now) }
+        ensures some { (k : Mark) (y : List ℕ) → IsFirst k self.old.rest.now y → is_some result ≡ true }
     {
         crate::laws::kinds_are_read();
         let Some(mark) = read_mark(self.rest) else {
@@ -61,7 +64,9 @@ impl<'a> Source<'a> {
         ensures rare { is_rare other ≡ true → IsRare result }
         ensures refused { IsLeft self.old.at self.old.rest.now
             → IfWrong result (BeginsWithText self.old.scope self.old.at self.old.rest.now) }
+        ensures usual { IsLeft self.old.at self.old.rest.now → BeginsWithTag self.old.rest.now → FailsByMemory result }
     {
+        crate::laws::kinds_are_read();
         'marks: loop {
             let place = self.at;
             let Some(kind) = self.next() else {
@@ -83,7 +88,10 @@ impl<'a> Source<'a> {
         ensures read { IsLeft self.old.at self.old.rest.now → OnOk result (EndRead false self.old self.new) }
         ensures memory { CountsAllocFailureInPacket result memory.old memory.new }
         ensures rare { IsRare result }
+        ensures usual { (y : List ℕ) → IsLeft self.old.at self.old.rest.now → IsFirst End self.old.rest.now y
+            → FailsByMemory result }
     {
+        crate::laws::kinds_are_read();
         match self.next_tag(memory, Cause::RareText)? {
             Some(opened) => Err(Cause::RareElement.at(opened.place)),
             None => Ok(()),
@@ -101,6 +109,8 @@ impl<'a> Source<'a> {
         ensures read { IsLeft self.old.at self.old.rest.now → OnOk result (EndRead is_empty self.old self.new) }
         ensures memory { CountsAllocFailureInPacket result memory.old memory.new }
         ensures rare { IsRare result }
+        ensures usual { (y : List ℕ) → IsLeft self.old.at self.old.rest.now
+            → HasInside is_empty Nothing self.old.scope self.old.at self.old.rest.now y → FailsByMemory result }
     {
         if is_empty {
             return Ok(());
@@ -114,6 +124,7 @@ impl<'a> Source<'a> {
         ensures memory { CountsAllocFailureInPacket result memory.old memory.new }
         ensures refused { (nodes : Nodes) → IsLeft self.old.at self.old.rest.now
             → AreNodes nodes self.old.scope self.old.at self.old.rest.now [] → IfWrong result (AreWhite nodes → ⊥) }
+        ensures usual { self.old.rest.now ≡ [] → FailsByMemory result }
     {
         crate::laws::kinds_are_read();
         while !self.rest.is_empty() {

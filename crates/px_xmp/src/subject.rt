@@ -1,7 +1,7 @@
 // The subject of a packet.
-ghost use Rattle.std.specs.Prelude.{◌≡◌, OnOk};
+ghost use Rattle.std.specs.Prelude.{◌≡◌, [], OnOk};
 ghost use Rattle.px_xmp_forms.specs.Allocations.{CountsAllocFailureInPacket};
-ghost use Rattle.px_xmp_forms.specs.Causes.{IsRare};
+ghost use Rattle.px_xmp_forms.specs.Causes.{IsRare, FailsByMemory};
 ghost use Rattle.px_xmp.specs.calls.Roots.{IsAbout, Keeps, Stays};
 
 use px_bytes::Memory;
@@ -28,6 +28,7 @@ impl<'a> Subject<'a> {
         ensures only { OnOk result (Stays self.old self.new (IsAbout value.now)) }
         ensures memory { CountsAllocFailureInPacket result memory.old memory.new }
         ensures rare { IsRare result }
+        ensures usual { value.now ≡ [] → FailsByMemory result }
     {
         if value.is_empty() || self.other.is_some() {
             return Ok(());

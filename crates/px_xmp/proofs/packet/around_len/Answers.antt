@@ -1,4 +1,4 @@
-use Rattle.std.proofs.Common.{◌∙◌, ap, arith, length, length-drop}
+use Rattle.std.proofs.Common.{ap, arith, length, length-drop}
 use Rattle.px_xmp.proofs.AroundLaws.{around_on}
 use Rattle.px_xmp.proofs.packet.around_len.Goals as goal
 

@@ -1,8 +1,9 @@
-use Rattle.std.proofs.Common.{◌≡◌, ◌≤◌, ◌+◌, ◌*◌, length}
+use Rattle.std.proofs.Common.{◌≡◌, ◌≤◌, ◌+◌, ◌*◌, ℕ, List, length}
 use Rattle.px_xmp_forms.specs.Outputs.{State, Has}
 use Rattle.px_xmp.specs.calls.Opening.{node_view}
 use Rattle.px_xmp.specs.calls.Steps.{IsLeft}
 use Rattle.px_xmp.proofs.ContentLaws.{ItemsSoFar}
+use Rattle.px_xmp.proofs.ItemLaws.{ItemsAhead}
 use Rattle.px_xmp.proofs.reader.Reader.+content.Given as goal
 
 abbrev pub decreases-read_content : goal.decreases-read_content
@@ -25,6 +26,9 @@ invariant-read_items-items l = record {
   within : length l.self.source.rest.now ≤ length l.fn.self.source.rest.now;
   read : (s : State) → Has l.fn.self.output s → IsLeft l.fn.self.source.at l.fn.self.source.rest.now
       → ItemsSoFar (node_view l.node) l.around.language.now l.around.depth l.fn.self.source l.self.source s l.self.output;
+  ahead : (s : State) (y : List ℕ) → Has l.fn.self.output s
+      → ItemsAhead (node_view l.node) l.around.language.now l.around.depth l.fn.self.source y
+      → ItemsAhead (node_view l.node) l.around.language.now l.around.depth l.self.source y;
   failed_allocations : l.memory.failed_allocations ≡ l.fn.memory.failed_allocations;
 }
 

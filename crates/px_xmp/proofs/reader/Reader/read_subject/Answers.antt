@@ -5,6 +5,13 @@ use Rattle.px_xmp.specs.declared.source.Source.{Source}
 use Rattle.px_xmp.specs.calls.Steps.{IsLeft}
 use Rattle.px_xmp.specs.calls.Contents.{with_entries}
 use Rattle.px_xmp.proofs.RootLaws.{subject_done}
+use Rattle.std.specs.Bool.{⊤}
+use Rattle.std.proofs.lemmas.Result.{err_from_is_err_and}
+use Rattle.px_xmp_text.specs.Values.{Structure}
+use Rattle.px_xmp.specs.Meaning.{AreEntries}
+use Rattle.px_xmp.specs.calls.Fits.{IsAhead, LanguageFits, AreFit, AreSilent}
+use Rattle.px_xmp.proofs.UsualLaws.{memory_says, none_some}
+use Rattle.px_xmp.proofs.SubjectLaws.{subject_elements}
 use Rattle.px_xmp.proofs.reader.Reader.read_subject.Goals as goal
 
 pub returns-clause-read : goal.returns-clause-read
@@ -18,3 +25,24 @@ returns-clause-read c s t has left (name, language, all, listed, fields) =
     (c.in-Some.ensures.language ∙ ap (λ (z : Option (List ℕ)). inherited c.args.outer.language.now z) language) c.in-Some.ensures.depth c.in-Some.ensures.place fields kept
     refl refl c.close.ensures a
     (c.in_ok-read_items.ensures.read (changed (with_entries a.entries) s) a.has (subst (λ (z : Source). IsLeft z.at z.rest.now) (sym kept) left))
+
+pub returns-in_default-clause-usual : goal.returns-in_default-clause-usual
+returns-in_default-clause-usual c s t nodes es y has opened ahead is fit =
+    absurd (none_some c.inside.result c.in_default.is (c.inside.ensures.usual (subst LanguageFits (sym opened.1) (is.declares, is.tag.0))))
+
+pub returns-in_err-read_subject_attributes-clause-usual : goal.returns-in_err-read_subject_attributes-clause-usual
+returns-in_err-read_subject_attributes-clause-usual c s t nodes es y has (name, language, all, listed, fields) ahead is fit =
+    let p = err_from_is_err_and c.from_residual.result c.from_residual.ensures.1 in
+    rw (p.1, p.2) (memory_says ⊤ ⊤ c.in_err-read_subject_attributes.field-0.0
+    (c.in_err-read_subject_attributes.ensures.usual all listed (subst AreSilent (sym fields) is.silent)))
+
+pub returns-in_err-read_items-clause-usual : goal.returns-in_err-read_items-clause-usual
+returns-in_err-read_items-clause-usual c s t nodes es y has (name, language, all, listed, fields) ahead is fit =
+    let a = c.in_ok-read_subject_attributes.ensures.value s all has listed in
+    let kept = c.in_ok-read_subject_attributes.ensures.source in
+    let spoken = c.in-Some.ensures.language ∙ ap (λ (z : Option (List ℕ)). inherited c.args.outer.language.now z) language in
+    let p = err_from_is_err_and c.from_residual-in_err-read_items.result c.from_residual-in_err-read_items.ensures.1 in
+    rw (p.1, p.2) (memory_says ⊤ ⊤ c.in_err-read_items.field-0.0
+    (c.in_err-read_items.ensures.usual (changed (with_entries a.entries) s) nodes es y a.has
+    (subst (λ (z : Source). IsAhead c.args.opened.is_empty nodes z y) (sym kept) ahead) (subject_elements c.args.outer.language.now t nodes es is)
+    (subst (λ (z : List ℕ). AreEntries Structure z nodes es) (sym spoken) is.are) (subst (λ (z : ℕ). AreFit z es) (sym c.in-Some.ensures.depth) fit)))

@@ -1,4 +1,4 @@
-use Rattle.std.proofs.Common.{refl, subst, ◌∙◌}
+use Rattle.std.proofs.Common.{refl, sym, subst, ◌∙◌}
 use Rattle.px_xmp_marks.specs.Reading.{next_view}
 use Rattle.px_xmp_forms.specs.Outputs.{changed}
 use Rattle.px_xmp.specs.Tags.{field_of}
@@ -6,6 +6,11 @@ use Rattle.px_xmp.specs.declared.source.Source.{Source}
 use Rattle.px_xmp.specs.calls.Contents.{with_entries}
 use Rattle.px_xmp.specs.calls.Roots.{AttributeRead}
 use Rattle.px_xmp.proofs.RootLaws.{attributes_begin, attributes_next, attributes_end}
+use Rattle.std.specs.Bool.{⊤}
+use Rattle.std.proofs.lemmas.Result.{err_from_is_err_and}
+use Rattle.px_xmp.specs.calls.Fits.{IsSilent}
+use Rattle.px_xmp.proofs.UsualLaws.{memory_says}
+use Rattle.px_xmp.proofs.SubjectLaws.{silent_first, silent_left}
 use Rattle.px_xmp.proofs.reader.Reader.read_subject_attributes.Goals as goal
 
 pub loop-found-init : goal.loop-found-init
@@ -15,6 +20,7 @@ loop-found-init c =
       put = λ s all has listed.
           attributes_begin c.next_plain-found.result c.args.self.now.source.scope all c.args.around.language.now c.args.around.depth c.args.around.place s
           c.args.subject.now c.args.self.now.output (c.next_plain-found.ensures.value all listed) has;
+      silent = λ all listed silent. (all, c.next_plain-found.ensures.value all listed, silent);
       failed_allocations = refl;
     }
 
@@ -31,6 +37,9 @@ loop-found-preserved c =
           c.args.around.place (changed (with_entries left.entries) s) c.loop-found.subject c.read_subject_attribute.new.subject
           c.read_subject_attribute.new.self.output) c.loop-found.invariant.source
           (c.in_ok-read_subject_attribute.ensures.value (changed (with_entries left.entries) s) left.has));
+      silent = λ all listed silent.
+          silent_left c.loop-found.found c.next_plain-found-in-Some.result c.in-Some.next c.args.self.now.source.scope c.in-Some.is
+          (c.loop-found.invariant.silent all listed silent) c.next_plain-found-in-Some.ensures.value;
       failed_allocations = c.in_ok-read_subject_attribute.ensures.memory ∙ c.loop-found.invariant.failed_allocations;
     }
 
@@ -38,3 +47,11 @@ pub returns-clause-value : goal.returns-clause-value
 returns-clause-value c s all has listed =
     attributes_end c.loop-found.found c.args.self.now.source.scope all c.args.around.language.now c.args.around.depth c.args.around.place s c.args.subject.now
     c.loop-found.subject c.loop-found.self.output c.in_default.is (c.loop-found.invariant.put s all has listed)
+
+pub returns-in_err-read_subject_attribute-clause-usual : goal.returns-in_err-read_subject_attribute-clause-usual
+returns-in_err-read_subject_attribute-clause-usual c all listed silent =
+    let p = err_from_is_err_and c.from_residual.result c.from_residual.ensures.1 in
+    let first = silent_first c.loop-found.found c.in-Some.next c.args.self.now.source.scope c.in-Some.is (c.loop-found.invariant.silent all listed silent) in
+    rw (p.1, p.2) (memory_says ⊤ ⊤ c.in_err-read_subject_attribute.field-0.0
+    (c.in_err-read_subject_attribute.ensures.usual
+    (subst (λ (z : Source). IsSilent (field_of z.scope (next_view c.in-Some.next).attribute)) (sym c.loop-found.invariant.source) first)))

@@ -1,10 +1,13 @@
 use Rattle.std.specs.Bool.{⊤}
 use Rattle.px_xmp.specs.declared.elements.Opened.{Opened}
-use Rattle.std.proofs.Common.{Option, [], refl, subst, ◌∙◌, arith}
+use Rattle.std.proofs.Common.{Option, [], refl, sym, subst, ◌∙◌, arith}
 use Rattle.px_xmp.specs.Reading as reading
 use Rattle.px_xmp.specs.declared.marks.MarkKind.{MarkKind}
 use Rattle.px_xmp.specs.calls.Steps.{Next}
+use Rattle.px_xmp_marks.specs.Reading.{start_tag_view}
+use Rattle.px_xmp.specs.calls.Fits.{BeginsWithTag}
 use Rattle.px_xmp.proofs.RefusedLaws.{rare_says, wrong_says, text_begins}
+use Rattle.px_xmp.proofs.UsualLaws.{memory_says, none_some, first_of, tag_read, start_usual}
 use Rattle.px_xmp.specs.Reading.{kind_view}
 use Rattle.px_xmp.proofs.StepLaws.{white_step, moves_on, tag_started, tag_ended}
 use Rattle.std.proofs.lemmas.Result.{err_from_is_err_and}
@@ -23,6 +26,13 @@ marks-preserved-in_ok-judge_blank-in-Text c =
           (c.in-Some.ensures.read moves.left) in
           white_step white c.args.self.now.scope c.args.self.now.at c.args.self.now.rest.now c.marks.self.at c.marks.self.rest.now
           c.next.new.self.at c.next.new.self.rest.now _ t is_white octets moves next says blank;
+      first = λ begins left.
+          let (white, is_white, octets, moves) = c.marks.invariant.read left in
+          let next =
+          subst (λ (z : MarkKind). Next (kind_view z) c.marks.self.at c.marks.self.rest.now c.next.new.self.at c.next.new.self.rest.now) c.in-Text.is
+          (c.in-Some.ensures.read moves.left) in
+          absurd (tag_read c.kinds_are_read.ensures _ c.marks.self.at c.next.new.self.at c.marks.self.rest.now c.next.new.self.rest.now
+          (subst BeginsWithTag (sym (c.marks.invariant.first begins left)) begins) next);
       failed_allocations = c.in_ok-judge_blank-in-Text.ensures.memory ∙ c.marks.invariant.failed_allocations;
     }
 
@@ -38,6 +48,13 @@ marks-preserved c =
           (c.in-Some.ensures.read moves.left) in
           white_step white c.args.self.now.scope c.args.self.now.at c.args.self.now.rest.now c.marks.self.at c.marks.self.rest.now
           c.next.new.self.at c.next.new.self.rest.now reading.Other [] is_white octets moves next refl refl;
+      first = λ begins left.
+          let (white, is_white, octets, moves) = c.marks.invariant.read left in
+          let next =
+          subst (λ (z : MarkKind). Next (kind_view z) c.marks.self.at c.marks.self.rest.now c.next.new.self.at c.next.new.self.rest.now) c.in-Other.is
+          (c.in-Some.ensures.read moves.left) in
+          absurd (tag_read c.kinds_are_read.ensures reading.Other c.marks.self.at c.next.new.self.at c.marks.self.rest.now c.next.new.self.rest.now
+          (subst BeginsWithTag (sym (c.marks.invariant.first begins left)) begins) next);
       failed_allocations = c.marks.invariant.failed_allocations;
     }
 
@@ -96,3 +113,29 @@ returns-in_err-judge_blank-in-Text-clause-refused c left =
     rw (p.1, p.2) (wrong_says ⊤ (Option Opened) c.in_err-judge_blank-in-Text.field-0.0 _ _ (text_begins white c.args.self.now.scope c.args.self.now.at c.marks.self.at c.next.new.self.at c.args.self.now.rest.now
     c.marks.self.rest.now c.next.new.self.rest.now c.in-Text.text.kind c.in-Text.text.octets.now is_white octets moves.same next)
     c.in_err-judge_blank-in-Text.ensures.refused)
+
+pub returns-in_err-enter-in-Start-clause-usual : goal.returns-in_err-enter-in-Start-clause-usual
+returns-in_err-enter-in-Start-clause-usual c left begins =
+    let (white, is_white, octets, moves) = c.marks.invariant.read left in
+    let next =
+    subst (λ (z : MarkKind). Next (kind_view z) c.marks.self.at c.marks.self.rest.now c.next.new.self.at c.next.new.self.rest.now) c.in-Start.is
+    (c.in-Some.ensures.read moves.left) in
+    let (all, listed, usual) =
+    start_usual c.kinds_are_read.ensures (start_tag_view c.in-Start.tag) c.marks.self.at c.next.new.self.at c.marks.self.rest.now c.next.new.self.rest.now
+    (subst BeginsWithTag (sym (c.marks.invariant.first begins left)) begins) next in
+    let p = err_from_is_err_and c.from_residual.result c.from_residual.ensures.1 in
+    rw (p.1, p.2) (memory_says Opened (Option Opened) c.in_err-enter-in-Start.field-0.0 (c.in_err-enter-in-Start.ensures.usual all listed usual))
+
+pub returns-in_err-judge_blank-in-Text-clause-usual : goal.returns-in_err-judge_blank-in-Text-clause-usual
+returns-in_err-judge_blank-in-Text-clause-usual c left begins =
+    let (white, is_white, octets, moves) = c.marks.invariant.read left in
+    let next =
+    subst (λ (z : MarkKind). Next (kind_view z) c.marks.self.at c.marks.self.rest.now c.next.new.self.at c.next.new.self.rest.now) c.in-Text.is
+    (c.in-Some.ensures.read moves.left) in
+    absurd (tag_read c.kinds_are_read.ensures _ c.marks.self.at c.next.new.self.at c.marks.self.rest.now c.next.new.self.rest.now
+    (subst BeginsWithTag (sym (c.marks.invariant.first begins left)) begins) next)
+
+pub returns-in_default-clause-usual : goal.returns-in_default-clause-usual
+returns-in_default-clause-usual c left begins =
+    let (k, y, first) = first_of c.marks.self.rest.now (subst BeginsWithTag (sym (c.marks.invariant.first begins left)) begins) in
+    absurd (none_some c.next.result c.in_default.is (c.next.ensures.some k y first))

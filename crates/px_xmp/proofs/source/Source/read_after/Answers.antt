@@ -5,6 +5,7 @@ use Rattle.px_xmp.proofs.StepLaws.{white_step}
 use Rattle.px_xmp.proofs.source.Source.read_after.Goals as goal
 use Rattle.std.proofs.lemmas.Result.{err_from_is_err_and}
 use Rattle.px_xmp.proofs.RefusedLaws.{after_refused, wrong_says}
+use Rattle.px_xmp.proofs.UsualLaws.{none_shorter}
 
 pub loop-place-preserved : goal.loop-place-preserved
 loop-place-preserved c =
@@ -14,6 +15,7 @@ loop-place-preserved c =
           let (t, says, blank) = c.in_ok-judge_white.ensures.says in
           white_step white c.args.self.now.scope c.args.self.now.at c.args.self.now.rest.now c.loop-place.self.at c.loop-place.self.rest.now
           c.next.new.self.at c.next.new.self.rest.now (kind_view c.in-Some.kind) t is_white octets moves (c.in-Some.ensures.read moves.left) says blank;
+      empty = λ e. absurd (none_shorter c.next.new.self.rest.now c.loop-place.self.rest.now c.in-Some.ensures.shorter (c.loop-place.invariant.empty e));
       failed_allocations = c.in_ok-judge_white.ensures.memory ∙ c.loop-place.invariant.failed_allocations;
     }
 
@@ -26,3 +28,7 @@ returns-in_err-judge_white-clause-refused c nodes left row =
     rw (p.1, p.2) (wrong_says ⊤ ⊤ c.in_err-judge_white.field-0.0 _ _ (after_refused c.kinds_are_read.ensures (kind_view c.in-Some.kind) white nodes old.scope old.at now.at c.next.new.self.at
     old.rest.now now.rest.now c.next.new.self.rest.now is_white octets moves.same row (c.in-Some.ensures.read moves.left))
     c.in_err-judge_white.ensures.refused)
+
+pub returns-in_err-judge_white-clause-usual : goal.returns-in_err-judge_white-clause-usual
+returns-in_err-judge_white-clause-usual c e =
+    absurd (none_shorter c.next.new.self.rest.now c.loop-place.self.rest.now c.in-Some.ensures.shorter (c.loop-place.invariant.empty e))
