@@ -1,14 +1,23 @@
 -- In a document no tag has more attributes than this reader judges.
-use Rattle.std.proofs.Common.{◌≡◌, ◌+◌, ◌++◌, ◌∙◌, refl, ℕ, suc, Bool, true, false, Option, Some, None, option_map, List, [], ◌∷◌, length, drop, sym, ap, subst, arith}
-use Rattle.std.proofs.lemmas.List.{drop_at}
-use Rattle.px_xmp_marks.specs.Reading.{Attr, Next, next_attribute, start_tag_view, start_tag}
-use Rattle.px_xmp_marks.specs.Laws.{AttributesInOrder, OnlyStartTagsAreRead}
-use Rattle.px_xmp_marks.specs.Marks.{mark_len, IsMark, AreMarks, OnlyMarksAreRead}
+use Rattle.std.proofs.Common.{◌≡◌, ◌<◌, ◌≤◌, ◌+◌, ◌&&◌, ◌++◌, ◌∙◌, inl, inr, refl, ℕ, suc, Bool, true, false, not, nat_le, nat_lt, if◌then◌else◌, Option, Some, None, option_map, Result, Ok, Err, List, [], ◌∷◌, length, take, drop, sym, ap, subst, arith}
+use Rattle.std.proofs.lemmas.Bool.{lt-ltb}
+use Rattle.std.proofs.lemmas.List.{drop_at, take_at}
+use Rattle.px_xmp_marks.specs.Reading.{Named, Attr, Next, next_attribute, start_tag_view, start_tag}
+use Rattle.px_xmp_marks.specs.Grammar.{IsStartTag}
+use Rattle.px_xmp_marks.specs.Laws.{AttributesInOrder, StartTagsAreRead, OnlyStartTagsAreRead}
+use Rattle.px_xmp_marks.specs.Marks.{mark_len, text_len, IsMark, AreMarks, MarksAreRead, OnlyMarksAreRead}
 use Rattle.px_xmp_marks.specs.declared.tags.StartTag.{StartTag}
-use Rattle.px_xmp_spaces.specs.Tags.{attribute_limit}
+use Rattle.px_xmp_spaces.specs.declared.faults.Cause.{Cause}
+use Rattle.px_xmp_spaces.specs.declared.faults.Cause.TheVariants.{TooMany, Undeclared, ManyAttributes, SameName}
+use Rattle.px_xmp_spaces.specs.Pieces.{Piece, Opening, Alone, Closing, Other, IsPiece, ArePieces}
+use Rattle.px_xmp_spaces.specs.Scopes.{Item, Element, limit, ended}
+use Rattle.px_xmp_spaces.specs.Bindings.{and_then, with_attributes}
+use Rattle.px_xmp_spaces.specs.Tags.{attribute_limit, is_element_bound, are_bound, are_unique, judged, opened, passed}
+use Rattle.px_xmp_spaces.specs.Faults.{Lead, HasSpaces}
 use Rattle.px_xmp.specs.calls.Listed.{AreListed}
 use Rattle.px_xmp.specs.calls.Crowded.{AreMany, HasMany, IsCrowded}
 use Rattle.px_xmp.proofs.TagLaws.{next_listed, none_listed}
+use Rattle.px_xmp.proofs.NestLaws.{same_attributes, no_start_end}
 
 -- ---- attributes
 
@@ -65,3 +74,83 @@ crowded_here only x at (Some t) many (ms, before) e has is =
       whole = whole;
       many = subst (λ (b : Bool). AreMany b attributes) is (has attributes listed);
     }
+
+-- ---- a document
+
+none_here : mark_len [] ≡ None
+unfolding mark_len text_len
+none_here = refl
+
+no_mark_here : MarksAreRead → (m rest : List ℕ) → IsMark m rest → m ++ rest ≡ [] → ⊥
+no_mark_here law m rest i e = let wrong = sym (law m rest i) ∙ ap mark_len e ∙ none_here in absurd (cc)
+
+some_length : (p q : ℕ) → Some p ≡ Some q → p ≡ q
+some_length p q h = cc
+
+same_mark : MarksAreRead → (m rest n tail : List ℕ) → IsMark m rest → IsMark n tail → m ++ rest ≡ n ++ tail → (m ≡ n) × (rest ≡ tail)
+same_mark law m rest n tail i j e =
+    let size : length m ≡ length n = some_length (length m) (length n) (sym (law m rest i) ∙ ap mark_len e ∙ law n tail j) in (
+      sym (take_at m rest (length m) refl) ∙ ap (take (length m)) e ∙ take_at n tail (length m) (sym size),
+      sym (drop_at m rest (length m) refl) ∙ ap (drop (length m)) e ∙ drop_at n tail (length m) (sym size),
+    )
+
+piece_mark : (p : Piece) (x y : List ℕ) → IsPiece p x y → IsMark x y
+piece_mark (Opening n attributes) x y i = inl (n, attributes, false, i)
+piece_mark (Alone n attributes) x y i = inl (n, attributes, true, i)
+piece_mark Closing x y i = inr (inl i)
+piece_mark Other x y i = i.0
+
+judged_many : (n : Named) (attributes : List Attr) (scope inner : List Item) → nat_lt attribute_limit (length attributes) ≡ true
+    → judged n attributes scope ≡ Ok inner → ⊥
+judged_many n attributes scope inner many e =
+    choose (is_element_bound scope n && are_bound scope attributes) (nat_lt attribute_limit (length attributes)) (are_unique scope attributes) many e
+  where
+    choose : (a b d : Bool) → b ≡ true
+        → (if not a then Err Undeclared else if b then Err ManyAttributes else if d then Ok scope else Err SameName) ≡ Ok inner → ⊥
+    choose false b d h e = absurd (cc)
+    choose true true d h e = absurd (cc)
+    choose true false d h e = absurd (cc)
+
+opened_many : (n : Named) (attributes : List Attr) (scope inner : List Item) → nat_lt attribute_limit (length attributes) ≡ true
+    → opened n attributes scope ≡ Ok inner → ⊥
+opened_many n attributes scope inner many e = choose (nat_le limit (length scope)) (with_attributes attributes (Element ∷ scope)) e
+  where
+    choose : (b : Bool) (r : Result (List Item) Cause) → (if b then Err TooMany else and_then r (λ z. judged n attributes z)) ≡ Ok inner → ⊥
+    choose true r e = absurd (cc)
+    choose false (Err c) e = absurd (cc)
+    choose false (Ok s) e = judged_many n attributes s inner many e
+
+piece_many : StartTagsAreRead → (p : Piece) (m rest : List ℕ) (n : Named) (attributes : List Attr) (empty : Bool) (scope next : List Item)
+    → IsPiece p m rest → IsStartTag m n attributes empty → attribute_limit < length attributes → passed p scope ≡ Ok next → ⊥
+piece_many law (Opening k xs) m rest n attributes empty scope next i j many e =
+    let same : xs ≡ attributes = same_attributes law m k n xs attributes false empty i j in
+    opened_many k xs scope next (lt-ltb attribute_limit (length xs) (omega (arith, many, ap length same))) e
+piece_many law (Alone k xs) m rest n attributes empty scope next i j many e =
+    let same : xs ≡ attributes = same_attributes law m k n xs attributes true empty i j in
+    by_result (opened k xs scope) refl e
+  where
+    by_result : (r : Result (List Item) Cause) → opened k xs scope ≡ r → and_then r (λ inner. Ok (ended inner)) ≡ Ok next → ⊥
+    by_result (Err c) f g = absurd (cc)
+    by_result (Ok inner) f g =
+        opened_many k xs scope inner (lt-ltb attribute_limit (length xs) (omega (arith, many, ap length (same_attributes law m k n xs attributes true empty i j)))) f
+piece_many law Closing m rest n attributes empty scope next (k, i) j many e = no_start_end law m n k attributes empty i j
+piece_many law Other m rest n attributes empty scope next i j many e = i.1 (n, attributes, empty, j)
+
+module _ (marks : MarksAreRead) (starts : StartTagsAreRead) where
+  none_beside : (ms : List (List ℕ)) (ps : List Piece) (x y tag rest : List ℕ) (scope last : List Item) (n : Named) (attributes : List Attr) (empty : Bool)
+      → AreMarks ms x y → ArePieces ps x [] → Lead scope ps last → IsStartTag tag n attributes empty → y ≡ tag ++ rest
+      → attribute_limit < length attributes → ⊥
+  none_beside [] [] x y tag rest scope last n attributes empty e f leads is w many =
+      no_mark_here marks tag rest (inl (n, attributes, empty, is)) (sym w ∙ sym e ∙ f)
+  none_beside [] (p ∷ ps) x y tag rest scope last n attributes empty e (m, k, i, v, more) (next, passes, leads) is w many =
+      let same = same_mark marks m k tag rest (piece_mark p m k i) (inl (n, attributes, empty, is)) (sym v ∙ e ∙ w) in
+      piece_many starts p tag k n attributes empty scope next (subst (λ (z : List ℕ). IsPiece p z k) same.0 i) is many passes
+  none_beside (k ∷ ms) [] x y tag rest scope last n attributes empty (r, j, v, more) f leads is w many = no_mark_here marks k r j (sym v ∙ f)
+  none_beside (k ∷ ms) (p ∷ ps) x y tag rest scope last n attributes empty (r, j, v, before) (m, s, i, u, more) (next, passes, leads) is w many =
+      let same = same_mark marks k r m s j (piece_mark p m s i) (sym v ∙ u) in
+      none_beside ms ps r y tag rest next last n attributes empty before (subst (λ (z : List ℕ). ArePieces ps z []) (sym same.1) more) leads is w many
+
+  -- where prefixes are declared, no tag has so many attributes
+  pub none_crowded : (x : List ℕ) (at : ℕ) → HasSpaces x → IsCrowded x at → ⊥
+  none_crowded x at (ps, last, are, leads) h =
+      none_beside h.marks ps x (drop at x) h.tag h.rest [] last h.name h.attributes h.empty h.before are leads h.is_tag h.whole h.many

@@ -49,7 +49,7 @@ head_leaves law x d e head at file parts few =
     record { marks = ms; row = subst (λ (z : List ℕ). AreRow ms z) same row; few = few }
 
 -- what was read is what the document means
-meaning_of : (x d : List ℕ) (e : Option (List ℕ)) (start head at : ℕ) (scope : List Item) (y : List ℕ) (nodes : Nodes) (c : Content)
+pub meaning_of : (x d : List ℕ) (e : Option (List ℕ)) (start head at : ℕ) (scope : List Item) (y : List ℕ) (nodes : Nodes) (c : Content)
     → IsSplit (drop (order_mark_len x) x) d e (drop head x) → head ≤ length x → at ≡ start + head → scope ≡ [] → y ≡ drop head x
     → AreNodes nodes scope at y [] → Means nodes c → HasMeaning x start c
 meaning_of x d e start head at scope y nodes c parts within place none same octets means =

@@ -37,3 +37,6 @@ pub mod FitLaws
 pub mod LiteralLaws
 pub mod ItemLaws
 pub mod SubjectLaws
+pub mod OwnFormLaws
+pub mod UsualFormLaws
+pub mod UsualDocumentLaws

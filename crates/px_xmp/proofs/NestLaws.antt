@@ -192,7 +192,7 @@ packet_tree c x h are =
 some_same : {A : Type 0} (p q : A) → Some p ≡ Some q → p ≡ q
 some_same p q h = cc
 
-same_attributes : StartTagsAreRead → (x : List ℕ) (n k : Named) (xs ys : List Attr) (a b : Bool) → IsStartTag x n xs a → IsStartTag x k ys b → xs ≡ ys
+pub same_attributes : StartTagsAreRead → (x : List ℕ) (n k : Named) (xs ys : List Attr) (a b : Bool) → IsStartTag x n xs a → IsStartTag x k ys b → xs ≡ ys
 same_attributes law x n k xs ys a b i j =
     let (t, e, named, has, empty, size) = law x [] n xs a i in
     let (u, f, called, holds, alone, long) = law x [] k ys b j in

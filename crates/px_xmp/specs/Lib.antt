@@ -8,4 +8,5 @@ pub mod Meaning
 pub mod Readable
 pub mod Usual
 pub mod Laws
+pub mod Accepted
 pub mod calls

@@ -1,5 +1,6 @@
 //! The laws of packets. Each is the contract of a function that computes nothing.
 ghost use Rattle.px_xmp.specs.Laws.{FormIsItsOwn, FormsDecide, KindsAreRead, MeaningsAreReadable, NodesMeanOnce, NormalIsFile};
+ghost use Rattle.px_xmp.specs.Accepted.{FormsAreUsual};
 ghost use Rattle.px_xmp.specs.Laws.{NormalKeepsMeaning, NormalSays, OneMeaning, OnePacket, OneReading, ScopesAreJudged};
 
 /// Each mark of a document is read as what it is, and with its length.
@@ -98,4 +99,14 @@ pub fn form_is_its_own()
 {
     normal_is_file();
     normal_says();
+}
+
+/// A normal form within the limits of this reader is a packet that it accepts, if memory suffices.
+pub fn forms_are_usual()
+    ensures { FormsAreUsual }
+{
+    px_xmp_text::laws::normal_reads_back();
+    px_xmp_text::laws::normal_bound();
+    px_xmp_text::laws::fault_or_text();
+    normal_is_file();
 }

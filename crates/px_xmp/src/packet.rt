@@ -7,10 +7,11 @@ ghost use Rattle.px_xmp_text.specs.Values.{Content};
 ghost use Rattle.px_xmp_document.specs.Document.{IsSplit, order_mark_len, IsFile};
 ghost use Rattle.px_xmp_forms.specs.Forms.{IsNormal};
 ghost use Rattle.px_xmp_forms.specs.Allocations.{CountsAllocFailureInPacket};
-ghost use Rattle.px_xmp_forms.specs.Causes.{IfWrong};
+ghost use Rattle.px_xmp_forms.specs.Causes.{IfWrong, FailsByMemory};
 ghost use Rattle.px_xmp_forms.specs.declared.items.BagOrder.TheVariants.{Sorted};
 ghost use Rattle.px_xmp.specs.Packet.{is_padding, is_wide, AreAround, BeginsBare, EndsBare, IsPacket};
 ghost use Rattle.px_xmp.specs.Meaning.{HasMeaning};
+ghost use Rattle.px_xmp.specs.Accepted.{IsUsualForm, IsUsualDocument, IsUsualPacket};
 ghost use Rattle.px_xmp.specs.calls.Around.{BeginsAround};
 ghost use Rattle.px_xmp.specs.calls.Listed.{AreListed};
 ghost use Rattle.px_xmp.specs.calls.Crowded.{AreMany, HasMany, IsCrowded};
@@ -244,7 +245,11 @@ fn document_form(
         → IfWrong result ((c : Content) → IsFile document.now → HasMeaning document.now start c → ⊥) }
     ensures normal { IfOk result (λ form. IsNormal form.items) }
     ensures bound { IfOk result (λ form. length form.items ≤ limit) }
+    ensures usual { order ≡ Sorted → start + length document.now ≤ limit → IsUsualDocument document.now start → FailsByMemory result }
 {
+    px_xmp_marks::laws::marks_are_read();
+    px_xmp_marks::laws::start_tags_are_read();
+    px_xmp_marks::laws::declarations_are_read();
     px_xmp_document::laws::one_fault();
     let head = head_len(document);
     if let Some(at) = first_crowded(document.split_at(head).1) {
@@ -253,8 +258,8 @@ fn document_form(
     if let Some(fault) = first_fault(document) {
         return Err(cause_of(document, fault).at(start.saturating_add(fault.offset)));
     }
-    px_xmp_marks::laws::declarations_are_read();
     crate::laws::meanings_are_readable();
+    crate::laws::one_meaning();
     let octets = document.split_at(head).1;
     let mut reader = Reader::new(memory, octets, start.saturating_add(head), order);
     let mut subject = Subject {
@@ -277,6 +282,7 @@ fn form_in(memory: &mut Memory, packet: &[u8], order: BagOrder) -> Result<Vec<u8
     ensures refused { order ≡ Sorted → IfWrong result (HasNoMeaning packet.now) }
     ensures normal { IfOk result (λ form. IsNormal form.items) }
     ensures bound { IfOk result (λ form. length form.items ≤ limit) }
+    ensures usual { order ≡ Sorted → IsUsualPacket packet.now → FailsByMemory result }
 {
     if packet.len() > LIMIT {
         return Err(Cause::TooLong.at(LIMIT));
@@ -301,7 +307,13 @@ pub fn normal_form_in(memory: &mut Memory, packet: &[u8]) -> Result<Vec<u8>, Ref
     ensures refused { IfWrong result (HasNoMeaning packet.now) }
     ensures normal { IfOk result (λ form. IsNormal form.items) }
     ensures bound { IfOk result (λ form. length form.items ≤ limit) }
+    ensures usual { IsUsualPacket packet.now → FailsByMemory result }
+    ensures own { IsUsualForm packet.now → FailsByMemory result }
+    ensures same { IsReadableForm packet.now → IfOk result (λ form. form.items ≡ packet.now) }
 {
+    crate::laws::forms_are_usual();
+    crate::laws::form_is_its_own();
+    crate::laws::one_meaning();
     form_in(memory, packet, BagOrder::Sorted)
 }
 
@@ -322,6 +334,8 @@ pub fn check_in(memory: &mut Memory, packet: &[u8]) -> Result<(), Refusal>
     ensures packet { OnOk result (IsPacket packet.now) }
     ensures memory { CountsAllocFailureInPacket result memory.old memory.new }
     ensures refused { IfWrong result (HasNoMeaning packet.now) }
+    ensures usual { IsUsualPacket packet.now → FailsByMemory result }
+    ensures own { IsUsualForm packet.now → FailsByMemory result }
 {
     normal_form_in(memory, packet)?;
     Ok(())
