@@ -1,13 +1,13 @@
 -- Texts and values without references are found by one search.
 use Rattle.std.proofs.Common.{◌≡◌, ◌<◌, ◌≤◌, ◌==◌, ◌&&◌, ◌||◌, ◌+◌, ℕ, zero, suc, Bool, true, false, not, cond, codes, is_none, is_some, get_or}
-use Rattle.std.proofs.Common.{List, [], ◌∷◌, length, take, Option, Some, None, option_and_then, refl, sym, ap, ◌∙◌, arith, eq-eqb, add-zero, zero-add}
-use Rattle.std.proofs.lemmas.Bool.{or_right, or_parts, cond-true, cond-false, ne_eqb}
+use Rattle.std.proofs.Common.{List, [], ◌∷◌, length, take, Option, Some, None, option_and_then, refl, sym, ap, ◌∙◌, arith, eq-eqb, zero-add}
+use Rattle.std.proofs.lemmas.Bool.{or_right, or_parts, cond-true, cond-false}
 use Rattle.std.specs.List.{list_any}
-use Rattle.memchr.specs.Find.{Nowhere, Passes, is_byte, is_byte2, is_byte3}
+use Rattle.memchr.specs.Find.{Nowhere, Passes, is_byte3}
 use Rattle.px_xmp_text.specs.Texts.{first_fault}
 use Rattle.px_xmp_text.specs.Laws.{NoFaultUnlessReference}
 use Rattle.px_xmp_text.specs.declared.pieces.TextKind.TheVariants.{CharacterData, AttributeValue}
-use Rattle.px_xmp_marks.specs.Reading.{is_space, space_len, eq_len, quoted_len, value_len, run}
+use Rattle.px_xmp_marks.specs.Reading.{is_space, space_len, eq_len, value_len}
 use Rattle.px_xmp_marks.specs.Sections.{find}
 use Rattle.px_xmp_marks.specs.Marks.{data_len, text_len}
 use Rattle.px_xmp_marks.proofs.SearchLaws.{run_all, run_to, quote_found, no_section_end}

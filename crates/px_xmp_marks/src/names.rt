@@ -14,11 +14,22 @@ pub struct Name<'a> {
     pub size: usize,
 }
 
+// A plus at the place of each octet of white space, and a point at every other place.
+static SPACES: [u8; 256] = *b"\
+    .........++..+..................\
+    +...............................\
+    ................................\
+    ................................\
+    ................................\
+    ................................\
+    ................................\
+    ................................";
+
 // Whether an octet is white space.
 pub(crate) fn is_space(octet: u8) -> bool
     ensures { result ≡ is_space octet }
 {
-    octet == b' ' || octet == b'\t' || octet == b'\n' || octet == b'\r'
+    SPACES[octet as usize] == b'+'
 }
 
 // Whether a name can begin with an octet.
@@ -46,8 +57,39 @@ fn is_name_char(octet: u8) -> bool
     NAME_CHARS[octet as usize] != b','
 }
 
-// The number of octets of white space at the start.
-pub(crate) fn space_len(octets: &[u8]) -> usize
+// Whether white space is at a place.
+fn is_space_at(octets: &[u8], at: usize) -> bool
+    requires { at < length octets.now }
+    ensures stops { result ≡ false → space_len (drop at octets.now) ≡ 0 }
+    ensures goes_on { result ≡ true → space_len (drop at octets.now) ≡ suc (space_len (drop (at + 1) octets.now)) }
+{
+    is_space(octets[at])
+}
+
+// How many of four octets from a place on are white space, before the first that is none.
+fn four_spaces(octets: &[u8], at: usize) -> usize
+    requires { at + 4 ≤ length octets.now }
+    ensures few { result < 4 → space_len (drop at octets.now) ≡ result }
+    ensures all { result ≡ 4 → space_len (drop at octets.now) ≡ 4 + space_len (drop (at + 4) octets.now) }
+    ensures within { result ≤ 4 }
+{
+    if !is_space_at(octets, at) {
+        return 0;
+    }
+    if !is_space_at(octets, at + 1) {
+        return 1;
+    }
+    if !is_space_at(octets, at + 2) {
+        return 2;
+    }
+    if !is_space_at(octets, at + 3) {
+        return 3;
+    }
+    4
+}
+
+// The number of octets of white space at the start, one after another.
+fn short_space_len(octets: &[u8]) -> usize
     ensures value { result ≡ space_len octets.now }
     ensures within { result ≤ length octets.now }
 {
@@ -57,6 +99,22 @@ pub(crate) fn space_len(octets: &[u8]) -> usize
         }
     }
     octets.len()
+}
+
+// The number of octets of white space at the start.
+pub(crate) fn space_len(octets: &[u8]) -> usize
+    ensures value { result ≡ space_len octets.now }
+    ensures within { result ≤ length octets.now }
+{
+    let mut at = 0;
+    while octets.len() - at >= 4 {
+        let len = four_spaces(octets, at);
+        if len < 4 {
+            return at + len;
+        }
+        at += 4;
+    }
+    at + short_space_len(octets.split_at(at).1)
 }
 
 // Whether a name can contain the octet at a place.

@@ -1,4 +1,3 @@
-use Rattle.std.proofs.Common.{sym, ◌∙◌}
 use Rattle.px_xmp_document.proofs.WalkLaws.{no_start_tag, no_end_tag}
 use Rattle.px_xmp_document.proofs.walk.begins_markup.Goals as goal
 

@@ -1,4 +1,4 @@
-use Rattle.std.proofs.Common.{arith, sym, ap, not, ◌∙◌, Bool}
+use Rattle.std.proofs.Common.{arith, sym, ap, not, ◌∙◌}
 use Rattle.px_xmp_marks.proofs.PlainLaws.{tight_eq}
 use Rattle.px_xmp_marks.proofs.attributes.begins_with_eq.Goals as goal
 
