@@ -487,8 +487,9 @@ def test_version(version):
 
 
 ODD = laid(Exif({0x9999: Value(7, bytes(99_999))}), Layout("<"))
-SPACES = f"xmlns:r='http://www.w3.org/1999/02/22-rdf-syntax-ns#' xmlns:n='http://{'n' * 1000}/'"
-LONG_NAMES = f"<r:RDF {SPACES}><r:Description n:a='1' n:b='2' n:c='3' n:d='4'/></r:RDF>".encode()  # the form has the namespace four times
+SPACES = f"xmlns:r='http://www.w3.org/1999/02/22-rdf-syntax-ns#' xmlns:n='http://{'n' * 240}/'"
+NAMES = " ".join(f"n:a{it}='1'" for it in range(20))  # the form has their namespace twenty times
+LONG_NAMES = f"<r:RDF {SPACES}><r:Description {NAMES}/></r:RDF>".encode()
 ATTRIBUTES = " ".join(f"e:Name{it}='0'" for it in range(40))  # as Lightroom writes its settings: the form is almost twice as long
 SETTINGS = f"<r:RDF {SPACES.split()[0]} xmlns:e='http://e/'><r:Description {ATTRIBUTES}/></r:RDF>".encode()
 BY_CALL = {

@@ -160,10 +160,14 @@ def test_spelling():
 LI = "<rdf:li>{}</rdf:li>"
 
 
+LONGEST = b"http://" + b"q" * 248 + b"/"
+"""A namespace of 256 octets. A longer one is rare, because each property of a form repeats it."""
+
+
 def long_form():
-    """A packet of 60 kB whose form repeats a namespace a thousand times."""
-    packet = xmp("".join(f"<q:a{it}/>" for it in range(1000)))
-    return packet.replace(b"xmlns:dc=", b"xmlns:q='http://" + b"q" * 50000 + b"/' xmlns:dc=", 1)
+    """A packet of 600 kB whose form repeats a namespace of 256 octets sixty thousand times."""
+    packet = xmp("".join(f"<q:a{it}/>" for it in range(60000)))
+    return packet.replace(b"xmlns:dc=", b"xmlns:q='" + LONGEST + b"' xmlns:dc=", 1)
 
 
 DEEP = xmp("<dc:a rdf:parseType='Resource'>" * 96 + "<dc:a dc:b=''/>" + "</dc:a>" * 96)
@@ -204,6 +208,13 @@ def test_each_cause(cause):
     assert isinstance(refusal, exifnorm.XmpRefused), "accepted"
     assert refusal.cause == cause and refusal.sentence and refusal.remedy
     assert offset in (None, refusal.offset)
+
+
+@pytest.mark.parametrize("size, is_read", [(256, True), (257, False)])
+def test_namespaces_have_a_limit(size, is_read):
+    """Each property of the form repeats its own."""
+    found = check(xmp("<q:a/>").replace(b"xmlns:dc=", b"xmlns:q='" + LONGEST.replace(b"q", b"q" * (size - 255), 1) + b"' xmlns:dc=", 1))
+    assert LONGEST in found if is_read else found.cause == "XmpRareNamespace"
 
 
 def test_only_rdf_names_the_subject():

@@ -18,7 +18,7 @@ use Rattle.px_xmp_forms.specs.Uris.{is_uri_octet}
 use Rattle.px_xmp.specs.Readable.{IsReadableSimple, AreReadable}
 use Rattle.px_xmp.proofs.WhiteLaws.{first_of, rest_of}
 use Rattle.px_xmp.proofs.SimpleLaws.{unchanged_octet, uri_octets}
-use Rattle.px_xmp.proofs.StartLaws.{language_value, CanBeNamed, label_named_by, meta_start, root_start, description_start}
+use Rattle.px_xmp.proofs.StartLaws.{usual_plain, language_value, CanBeNamed, label_named_by, meta_start, root_start, description_start}
 
 -- ---- octets of ASCII
 
@@ -182,7 +182,7 @@ opening_characters : (l : Label) → CanBeNamed l → (k : List ℕ) → AreChar
 opening_characters (Property space local) can k c =
     after_ascii (codes "<p:") _ refl
     (after_ascii local _ (ncname_ascii local can.1)
-    (after_ascii (codes " xmlns:p=\"") _ refl (after_ascii space _ (every_from is_plain is_ascii space_ascii space can.0.0) (after_ascii (codes "\"") k refl c))))
+    (after_ascii (codes " xmlns:p=\"") _ refl (after_ascii space _ (every_from is_plain is_ascii space_ascii space (usual_plain space can.0.0)) (after_ascii (codes "\"") k refl c))))
 opening_characters Item can k c = after_ascii (codes "<rdf:li") k refl c
 
 simple_characters : (l : Label) (p : Simple) → CanBeNamed l → IsReadableSimple p → (k : List ℕ) → AreCharacters k

@@ -1,5 +1,5 @@
 -- In a document no tag has more attributes than this reader judges.
-use Rattle.std.proofs.Common.{◌≡◌, ◌<◌, ◌≤◌, ◌+◌, ◌&&◌, ◌++◌, ◌∙◌, inl, inr, refl, ℕ, suc, Bool, true, false, not, nat_le, nat_lt, if◌then◌else◌, Option, Some, None, option_map, Result, Ok, Err, List, [], ◌∷◌, length, take, drop, sym, ap, subst, arith}
+use Rattle.std.proofs.Common.{◌≡◌, ◌<◌, ◌+◌, ◌&&◌, ◌++◌, ◌∙◌, inl, inr, refl, ℕ, suc, Bool, true, false, not, nat_le, nat_lt, if◌then◌else◌, Option, Some, None, option_map, Result, Ok, Err, List, [], ◌∷◌, length, take, drop, sym, ap, subst, arith}
 use Rattle.std.proofs.lemmas.Bool.{lt-ltb}
 use Rattle.std.proofs.lemmas.List.{drop_at, take_at}
 use Rattle.px_xmp_marks.specs.Reading.{Named, Attr, Next, next_attribute, start_tag_view, start_tag}

@@ -1,11 +1,10 @@
 -- What is in scope is what px_xmp_spaces judges.
 use Rattle.std.proofs.Common.{◌≡◌, ◌&&◌, ℕ, Bool, true, false, not, nat_le, nat_lt, if◌then◌else◌, Option, Some, None, List, [], ◌∷◌, length, Result, Ok, Err, refl, ap, ◌∙◌}
 use Rattle.px_xmp_marks.specs.Reading.{Attr}
-use Rattle.px_xmp_marks.specs.Declarations.{every}
 use Rattle.px_xmp_spaces.specs.declared.faults.Cause.{Cause}
 use Rattle.px_xmp_spaces.specs.declared.faults.Cause.TheVariants.{RareSpace, Reserved, TooMany, Undeclared, ManyAttributes, SameName}
 use Rattle.px_xmp_spaces.specs.Scopes.{Item, Element, Declaration, limit}
-use Rattle.px_xmp_spaces.specs.Bindings.{declared_prefix, is_plain, is_reserved, with_declaration, or_same, with_attribute, with_attributes, and_then}
+use Rattle.px_xmp_spaces.specs.Bindings.{declared_prefix, is_usual_space, is_reserved, with_declaration, or_same, with_attribute, with_attributes, and_then}
 use Rattle.px_xmp_spaces.specs.Tags.{is_element_bound, are_bound, attribute_limit, are_unique, judged}
 use Rattle.px_xmp.specs.Tags.{with_prefix, declared, inside}
 use Rattle.px_xmp.specs.Laws.{ScopesAreJudged}
@@ -31,7 +30,7 @@ last_is false false false e f g s t h = absurd (cc)
 one_declared : (q : Option (List ℕ)) (v : List ℕ) (s t : List Item) → or_same (λ p. with_declaration p v s) s q ≡ Ok t → with_prefix q v s ≡ t
 one_declared None v s t h = ok_same s t h
 one_declared (Some p) v s t h =
-    third_is (not (every is_plain v)) (is_reserved p v) (nat_le limit (length s)) RareSpace Reserved TooMany (Declaration p v ∷ s) t h
+    third_is (not (is_usual_space v)) (is_reserved p v) (nat_le limit (length s)) RareSpace Reserved TooMany (Declaration p v ∷ s) t h
 
 then_is : (r : Result (List Item) Cause) (f : List Item → Result (List Item) Cause) (s t : List Item)
     → ((u : List Item) → r ≡ Ok u → f u ≡ Ok t → s ≡ t) → and_then r f ≡ Ok t → s ≡ t

@@ -1,12 +1,12 @@
 -- The label of a property is that of a name which a normal form can have.
-use Rattle.std.proofs.Common.{◌≡◌, ◌==◌, ◌&&◌, ◌||◌, inl, inr, ℕ, Bool, true, false, nat_le, if◌then◌else◌, Some, None, List, [], ◌∷◌, ◌++◌, refl, sym, ap, subst, ◌∙◌}
-use Rattle.std.proofs.lemmas.Bool.{cases_Bool, and_parts, and_from}
+use Rattle.std.proofs.Common.{◌≡◌, ◌≤◌, ◌==◌, ◌&&◌, ◌||◌, inl, inr, ℕ, suc, Bool, true, false, nat_le, if◌then◌else◌, Some, None, List, [], ◌∷◌, ◌++◌, length, refl, sym, ap, subst, ◌∙◌, arith}
+use Rattle.std.proofs.lemmas.Bool.{cases_Bool, and_parts, and_from, leb-true, le-leb}
 use Rattle.std.specs.List.{AllByRecursion}
-use Rattle.px_xmp_text.specs.Values.{Label, Property, Structure, IsLabel}
+use Rattle.px_xmp_text.specs.Values.{Label, Property, Structure, IsLabel, Without}
 use Rattle.px_xmp_marks.specs.Grammar.{IsNcName}
 use Rattle.px_xmp_marks.specs.Reading as reading
 use Rattle.px_xmp_marks.specs.Declarations.{every}
-use Rattle.px_xmp_spaces.specs.Bindings.{is_plain}
+use Rattle.px_xmp_spaces.specs.Bindings.{is_plain, space_limit}
 use Rattle.px_xmp_forms.specs.Labels.{is_name_start, is_name_char, are_name_chars, is_name, name_at_end, before_name, label_of}
 use Rattle.px_xmp.specs.Names.{Name, is_property}
 use Rattle.px_xmp.specs.Meaning.{label_in}
@@ -55,14 +55,32 @@ none_before (o ∷ x) = by_name (is_name (o ∷ x)) refl (none_before x)
           ap (λ (b : Bool). if b then o ∷ before_name x else name_at_end (before_name x)) none ∙ h.1,
         )
 
-before_plain : (x : List ℕ) → IsPlainSpace x → IsPlainSpace (before_name x)
-before_plain [] h = (refl, tt)
-before_plain (o ∷ x) (plain, without) =
-    let p = and_parts (is_plain o) (every is_plain x) plain in by_name (is_name (o ∷ x)) p.0 without.0 (before_plain x (p.1, without.1))
+abbrev IsPlainText : List ℕ → Type 0
+IsPlainText x = (every is_plain x ≡ true) × Without 60 x
+
+before_octets : (x : List ℕ) → IsPlainText x → IsPlainText (before_name x)
+before_octets [] h = (refl, tt)
+before_octets (o ∷ x) (plain, without) =
+    let p = and_parts (is_plain o) (every is_plain x) plain in by_name (is_name (o ∷ x)) p.0 without.0 (before_octets x (p.1, without.1))
   where
-    by_name : (b : Bool) → is_plain o ≡ true → (o ≡ 60 → ⊥) → IsPlainSpace (before_name x) → IsPlainSpace (if b then [] else o ∷ before_name x)
+    by_name : (b : Bool) → is_plain o ≡ true → (o ≡ 60 → ⊥) → IsPlainText (before_name x) → IsPlainText (if b then [] else o ∷ before_name x)
     by_name true g k h = (refl, tt)
     by_name false g k h = (and_from (is_plain o) (every is_plain (before_name x)) g h.0, (k, h.1))
+
+before_shorter : (x : List ℕ) → length (before_name x) ≤ length x
+before_shorter [] = omega (arith)
+before_shorter (o ∷ x) = by_name (is_name (o ∷ x)) (before_shorter x)
+  where
+    by_name : (b : Bool) → length (before_name x) ≤ length x → length (if b then [] else o ∷ before_name x) ≤ suc (length x)
+    by_name true h = omega (arith)
+    by_name false h = omega (arith, h)
+
+before_plain : (x : List ℕ) → IsPlainSpace x → IsPlainSpace (before_name x)
+before_plain x (usual, without) =
+    let p = and_parts (nat_le (length x) space_limit) (every is_plain x) usual in
+    let (plain, others) = before_octets x (p.1, without) in
+    let short : length (before_name x) ≤ space_limit = omega (arith, leb-true (length x) space_limit p.0, before_shorter x) in
+    (and_from (nat_le (length (before_name x)) space_limit) (every is_plain (before_name x)) (le-leb (length (before_name x)) space_limit short) plain, others)
 
 -- ---- the local name, with the name at the end of the namespace before it
 

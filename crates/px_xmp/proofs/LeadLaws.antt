@@ -4,7 +4,6 @@ use Rattle.std.proofs.lemmas.Bool.{lt-leb}
 use Rattle.px_xmp_text.specs.Texts.{normal_text}
 use Rattle.px_xmp_text.specs.Values.{Label, Property, Item, Simple, Literal, Uri, Compound, Structure, Bag, Seq, Alt, Content, End, Flat, Nested}
 use Rattle.px_xmp_marks.specs.Reading.{Named, Attr}
-use Rattle.px_xmp_marks.specs.Declarations.{every}
 use Rattle.px_xmp_tree.specs.Nesting.{limit as depth_limit}
 use Rattle.px_xmp_spaces.specs.declared.faults.Cause.{Cause}
 use Rattle.px_xmp_spaces.specs.declared.faults.Cause.TheVariants.{RareSpace, Reserved, TooMany, Undeclared, ManyAttributes, SameName}
@@ -12,7 +11,7 @@ use Rattle.px_xmp_spaces.specs.Pieces as pieces
 use Rattle.px_xmp_spaces.specs.Pieces.{Piece, ArePieces, IsTag}
 use Rattle.px_xmp_spaces.specs.Scopes as scopes
 use Rattle.px_xmp_spaces.specs.Scopes.{Element, Declaration, limit, space_of, ended}
-use Rattle.px_xmp_spaces.specs.Bindings.{is_plain, is_reserved, with_declaration, with_attributes, and_then}
+use Rattle.px_xmp_spaces.specs.Bindings.{is_usual_space, is_reserved, with_declaration, with_attributes, and_then}
 use Rattle.px_xmp_spaces.specs.Tags.{is_attribute_bound, is_element_bound, are_bound, attribute_limit, are_unique, judged, opened}
 use Rattle.px_xmp_spaces.specs.Faults.{Lead, HasSpaces}
 use Rattle.px_xmp.specs.Readable.{IsShallow, inner_depth, AreReadable}
@@ -70,9 +69,9 @@ label_ended Item scope = refl
 
 -- ---- tags
 
-declares : (p u : List ℕ) (scope : List scopes.Item) → every is_plain u ≡ true → is_reserved p u ≡ false → nat_le limit (length scope) ≡ false
+declares : (p u : List ℕ) (scope : List scopes.Item) → is_usual_space u ≡ true → is_reserved p u ≡ false → nat_le limit (length scope) ≡ false
     → with_declaration p u scope ≡ Ok (Declaration p u ∷ scope)
-declares p u scope h k l = choose (every is_plain u) (is_reserved p u) (nat_le limit (length scope)) h k l
+declares p u scope h k l = choose (is_usual_space u) (is_reserved p u) (nat_le limit (length scope)) h k l
   where
     choose : (a b c : Bool) → a ≡ true → b ≡ false → c ≡ false
         → (if not a then Err RareSpace else if b then Err Reserved else if c then Err TooMany else Ok (Declaration p u ∷ scope)) ≡ Ok (Declaration p u ∷ scope)
@@ -118,7 +117,7 @@ bound a more scope h k = choose (is_attribute_bound scope a.name) (are_bound sco
     choose false b h k = absurd (cc)
 
 -- the attribute of a property's element that declares its namespace, and others that declare nothing
-with_space : (space : List ℕ) (more : List Attr) (d : ℕ) (scope : List scopes.Item) → every is_plain space ≡ true → is_reserved (codes "p") space ≡ false
+with_space : (space : List ℕ) (more : List Attr) (d : ℕ) (scope : List scopes.Item) → is_usual_space space ≡ true → is_reserved (codes "p") space ≡ false
     → d < depth_limit → IsScope d scope
     → with_attributes more (Declaration (codes "p") space ∷ Element ∷ scope) ≡ Ok (Declaration (codes "p") space ∷ Element ∷ scope)
     → with_attributes (attribute (codes "xmlns") (codes "p") space ∷ more) (Element ∷ scope) ≡ Ok (Declaration (codes "p") space ∷ Element ∷ scope)

@@ -17,7 +17,7 @@ use Rattle.px_xmp_spaces.specs.declared.faults.Cause.{Cause}
 use Rattle.px_xmp_spaces.specs.declared.faults.Cause.TheVariants.{RareSpace, Reserved, TooMany}
 use Rattle.px_xmp_spaces.specs.Scopes.{Item, Declaration, limit, is_same, xml_space, xmlns_space, built_in, space_of}
 use Rattle.px_xmp_spaces.specs.Scopes as scopes
-use Rattle.px_xmp_spaces.specs.Bindings.{declared_prefix, is_plain, is_reserved, with_declaration, or_same, with_attribute, with_attributes, and_then}
+use Rattle.px_xmp_spaces.specs.Bindings.{declared_prefix, is_usual_space, is_reserved, with_declaration, or_same, with_attribute, with_attributes, and_then}
 use Rattle.px_xmp_spaces.specs.Tags.{attribute_space, judged, opened, passed}
 use Rattle.px_xmp_spaces.specs.Pieces.{Piece, Opening, Alone, Closing, IsPiece, ArePieces}
 use Rattle.px_xmp_spaces.specs.Pieces as pieces
@@ -36,7 +36,7 @@ use Rattle.px_xmp.proofs.TextLaws.{none_are, characters_split, characters_past, 
 
 -- a namespace that a declaration can have
 abbrev pub IsPlainSpace : List ℕ → Type 0
-IsPlainSpace u = (every is_plain u ≡ true) × Without 60 u
+IsPlainSpace u = (is_usual_space u ≡ true) × Without 60 u
 
 abbrev pub IsSoundName : Name → Type 0
 IsSoundName n = IsPlainSpace n.space × IsNcName n.local
@@ -62,7 +62,7 @@ abbrev IsPlainScope : List Item → Type 0
 IsPlainScope scope = AllByRecursion IsPlainItem scope
 
 abbrev IsPlainDeclared : Attr → Type 0
-IsPlainDeclared a = (p : List ℕ) → declared_prefix a.name ≡ Some p → every is_plain a.value ≡ true
+IsPlainDeclared a = (p : List ℕ) → declared_prefix a.name ≡ Some p → is_usual_space a.value ≡ true
 
 abbrev IsWritten : Attr → Type 0
 IsWritten a = IsNcName a.name.local × AreCharacters a.value × Without 60 a.value
@@ -100,7 +100,7 @@ attribute_plain scope n h = by_prefix (is_same n.prefix []) (space_of n.prefix s
     by_prefix true s k = (refl, tt)
     by_prefix false s k = k
 
-prefix_plain : (q : Option (List ℕ)) (u : List ℕ) (scope : List Item) → IsPlainScope scope → ((p : List ℕ) → q ≡ Some p → every is_plain u ≡ true)
+prefix_plain : (q : Option (List ℕ)) (u : List ℕ) (scope : List Item) → IsPlainScope scope → ((p : List ℕ) → q ≡ Some p → is_usual_space u ≡ true)
     → Without 60 u → IsPlainScope (with_prefix q u scope)
 prefix_plain None u scope h k w = h
 prefix_plain (Some p) u scope h k w = ((k p refl, w), h)
@@ -253,10 +253,10 @@ then_both (Err c) f t h = absurd (cc)
 then_both (Ok u) f t h = (u, refl, h)
 
 one_plain : (q : Option (List ℕ)) (v : List ℕ) (s t : List Item) → or_same (λ p. with_declaration p v s) s q ≡ Ok t → (p : List ℕ) → q ≡ Some p
-    → every is_plain v ≡ true
+    → is_usual_space v ≡ true
 one_plain None v s t h p e = absurd (cc)
 one_plain (Some r) v s t h p e =
-    by_test (every is_plain v) (if is_reserved r v then Err Reserved else if nat_le limit (length s) then Err TooMany else Ok (Declaration r v ∷ s)) h
+    by_test (is_usual_space v) (if is_reserved r v then Err Reserved else if nat_le limit (length s) then Err TooMany else Ok (Declaration r v ∷ s)) h
   where
     by_test : (b : Bool) (r : Result (List Item) Cause) → (if not b then Err RareSpace else r) ≡ Ok t → b ≡ true
     by_test true r h = refl

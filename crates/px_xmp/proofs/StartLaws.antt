@@ -1,5 +1,5 @@
 -- The tags and the texts of a normal packet are marks.
-use Rattle.std.proofs.Common.{◌≡◌, ◌≢◌, ◌⊎◌, ◌==◌, ◌&&◌, ◌||◌, ◌++◌, ◌∙◌, inl, inr, refl, ℕ, Bool, true, false, not, Some, None, List, [], ◌∷◌, codes, length, sym, ap, subst, arith, append_assoc, eq-eqb, eqb-true}
+use Rattle.std.proofs.Common.{◌≡◌, ◌≢◌, ◌⊎◌, ◌==◌, ◌&&◌, ◌||◌, ◌++◌, ◌∙◌, inl, inr, refl, ℕ, Bool, true, false, not, nat_le, Some, None, List, [], ◌∷◌, codes, length, sym, ap, subst, arith, append_assoc, eq-eqb, eqb-true}
 use Rattle.std.proofs.lemmas.Bool.{cases_Bool, and_from}
 use Rattle.std.specs.Bool.{⊤}
 use Rattle.std.specs.List.{AllByRecursion, list_all}
@@ -11,7 +11,7 @@ use Rattle.px_xmp_marks.specs.Declarations.{every}
 use Rattle.px_xmp_marks.specs.Reading.{Named, Attr, is_name_char}
 use Rattle.px_xmp_marks.specs.Grammar.{IsNcName, IsName, IsAttribute, AreAttributes, closing, IsStartTag, IsEndTag}
 use Rattle.px_xmp_marks.specs.Marks.{IsText}
-use Rattle.px_xmp_spaces.specs.Bindings.{is_plain}
+use Rattle.px_xmp_spaces.specs.Bindings.{is_plain, space_limit, is_usual_space}
 use Rattle.px_xmp_forms.specs.Languages.{is_part_octet, AreParts, IsLanguage}
 use Rattle.px_xmp_forms.specs.Uris.{is_uri_octet, IsAbsolute}
 use Rattle.px_xmp.specs.Names.{rdf_space, meta_space}
@@ -146,6 +146,9 @@ unequal o p h = elim (cases_Bool (o == p)) [
 space_quotable : (v : List ℕ) → Without 34 v → Without 60 v → IsQuotable v
 space_quotable [] h k = tt
 space_quotable (o ∷ v) h k = ((unequal o 34 h.0, unequal o 60 k.0), space_quotable v h.1 k.1)
+
+pub usual_plain : (u : List ℕ) → is_usual_space u ≡ true → every is_plain u ≡ true
+usual_plain u h = rest_of (nat_le (length u) space_limit) (every is_plain u) h
 
 -- a value that is as plain as a namespace, and can be quoted
 abbrev pub IsPlainValue : List ℕ → Type 0
@@ -288,7 +291,7 @@ label_start faults (Property space local) ((plain, less, free), name) (quote, wh
   name_is (codes "p") local p_name name,
   more_attributes (attribute_octets (codes "xmlns") (codes "p") space) z (attribute (codes "xmlns") (codes "p") space) more
       (attribute_is (codes "xmlns") (codes "p") space xmlns_name p_name (space_quotable space quote less)
-      (no_fault faults space space (plain_value space plain))) h,
+      (no_fault faults space space (plain_value space (usual_plain space plain)))) h,
   simp append_assoc refl,
 )
 label_start faults Item label can z more empty h = (codes "rdf:li", z, name_is (codes "rdf") (codes "li") rdf_name li_name, h, refl)

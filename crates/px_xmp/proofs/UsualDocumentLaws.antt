@@ -1,5 +1,5 @@
 -- A usual document is read.
-use Rattle.std.proofs.Common.{◌≡◌, ◌≤◌, ◌+◌, ◌++◌, ◌∙◌, ℕ, Option, List, [], length, drop, sym, ap, subst, arith, length-drop, append_assoc}
+use Rattle.std.proofs.Common.{◌≡◌, ◌≤◌, ◌+◌, ◌∙◌, ℕ, Option, List, [], length, drop, sym, ap, subst, arith, length-drop, append_assoc}
 use Rattle.px_bytes.specs.Parts.{limit}
 use Rattle.px_xmp_text.specs.Values.{Content, IsContent, normal_packet}
 use Rattle.px_xmp_marks.specs.Declarations.{every, DeclarationsAreRead}

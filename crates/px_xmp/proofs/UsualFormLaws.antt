@@ -1,5 +1,5 @@
 -- A normal packet of usual content is a usual packet.
-use Rattle.std.proofs.Common.{◌≡◌, ◌≤◌, inr, refl, ℕ, true, false, List, [], ◌∷◌, length, map, sym, ap, subst}
+use Rattle.std.proofs.Common.{◌≤◌, inr, refl, ℕ, true, false, List, [], ◌∷◌, length, map, sym, ap, subst}
 use Rattle.std.specs.List.{AllByRecursion}
 use Rattle.px_bytes.specs.Parts.{limit}
 use Rattle.px_xmp_text.specs.Laws.{NormalReadsBack, NormalBound, FaultOrText}

@@ -6,9 +6,8 @@ use Rattle.px_xmp_text.specs.Characters.{AreCharacters}
 use Rattle.px_xmp_text.specs.Texts.{normal_text}
 use Rattle.px_xmp_text.specs.Values.{Label, Property, Item, Simple, Literal, Uri, Compound, Structure, Content, End, Flat, Nested, Without}
 use Rattle.px_xmp_marks.specs.Grammar.{IsNcName}
-use Rattle.px_xmp_marks.specs.Declarations.{every}
 use Rattle.px_xmp_tree.specs.Nesting.{limit}
-use Rattle.px_xmp_spaces.specs.Bindings.{is_plain, is_reserved}
+use Rattle.px_xmp_spaces.specs.Bindings.{is_usual_space, is_reserved}
 use Rattle.px_xmp_forms.specs.Languages.{IsLanguage}
 use Rattle.px_xmp_forms.specs.Uris.{IsAbsolute}
 use Rattle.px_xmp_forms.specs.Entries.{Entry, row}
@@ -16,7 +15,7 @@ use Rattle.px_xmp.specs.Meaning.{label_in, Joins}
 
 -- a namespace to which the prefix p can be bound (Namespaces, 3), as the value of an attribute without a reference
 abbrev pub IsSpace : List ℕ → Type 0
-IsSpace u = (every is_plain u ≡ true) × Without 60 u × (is_reserved (codes "p") u ≡ false)
+IsSpace u = (is_usual_space u ≡ true) × Without 60 u × (is_reserved (codes "p") u ≡ false)
 
 -- a label of what is in a structure or an array: of a property a name that is a property's, and is the whole name again
 abbrev pub IsReadableLabel : Compound → Label → Type 0

@@ -36,7 +36,7 @@ pub enum Cause {
     RareEncoding,
     /// Rare: a name that is not of ASCII.
     RareName,
-    /// Rare: a namespace that has odd characters, could be part of a name, or begins as one of XML's own.
+    /// Rare: a namespace that has more than 256 octets or odd ones, could be part of a name, or begins as one of XML's own.
     RareNamespace,
     /// Rare: more than 256 attributes of a tag, or too many prefixes in scope.
     RareCount,

@@ -18,6 +18,14 @@ declared_prefix n =
 abbrev pub is_plain : ℕ → Bool
 is_plain o = nat_le 33 o && nat_le o 126 && not (o == 38)
 
+-- another one: the octets of a name, which each property of a normal form repeats
+abbrev pub space_limit : ℕ
+space_limit = 256
+
+-- a namespace's name that this reader compares
+abbrev pub is_usual_space : List ℕ → Bool
+is_usual_space u = nat_le (length u) space_limit && every is_plain u
+
 abbrev pub differ : Bool → Bool → Bool
 differ a b = if a then not b else b
 
@@ -31,7 +39,7 @@ is_reserved p u =
 -- what is in scope after a declaration, or what is wrong with it
 abbrev pub with_declaration : List ℕ → List ℕ → List Item → Result (List Item) Cause
 with_declaration p u scope =
-    if not (every is_plain u) then Err RareSpace
+    if not (is_usual_space u) then Err RareSpace
     else if is_reserved p u then Err Reserved
     else if nat_le limit (length scope) then Err TooMany
     else Ok (Declaration p u ∷ scope)

@@ -3,7 +3,8 @@ ghost use Rattle.std.specs.Prelude.{◌≡◌, List, Some, map, option_map, if�
 ghost use Rattle.px_xmp_spaces.specs.declared.faults.Cause.TheVariants.{ManyAttributes, Undeclared};
 ghost use Rattle.px_xmp_marks.specs.Reading.{Attr, name_view, attribute_view};
 ghost use Rattle.px_xmp_marks.specs.Declarations.{every};
-ghost use Rattle.px_xmp_spaces.specs.Bindings.{is_plain, is_reserved, declared_prefix, with_declaration, with_attribute, with_attributes};
+ghost use Rattle.px_xmp_spaces.specs.Bindings.{is_plain, is_usual_space, is_reserved, declared_prefix};
+ghost use Rattle.px_xmp_spaces.specs.Bindings.{with_declaration, with_attribute, with_attributes};
 ghost use Rattle.px_xmp_spaces.specs.Tags.{is_attribute_bound, are_bound, is_element_bound, opened};
 ghost use Rattle.px_xmp_spaces.specs.Tags.{attribute_space, are_same_spaces, clash, judged};
 ghost use Rattle.px_xmp_spaces.specs.calls.Names.{are_names_bound, is_name_among, are_names_unique, names_judged};
@@ -47,6 +48,19 @@ fn are_plain(octets: &[u8]) -> bool
         all &= is_plain(*octet);
     }
     all
+}
+
+// The most octets of a namespace's name, which each property of a normal form repeats.
+const SPACE_LIMIT: usize = 256;
+
+// Whether this reader compares a namespace's name.
+fn is_usual_space(space: &[u8]) -> bool
+    ensures { result ≡ is_usual_space space.now }
+{
+    if space.len() > SPACE_LIMIT {
+        return false;
+    }
+    are_plain(space)
 }
 
 // Whether no declaration can bind a prefix to a namespace.
@@ -93,7 +107,7 @@ impl<'a> Scope<'a> {
     fn declare(&mut self, prefix: &'a [u8], space: &'a [u8]) -> Option<Cause>
         ensures { Gives result self.new (with_declaration prefix.now space.now self.old) }
     {
-        if !are_plain(space) {
+        if !is_usual_space(space) {
             return Some(Cause::RareSpace);
         }
         if is_reserved(prefix, space) {
