@@ -75,11 +75,11 @@ fn append_language(memory: &mut Memory, out: &mut Vec<u8>, language: &[u8]) -> R
     ensures usual { Without 34 (str_to_ascii_lowercase language.now)
         → length out.old.items + length (language_octets (str_to_ascii_lowercase language.now)) ≤ most → FailsByMemory result }
 {
-    let octets = lower(memory, language)?;
-    let language = octets.as_slice();
-    if language.len() == 0 {
+    if language.is_empty() {
         return append(memory, out, b">");
     }
+    let octets = lower(memory, language)?;
+    let language = octets.as_slice();
     if has(language, b'"') {
         return Err(Cause::RareLanguage.at(LIMIT));
     }

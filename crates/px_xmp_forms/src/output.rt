@@ -204,17 +204,11 @@ impl Output {
         ensures rare { IsRare result }
         ensures usual { FailsByMemory result }
     {
-        let Some(level) = self.pop() else {
+        let Some(level) = self.levels.last_mut() else {
             return Ok(());
         };
-        let mut items = level.items;
-        memory.push(&mut items, item)?;
-        let level = Level {
-            text: level.text,
-            inner: level.inner,
-            items,
-        };
-        self.push(memory, level)
+        memory.push(&mut level.items, item)?;
+        Ok(())
     }
 
     /// Adds a property that is an attribute.

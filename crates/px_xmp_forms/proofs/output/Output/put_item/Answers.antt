@@ -1,18 +1,30 @@
-use Rattle.std.proofs.Common.{◌++◌, [], ◌∷◌, List, sym, subst}
-use Rattle.std.proofs.lemmas.Result.{on_ok_weaker}
-use Rattle.px_xmp_forms.specs.Outputs.{AreItems, with_entry}
+use Rattle.std.proofs.Common.{◌≡◌, ◌+◌, ◌-◌, ◌++◌, [], ◌∷◌, List, length, refl, sym, subst, arith}
+use Rattle.std.specs.Vec.{vec_len}
+use Rattle.px_xmp_forms.specs.Entries.{Entry}
+use Rattle.px_xmp_forms.specs.Outputs.{Open, AreItems, IsLevel, with_entry}
 use Rattle.px_xmp_forms.specs.declared.items.Item.{Item}
+use Rattle.px_xmp_forms.specs.declared.output.Level.{Level}
 use Rattle.px_xmp_forms.proofs.EntryLaws.{items_push}
-use Rattle.px_xmp_forms.proofs.OutputLaws.{has_changed}
+use Rattle.px_xmp_forms.proofs.OutputLaws.{level_changed}
 use Rattle.px_xmp_forms.proofs.output.Output.put_item.Goals as goal
 
 pub returns-clause-value : goal.returns-clause-value
 returns-clause-value c s e h k =
-    let (o, os, f, l, r) = c.in-Some.ensures s h in
-    on_ok_weaker c.push-2.result (has_changed c.push-2.new.self (with_entry e) s o os f)
-    (c.push-2.ensures.value (record { opened = os; properties = s.properties }) (with_entry e o) r (record {
+    let levels = c.args.self.now.levels in
+    let some = c.in-Some.ensures.variant.0 refl in
+    let len : length levels.items ≡ vec_len levels - 1 + 1 = omega (arith, levels.ok.0) in
+    let x = c.in-Some.level.now in
+    let y : Level = record { text = x.text; inner = x.inner; items = c.push.new.list } in
+    let changes : (o : Open) → IsLevel x o → IsLevel y (with_entry e o) = λ o l.
+    record {
       text = l.text;
       inner = l.inner;
       can = l.can;
       entries = subst (λ (xs : List Item). AreItems xs (o.entries ++ e ∷ [])) (sym c.in_ok-push.ensures.items) (items_push _ o.entries c.args.item e l.entries k);
-    }))
+    } in
+    record {
+      levels = level_changed (with_entry e) levels.items s.opened _ x y len c.in-Some.ensures.value changes h.levels;
+      properties = h.properties;
+      can = h.can;
+      order = h.order;
+    }
