@@ -6,7 +6,7 @@ ghost use Rattle.px_xmp_text.specs.Values.{IsLabel, IsContent, Without, Literal,
 ghost use Rattle.px_xmp_text.specs.Values as values;
 ghost use Rattle.px_xmp_forms.specs.Entries.{ValueFits, Plain, Inside};
 ghost use Rattle.px_xmp_forms.specs.Outputs.{IsElement, value_of};
-ghost use Rattle.px_xmp_forms.specs.Forms.{most, language_octets};
+ghost use Rattle.px_xmp_forms.specs.Forms.{most, language_octets, IsTextForm};
 ghost use Rattle.px_xmp_forms.specs.Labels.{label_view, compound_view};
 ghost use Rattle.px_xmp_forms.specs.Allocations.{CountsAllocFailureInPacket};
 ghost use Rattle.px_xmp_forms.specs.Causes.{IsRare, FailsByMemory};
@@ -92,18 +92,18 @@ fn literal_element(
     memory: &mut Memory,
     label: Label,
     language: &[u8],
-    text: &TextForm,
+    content: &[u8],
 ) -> Result<Element, Refusal>
-    requires { IsLabel (label_view label) }
-    ensures value { (t : List ℕ) → text.now ≡ normal_text t →
+    requires label { IsLabel (label_view label) }
+    requires form { IsTextForm content.now }
+    ensures value { (t : List ℕ) → content.now ≡ normal_text t →
         IfOk result (λ x. IsElement x (label_view label.entry) (Plain (Literal (str_to_ascii_lowercase language.now) t))) }
     ensures memory { CountsAllocFailureInPacket result memory.old memory.new }
     ensures rare { IsRare result }
-    ensures usual { (t : List ℕ) → text.now ≡ normal_text t
+    ensures usual { (t : List ℕ) → content.now ≡ normal_text t
         → ValueFits (label_view label.entry) (Plain (Literal (str_to_ascii_lowercase language.now) t)) → FailsByMemory result }
 {
     let mut octets = memory.list();
-    let content = text.octets();
     let size = element_size(label, language.len().saturating_add(content.len()));
     reserve(memory, &mut octets, size)?;
     append_label(memory, &mut octets, label)?;
@@ -174,6 +174,27 @@ fn nested_element(
     })
 }
 
+// The element of a text that is the value of an attribute. `Content`: it cannot be written.
+pub(crate) fn text_element(
+    memory: &mut Memory,
+    label: Label,
+    language: &[u8],
+    content: &[u8],
+) -> Result<Element, Refusal>
+    requires { IsTextForm content.now }
+    ensures value { (t : List ℕ) → content.now ≡ normal_text t →
+        IfOk result (λ x. IsElement x (label_view label.entry) (Plain (Literal (str_to_ascii_lowercase language.now) t))) }
+    ensures memory { CountsAllocFailureInPacket result memory.old memory.new }
+    ensures rare { IsRare result }
+    ensures usual { (t : List ℕ) → content.now ≡ normal_text t
+        → ValueFits (label_view label.entry) (Plain (Literal (str_to_ascii_lowercase language.now) t)) → FailsByMemory result }
+{
+    if !is_label(label) {
+        return Err(Cause::RareNamespace.at(LIMIT));
+    }
+    literal_element(memory, label, language, content)
+}
+
 // The element of a value: its text or resource, or what is inside it. `Content`: it cannot be written.
 pub(crate) fn write_element(
     memory: &mut Memory,
@@ -193,7 +214,7 @@ pub(crate) fn write_element(
         return Err(Cause::RareNamespace.at(LIMIT));
     }
     match content {
-        Content::Text(language) => literal_element(memory, label, language, text),
+        Content::Text(language) => literal_element(memory, label, language, text.octets()),
         Content::Resource => resource_element(memory, label, text),
         Content::Structure => nested_element(memory, label, None, inner),
         Content::Members(container) => nested_element(memory, label, Some(container), inner),

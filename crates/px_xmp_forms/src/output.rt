@@ -16,8 +16,8 @@ ghost use Rattle.px_xmp_text.specs.Values as values;
 ghost use Rattle.px_xmp_forms.specs.Allocations.{CountsAllocFailureInPacket};
 ghost use Rattle.px_xmp_forms.specs.Causes.{IsRare, FailsByMemory};
 
-use crate::appending::{LIMIT, append, is_blank, reserve};
-use crate::elements::write_element;
+use crate::appending::{LIMIT, append, append_text, is_blank, reserve};
+use crate::elements::{text_element, write_element};
 use crate::faults::{Cause, Refusal};
 use crate::items::{BagOrder, Item, bag_items, first_repeated, join_items, sort_items};
 use crate::labels::{Content, Label, Origin};
@@ -50,6 +50,7 @@ struct Level {
 // The property that an attribute is.
 fn attribute_item(
     memory: &mut Memory,
+    spare: &mut Vec<u8>,
     label: Label,
     value: &[u8],
     origin: Origin,
@@ -61,10 +62,9 @@ fn attribute_item(
     ensures usual { (t : List ℕ) → text_of AttributeValue value.now ≡ Some t → length value.now ≤ limit
         → ValueFits (label_view label.entry) (attribute_entry label.entry origin.entry t).value → FailsByMemory result }
 {
-    let none = Piece::new(memory);
-    let text = TextForm::new(memory).followed_by(memory, value, TextKind::AttributeValue)?;
-    let content = Content::Text(origin.language);
-    let element = write_element(memory, label, content, &text, &none)?;
+    spare.clear();
+    append_text(memory, spare, value, TextKind::AttributeValue)?;
+    let element = text_element(memory, label, origin.language, spare.as_slice())?;
     Ok(Item {
         element,
         place: origin.place,
@@ -77,6 +77,8 @@ pub struct Output {
     levels: Vec<Level>,
     properties: Piece,
     order: BagOrder,
+    // Space for the text of an attribute.
+    spare: Vec<u8>,
 }
 
 impl Output {
@@ -88,6 +90,7 @@ impl Output {
             levels: memory.list(),
             properties: Piece::new(memory),
             order,
+            spare: memory.list(),
         }
     }
 
@@ -226,7 +229,7 @@ impl Output {
         ensures usual { (t : List ℕ) → text_of AttributeValue value.now ≡ Some t → length value.now ≤ limit
             → ValueFits (label_view label.entry) (attribute_entry label.entry origin.entry t).value → FailsByMemory result }
     {
-        let item = attribute_item(memory, label, value, origin)?;
+        let item = attribute_item(memory, &mut self.spare, label, value, origin)?;
         self.put_item(memory, item)
     }
 

@@ -1,6 +1,5 @@
 use Rattle.std.proofs.Common.{◌≡◌, ◌+◌, ◌-◌, ◌++◌, [], ◌∷◌, List, length, refl, sym, subst, arith}
 use Rattle.std.specs.Vec.{vec_len}
-use Rattle.px_xmp_forms.specs.Entries.{Entry}
 use Rattle.px_xmp_forms.specs.Outputs.{Open, AreItems, IsLevel, with_entry}
 use Rattle.px_xmp_forms.specs.declared.items.Item.{Item}
 use Rattle.px_xmp_forms.specs.declared.output.Level.{Level}
