@@ -142,6 +142,10 @@ FILES = {
         "TooLong",
     ),
     "language.png": (written(lambda: png(png_xmp(xmp("<dc:a>x</dc:a>" * 1000, f"xml:lang='{A_TEXT}'"), packed=True))), "TooLong"),
+    "namespace.png": (
+        written(lambda: png(png_xmp(xmp("<q:a/>" * 100_000, f"xmlns:q='urn:{A_TEXT[:10_000_000]}'"), packed=True))),
+        "TooLong",
+    ),
     "bags.png": (
         written(
             lambda: png(png_xmp(xmp("<dc:a>" + "<rdf:Bag><rdf:li>" * 20 + A_TEXT + "</rdf:li></rdf:Bag>" * 20 + "</dc:a>"), packed=True))

@@ -272,6 +272,12 @@ def long_name(number, mark):
     return with_packet(xmp(f"<dc:{'a' * number}>{mark.decode()}</dc:{'a' * number}>"))
 
 
+def long_namespace(number, mark):
+    """A namespace as long as there are properties with it, each of which repeats it."""
+    properties = "".join(f"<q:a{it}>{mark.decode()}</q:a{it}>" for it in range(number))
+    return with_packet(xmp(properties, f"xmlns:q='urn:{'x' * number}'"), 0, "TooLong")
+
+
 def structures(number, mark):
     inside = f"<rdf:li rdf:parseType='Resource'><dc:a>{mark.decode()}</dc:a></rdf:li>" * number
     return with_packet(xmp(f"<dc:a><rdf:Seq>{inside}</rdf:Seq></dc:a>"), number)
@@ -453,6 +459,7 @@ OTHERS = {
     "attributes": ("png", Growth(attributes, 500, 5000)),
     "namespaces": ("png", Growth(spaces, 500, 5000)),
     "a long name": ("png", Growth(long_name, 20_000, 1_000_000)),
+    "a long namespace": ("png", Growth(long_namespace, 1000, 5000)),
     "structures": ("png", Growth(structures, 300, 5000)),
     "blanks": ("png", Growth(blanks, 20_000, 1_000_000)),
     "a declaration": ("png", Growth(declared, 20_000, 1_000_000)),

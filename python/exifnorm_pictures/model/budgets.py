@@ -63,6 +63,7 @@ SCAN_SEGMENTS = 1000  # of metadata after the first scan of a JPEG; none has mor
 PACKET_BYTES = 16 << 20  # of one packet, as of one block
 NESTED = 100  # elements of a packet in one another
 LANGUAGE = 100  # characters of a language of XMP, which each of its texts repeats; RFC 5646, 4.4.1 asks for 35
+NAMESPACE = 256  # characters of a namespace of XMP, which each of its names repeats, as in the library; need 56
 CACHED = 1000  # characters of a text that a cache keeps: it counts its texts, and a stranger's can have millions each
 BLOCK_ENTRIES = 5 * 65_535  # of five directories of a block, as it may have; in a refused one each entry may name a further one; need 150
 LEAST_FIELD = 5  # bytes of a field in a normal form: the head of an empty DataSet

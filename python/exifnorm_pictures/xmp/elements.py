@@ -6,7 +6,7 @@ import codecs
 import re
 from xml.etree import ElementTree
 
-from ..model.budgets import NESTED
+from ..model.budgets import NAMESPACE, NESTED
 from .packets import Unreadable
 from .tree import RDF
 
@@ -28,6 +28,14 @@ _DECLARATION = re.compile(r"""<\?xml\s[^>]*?\?>\s*""")
 _ENCODING = re.compile(r"""encoding\s*=\s*["']\s*(utf-?(8|16|16-?le|16-?be|32|32-?le|32-?be))\s*["']""", re.I)
 
 
+class _Builder(ElementTree.TreeBuilder):
+    """Elements, whose names have their namespaces. Raises `Unreadable` before many names have a long one."""
+
+    def start_ns(self, prefix: str, uri: str) -> None:
+        if len(uri) > NAMESPACE:
+            raise Unreadable("TooLong")
+
+
 def rdf_of(packet: bytes) -> ElementTree.Element:
     """The packet's rdf:RDF element. Raises `Unreadable`.
 
@@ -39,7 +47,9 @@ def rdf_of(packet: bytes) -> ElementTree.Element:
     if "<!DOCTYPE" in text:
         raise Unreadable("DocumentType")
     try:
-        root = ElementTree.fromstring(text)
+        root = ElementTree.fromstring(text, ElementTree.XMLParser(target=_Builder()))
+    except Unreadable:
+        raise
     except (ElementTree.ParseError, ValueError):
         raise Unreadable("NotWellFormed") from None
     if packet.count(b"<") > NESTED:  # fewer can't be nested too deep
