@@ -426,9 +426,10 @@ uint32_t exifnorm_xmp_check(const unsigned char *packet, size_t packet_length, /
  * of the tag or the text that has it.
  *
  * It is proved that the form is that of what the packet means, that it is a packet which means the same, and that a packet which is
- * refused has no meaning. Which packets are left to another reader is tested and, unlike which blocks are refused, not proved; a form, or
- * another packet with a meaning, could be among them. It is also proved that the call ends and is safe for any bytes, and that it returns
- * NO_MEMORY exactly if an allocation failed.
+ * refused has no meaning. A form is neither refused nor left to another reader, and is its own form, if its namespaces are not rare and
+ * its languages have at most 100 characters; that each form which is written is such a form is tested. Which other packets are left to
+ * another reader is tested and, unlike which blocks are refused, not proved; one with a meaning could be among them. It is also proved
+ * that the call ends and is safe for any bytes, and that it returns NO_MEMORY exactly if an allocation failed.
  *
  *   DONE             out begins with the form; written is its length. The rest of out is unchanged.
  *   REFUSED          the packet is wrong, and has no meaning; fault is set.

@@ -16,9 +16,11 @@ ghost use Rattle.px_engine.specs.declared.error.Fault.TheVariants.{NormalTooLong
 ghost use Rattle.px_engine.specs.declared.normal.Given.TheVariants.{Whole, Needs};
 ghost use Rattle.px_engine.specs.declared.kind.BlockKind.TheVariants.{Iim};
 ghost use Rattle.px_engine.specs.Files.{Said, kind_of};
-ghost use Rattle.px_engine.specs.Slices.{PutsForm, IsUnwritten};
+ghost use Rattle.px_engine.specs.Slices.{IsPut, PutsForm, IsUnwritten};
 ghost use Rattle.px_engine.specs.Input.{HasMeaning};
 ghost use Rattle.px_engine.specs.Prints.{caption_text, listing};
+ghost use Rattle.px_xmp.specs.Laws.{IsReadableForm};
+ghost use Rattle.px_xmp.specs.Accepted.{IsUsualForm};
 ghost use Rattle.px_pictures.specs.declared.faults.PictureSide.TheVariants.{First, Second};
 ghost use Rattle.px_c.specs.declared.pictures.Compared.TheVariants.{Blocks, All};
 ghost use Rattle.px_c.specs.Blocks.{StoresBlocks, StoresEnded, IsTooShortForBlocks};
@@ -423,6 +425,7 @@ pub extern "C" fn exifnorm_xmp_check(alloc: Global, packet: &[u8], fault: &mut E
     ensures refused { result ≡ status.refused → RefusesPacket packet.now fault.new }
     ensures rare { result ≡ status.rare → LeavesXmp fault.new }
     ensures fault { result ≢ status.refused → result ≢ status.rare → fault.new ≡ fault.old }
+    ensures own { IsUsualForm packet.now → (result ≡ status.done) ⊎ (result ≡ status.no_memory) }
 {
     xmp_check_in(&mut Memory::new(alloc), packet, fault)
 }
@@ -431,10 +434,10 @@ pub extern "C" fn exifnorm_xmp_check(alloc: Global, packet: &[u8], fault: &mut E
 /// which is a packet that means the same. Allocates the form, and the values of the elements that are open.
 ///
 /// `REFUSED`: the packet is wrong, and has no meaning; `fault` is its first fault. `RARE`: it may have a meaning, which this
-/// library doesn't read, and `fault` is where: which packets these are is tested, and no contract states it. `TOO_LITTLE_ROOM`:
-/// `out` is shorter than the form, whose length is in `written`. `NO_MEMORY`: an allocation failed. Only success changes `out`,
-/// and only as far as the form goes. Only success and `TOO_LITTLE_ROOM` change `written`. Only `REFUSED` and `RARE` change
-/// `fault`.
+/// library doesn't read, and `fault` is where: which packets these are is tested, and no contract states it, except that none is a
+/// form within the limits. `TOO_LITTLE_ROOM`: `out` is shorter than the form, whose length is in `written`. `NO_MEMORY`: an
+/// allocation failed. Only success changes `out`, and only as far as the form goes. Only success and `TOO_LITTLE_ROOM` change
+/// `written`. Only `REFUSED` and `RARE` change `fault`.
 #[unsafe(no_mangle)]
 pub extern "C" fn exifnorm_xmp_normalise(
     alloc: Global,
@@ -452,6 +455,8 @@ pub extern "C" fn exifnorm_xmp_normalise(
     ensures out { result ≢ status.done → out.new ≡ out.old }
     ensures written { result ≢ status.done → result ≢ status.too_little_room → written.new ≡ written.old }
     ensures fault { result ≢ status.refused → result ≢ status.rare → fault.new ≡ fault.old }
+    ensures own { IsUsualForm packet.now → (result ≡ status.done) ⊎ (result ≡ status.no_memory) ⊎ (result ≡ status.too_little_room) }
+    ensures same { IsReadableForm packet.now → result ≡ status.done → IsPut (Whole written.new) packet.now out.old out.new }
 {
     xmp_normalise_in(&mut Memory::new(alloc), packet, out, written, fault)
 }

@@ -2,7 +2,10 @@
 ghost use Rattle.std.specs.Prelude.{◌≡◌, ◌≢◌, ◌⊎◌, ◌≤◌, ◌+◌, false};
 ghost use Rattle.px_bytes.specs.Parts.{limit};
 ghost use Rattle.px_engine.specs.declared.normal.Given.TheVariants.{Whole, Needs};
+ghost use Rattle.px_engine.specs.Slices.{IsPut};
 ghost use Rattle.px_xmp_forms.specs.Causes.{is_rare};
+ghost use Rattle.px_xmp.specs.Laws.{IsReadableForm};
+ghost use Rattle.px_xmp.specs.Accepted.{IsUsualForm};
 ghost use Rattle.px_c.specs.Numbers as status;
 ghost use Rattle.px_c.specs.Xmp.{xmp_cause, PutsXmp, PutsUnsorted, RefusesXmp, RefusesPacket, LeavesXmp};
 
@@ -69,6 +72,7 @@ pub(crate) fn xmp_check_in(memory: &mut Memory, packet: &[u8], fault: &mut Exifn
     ensures fault { result ≢ status.refused → result ≢ status.rare → fault.new ≡ fault.old }
     ensures lacking { result ≡ status.no_memory → memory.new.failed_allocations ≡ memory.old.failed_allocations + 1 }
     ensures memory { result ≢ status.no_memory → memory.new.failed_allocations ≡ memory.old.failed_allocations }
+    ensures own { IsUsualForm packet.now → (result ≡ status.done) ⊎ (result ≡ status.no_memory) }
 {
     match px_xmp::check_in(memory, packet) {
         Ok(_) => DONE,
@@ -96,6 +100,8 @@ pub(crate) fn xmp_normalise_in(
     ensures fault { result ≢ status.refused → result ≢ status.rare → fault.new ≡ fault.old }
     ensures lacking { result ≡ status.no_memory → memory.new.failed_allocations ≡ memory.old.failed_allocations + 1 }
     ensures memory { result ≢ status.no_memory → memory.new.failed_allocations ≡ memory.old.failed_allocations }
+    ensures own { IsUsualForm packet.now → (result ≡ status.done) ⊎ (result ≡ status.no_memory) ⊎ (result ≡ status.too_little_room) }
+    ensures same { IsReadableForm packet.now → result ≡ status.done → IsPut (Whole written.new) packet.now out.old out.new }
 {
     match px_xmp::normal_form_in(memory, packet) {
         Ok(form) => give(form.as_slice(), out, written),

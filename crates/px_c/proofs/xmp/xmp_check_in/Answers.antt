@@ -3,3 +3,6 @@ use Rattle.px_c.proofs.xmp.xmp_check_in.Goals as goal
 pub returns-in-Err-Content-clause-refused : goal.returns-in-Err-Content-clause-refused
 returns-in-Err-Content-clause-refused c is =
     (c.refuse.ensures.refused is, (rw c.in-Err-Content.field-0-is at c.in-Err-Content.ensures.refused) (c.refuse.ensures.wrong is))
+
+pub returns-in-Err-Content-clause-own : goal.returns-in-Err-Content-clause-own
+returns-in-Err-Content-clause-own c form = absurd ((rw c.in-Err-Content.field-0-is at c.in-Err-Content.ensures.own) form)

@@ -1,4 +1,4 @@
-use Rattle.std.proofs.Common.{List, ℕ, subst}
+use Rattle.std.proofs.Common.{List, ℕ, inl, inr, ◌∙◌, subst}
 use Rattle.px_engine.specs.Slices.{IsPut}
 use Rattle.px_engine.specs.declared.normal.Given.TheVariants.{Whole, Needs}
 use Rattle.px_c.proofs.xmp.xmp_normalise_in.Goals as goal
@@ -24,3 +24,17 @@ returns-in-Ok-clause-short c is = (
 pub returns-in-Err-Content-clause-refused : goal.returns-in-Err-Content-clause-refused
 returns-in-Err-Content-clause-refused c is =
     (c.refuse.ensures.refused is, (rw c.in-Err-Content.field-0-is at c.in-Err-Content.ensures.refused) (c.refuse.ensures.wrong is))
+
+pub returns-in-Ok-clause-own : goal.returns-in-Ok-clause-own
+returns-in-Ok-clause-own c form = elim c.give.ensures.known [
+  | inl done ↦ inl done
+  | inr short ↦ inr (inr short)
+]
+
+pub returns-in-Ok-clause-same : goal.returns-in-Ok-clause-same
+returns-in-Ok-clause-same c readable is =
+    subst (λ (z : List ℕ). IsPut (Whole c.give.new.written) z c.args.out.now c.give.new.out) (c.as_slice.ensures.value ∙ c.in-Ok.ensures.same readable)
+    (c.give.ensures.done is)
+
+pub returns-in-Err-Content-clause-own : goal.returns-in-Err-Content-clause-own
+returns-in-Err-Content-clause-own c form = absurd ((rw c.in-Err-Content.field-0-is at c.in-Err-Content.ensures.own) form)
