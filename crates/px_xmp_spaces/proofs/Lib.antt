@@ -4,3 +4,4 @@ pub mod FaultLaws
 pub mod PlainLaws
 pub mod TagNameLaws
 pub mod LocalNameLaws
+pub mod KeyLaws

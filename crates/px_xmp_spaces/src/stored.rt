@@ -1,14 +1,59 @@
 // Tags whose attributes are stored, which need not be read again.
-ghost use Rattle.std.specs.Prelude.{◌≡◌, ◌≤◌, ◌||◌, [], true, is_some, length, map};
+ghost use Rattle.std.specs.Prelude.{◌≡◌, ◌≤◌, ◌||◌, [], true, is_some, length, take, map};
 ghost use Rattle.px_xmp_marks.specs.Reading.{name_view, attribute_view};
 ghost use Rattle.px_xmp_spaces.specs.Bindings.{with_attributes};
 ghost use Rattle.px_xmp_spaces.specs.Scopes.{is_same, space_of};
-ghost use Rattle.px_xmp_spaces.specs.Tags.{attribute_limit, is_attribute_bound, are_bound, is_among, are_unique, judged, opened, passed};
+ghost use Rattle.px_xmp_spaces.specs.Tags.{attribute_limit, is_attribute_bound, are_bound, are_unique, judged, opened, passed};
+ghost use Rattle.px_xmp_spaces.specs.calls.Keys.{key_view, key_of, keys_of, keys_clash, is_key_among, are_keys_unique};
 ghost use Rattle.px_xmp_spaces.specs.calls.Passing.{Gives, start_piece};
 
 use crate::faults::Cause;
 use crate::scopes::{Entry, Scope};
+use crate::tags::{ATTRIBUTE_LIMIT, are_same_spaces};
 use px_xmp_marks::{Attribute, Name, are_locals_distinct};
+
+// The local name of an attribute, and its namespace, if it has one.
+#[derive(Clone, Copy, Debug, PartialEq, Eq)]
+struct Key<'a> {
+    local: &'a [u8],
+    space: Option<&'a [u8]>,
+}
+
+const NO_KEY: Key<'static> = Key {
+    local: b"",
+    space: None,
+};
+
+// Whether two attributes have one local name in one namespace.
+fn is_same_key(a: Key, b: Key) -> bool
+    ensures { result ≡ keys_clash (key_view a.entry) (key_view b.entry) }
+{
+    a.local == b.local && are_same_spaces(a.space, b.space)
+}
+
+// Whether an attribute has them in common with one of some attributes.
+fn is_key_among(keys: &[Key], key: Key) -> bool
+    ensures { result ≡ is_key_among (key_view key.entry) (map key_view keys.now) }
+{
+    for other in keys {
+        if is_same_key(key, *other) {
+            return true;
+        }
+    }
+    false
+}
+
+// Whether no two of some attributes have them in common.
+fn are_keys_unique(keys: &[Key]) -> bool
+    ensures { result ≡ are_keys_unique (map key_view keys.now) }
+{
+    for (n, key) in keys.iter().enumerate() {
+        if is_key_among(keys.split_at(n + 1).1, *key) {
+            return false;
+        }
+    }
+    true
+}
 
 impl<'a> Scope<'a> {
     // Binds what attributes declare.
@@ -48,32 +93,41 @@ impl<'a> Scope<'a> {
         true
     }
 
-    // Whether a name has a local name and a namespace in common with that of one of some attributes.
-    fn is_name_of(&self, attributes: &[Attribute], name: Name) -> bool
-        ensures { result ≡ is_among self.now (name_view name.entry) (map attribute_view attributes.now) }
+    // The local name of an attribute, and its namespace.
+    fn key(&self, name: Name<'a>) -> Key<'a>
+        ensures { key_view result ≡ key_of self.now (name_view name.entry) }
     {
-        for other in attributes {
-            if self.clash(name, other.name) {
-                return true;
-            }
+        Key {
+            local: name.local,
+            space: self.attribute_space(name),
         }
-        false
     }
 
-    // Whether no two of some attributes have both in common, by a look at each pair.
-    fn is_each_pair_unique(&self, attributes: &[Attribute]) -> bool
-        ensures { result ≡ are_unique self.now (map attribute_view attributes.now) }
+    // Stores those of attributes.
+    fn store_keys(&self, attributes: &[Attribute<'a>], keys: &mut [Key<'a>; ATTRIBUTE_LIMIT])
+        requires { length attributes.now ≤ attribute_limit }
+        ensures stored { map key_view (take (length attributes.now) keys.new) ≡ keys_of self.now (map attribute_view attributes.now) }
+        ensures size { length keys.new ≡ attribute_limit }
     {
         for (n, attribute) in attributes.iter().enumerate() {
-            if self.is_name_of(attributes.split_at(n + 1).1, attribute.name) {
-                return false;
-            }
+            keys[n] = self.key(attribute.name);
         }
-        true
+    }
+
+    // Whether no two of some attributes have both in common, by a look at each pair. Each namespace is looked up once.
+    #[inline(never)]
+    fn is_each_pair_unique(&self, attributes: &[Attribute<'a>]) -> bool
+        requires { length attributes.now ≤ attribute_limit }
+        ensures { result ≡ are_unique self.now (map attribute_view attributes.now) }
+    {
+        let mut keys = [NO_KEY; ATTRIBUTE_LIMIT];
+        self.store_keys(attributes, &mut keys);
+        are_keys_unique(keys.split_at(attributes.len()).0)
     }
 
     // Whether no two of some attributes have both in common.
-    fn is_each_unique(&self, attributes: &[Attribute]) -> bool
+    fn is_each_unique(&self, attributes: &[Attribute<'a>]) -> bool
+        requires { length attributes.now ≤ attribute_limit }
         ensures { result ≡ are_unique self.now (map attribute_view attributes.now) }
     {
         if are_locals_distinct(attributes) {
@@ -83,7 +137,7 @@ impl<'a> Scope<'a> {
     }
 
     // What is wrong with the names of a tag.
-    fn judge_each(&self, name: Name, attributes: &[Attribute]) -> Option<Cause>
+    fn judge_each(&self, name: Name, attributes: &[Attribute<'a>]) -> Option<Cause>
         requires { length attributes.now ≤ attribute_limit }
         ensures { Gives result self.now (judged (name_view name.entry) (map attribute_view attributes.now) self.now) }
     {

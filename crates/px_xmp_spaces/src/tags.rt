@@ -15,7 +15,7 @@ use crate::scopes::{Entry, Scope, XML, XML_SPACE, XMLNS, XMLNS_SPACE};
 use px_xmp_marks::{Attribute, Name, StartTag, next_attribute, read_names};
 
 // No element has more attributes.
-const ATTRIBUTE_LIMIT: usize = 256;
+pub(crate) const ATTRIBUTE_LIMIT: usize = 256;
 
 // The names of so many attributes are stored in one space for all tags, which few tags exceed: a larger one costs more to clear
 // than small documents cost to read.
@@ -90,7 +90,7 @@ fn declared_prefix<'a>(name: Name<'a>) -> Option<&'a [u8]>
 }
 
 // Whether two namespaces are there and the same.
-fn are_same_spaces(a: Option<&[u8]>, b: Option<&[u8]>) -> bool
+pub(crate) fn are_same_spaces(a: Option<&[u8]>, b: Option<&[u8]>) -> bool
     ensures { result ≡ are_same_spaces (option_map (λ u. u.now) a.entry) (option_map (λ u. u.now) b.entry) }
 {
     match a {
@@ -175,7 +175,7 @@ impl<'a> Scope<'a> {
     }
 
     // The namespace of an attribute.
-    fn attribute_space(&self, name: Name) -> Option<&'a [u8]>
+    pub(crate) fn attribute_space(&self, name: Name) -> Option<&'a [u8]>
         ensures { option_map (λ u. u.now) result ≡ attribute_space self.now (name_view name.entry) }
     {
         if name.prefix.is_empty() {
