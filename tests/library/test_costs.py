@@ -247,6 +247,7 @@ PACKETS = {
     "properties": (packet(PROPERTIES), 8),
     "a bag": (bag(MEMBERS), 7.5),
     "a long text": (packet([f"<d:a>{'x' * 100_000}</d:a>"]), 8),
+    "long attributes": (packet([f"<d:a d:b='{'x' * 100_000}' d:c='{'y' * 100_000}'/>"]), 4),
     "structures in structures": (packet(["<d:a r:parseType='Resource'>" * 90, "<d:a>1</d:a>", "</d:a>" * 90]), 13),
     "attributes": (packet(["<d:a ", *(f"d:a{it}='1' " for it in range(200)), "/>"]), 17.5),
 }

@@ -32,6 +32,9 @@ const DESCRIPTION: &[u8] = b"<rdf:Description rdf:about=\"\">";
 
 const TAIL: &[u8] = b"</rdf:Description></rdf:RDF></x:xmpmeta>";
 
+// The most octets of space that is kept for the next text.
+const SPARE: usize = 4096;
+
 // The octets from an offset on.
 fn tail(octets: &[u8], start: usize) -> &[u8]
     ensures { result.now ≡ drop start octets.now }
@@ -65,6 +68,9 @@ fn attribute_item(
     spare.clear();
     append_text(memory, spare, value, TextKind::AttributeValue)?;
     let element = text_element(memory, label, origin.language, spare.as_slice())?;
+    if spare.capacity() > SPARE {
+        *spare = memory.list();
+    }
     Ok(Item {
         element,
         place: origin.place,
