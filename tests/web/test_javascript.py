@@ -30,7 +30,7 @@ from test_jpeg_xmp import packet as xmp_segment
 HERE = Path(__file__).resolve().parent
 pytestmark = pytest.mark.xdist_group("web")
 SEED = 7
-MOST_WASM = 230_000
+MOST_WASM = 250_000
 
 
 def digest(octets):
