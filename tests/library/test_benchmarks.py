@@ -176,6 +176,13 @@ def test_python_package(library, folder):
     numbers_of(r"^  exifnorm.normal over C: normalise: ([\d.]+)$", printed)
 
 
+def test_packets_of_xmp(library):
+    printed = benchmark("packets/run.py", library)
+    read = dict(re.findall(r"^\| (.*?) \| ([\d,]+) \| [\d.]*\s*\|$", printed, re.M))
+    assert {"the library, to its normal form", "expat and statements"} <= {*read}, printed
+    numbers_of(r"^\| expat and statements \| [\d,]+ \| ([\d.]+) \|$", printed)
+
+
 def test_commands_on_pictures(library, folder):
     """With exiftool alone on the path: pictures of another format, Chromium and Valgrind take long."""
     for name in ("exiftool", "perl"):
