@@ -20,7 +20,8 @@ MAKES = {"px_bytes::memory::Memory::new", "px_bytes::memory::Memory::fresh"}
 # the calls outside the repository's own crates that allocate nothing
 QUIET = re.compile(
     r"core::.*|byteorder::.*|itoa::Buffer::.*|hex::encode_to_slice|md5::.*|memchr::bytes::.*|std_alloc::boxed::Box::drop|std_alloc::string::String::(?:as_str|drop|new)|"
-    r"std_alloc::vec::Vec::(?:allocator|as_mut_slice|as_slice|capacity|drop|is_empty|len|new|pop|push_reserved|truncate)|std_alloc::vec::(?:derefs|lends)::.*|"
+    r"std_alloc::vec::Vec::(?:allocator|as_mut_slice|as_slice|capacity|clear|drop|is_empty|last_mut|len|new|pop|push_reserved|truncate)|"
+    r"std_alloc::vec::(?:derefs|lends)::.*|"
     r"std_alloc::collections::binary_heap::BinaryHeap(?:::into_sorted_vec|FromVec::from)|"
     r"std_collections::btree_map::BTreeMap::new|clap::error::.*|clap::parser::matches::ArgMatches::(?:get_str|subcommand)"
 )
