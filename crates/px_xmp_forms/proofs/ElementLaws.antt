@@ -1,9 +1,10 @@
 -- The elements of values, as they are appended to nothing.
-use Rattle.std.proofs.Common.{◌≡◌, ◌+◌, ◌++◌, ◌∙◌, refl, ℕ, List, [], codes, sym, ap, subst, length, length-append, append_assoc, arith}
+use Rattle.std.proofs.Common.{◌≡◌, ◌≤◌, ◌+◌, ◌++◌, ◌∙◌, refl, ℕ, List, [], codes, sym, ap, subst, length, length-append, append_assoc, arith}
 use Rattle.px_xmp_text.specs.Texts.{normal_text}
 use Rattle.px_xmp_text.specs.Values.{Label, Compound, Content, Literal, Uri, End, Flat, Nested, IsLabel, IsContent, Without}
 use Rattle.px_xmp_text.specs.Values.{opening_tag, end_tag, compound_start, compound_end, written}
-use Rattle.px_xmp_forms.specs.Forms.{language_octets}
+use Rattle.px_xmp_forms.specs.Languages.{language_limit}
+use Rattle.px_xmp_forms.specs.Forms.{language_octets, HaveShortLanguages}
 use Rattle.px_xmp_forms.specs.Entries.{Plain, Inside}
 use Rattle.px_xmp_forms.specs.Outputs.{IsElement}
 use Rattle.px_xmp_forms.specs.declared.elements.Element.{Element}
@@ -24,15 +25,15 @@ nested_is l s c =
     ∙ ap (λ (z : List ℕ). compound_start s [] ++ z) (written_more c _
     ∙ ap (λ (z : List ℕ). written c [] ++ z) (stop_more s _))))
 
-pub literal_element_is : (x : Element) (l : Label) (y z o a b d e t : List ℕ) → IsLabel l → Without 34 y → z ≡ normal_text t → o ≡ [] → a ≡ o ++ opening_tag l []
+pub literal_element_is : (x : Element) (l : Label) (y z o a b d e t : List ℕ) → IsLabel l → Without 34 y → length y ≤ language_limit → z ≡ normal_text t → o ≡ [] → a ≡ o ++ opening_tag l []
     → b ≡ a ++ language_octets y → d ≡ b ++ z → e ≡ d ++ end_tag l [] → x.piece ≡ e → x.label_len ≡ length a → IsElement x l (Plain (Literal y t))
-literal_element_is x l y z o a b d e t hl hy ez eo ea eb ed ee ex en =
+literal_element_is x l y z o a b d e t hl hy short ez eo ea eb ed ee ex en =
     let tag : a ≡ opening_tag l [] = ea ∙ ap (λ (w : List ℕ). w ++ opening_tag l []) eo in
     let front : b ≡ opening_tag l [] ++ language_octets y = eb ∙ ap (λ (w : List ℕ). w ++ language_octets y) tag in
     let whole : e ≡ opening_tag l [] ++ language_octets y ++ normal_text t ++ end_tag l [] =
     ee ∙ ap (λ (w : List ℕ). w ++ end_tag l []) (ed ∙ ap (λ (w : List ℕ). w ++ z) front
     ∙ ap (λ (w : List ℕ). opening_tag l [] ++ language_octets y ++ w) ez) in
-    record { octets = ex ∙ whole ∙ literal_is l y t; label = en ∙ ap length tag; can = (hl, hy, tt) }
+    record { octets = ex ∙ whole ∙ literal_is l y t; label = en ∙ ap length tag; can = (hl, hy, tt); short = (short, tt) }
 
 pub uri_element_is : (x : Element) (l : Label) (z o a b d e u : List ℕ) → IsLabel l → Without 34 z → z ≡ normal_text u → o ≡ [] → a ≡ o ++ opening_tag l []
     → b ≡ a ++ codes " rdf:resource=\"" → d ≡ b ++ z → e ≡ d ++ codes "\"/>" → x.piece ≡ e → x.label_len ≡ length a → IsElement x l (Plain (Uri u))
@@ -43,18 +44,18 @@ uri_element_is x l z o a b d e u hl hw ez eo ea eb ed ee ex en =
     let whole : e ≡ opening_tag l [] ++ codes " rdf:resource=\"" ++ normal_text u ++ codes "\"/>" =
     ee ∙ ap (λ (w : List ℕ). w ++ codes "\"/>") (ed ∙ ap (λ (w : List ℕ). w ++ z) front
     ∙ ap (λ (w : List ℕ). opening_tag l [] ++ codes " rdf:resource=\"" ++ w) ez) in
-    record { octets = ex ∙ whole ∙ uri_is l u; label = en ∙ ap length tag; can = (hl, without_normal u (subst Q ez hw), tt) }
+    record { octets = ex ∙ whole ∙ uri_is l u; label = en ∙ ap length tag; can = (hl, without_normal u (subst Q ez hw), tt); short = (tt, tt) }
 
-pub nested_element_is : (x : Element) (l : Label) (s : Compound) (c : Content) (z o a b d e f : List ℕ) → IsLabel l → IsContent c → z ≡ written c [] → o ≡ []
+pub nested_element_is : (x : Element) (l : Label) (s : Compound) (c : Content) (z o a b d e f : List ℕ) → IsLabel l → IsContent c → HaveShortLanguages c → z ≡ written c [] → o ≡ []
     → a ≡ o ++ opening_tag l [] → b ≡ a ++ compound_start s [] → d ≡ b ++ z → e ≡ d ++ compound_end s [] → f ≡ e ++ end_tag l [] → x.piece ≡ f
     → x.label_len ≡ length a → IsElement x l (Inside s c)
-nested_element_is x l s c z o a b d e f hl hc ez eo ea eb ed ee ef ex en =
+nested_element_is x l s c z o a b d e f hl hc short ez eo ea eb ed ee ef ex en =
     let tag : a ≡ opening_tag l [] = ea ∙ ap (λ (w : List ℕ). w ++ opening_tag l []) eo in
     let whole : f ≡ opening_tag l [] ++ compound_start s [] ++ written c [] ++ compound_end s [] ++ end_tag l [] =
     ef ∙ ap (λ (w : List ℕ). w ++ end_tag l []) (ee ∙ ap (λ (w : List ℕ). w ++ compound_end s []) (ed
     ∙ ap (λ (w : List ℕ). w ++ z) (eb ∙ ap (λ (w : List ℕ). w ++ compound_start s []) tag)
     ∙ ap (λ (w : List ℕ). (opening_tag l [] ++ compound_start s []) ++ w) ez)) in
-    record { octets = ex ∙ whole ∙ nested_is l s c; label = en ∙ ap length tag; can = (hl, hc, tt) }
+    record { octets = ex ∙ whole ∙ nested_is l s c; label = en ∙ ap length tag; can = (hl, hc, tt); short = (short, tt) }
 
 -- ---- their lengths, by their parts
 

@@ -14,7 +14,8 @@ use Rattle.std.specs.Ordering.{nat_cmp, is_lt, ordering_then}
 use Rattle.std.specs.declared.cmp.Ordering.{Ordering}
 use Rattle.std.specs.declared.cmp.Ordering.TheVariants.{Less, Equal, Greater}
 use Rattle.px_xmp_text.specs.Values as values
-use Rattle.px_xmp_text.specs.Values.{Label, Property, Item, Literal, Flat, Nested, End, IsLabel, IsContent, Without, opening_tag, end_tag, simple, compound_start, compound_end, written}
+use Rattle.px_xmp_text.specs.Values.{Label, Property, Item, Literal, End, IsLabel, IsContent, Without, opening_tag, end_tag, simple, compound_start, compound_end, written}
+use Rattle.px_xmp_forms.specs.Forms.{HaveShortLanguages}
 use Rattle.px_xmp_forms.specs.Entries.{Value, Entry, Plain, Inside, before, row, entry_octets, IsRepeated, AreDistinct}
 use Rattle.px_xmp_forms.specs.Outputs.{IsItem, AreItems}
 use Rattle.px_xmp_forms.specs.declared.items.Item as items
@@ -76,6 +77,13 @@ row_more e es =
 pub row_can : (e : Entry) (es : List Entry) → IsContent (before e.label e.value End) → IsContent (row es) → IsContent (row (e ∷ es))
 row_can e es h k = subst IsContent (sym (before_row e.label e.value (row es))) (join_content (before e.label e.value End) (row es) h k)
 
+row_short : (e : Entry) (es : List Entry) → HaveShortLanguages (before e.label e.value End) → HaveShortLanguages (row es) → HaveShortLanguages (row (e ∷ es))
+row_short e es h k = by_value e.value h
+  where
+    by_value : (v : Value) → HaveShortLanguages (before e.label v End) → HaveShortLanguages (before e.label v (row es))
+    by_value (Plain p) h = (h.0, k)
+    by_value (Inside s inner) h = (h.0, k)
+
 -- entries in another order have as many octets
 pub row_length : (es fs : List Entry) → IsPermutation es fs → length (written (row fs) []) ≡ length (written (row es) [])
 row_length es fs p = as_sum fs ∙ sum_by-IsPermutation (λ e. length (entry_octets e)) es fs p ∙ sym (as_sum es)
@@ -113,6 +121,12 @@ items_can [] [] h = tt
 items_can (x ∷ xs) (e ∷ es) h = row_can e es h.0.element.can (items_can xs es h.1)
 items_can [] (e ∷ es) h = absurd h
 items_can (x ∷ xs) [] h = absurd h
+
+pub items_short : (xs : List items.Item) (es : List Entry) → AreItems xs es → HaveShortLanguages (row es)
+items_short [] [] h = tt
+items_short (x ∷ xs) (e ∷ es) h = row_short e es h.0.element.short (items_short xs es h.1)
+items_short [] (e ∷ es) h = absurd h
+items_short (x ∷ xs) [] h = absurd h
 
 -- items from places
 pub items_from : (xs : List items.Item) (es : List Entry) → length xs ≡ length es

@@ -7,26 +7,30 @@ use Rattle.px_xmp_forms.specs.declared.faults.Cause.TheVariants.{RareEncoding, R
 use Rattle.px_xmp_forms.specs.declared.faults.Cause.TheVariants.{RareElement, RareAttribute, RareText, RareLanguage}
 use Rattle.px_xmp_forms.specs.declared.faults.Cause.TheVariants.{RareResource, RareRepeated, RareLength, RareDepth}
 
--- the packet may have a meaning
+-- RDF leaves the packet to another reader
+abbrev pub is_rare_in_rdf : Cause → Bool
+is_rare_in_rdf RareNamespace = true
+is_rare_in_rdf RareElement = true
+is_rare_in_rdf RareAttribute = true
+is_rare_in_rdf RareText = true
+is_rare_in_rdf RareLanguage = true
+is_rare_in_rdf RareResource = true
+is_rare_in_rdf RareRepeated = true
+is_rare_in_rdf RareLength = true
+is_rare_in_rdf RareDepth = true
+is_rare_in_rdf cause = false
+
+-- the packet may have a meaning: so it is left, or for its encoding, a name, or a number of attributes or prefixes
 abbrev pub is_rare : Cause → Bool
 is_rare RareEncoding = true
 is_rare RareName = true
-is_rare RareNamespace = true
 is_rare RareCount = true
-is_rare RareElement = true
-is_rare RareAttribute = true
-is_rare RareText = true
-is_rare RareLanguage = true
-is_rare RareResource = true
-is_rare RareRepeated = true
-is_rare RareLength = true
-is_rare RareDepth = true
-is_rare cause = false
+is_rare cause = is_rare_in_rdf cause
 
--- a call says of no packet that it is wrong
+-- a call says of no packet that it is wrong, and leaves one only by a cause of RDF
 abbrev pub IsRare : {X : Type 0} → Result X Refusal → Type 0
 IsRare (Ok x) = ⊤
-IsRare (Err (Content cause place)) = is_rare cause ≡ true
+IsRare (Err (Content cause place)) = is_rare_in_rdf cause ≡ true
 IsRare (Err OutOfMemory) = ⊤
 
 -- if a call says that a packet is wrong, this is so
@@ -35,7 +39,7 @@ IfWrong (Ok x) P = ⊤
 IfWrong (Err (Content cause place)) P = is_rare cause ≡ false → P
 IfWrong (Err OutOfMemory) P = ⊤
 
--- a call fails only for want of memory
+-- a call fails only if memory runs out
 abbrev pub FailsByMemory : {X : Type 0} → Result X Refusal → Type 0
 FailsByMemory (Ok x) = ⊤
 FailsByMemory (Err (Content cause place)) = ⊥

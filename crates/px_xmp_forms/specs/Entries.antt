@@ -4,7 +4,7 @@ use Rattle.std.specs.List.Sorted.{IsPermutation, IsSorted}
 use Rattle.std.specs.Cmp.Lexicographic.{slice_cmp}
 use Rattle.std.specs.Ordering.{nat_cmp}
 use Rattle.px_xmp_text.specs.Values.{Label, Simple, Compound, Content, End, Flat, Nested, IsContent, written}
-use Rattle.px_xmp_forms.specs.Forms.{most}
+use Rattle.px_xmp_forms.specs.Forms.{most, HaveShortLanguages}
 
 -- a value: a text or a URI; or a structure or an array of others
 pub data Value : Type 0 where
@@ -22,9 +22,9 @@ abbrev pub before : Label → Value → Content → Content
 before l (Plain p) rest = Flat l p rest
 before l (Inside s inner) rest = Nested l s inner rest
 
--- a value with its label can be written, and is not too long
+-- a value with its label can be written, and neither it nor a language in it is too long
 abbrev pub ValueFits : Label → Value → Type 0
-ValueFits l v = IsContent (before l v End) × (length (written (before l v End) []) ≤ most)
+ValueFits l v = IsContent (before l v End) × (length (written (before l v End) []) ≤ most) × HaveShortLanguages (before l v End)
 
 -- entries in a row
 abbrev pub row : List Entry → Content

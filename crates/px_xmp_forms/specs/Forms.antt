@@ -1,10 +1,11 @@
 -- What is written is the normal form of content, as px_xmp_text defines it.
-use Rattle.std.specs.Prelude.{◌≡◌, ◌≢◌, ◌≤◌, ◌+◌, ◌++◌, ◌==◌, ◌||◌, ◌&&◌, ℕ, Bool, true, false, List, [], ◌∷◌, codes, length, Some}
+use Rattle.std.specs.Prelude.{◌≡◌, ◌≢◌, ◌≤◌, ◌+◌, ◌++◌, ◌==◌, ◌||◌, ◌&&◌, ℕ, Bool, true, false, List, [], ◌∷◌, codes, length, Some, ⊤}
 use Rattle.px_bytes.specs.Parts.{limit}
 use Rattle.px_xmp_text.specs.Texts.{text_of, normal_text}
 use Rattle.px_xmp_text.specs.declared.pieces.TextKind.{TextKind}
 use Rattle.px_xmp_text.specs.declared.pieces.TextKind.TheVariants.{AttributeValue}
-use Rattle.px_xmp_text.specs.Values.{Content, IsContent, written, normal_packet}
+use Rattle.px_xmp_text.specs.Values.{Simple, Literal, Uri, Content, End, Flat, Nested, IsContent, written, normal_packet}
+use Rattle.px_xmp_forms.specs.Languages.{language_limit}
 
 -- the most octets of a form that is not finished, a limit of this reader
 abbrev pub most : ℕ
@@ -13,6 +14,16 @@ most = 33554432
 -- octets have a text, whose normal form may follow n octets of a form
 abbrev pub TextFits : TextKind → List ℕ → ℕ → Type 0
 TextFits kind x n = (t : List ℕ) × (text_of kind x ≡ Some t) × (length x ≤ limit) × (n + length (normal_text t) ≤ most)
+
+-- the language of each text is within the limit of this reader
+abbrev pub HasShortLanguage : Simple → Type 0
+HasShortLanguage (Literal language text) = length language ≤ language_limit
+HasShortLanguage (Uri uri) = ⊤
+
+abbrev pub HaveShortLanguages : Content → Type 0
+HaveShortLanguages End = ⊤
+HaveShortLanguages (Flat l p rest) = HasShortLanguage p × HaveShortLanguages rest
+HaveShortLanguages (Nested l s inner rest) = HaveShortLanguages inner × HaveShortLanguages rest
 
 -- these octets are the normal form of properties or members
 abbrev pub IsForm : List ℕ → Type 0
@@ -44,8 +55,7 @@ abbrev pub is_white : List ℕ → Bool
 is_white [] = true
 is_white (o ∷ t) = is_space o && is_white t
 
--- two values of attributes have one text, or none; or each has a text, and these differ
+-- two values of attributes have one text, or both have none; or they do not
 abbrev pub IsSameText : List ℕ → List ℕ → Bool → Type 0
 IsSameText a b true = text_of AttributeValue a ≡ text_of AttributeValue b
-IsSameText a b false =
-    (s : List ℕ) × (t : List ℕ) × (text_of AttributeValue a ≡ Some s) × (text_of AttributeValue b ≡ Some t) × (s ≢ t)
+IsSameText a b false = text_of AttributeValue a ≢ text_of AttributeValue b

@@ -2,6 +2,10 @@
 use Rattle.std.specs.Prelude.{◌≡◌, ◌≤◌, ◌⊎◌, ◌++◌, ◌&&◌, ◌||◌, ℕ, Bool, true, false, not, nat_le, List, [], ◌∷◌, length}
 use Rattle.std.specs.List.{list_all}
 
+-- a limit of this reader: the octets of a language
+abbrev pub language_limit : ℕ
+language_limit = 100
+
 abbrev pub is_letter : ℕ → Bool
 is_letter o = (nat_le 97 o && nat_le o 122) || (nat_le 65 o && nat_le o 90)
 

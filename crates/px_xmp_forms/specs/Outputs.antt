@@ -6,7 +6,7 @@ use Rattle.px_xmp_text.specs.Values as values
 use Rattle.px_xmp_text.specs.Values.{Content as Row, End, Literal, Uri, Structure, IsContent, opening_tag, written}
 use Rattle.px_xmp_text.specs.declared.pieces.TextKind.{TextKind}
 use Rattle.px_xmp_forms.specs.Entries.{Value, Entry, Plain, Inside, before, row, Sorts, AreDistinct}
-use Rattle.px_xmp_forms.specs.Forms.{is_white}
+use Rattle.px_xmp_forms.specs.Forms.{HaveShortLanguages, is_white}
 use Rattle.px_xmp_forms.specs.Labels.{label_view, container_view}
 use Rattle.px_xmp_forms.specs.declared.labels.Label.{Label}
 use Rattle.px_xmp_forms.specs.declared.labels.Origin.{Origin}
@@ -31,11 +31,12 @@ pub record State : Type 0 where
 
 -- ---- what an output has
 
--- an element has the octets of a value with its label, which can be written
+-- an element has the octets of a value with its label, which can be written and has no long language
 pub record IsElement (x : Element) (l : values.Label) (v : Value) : Type 0 where
   pub octets : x.piece ≡ written (before l v End) []
   pub label : x.label_len ≡ length (opening_tag l [])
   pub can : IsContent (before l v End)
+  pub short : HaveShortLanguages (before l v End)
 
 pub record IsItem (x : Item) (e : Entry) : Type 0 where
   pub element : IsElement x.element e.label e.value
@@ -51,6 +52,7 @@ pub record IsLevel (x : Level) (o : Open) : Type 0 where
   pub text : x.text ≡ normal_text o.text
   pub inner : x.inner ≡ written o.inner []
   pub can : IsContent o.inner
+  pub short : HaveShortLanguages o.inner
   pub entries : AreItems x.items.items o.entries
 
 abbrev pub AreLevels : List Level → List Open → Type 0
@@ -64,6 +66,7 @@ pub record Has (x : Output) (s : State) : Type 0 where
   pub levels : AreLevels (reverse x.levels.items) s.opened
   pub properties : x.properties ≡ written s.properties []
   pub can : IsContent s.properties
+  pub short : HaveShortLanguages s.properties
   pub order : x.order ≡ Sorted
 
 -- ---- what a call does

@@ -1,5 +1,6 @@
 // Octets and texts, appended to a form.
-ghost use Rattle.std.specs.Prelude.{◌≡◌, ◌≤◌, ◌+◌, ◌++◌, ◌∷◌, length, List, ℕ, true, Some, OnOk, IfOk};
+ghost use Rattle.std.specs.Prelude.{◌≡◌, ◌≤◌, ◌+◌, ◌++◌, ◌∷◌, length, List, ℕ, true, Some, is_some, OnOk, IfOk};
+ghost use Rattle.px_bytes.specs.Parts.{limit};
 ghost use Rattle.px_xmp_text.specs.Texts.{text_of, normal_text};
 ghost use Rattle.px_xmp_text.specs.declared.pieces.TextKind.TheVariants.{AttributeValue};
 ghost use Rattle.px_xmp_forms.specs.Forms.{most, TextFits, is_space, is_white, IsSameText};
@@ -29,7 +30,7 @@ pub(crate) fn reserve(memory: &mut Memory, out: &mut Vec<u8>, more: usize) -> Re
     ensures items { OnOk result (out.new.items ≡ out.old.items) }
     ensures memory { CountsAllocFailureInPacket result memory.old memory.new }
     ensures rare { IsRare result }
-    ensures usual { FailsByMemory result }
+    ensures accepts { FailsByMemory result }
 {
     memory.reserve(out, more.min(MOST))?;
     Ok(())
@@ -40,7 +41,7 @@ pub fn append(memory: &mut Memory, out: &mut Vec<u8>, octets: &[u8]) -> Result<(
     ensures items { OnOk result (out.new.items ≡ out.old.items ++ octets.now) }
     ensures memory { CountsAllocFailureInPacket result memory.old memory.new }
     ensures rare { IsRare result }
-    ensures usual { length out.old.items + length octets.now ≤ most → FailsByMemory result }
+    ensures accepts { length out.old.items + length octets.now ≤ most → FailsByMemory result }
 {
     if octets.is_empty() {
         return Ok(());
@@ -63,7 +64,7 @@ pub fn append_text(
     ensures items { OnOk result ((t : List ℕ) × (text_of kind octets.now ≡ Some t) × (out.new.items ≡ out.old.items ++ normal_text t)) }
     ensures memory { CountsAllocFailureInPacket result memory.old memory.new }
     ensures rare { IsRare result }
-    ensures usual { TextFits kind octets.now (length out.old.items) → FailsByMemory result }
+    ensures accepts { TextFits kind octets.now (length out.old.items) → FailsByMemory result }
 {
     px_xmp_text::laws::fault_or_text();
     if octets.len() > LIMIT {
@@ -79,21 +80,49 @@ pub fn append_text(
     Ok(())
 }
 
-/// Whether two values of attributes have the same text.
+// Whether the value of an attribute has a text.
+fn has_text(octets: &[u8]) -> bool
+    ensures { result ≡ is_some (text_of AttributeValue octets.now) }
+{
+    px_xmp_text::laws::fault_or_text();
+    first_fault(octets, TextKind::AttributeValue).is_none()
+}
+
+// The normal form of the text of a value that has one.
+fn value_form(memory: &mut Memory, octets: &[u8]) -> Result<Vec<u8>, Refusal>
+    requires text { (t : List ℕ) × (text_of AttributeValue octets.now ≡ Some t) }
+    ensures value { (t : List ℕ) → text_of AttributeValue octets.now ≡ Some t → IfOk result (λ form. form.items ≡ normal_text t) }
+    ensures memory { CountsAllocFailureInPacket result memory.old memory.new }
+    ensures rare { IsRare result }
+    ensures accepts { length octets.now ≤ limit → FailsByMemory result }
+{
+    if octets.len() > LIMIT {
+        return Err(Cause::RareLength.at(LIMIT));
+    }
+    let mut form = memory.list();
+    append_normal_in(memory, &mut form, octets, TextKind::AttributeValue)?;
+    Ok(form)
+}
+
+/// Whether two values of attributes have the same text, or both have none. `Content`: one is longer than a packet.
 pub fn same_text(memory: &mut Memory, a: &[u8], b: &[u8]) -> Result<bool, Refusal>
     ensures value { IfOk result (λ same. IsSameText a.now b.now same) }
     ensures memory { CountsAllocFailureInPacket result memory.old memory.new }
     ensures rare { IsRare result }
-    ensures usual { TextFits AttributeValue a.now 0 → TextFits AttributeValue b.now 0 → FailsByMemory result }
+    ensures accepts { length a.now ≤ limit → length b.now ≤ limit → FailsByMemory result }
 {
     if a == b {
         return Ok(true);
     }
+    if !has_text(a) {
+        return Ok(!has_text(b));
+    }
+    if !has_text(b) {
+        return Ok(false);
+    }
     px_xmp_text::laws::normal_is_injective();
-    let mut first = memory.list();
-    append_text(memory, &mut first, a, TextKind::AttributeValue)?;
-    let mut second = memory.list();
-    append_text(memory, &mut second, b, TextKind::AttributeValue)?;
+    let first = value_form(memory, a)?;
+    let second = value_form(memory, b)?;
     Ok(first.as_slice() == second.as_slice())
 }
 

@@ -6,7 +6,8 @@ ghost use Rattle.px_xmp_text.specs.Values.{IsLabel, IsContent, Without, Literal,
 ghost use Rattle.px_xmp_text.specs.Values as values;
 ghost use Rattle.px_xmp_forms.specs.Entries.{ValueFits, Plain, Inside};
 ghost use Rattle.px_xmp_forms.specs.Outputs.{IsElement, value_of};
-ghost use Rattle.px_xmp_forms.specs.Forms.{most, language_octets, IsTextForm};
+ghost use Rattle.px_xmp_forms.specs.Forms.{most, language_octets, HaveShortLanguages, IsTextForm};
+ghost use Rattle.px_xmp_forms.specs.Languages.{language_limit};
 ghost use Rattle.px_xmp_forms.specs.Labels.{label_view, compound_view};
 ghost use Rattle.px_xmp_forms.specs.Allocations.{CountsAllocFailureInPacket};
 ghost use Rattle.px_xmp_forms.specs.Causes.{IsRare, FailsByMemory};
@@ -17,6 +18,7 @@ use crate::labels::{
     Container, Content, Label, append_label, append_label_end, append_start, append_stop, has,
     is_label, label_size,
 };
+use crate::languages::LANGUAGE_LIMIT;
 use crate::pieces::{Piece, TextForm};
 use px_bytes::Memory;
 
@@ -43,7 +45,7 @@ fn lower(memory: &mut Memory, language: &[u8]) -> Result<Vec<u8>, Refusal>
     ensures value { IfOk result (λ v. v.items ≡ str_to_ascii_lowercase language.now) }
     ensures memory { CountsAllocFailureInPacket result memory.old memory.new }
     ensures rare { IsRare result }
-    ensures usual { FailsByMemory result }
+    ensures accepts { FailsByMemory result }
 {
     let mut octets = memory.list();
     reserve(memory, &mut octets, language.len())?;
@@ -59,7 +61,7 @@ fn append_attribute(memory: &mut Memory, out: &mut Vec<u8>, language: &[u8]) -> 
     ensures items { OnOk result (out.new.items ≡ out.old.items ++ language_octets language.now) }
     ensures memory { CountsAllocFailureInPacket result memory.old memory.new }
     ensures rare { IsRare result }
-    ensures usual { length out.old.items + length (language_octets language.now) ≤ most → FailsByMemory result }
+    ensures accepts { length out.old.items + length (language_octets language.now) ≤ most → FailsByMemory result }
 {
     append(memory, out, b" xml:lang=\"")?;
     append(memory, out, language)?;
@@ -70,13 +72,17 @@ fn append_attribute(memory: &mut Memory, out: &mut Vec<u8>, language: &[u8]) -> 
 fn append_language(memory: &mut Memory, out: &mut Vec<u8>, language: &[u8]) -> Result<(), Refusal>
     ensures items { OnOk result (out.new.items ≡ out.old.items ++ language_octets (str_to_ascii_lowercase language.now)) }
     ensures can { OnOk result (Without 34 (str_to_ascii_lowercase language.now)) }
+    ensures short { OnOk result (length (str_to_ascii_lowercase language.now) ≤ language_limit) }
     ensures memory { CountsAllocFailureInPacket result memory.old memory.new }
     ensures rare { IsRare result }
-    ensures usual { Without 34 (str_to_ascii_lowercase language.now)
+    ensures accepts { Without 34 (str_to_ascii_lowercase language.now) → length (str_to_ascii_lowercase language.now) ≤ language_limit
         → length out.old.items + length (language_octets (str_to_ascii_lowercase language.now)) ≤ most → FailsByMemory result }
 {
     if language.is_empty() {
         return append(memory, out, b">");
+    }
+    if language.len() > LANGUAGE_LIMIT {
+        return Err(Cause::RareLanguage.at(LIMIT));
     }
     let octets = lower(memory, language)?;
     let language = octets.as_slice();
@@ -100,7 +106,7 @@ fn literal_element(
         IfOk result (λ x. IsElement x (label_view label.entry) (Plain (Literal (str_to_ascii_lowercase language.now) t))) }
     ensures memory { CountsAllocFailureInPacket result memory.old memory.new }
     ensures rare { IsRare result }
-    ensures usual { (t : List ℕ) → content.now ≡ normal_text t
+    ensures accepts { (t : List ℕ) → content.now ≡ normal_text t
         → ValueFits (label_view label.entry) (Plain (Literal (str_to_ascii_lowercase language.now) t)) → FailsByMemory result }
 {
     let mut octets = memory.list();
@@ -124,7 +130,7 @@ fn resource_element(memory: &mut Memory, label: Label, uri: &TextForm) -> Result
     ensures value { (t : List ℕ) → uri.now ≡ normal_text t → IfOk result (λ x. IsElement x (label_view label.entry) (Plain (Uri t))) }
     ensures memory { CountsAllocFailureInPacket result memory.old memory.new }
     ensures rare { IsRare result }
-    ensures usual { (t : List ℕ) → uri.now ≡ normal_text t → ValueFits (label_view label.entry) (Plain (Uri t)) → FailsByMemory result }
+    ensures accepts { (t : List ℕ) → uri.now ≡ normal_text t → ValueFits (label_view label.entry) (Plain (Uri t)) → FailsByMemory result }
 {
     let uri = uri.octets();
     if has(uri, b'"') {
@@ -152,11 +158,11 @@ fn nested_element(
     inner: &Piece,
 ) -> Result<Element, Refusal>
     requires { IsLabel (label_view label) }
-    ensures value { (c : values.Content) → inner.now ≡ written c [] → IsContent c →
+    ensures value { (c : values.Content) → inner.now ≡ written c [] → IsContent c → HaveShortLanguages c →
         IfOk result (λ x. IsElement x (label_view label.entry) (Inside (compound_view container) c)) }
     ensures memory { CountsAllocFailureInPacket result memory.old memory.new }
     ensures rare { IsRare result }
-    ensures usual { (c : values.Content) → inner.now ≡ written c []
+    ensures accepts { (c : values.Content) → inner.now ≡ written c []
         → ValueFits (label_view label.entry) (Inside (compound_view container) c) → FailsByMemory result }
 {
     let mut octets = memory.list();
@@ -186,7 +192,7 @@ pub(crate) fn text_element(
         IfOk result (λ x. IsElement x (label_view label.entry) (Plain (Literal (str_to_ascii_lowercase language.now) t))) }
     ensures memory { CountsAllocFailureInPacket result memory.old memory.new }
     ensures rare { IsRare result }
-    ensures usual { (t : List ℕ) → content.now ≡ normal_text t
+    ensures accepts { (t : List ℕ) → content.now ≡ normal_text t
         → ValueFits (label_view label.entry) (Plain (Literal (str_to_ascii_lowercase language.now) t)) → FailsByMemory result }
 {
     if !is_label(label) {
@@ -203,11 +209,11 @@ pub(crate) fn write_element(
     text: &TextForm,
     inner: &Piece,
 ) -> Result<Element, Refusal>
-    ensures value { (t : List ℕ) (c : values.Content) → text.now ≡ normal_text t → inner.now ≡ written c [] → IsContent c →
-        IfOk result (λ x. IsElement x (label_view label.entry) (value_of content.entry t c)) }
+    ensures value { (t : List ℕ) (c : values.Content) → text.now ≡ normal_text t → inner.now ≡ written c [] → IsContent c
+        → HaveShortLanguages c → IfOk result (λ x. IsElement x (label_view label.entry) (value_of content.entry t c)) }
     ensures memory { CountsAllocFailureInPacket result memory.old memory.new }
     ensures rare { IsRare result }
-    ensures usual { (t : List ℕ) (c : values.Content) → text.now ≡ normal_text t → inner.now ≡ written c []
+    ensures accepts { (t : List ℕ) (c : values.Content) → text.now ≡ normal_text t → inner.now ≡ written c []
         → ValueFits (label_view label.entry) (value_of content.entry t c) → FailsByMemory result }
 {
     if !is_label(label) {

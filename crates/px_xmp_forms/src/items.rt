@@ -168,7 +168,7 @@ pub(crate) fn join_items(memory: &mut Memory, items: &[Item]) -> Result<Piece, R
     ensures value { (es : List Entry) → AreItems items.now es → IfOk result (λ p. p ≡ written (row es) []) }
     ensures memory { CountsAllocFailureInPacket result memory.old memory.new }
     ensures rare { IsRare result }
-    ensures usual { (es : List Entry) → AreItems items.now es → length (written (row es) []) ≤ most → FailsByMemory result }
+    ensures accepts { (es : List Entry) → AreItems items.now es → length (written (row es) []) ≤ most → FailsByMemory result }
 {
     let mut joined = memory.list();
     reserve(memory, &mut joined, items_len(items))?;

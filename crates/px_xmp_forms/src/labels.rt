@@ -108,7 +108,7 @@ fn append_local(memory: &mut Memory, out: &mut Vec<u8>, name: Property) -> Resul
     ensures items { OnOk result (out.new.items ≡ out.old.items ++ local_octets name.entry) }
     ensures memory { CountsAllocFailureInPacket result memory.old memory.new }
     ensures rare { IsRare result }
-    ensures usual { length out.old.items + length (local_octets name.entry) ≤ most → FailsByMemory result }
+    ensures accepts { length out.old.items + length (local_octets name.entry) ≤ most → FailsByMemory result }
 {
     append(memory, out, name.head)?;
     append(memory, out, name.local)
@@ -119,7 +119,7 @@ fn append_property(memory: &mut Memory, out: &mut Vec<u8>, name: Property) -> Re
     ensures items { OnOk result (out.new.items ≡ out.old.items ++ opening_tag (property_view name.entry) []) }
     ensures memory { CountsAllocFailureInPacket result memory.old memory.new }
     ensures rare { IsRare result }
-    ensures usual { length out.old.items + length (opening_tag (property_view name.entry) []) ≤ most → FailsByMemory result }
+    ensures accepts { length out.old.items + length (opening_tag (property_view name.entry) []) ≤ most → FailsByMemory result }
 {
     append(memory, out, b"<p:")?;
     append_local(memory, out, name)?;
@@ -137,7 +137,7 @@ pub(crate) fn append_label(
     ensures items { OnOk result (out.new.items ≡ out.old.items ++ opening_tag (label_view label.entry) []) }
     ensures memory { CountsAllocFailureInPacket result memory.old memory.new }
     ensures rare { IsRare result }
-    ensures usual { length out.old.items + length (opening_tag (label_view label.entry) []) ≤ most → FailsByMemory result }
+    ensures accepts { length out.old.items + length (opening_tag (label_view label.entry) []) ≤ most → FailsByMemory result }
 {
     match label {
         Label::Property(name) => append_property(memory, out, name),
@@ -154,7 +154,7 @@ fn append_property_end(
     ensures items { OnOk result (out.new.items ≡ out.old.items ++ end_tag (property_view name.entry) []) }
     ensures memory { CountsAllocFailureInPacket result memory.old memory.new }
     ensures rare { IsRare result }
-    ensures usual { length out.old.items + length (end_tag (property_view name.entry) []) ≤ most → FailsByMemory result }
+    ensures accepts { length out.old.items + length (end_tag (property_view name.entry) []) ≤ most → FailsByMemory result }
 {
     append(memory, out, b"</p:")?;
     append_local(memory, out, name)?;
@@ -170,7 +170,7 @@ pub(crate) fn append_label_end(
     ensures items { OnOk result (out.new.items ≡ out.old.items ++ end_tag (label_view label.entry) []) }
     ensures memory { CountsAllocFailureInPacket result memory.old memory.new }
     ensures rare { IsRare result }
-    ensures usual { length out.old.items + length (end_tag (label_view label.entry) []) ≤ most → FailsByMemory result }
+    ensures accepts { length out.old.items + length (end_tag (label_view label.entry) []) ≤ most → FailsByMemory result }
 {
     match label {
         Label::Property(name) => append_property_end(memory, out, name),
@@ -187,7 +187,7 @@ fn append_container(
     ensures items { OnOk result (out.new.items ≡ out.old.items ++ compound_start (container_view container) []) }
     ensures memory { CountsAllocFailureInPacket result memory.old memory.new }
     ensures rare { IsRare result }
-    ensures usual { length out.old.items + length (compound_start (container_view container) []) ≤ most → FailsByMemory result }
+    ensures accepts { length out.old.items + length (compound_start (container_view container) []) ≤ most → FailsByMemory result }
 {
     append(memory, out, b"><")?;
     append(memory, out, container.name())
@@ -202,7 +202,7 @@ fn append_container_end(
     ensures items { OnOk result (out.new.items ≡ out.old.items ++ compound_end (container_view container) []) }
     ensures memory { CountsAllocFailureInPacket result memory.old memory.new }
     ensures rare { IsRare result }
-    ensures usual { length out.old.items + length (compound_end (container_view container) []) ≤ most → FailsByMemory result }
+    ensures accepts { length out.old.items + length (compound_end (container_view container) []) ≤ most → FailsByMemory result }
 {
     append(memory, out, b"</")?;
     append(memory, out, container.name())
@@ -217,7 +217,7 @@ pub(crate) fn append_start(
     ensures items { OnOk result (out.new.items ≡ out.old.items ++ compound_start (compound_view container) []) }
     ensures memory { CountsAllocFailureInPacket result memory.old memory.new }
     ensures rare { IsRare result }
-    ensures usual { length out.old.items + length (compound_start (compound_view container) []) ≤ most → FailsByMemory result }
+    ensures accepts { length out.old.items + length (compound_start (compound_view container) []) ≤ most → FailsByMemory result }
 {
     match container {
         Some(container) => append_container(memory, out, container),
@@ -234,7 +234,7 @@ pub(crate) fn append_stop(
     ensures items { OnOk result (out.new.items ≡ out.old.items ++ compound_end (compound_view container) []) }
     ensures memory { CountsAllocFailureInPacket result memory.old memory.new }
     ensures rare { IsRare result }
-    ensures usual { length out.old.items + length (compound_end (compound_view container) []) ≤ most → FailsByMemory result }
+    ensures accepts { length out.old.items + length (compound_end (compound_view container) []) ≤ most → FailsByMemory result }
 {
     match container {
         Some(container) => append_container_end(memory, out, container),

@@ -1,12 +1,12 @@
 // Languages. RFC 3066, 2.1.
 ghost use Rattle.std.specs.Prelude.{◌≡◌, ◌≤◌, ◌<◌, ◌++◌, ◌∷◌, ◌⊎◌, ◌↔◌, [], ℕ, List, true, length, take, IfSome, MatchOption};
 ghost use Rattle.std.specs.List.{list_all, prefix_len};
-ghost use Rattle.px_xmp_forms.specs.Languages.{is_part_octet, IsPart, EndsPart, IsLanguage};
+ghost use Rattle.px_xmp_forms.specs.Languages.{language_limit, is_part_octet, IsPart, EndsPart, IsLanguage};
 
 use crate::spaces::{is_digit, is_letter};
 
 // The most characters of a language.
-const LANGUAGE_LIMIT: usize = 100;
+pub(crate) const LANGUAGE_LIMIT: usize = 100;
 
 // The most characters of a part.
 const PART_LIMIT: usize = 8;
@@ -87,7 +87,7 @@ fn are_parts(octets: &[u8]) -> bool
 /// nothing, which ends an outer language. It has at most 100 characters.
 pub fn is_language(octets: &[u8]) -> bool
     ensures is { result ≡ true → (octets.now ≡ []) ⊎ IsLanguage octets.now }
-    ensures usual { (octets.now ≡ []) ⊎ IsLanguage octets.now → length octets.now ≤ 100 → result ≡ true }
+    ensures accepts { (octets.now ≡ []) ⊎ IsLanguage octets.now → length octets.now ≤ language_limit → result ≡ true }
 {
     if octets.is_empty() {
         return true;

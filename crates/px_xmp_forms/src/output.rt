@@ -4,7 +4,7 @@ ghost use Rattle.px_bytes.specs.Parts.{limit};
 ghost use Rattle.px_xmp_text.specs.Texts.{text_of, normal_text};
 ghost use Rattle.px_xmp_text.specs.Values.{End, IsContent, written, normal_packet};
 ghost use Rattle.px_xmp_text.specs.declared.pieces.TextKind.TheVariants.{AttributeValue};
-ghost use Rattle.px_xmp_forms.specs.Forms.{most, TextFits, IsNormal};
+ghost use Rattle.px_xmp_forms.specs.Forms.{most, HaveShortLanguages, TextFits, IsNormal};
 ghost use Rattle.px_xmp_forms.specs.declared.items.BagOrder.TheVariants.{Sorted};
 ghost use Rattle.px_xmp_forms.specs.Entries.{Entry, ValueFits, AreDistinct, row};
 ghost use Rattle.px_xmp_forms.specs.Outputs.{State, Open, Has, IsItem, AreItems, IsLevel};
@@ -62,7 +62,7 @@ fn attribute_item(
         × IsItem x (attribute_entry label.entry origin.entry t)) }
     ensures memory { CountsAllocFailureInPacket result memory.old memory.new }
     ensures rare { IsRare result }
-    ensures usual { (t : List ℕ) → text_of AttributeValue value.now ≡ Some t → length value.now ≤ limit
+    ensures accepts { (t : List ℕ) → text_of AttributeValue value.now ≡ Some t → length value.now ≤ limit
         → ValueFits (label_view label.entry) (attribute_entry label.entry origin.entry t).value → FailsByMemory result }
 {
     spare.clear();
@@ -114,7 +114,7 @@ impl Output {
         ensures value { (s : State) (o : Open) → Has self.old s → IsLevel level o → OnOk result (Has self.new (begun o s)) }
         ensures memory { CountsAllocFailureInPacket result memory.old memory.new }
         ensures rare { IsRare result }
-        ensures usual { FailsByMemory result }
+        ensures accepts { FailsByMemory result }
     {
         memory.push(&mut self.levels, level)?;
         Ok(())
@@ -125,7 +125,7 @@ impl Output {
         ensures value { (s : State) → Has self.old s → OnOk result (Has self.new (begun nothing s)) }
         ensures memory { CountsAllocFailureInPacket result memory.old memory.new }
         ensures rare { IsRare result }
-        ensures usual { FailsByMemory result }
+        ensures accepts { FailsByMemory result }
     {
         let level = Level {
             text: TextForm::new(memory),
@@ -146,7 +146,7 @@ impl Output {
             IfOk result (λ more. (after : State) × Has self.new after × PutsText kind octets.now s more after) }
         ensures memory { CountsAllocFailureInPacket result memory.old memory.new }
         ensures rare { IsRare result }
-        ensures usual { (s : State) (o : Open) (os : List Open) → Has self.old s → s.opened ≡ o ∷ os
+        ensures accepts { (s : State) (o : Open) (os : List Open) → Has self.old s → s.opened ≡ o ∷ os
             → TextFits kind octets.now (length (normal_text o.text)) → FailsByMemory result }
     {
         let Some(level) = self.pop() else {
@@ -170,7 +170,7 @@ impl Output {
             → OnOk result (Has self.new (changed (with_text t) s)) }
         ensures memory { CountsAllocFailureInPacket result memory.old memory.new }
         ensures rare { IsRare result }
-        ensures usual { FailsByMemory result }
+        ensures accepts { FailsByMemory result }
     {
         let Some(level) = self.pop() else {
             return Ok(());
@@ -188,7 +188,7 @@ impl Output {
         ensures value { (s : State) → Has self.old s → OnOk result (Has self.new (changed (with_text []) s)) }
         ensures memory { CountsAllocFailureInPacket result memory.old memory.new }
         ensures rare { IsRare result }
-        ensures usual { FailsByMemory result }
+        ensures accepts { FailsByMemory result }
     {
         let text = TextForm::new(memory);
         self.replace_text(memory, text)
@@ -200,7 +200,7 @@ impl Output {
             OnOk result ((t : List ℕ) × (text_of AttributeValue uri.now ≡ Some t) × Has self.new (changed (with_text t) s)) }
         ensures memory { CountsAllocFailureInPacket result memory.old memory.new }
         ensures rare { IsRare result }
-        ensures usual { TextFits AttributeValue uri.now 0 → FailsByMemory result }
+        ensures accepts { TextFits AttributeValue uri.now 0 → FailsByMemory result }
     {
         let text = TextForm::new(memory).followed_by(memory, uri, TextKind::AttributeValue)?;
         self.replace_text(memory, text)
@@ -211,7 +211,7 @@ impl Output {
         ensures value { (s : State) (e : Entry) → Has self.old s → IsItem item e → OnOk result (Has self.new (changed (with_entry e) s)) }
         ensures memory { CountsAllocFailureInPacket result memory.old memory.new }
         ensures rare { IsRare result }
-        ensures usual { FailsByMemory result }
+        ensures accepts { FailsByMemory result }
     {
         let Some(level) = self.levels.last_mut() else {
             return Ok(());
@@ -232,7 +232,7 @@ impl Output {
             × Has self.new (changed (with_entry (attribute_entry label.entry origin.entry t)) s)) }
         ensures memory { CountsAllocFailureInPacket result memory.old memory.new }
         ensures rare { IsRare result }
-        ensures usual { (t : List ℕ) → text_of AttributeValue value.now ≡ Some t → length value.now ≤ limit
+        ensures accepts { (t : List ℕ) → text_of AttributeValue value.now ≡ Some t → length value.now ≤ limit
             → ValueFits (label_view label.entry) (attribute_entry label.entry origin.entry t).value → FailsByMemory result }
     {
         let item = attribute_item(memory, &mut self.spare, label, value, origin)?;
@@ -241,11 +241,11 @@ impl Output {
 
     // Puts what is inside the innermost element.
     fn put_inner(&mut self, memory: &mut Memory, inner: Piece) -> Result<(), Refusal>
-        ensures value { (s : State) (c : values.Content) → Has self.old s → inner ≡ written c [] → IsContent c →
+        ensures value { (s : State) (c : values.Content) → Has self.old s → inner ≡ written c [] → IsContent c → HaveShortLanguages c →
             OnOk result (Has self.new (changed (with_inner c) s)) }
         ensures memory { CountsAllocFailureInPacket result memory.old memory.new }
         ensures rare { IsRare result }
-        ensures usual { FailsByMemory result }
+        ensures accepts { FailsByMemory result }
     {
         let Some(level) = self.pop() else {
             return Ok(());
@@ -269,7 +269,7 @@ impl Output {
             OnOk result (Has self.new (begun (record { text = t; inner = row es; entries = [] }) s)) }
         ensures memory { CountsAllocFailureInPacket result memory.old memory.new }
         ensures rare { IsRare result }
-        ensures usual { (es : List Entry) → AreItems items.items es → length (written (row es) []) ≤ most → FailsByMemory result }
+        ensures accepts { (es : List Entry) → AreItems items.items es → length (written (row es) []) ≤ most → FailsByMemory result }
     {
         let level = Level {
             text,
@@ -284,7 +284,7 @@ impl Output {
         ensures value { (s : State) → Has self.old s → OnOk result ((after : State) × Has self.new after × JoinsProperties s after) }
         ensures memory { CountsAllocFailureInPacket result memory.old memory.new }
         ensures rare { IsRare result }
-        ensures usual { (s : State) → Has self.old s → AreDistinct (first_entries s.opened)
+        ensures accepts { (s : State) → Has self.old s → AreDistinct (first_entries s.opened)
             → length (written (row (first_entries s.opened)) []) ≤ most → FailsByMemory result }
     {
         let Some(level) = self.pop() else {
@@ -302,7 +302,7 @@ impl Output {
         ensures value { (s : State) → Has self.old s → OnOk result ((after : State) × Has self.new after × JoinsMembers is_bag s after) }
         ensures memory { CountsAllocFailureInPacket result memory.old memory.new }
         ensures rare { IsRare result }
-        ensures usual { (s : State) → Has self.old s → length (written (row (first_entries s.opened)) []) ≤ most → FailsByMemory result }
+        ensures accepts { (s : State) → Has self.old s → length (written (row (first_entries s.opened)) []) ≤ most → FailsByMemory result }
     {
         let Some(level) = self.pop() else {
             return Ok(());
@@ -319,7 +319,7 @@ impl Output {
         ensures value { (s : State) → Has self.old s → OnOk result (Has self.new (node_ended s)) }
         ensures memory { CountsAllocFailureInPacket result memory.old memory.new }
         ensures rare { IsRare result }
-        ensures usual { FailsByMemory result }
+        ensures accepts { FailsByMemory result }
     {
         let Some(level) = self.pop() else {
             return Ok(());
@@ -338,7 +338,7 @@ impl Output {
         ensures value { (s : State) → Has self.old s → OnOk result (Has self.new (element_ended label.entry content.entry place s)) }
         ensures memory { CountsAllocFailureInPacket result memory.old memory.new }
         ensures rare { IsRare result }
-        ensures usual { (s : State) (o : Open) (os : List Open) → Has self.old s → s.opened ≡ o ∷ os
+        ensures accepts { (s : State) (o : Open) (os : List Open) → Has self.old s → s.opened ≡ o ∷ os
             → ValueFits (label_view label.entry) (value_of content.entry o.text o.inner) → FailsByMemory result }
     {
         let Some(level) = self.pop() else {
@@ -364,7 +364,7 @@ impl Output {
         ensures bound { IfOk result (λ form. length form.items ≤ limit) }
         ensures memory { CountsAllocFailureInPacket result memory.old memory.new }
         ensures rare { IsRare result }
-        ensures usual { (s : State) → Has self.now s → length (normal_packet s.properties) ≤ limit → FailsByMemory result }
+        ensures accepts { (s : State) → Has self.now s → length (normal_packet s.properties) ≤ limit → FailsByMemory result }
     {
         let mut form = memory.list();
         let properties = self.properties.octets();

@@ -56,7 +56,7 @@ impl TextForm {
         ensures value { IfOk result (λ f. (t : List ℕ) × (text_of kind octets.now ≡ Some t) × (f ≡ self ++ normal_text t)) }
         ensures memory { CountsAllocFailureInPacket result memory.old memory.new }
         ensures rare { IsRare result }
-        ensures usual { TextFits kind octets.now (length self) → FailsByMemory result }
+        ensures accepts { TextFits kind octets.now (length self) → FailsByMemory result }
     {
         let mut form = self.octets;
         append_text(memory, &mut form, octets, kind)?;

@@ -18,8 +18,8 @@ returns-clause-can c =
     on_ok_weaker c.append_attribute.result (λ e. subst P lowered (without_from 34 c.as_slice-language.result.now (sym c.if-has.ensures)))
     c.append_attribute.ensures.items
 
-pub returns-then-has-clause-usual : goal.returns-then-has-clause-usual
-returns-then-has-clause-usual c can short =
+pub returns-then-has-clause-accepts : goal.returns-then-has-clause-accepts
+returns-then-has-clause-accepts c can short =
     let P : List ℕ → Type 0 = λ z. Without 34 z in
     let lowered : c.as_slice-language.result.now ≡ str_to_ascii_lowercase c.args.language.now = c.as_slice-language.ensures.value ∙ c.in_ok-octets.ensures.value in
     absurd (both_has 34 c.as_slice-language.result.now c.if-has.ensures (subst P (sym lowered) can))

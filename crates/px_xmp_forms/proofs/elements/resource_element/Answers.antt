@@ -21,14 +21,14 @@ returns-clause-value c t e =
     (c.octets-uri.ensures.value ∙ e) (c.in_ok-reserve.ensures.items ∙ c.list-octets.ensures.items) c.in_ok-append_label.ensures.items
     c.in_ok-append.ensures.items c.in_ok-append-2.ensures.items c.in_ok-append-3.ensures.items c.of.ensures (ap length c.as_slice-label_len.ensures.value)
 
-pub returns-then-has-clause-usual : goal.returns-then-has-clause-usual
-returns-then-has-clause-usual c t e fits =
+pub returns-then-has-clause-accepts : goal.returns-then-has-clause-accepts
+returns-then-has-clause-accepts c t e fits =
     let P : List ℕ → Type 0 = λ z. Without 34 z in
     absurd (both_has 34 c.octets-uri.result.now c.if-has.ensures
     (subst P (sym (c.octets-uri.ensures.value ∙ e)) (normal_without t fits.0.1)))
 
-pub returns-in_err-append-3-clause-usual : goal.returns-in_err-append-3-clause-usual
-returns-in_err-append-3-clause-usual c t e fits =
+pub returns-in_err-append-3-clause-accepts : goal.returns-in_err-append-3-clause-accepts
+returns-in_err-append-3-clause-accepts c t e fits =
     let n = uri_length (label_view c.args.label) t in
     let few : length c.append-2.new.out.items + 3 ≤ most =
     omega (
@@ -43,4 +43,4 @@ returns-in_err-append-3-clause-usual c t e fits =
       length-append {A = ℕ},
     ) in
     let p = err_from_is_err_and c.from_residual-in_err-append-3.result c.from_residual-in_err-append-3.ensures.1 in
-    rw (p.1, p.2) (c.in_err-append-3.ensures.usual few)
+    rw (p.1, p.2) (c.in_err-append-3.ensures.accepts few)

@@ -50,12 +50,12 @@ returns-clause-value c es h =
     let none = items_end _ fs (drop_all c.loop-item.item-index c.args.items.now c.loop-item-test.false) a in
     c.of.ensures ∙ sym (f ∙ ap (λ (z : List ℕ). c.loop-item.joined.items ++ z) none ∙ append-nil c.loop-item.joined.items)
 
-pub returns-in_err-append-clause-usual : goal.returns-in_err-append-clause-usual
-returns-in_err-append-clause-usual c es h fits =
+pub returns-in_err-append-clause-accepts : goal.returns-in_err-append-clause-accepts
+returns-in_err-append-clause-accepts c es h fits =
     let (fs, a, f) = c.loop-item.invariant.value es h in
     let next = item_next c.args.items.now c.loop-item.item-index c.item-item.result c.loop-item-test.true c.item-item.is in
     let (gs, b, g) = items_next _ (drop (c.loop-item.item-index + 1) c.args.items.now) c.item-item.result fs a next in
     let few : length c.loop-item.joined.items + length c.octets.result.now ≤ most =
     omega (arith, fits, ap length f, ap length g, ap length c.octets.ensures.value, length-append {A = ℕ}) in
     let p = err_from_is_err_and c.from_residual-in_err-append.result c.from_residual-in_err-append.ensures.1 in
-    rw (p.1, p.2) (c.in_err-append.ensures.usual few)
+    rw (p.1, p.2) (c.in_err-append.ensures.accepts few)

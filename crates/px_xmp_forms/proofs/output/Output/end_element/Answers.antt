@@ -12,6 +12,6 @@ returns-clause-value c s h =
     on_ok_weaker c.put_item.result (λ k. subst (λ (ws : List Open). Has c.put_item.new.self
     (record { opened = first_ended c.args.label c.args.content c.args.place ws; properties = s.properties })) (sym f) k)
     (c.put_item.ensures.value (record { opened = os; properties = s.properties }) e r (record {
-      element = c.in_ok-element.ensures.value o.text o.inner l.text l.inner l.can;
+      element = c.in_ok-element.ensures.value o.text o.inner l.text l.inner l.can l.short;
       place = refl;
     }))

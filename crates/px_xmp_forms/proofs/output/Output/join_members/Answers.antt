@@ -26,10 +26,10 @@ returns-clause-value c s h =
     on_ok_weaker c.push_joined-2.result (λ k. (begun (with_joined o.entries o) rest, k, (joins_first c.args.is_bag s.opened o os o.entries f if_bag, refl)))
     (c.push_joined-2.ensures.value rest o.text o.entries r l.text l.entries)
 
-pub returns-then-is_bag-clause-usual : goal.returns-then-is_bag-clause-usual
-returns-then-is_bag-clause-usual c s h short =
+pub returns-then-is_bag-clause-accepts : goal.returns-then-is_bag-clause-accepts
+returns-then-is_bag-clause-accepts c s h short =
     let (o, os, f, l, r) = c.in-Some.ensures s h in
     let (fs, p, are) = items_moved c.in-Some.level.items.items c.bag_items-items.result.items o.entries c.bag_items-items.ensures.permutation l.entries in
     let all : length (written (row o.entries) []) ≤ most = subst (λ (ws : List Open). length (written (row (first_entries ws)) []) ≤ most) f short in
     let few : length (written (row fs) []) ≤ most = omega (arith, row_length o.entries fs p) in
-    c.push_joined.ensures.usual fs are few
+    c.push_joined.ensures.accepts fs are few

@@ -23,8 +23,8 @@ returns-clause-value c s h =
     on_ok_weaker c.push_joined.result (λ k. (begun (with_joined fs o) rest, k, (each, (joins_first true s.opened o os fs f sorts, refl))))
     (c.push_joined.ensures.value rest o.text fs r l.text are)
 
-pub returns-in-Some-first_repeated-clause-usual : goal.returns-in-Some-first_repeated-clause-usual
-returns-in-Some-first_repeated-clause-usual c s h distinct short =
+pub returns-in-Some-first_repeated-clause-accepts : goal.returns-in-Some-first_repeated-clause-accepts
+returns-in-Some-first_repeated-clause-accepts c s h distinct short =
     let (o, os, f, l, r) = c.in-Some.ensures s h in
     let (fs, p, are) =
     items_moved c.in-Some.level.items.items c.sort_items-items.result.items o.entries c.sort_items-items.ensures.permutation l.entries in
@@ -34,11 +34,11 @@ returns-in-Some-first_repeated-clause-usual c s h distinct short =
     let place = c.in-Some-first_repeated.place in
     absurd (each place (repeated_moved place fs o.entries (IsPermutation-sym _ _ p) again))
 
-pub returns-clause-usual : goal.returns-clause-usual
-returns-clause-usual c s h distinct short =
+pub returns-clause-accepts : goal.returns-clause-accepts
+returns-clause-accepts c s h distinct short =
     let (o, os, f, l, r) = c.in-Some.ensures s h in
     let (fs, p, are) =
     items_moved c.in-Some.level.items.items c.sort_items-items.result.items o.entries c.sort_items-items.ensures.permutation l.entries in
     let all : length (written (row o.entries) []) ≤ most = subst (λ (ws : List Open). length (written (row (first_entries ws)) []) ≤ most) f short in
     let few : length (written (row fs) []) ≤ most = omega (arith, row_length o.entries fs p) in
-    c.push_joined.ensures.usual fs are few
+    c.push_joined.ensures.accepts fs are few

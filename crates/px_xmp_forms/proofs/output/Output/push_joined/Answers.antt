@@ -2,7 +2,7 @@ use Rattle.std.proofs.Common.{[], List, sym, subst}
 use Rattle.px_xmp_forms.specs.Entries.{row}
 use Rattle.px_xmp_forms.specs.Outputs.{AreItems}
 use Rattle.px_xmp_forms.specs.declared.items.Item.{Item}
-use Rattle.px_xmp_forms.proofs.EntryLaws.{items_can}
+use Rattle.px_xmp_forms.proofs.EntryLaws.{items_can, items_short}
 use Rattle.px_xmp_forms.proofs.output.Output.push_joined.Goals as goal
 
 pub returns-clause-value : goal.returns-clause-value
@@ -12,5 +12,6 @@ returns-clause-value c s t es h e a =
       text = e;
       inner = c.in_ok-join_items.ensures.value es are;
       can = items_can _ es a;
+      short = items_short _ es a;
       entries = subst (λ (xs : List Item). AreItems xs []) (sym c.list.ensures.items) tt;
     })

@@ -7,4 +7,4 @@ returns-clause-value c s h =
     let (t, read, i) = c.in_ok-item.ensures.value in
     on_ok_weaker c.put_item.result (λ k. (t, read, k))
     (c.put_item.ensures.value s (attribute_entry c.args.label c.args.origin t)
-    (record { levels = h.levels; properties = h.properties; can = h.can; order = h.order }) i)
+    (record { levels = h.levels; properties = h.properties; can = h.can; short = h.short; order = h.order }) i)

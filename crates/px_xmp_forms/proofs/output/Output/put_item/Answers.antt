@@ -19,11 +19,13 @@ returns-clause-value c s e h k =
       text = l.text;
       inner = l.inner;
       can = l.can;
+      short = l.short;
       entries = subst (λ (xs : List Item). AreItems xs (o.entries ++ e ∷ [])) (sym c.in_ok-push.ensures.items) (items_push _ o.entries c.args.item e l.entries k);
     } in
     record {
       levels = level_changed (with_entry e) levels.items s.opened _ x y len c.in-Some.ensures.value changes h.levels;
       properties = h.properties;
       can = h.can;
+      short = h.short;
       order = h.order;
     }

@@ -19,6 +19,7 @@ returns-clause-value c s h =
         text = f ∙ ap (λ (z : List ℕ). z ++ normal_text t) l.text ∙ sym (flat_map-append normal_octet o.text t);
         inner = l.inner;
         can = l.can;
+        short = l.short;
         entries = l.entries;
       }),
       (subst (λ (xs : List Open). PutsFirst c.args.kind c.args.octets.now xs (not c.is_blank-is_blank.result) (more ∷ os)) (sym e) (t, read, ap not blank, refl), refl),

@@ -8,4 +8,4 @@ returns-clause-value c s t h e =
     let (o, os, f, l, r) = c.in-Some.ensures s h in
     on_ok_weaker c.push.result (has_changed c.push.new.self (with_text t) s o os f)
     (c.push.ensures.value (record { opened = os; properties = s.properties }) (with_text t o) r
-    (record { text = e; inner = l.inner; can = l.can; entries = l.entries }))
+    (record { text = e; inner = l.inner; can = l.can; short = l.short; entries = l.entries }))

@@ -16,8 +16,8 @@ returns-clause-value c s h =
     packet_is _ _ _ _ _ _ s.properties (c.in_ok-reserve.ensures.items ∙ c.list-form.ensures.items) c.in_ok-append.ensures.items c.in_ok-append-2.ensures.items
     c.in_ok-append-3.ensures.items c.in_ok-append-4.ensures.items (c.octets-properties.ensures.value ∙ h.properties)
 
-pub returns-in_err-append-3-clause-usual : goal.returns-in_err-append-3-clause-usual
-returns-in_err-append-3-clause-usual c s h short =
+pub returns-in_err-append-3-clause-accepts : goal.returns-in_err-append-3-clause-accepts
+returns-in_err-append-3-clause-accepts c s h short =
     let d = c.append-2.new.out.items in
     let q = c.octets-properties.result.now in
     let all : length (d ++ q) + length packet_end ≤ limit =
@@ -25,20 +25,20 @@ returns-in_err-append-3-clause-usual c s h short =
     c.in_ok-append-2.ensures.items refl (c.octets-properties.ensures.value ∙ h.properties) short in
     let few : length d + length q ≤ most = omega (arith, all, length-append d q) in
     let p = err_from_is_err_and c.from_residual-in_err-append-3.result c.from_residual-in_err-append-3.ensures.1 in
-    rw (p.1, p.2) (c.in_err-append-3.ensures.usual few)
+    rw (p.1, p.2) (c.in_err-append-3.ensures.accepts few)
 
-pub returns-in_err-append-4-clause-usual : goal.returns-in_err-append-4-clause-usual
-returns-in_err-append-4-clause-usual c s h short =
+pub returns-in_err-append-4-clause-accepts : goal.returns-in_err-append-4-clause-accepts
+returns-in_err-append-4-clause-accepts c s h short =
     let e = c.append-3.new.out.items in
     let all : length e + length packet_end ≤ limit =
     packet_short _ _ _ e _ s.properties limit (c.in_ok-reserve.ensures.items ∙ c.list-form.ensures.items) c.in_ok-append.ensures.items
     c.in_ok-append-2.ensures.items c.in_ok-append-3.ensures.items (c.octets-properties.ensures.value ∙ h.properties) short in
     let few : length e + length packet_end ≤ most = omega (arith, all) in
     let p = err_from_is_err_and c.from_residual-in_err-append-4.result c.from_residual-in_err-append-4.ensures.1 in
-    rw (p.1, p.2) (c.in_err-append-4.ensures.usual few)
+    rw (p.1, p.2) (c.in_err-append-4.ensures.accepts few)
 
-pub returns-then-len-gt-LIMIT-clause-usual : goal.returns-then-len-gt-LIMIT-clause-usual
-returns-then-len-gt-LIMIT-clause-usual c s h short =
+pub returns-then-len-gt-LIMIT-clause-accepts : goal.returns-then-len-gt-LIMIT-clause-accepts
+returns-then-len-gt-LIMIT-clause-accepts c s h short =
     let form = packet_is _ _ _ _ _ _ s.properties (c.in_ok-reserve.ensures.items ∙ c.list-form.ensures.items) c.in_ok-append.ensures.items
     c.in_ok-append-2.ensures.items c.in_ok-append-3.ensures.items c.in_ok-append-4.ensures.items (c.octets-properties.ensures.value ∙ h.properties) in
     absurd (omega (arith, short, ap length form, c.if-len-gt-LIMIT.true))
