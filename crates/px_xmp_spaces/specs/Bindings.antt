@@ -3,6 +3,7 @@ use Rattle.std.specs.Prelude.{◌==◌, ◌&&◌, ◌||◌, ℕ, Bool, not, nat_
 use Rattle.std.specs.Prelude.{Option, Some, None, List, [], ◌∷◌, length, Result, Ok, Err}
 use Rattle.px_xmp_marks.specs.Reading.{Named, Attr}
 use Rattle.px_xmp_marks.specs.Declarations.{every}
+use Rattle.px_xmp_forms.specs.Spaces.{is_rare_space}
 use Rattle.px_xmp_spaces.specs.declared.faults.Cause.{Cause}
 use Rattle.px_xmp_spaces.specs.declared.faults.Cause.TheVariants.{RareSpace, Reserved, TooMany}
 use Rattle.px_xmp_spaces.specs.Scopes.{Item, Declaration, limit, is_same, xml_space, xmlns_space}
@@ -36,11 +37,16 @@ is_reserved p u =
     is_same p (codes "xmlns") || is_same u xmlns_space || differ (is_same p (codes "xml")) (is_same u xml_space)
     || (is_same u [] && not (is_same p []))
 
+-- a namespace that is left to another reader; the empty name is of none
+abbrev pub is_left : List ℕ → Bool
+is_left u = not (is_same u []) && is_rare_space u
+
 -- what is in scope after a declaration, or what is wrong with it
 abbrev pub with_declaration : List ℕ → List ℕ → List Item → Result (List Item) Cause
 with_declaration p u scope =
     if not (is_usual_space u) then Err RareSpace
     else if is_reserved p u then Err Reserved
+    else if is_left u then Err RareSpace
     else if nat_le limit (length scope) then Err TooMany
     else Ok (Declaration p u ∷ scope)
 

@@ -5,7 +5,8 @@
 pub enum Cause {
     /// No mark begins here: no tag, section, comment, processing instruction or character data.
     NoMark,
-    /// A tag that begins here declares a namespace whose name has more than 256 octets, other octets than visible ASCII, or a reference.
+    /// A tag that begins here declares a namespace whose name has more than 256 octets, other octets than those of a URI of ASCII,
+    /// or a reference; could be part of a name; or begins as one of RDF's or XML's own.
     RareSpace,
     /// A tag that begins here declares a prefix or a namespace that is reserved, or takes a prefix's namespace away.
     Reserved,

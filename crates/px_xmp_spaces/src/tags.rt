@@ -3,7 +3,7 @@ ghost use Rattle.std.specs.Prelude.{◌≡◌, List, Some, map, option_map, if�
 ghost use Rattle.px_xmp_spaces.specs.declared.faults.Cause.TheVariants.{ManyAttributes, Undeclared};
 ghost use Rattle.px_xmp_marks.specs.Reading.{Attr, name_view, attribute_view};
 ghost use Rattle.px_xmp_marks.specs.Declarations.{every};
-ghost use Rattle.px_xmp_spaces.specs.Bindings.{is_plain, is_usual_space, is_reserved, declared_prefix};
+ghost use Rattle.px_xmp_spaces.specs.Bindings.{is_plain, is_usual_space, is_reserved, is_left, declared_prefix};
 ghost use Rattle.px_xmp_spaces.specs.Bindings.{with_declaration, with_attribute, with_attributes};
 ghost use Rattle.px_xmp_spaces.specs.Tags.{is_attribute_bound, are_bound, is_element_bound, opened};
 ghost use Rattle.px_xmp_spaces.specs.Tags.{attribute_space, are_same_spaces, clash, judged};
@@ -12,6 +12,7 @@ ghost use Rattle.px_xmp_spaces.specs.calls.Passing.{Gives, AreListed};
 
 use crate::faults::Cause;
 use crate::scopes::{Entry, Scope, XML, XML_SPACE, XMLNS, XMLNS_SPACE};
+use px_xmp_forms::is_rare_space;
 use px_xmp_marks::{Attribute, Name, StartTag, next_attribute, read_names};
 
 // No element has more attributes.
@@ -76,6 +77,13 @@ fn is_reserved(prefix: &[u8], space: &[u8]) -> bool
     space.is_empty() && !prefix.is_empty()
 }
 
+// Whether a namespace is left to another reader. The empty name is of none.
+fn is_left(space: &[u8]) -> bool
+    ensures { result ≡ is_left space.now }
+{
+    !space.is_empty() && is_rare_space(space)
+}
+
 // The prefix that an attribute with this name declares. It is empty for the default namespace.
 fn declared_prefix<'a>(name: Name<'a>) -> Option<&'a [u8]>
     ensures { option_map (λ p. p.now) result ≡ declared_prefix (name_view name.entry) }
@@ -112,6 +120,9 @@ impl<'a> Scope<'a> {
         }
         if is_reserved(prefix, space) {
             return Some(Cause::Reserved);
+        }
+        if is_left(space) {
+            return Some(Cause::RareSpace);
         }
         if self.is_full() {
             return Some(Cause::TooMany);
