@@ -53,7 +53,7 @@ piece_once p q x y (inr e) (inr h) w =
     let whole : mark ++ x ≡ mark ++ y = ap (λ (z : List ℕ). z ++ x) (sym e) ∙ w ∙ ap (λ (z : List ℕ). z ++ y) h in
     (e ∙ sym h, ap (drop 3) whole)
 
-around_once : (ps qs : List (List ℕ)) (a b c d : List ℕ) → AreAround ps a → AreAround qs b → a ++ c ≡ b ++ d → BeginsBare c → BeginsBare d
+pub around_once : (ps qs : List (List ℕ)) (a b c d : List ℕ) → AreAround ps a → AreAround qs b → a ++ c ≡ b ++ d → BeginsBare c → BeginsBare d
     → (a ≡ b) × (c ≡ d)
 around_once [] [] a b c d e f w s t =
     (e ∙ sym f, ap (λ (z : List ℕ). z ++ c) (sym e) ∙ w ∙ ap (λ (z : List ℕ). z ++ d) f)
@@ -75,7 +75,7 @@ padded_end : (o : ℕ) (b d : List ℕ) → every is_padding ((o ∷ b) ++ d) �
 padded_end o [] d h s = s o [] (both (is_padding o) (every is_padding d) h).0 refl
 padded_end o (v ∷ b) d h s = padded_end v b d (both (is_padding o) (every is_padding ((v ∷ b) ++ d)) h).1 (tail_bare o (v ∷ b) s)
 
-padding_once : (a b c d : List ℕ) → a ++ c ≡ b ++ d → every is_padding c ≡ true → every is_padding d ≡ true → EndsBare a → EndsBare b
+pub padding_once : (a b c d : List ℕ) → a ++ c ≡ b ++ d → every is_padding c ≡ true → every is_padding d ≡ true → EndsBare a → EndsBare b
     → (a ≡ b) × (c ≡ d)
 padding_once [] [] c d w e f s t = (refl, w)
 padding_once [] (o ∷ b) c d w e f s t = absurd (padded_end o b d (ap (every is_padding) (sym w) ∙ e) t)

@@ -1,10 +1,10 @@
 -- In a document no tag has more attributes than this reader judges.
-use Rattle.std.proofs.Common.{◌≡◌, ◌<◌, ◌+◌, ◌&&◌, ◌++◌, ◌∙◌, inl, inr, refl, ℕ, suc, Bool, true, false, not, nat_le, nat_lt, if◌then◌else◌, Option, Some, None, option_map, Result, Ok, Err, List, [], ◌∷◌, length, take, drop, sym, ap, subst, arith}
+use Rattle.std.proofs.Common.{◌≡◌, ◌≤◌, ◌<◌, ◌+◌, ◌&&◌, ◌++◌, ◌∙◌, inl, inr, refl, ℕ, suc, Bool, true, false, not, nat_le, nat_lt, if◌then◌else◌, Option, Some, None, option_map, Result, Ok, Err, List, [], ◌∷◌, length, take, drop, sym, ap, subst, arith, length-append, length-drop, drop-drop}
 use Rattle.std.proofs.lemmas.Bool.{lt-ltb}
 use Rattle.std.proofs.lemmas.List.{drop_at, take_at}
-use Rattle.px_xmp_marks.specs.Reading.{Named, Attr, Next, next_attribute, start_tag_view, start_tag}
+use Rattle.px_xmp_marks.specs.Reading.{Named, Attr, Next, next_attribute, Start, start_tag_view, start_tag}
 use Rattle.px_xmp_marks.specs.Grammar.{IsStartTag}
-use Rattle.px_xmp_marks.specs.Laws.{AttributesInOrder, StartTagsAreRead, OnlyStartTagsAreRead}
+use Rattle.px_xmp_marks.specs.Laws.{AttributesInOrder, HasAttributes, StartTagsAreRead, OnlyStartTagsAreRead}
 use Rattle.px_xmp_marks.specs.Marks.{mark_len, text_len, IsMark, AreMarks, MarksAreRead, OnlyMarksAreRead}
 use Rattle.px_xmp_marks.specs.declared.tags.StartTag.{StartTag}
 use Rattle.px_xmp_spaces.specs.declared.faults.Cause.{Cause}
@@ -15,7 +15,8 @@ use Rattle.px_xmp_spaces.specs.Bindings.{and_then, with_attributes}
 use Rattle.px_xmp_spaces.specs.Tags.{attribute_limit, is_element_bound, are_bound, are_unique, judged, opened, passed}
 use Rattle.px_xmp_spaces.specs.Faults.{Lead, HasSpaces}
 use Rattle.px_xmp.specs.calls.Listed.{AreListed}
-use Rattle.px_xmp.specs.calls.Crowded.{AreMany, HasMany, IsCrowded}
+use Rattle.px_xmp.specs.Limits.{IsCrowded}
+use Rattle.px_xmp.specs.calls.Crowded.{AreMany, HasMany}
 use Rattle.px_xmp.proofs.TagLaws.{next_listed, none_listed}
 use Rattle.px_xmp.proofs.NestLaws.{same_attributes, no_start_end}
 
@@ -74,6 +75,53 @@ crowded_here only x at (Some t) many (ms, before) e has is =
       whole = whole;
       many = subst (λ (b : Bool). AreMany b attributes) is (has attributes listed);
     }
+
+pub crowded_not : StartTagsAreRead → (x : List ℕ) (at : ℕ) (tag : Option StartTag) (many : Bool) → option_map start_tag_view tag ≡ start_tag (drop at x)
+    → HasMany tag many → many ≡ false → IsCrowded x at → ⊥
+crowded_not law x at tag many e has few h =
+    let (t, read, named, listed, empty, size) = law h.tag h.rest h.name h.attributes h.empty h.is_tag in
+    by_tag tag t has (e ∙ ap start_tag h.whole ∙ read) listed
+  where
+    by_tag : (tag : Option StartTag) (t : Start) → HasMany tag many → option_map start_tag_view tag ≡ Some t → HasAttributes t h.attributes → ⊥
+    by_tag None t given same listed = absurd (cc)
+    by_tag (Some s) t given same listed =
+        let view : start_tag_view s ≡ t = cc in
+        let all : AreMany many h.attributes = given h.attributes (subst (λ (z : Start). HasAttributes z h.attributes) (sym view) listed) in
+        let bound : length h.attributes ≤ attribute_limit = subst (λ (b : Bool). AreMany b h.attributes) few all in omega (arith, bound, h.many)
+
+pub crowded_within : (x : List ℕ) (n : ℕ) → IsCrowded x n → n < length x
+crowded_within x n h =
+    let (y, z, name, attributes, w) = h.is_tag in
+    omega (arith, ap length h.whole, ap length w, length-append h.tag h.rest, length-drop n x)
+
+pub none_after : (x : List ℕ) (at n : ℕ) → length x ≤ at → at ≤ n → IsCrowded x n → ⊥
+none_after x at n end after h = omega (arith, end, after, crowded_within x n h)
+
+row_shorter : (ms : List (List ℕ)) (x y : List ℕ) → AreMarks ms x y → length y ≤ length x
+row_shorter [] x y e = omega (arith, ap length e)
+row_shorter (m ∷ ms) x y (rest, i, w, more) = omega (arith, ap length w, length-append m rest, row_shorter ms rest y more)
+
+some_size : (p q : ℕ) → Some p ≡ Some q → p ≡ q
+some_size p q h = cc
+
+-- a tag ahead stays ahead of the mark at the start
+pub ahead_step : MarksAreRead → (x : List ℕ) (at size n : ℕ) → (at ≤ n) × Row (drop at x) (drop n x) → mark_len (drop at x) ≡ Some size
+    → IsCrowded x n → (IsCrowded x at → ⊥) → (at + size ≤ n) × Row (drop (at + size) x) (drop n x)
+ahead_step law x at size n (le, ([], e)) read h here =
+    let same : n ≡ at = omega (arith, le, ap length e, length-drop at x, length-drop n x, crowded_within x n h) in
+    absurd (here (subst (IsCrowded x) same h))
+ahead_step law x at size n (le, (m ∷ ms, (rest, i, w, more))) read h here =
+    let long : size ≡ length m = some_size size (length m) (sym read ∙ ap mark_len w ∙ law m rest i) in
+    let left : drop (at + size) x ≡ rest = sym (drop-drop size at x) ∙ ap (drop size) w ∙ drop_at m rest size (sym long) in (
+      omega (arith, row_shorter ms rest (drop n x) more, ap length left, length-drop (at + size) x, length-drop n x, crowded_within x n h),
+      subst (λ (z : List ℕ). Row z (drop n x)) (sym left) (ms, more),
+    )
+
+-- no tag is ahead of octets that begin with no mark
+pub none_unread : MarksAreRead → (x : List ℕ) (at n : ℕ) → Row (drop at x) (drop n x) → mark_len (drop at x) ≡ None → IsCrowded x n → ⊥
+none_unread law x at n ([], e) read h =
+    let wrong = sym read ∙ ap mark_len (e ∙ h.whole) ∙ law h.tag h.rest (inl (h.name, h.attributes, h.empty, h.is_tag)) in absurd (cc)
+none_unread law x at n (m ∷ ms, (rest, i, w, more)) read h = let wrong = sym read ∙ ap mark_len w ∙ law m rest i in absurd (cc)
 
 -- ---- a document
 

@@ -1,6 +1,5 @@
 -- Values that the output has room for.
-use Rattle.std.proofs.Common.{◌≡◌, ◌≤◌, ◌+◌, ◌++◌, ◌∙◌, ◌⊎◌, inl, inr, refl, ℕ, suc, true, List, [], ◌∷◌, codes, length, sym, ap, subst, arith, length-append}
-use Rattle.std.specs.List.{AllByRecursion}
+use Rattle.std.proofs.Common.{◌≡◌, ◌≢◌, ◌≤◌, ◌+◌, ◌++◌, ◌∙◌, ◌⊎◌, inl, inr, refl, ℕ, suc, true, List, [], ◌∷◌, codes, length, sym, ap, subst, arith, length-append}
 use Rattle.std.specs.List.Sorted.{IsPermutation}
 use Rattle.std.proofs.lemmas.List.Sorted.{IsPermutation-sym, All-permutation}
 use Rattle.std.proofs.lemmas.List.Elements.{All-from_recursion, recursion_from_All}
@@ -9,7 +8,7 @@ use Rattle.px_xmp_text.specs.Texts.{normal_text}
 use Rattle.px_xmp_text.specs.Values.{Label, Literal, Uri, Compound, Structure, Bag, Seq, Alt, Content, End, IsContent}
 use Rattle.px_xmp_text.specs.Values.{opening_tag, end_tag, compound_start, compound_end, simple, written}
 use Rattle.px_xmp_forms.specs.Entries.{Value, Plain, Inside, Entry, before, row, entry_octets, AreDistinct}
-use Rattle.px_xmp_forms.specs.Forms.{language_octets}
+use Rattle.px_xmp_forms.specs.Forms.{language_octets, HaveShortLanguages}
 use Rattle.px_xmp_forms.specs.Outputs.{State, Open, Has, IsLevel, AreItems, AreLevels, begun, value_of}
 use Rattle.px_xmp_forms.specs.declared.items.Item.{Item}
 use Rattle.px_xmp_forms.specs.declared.output.Level.{Level}
@@ -20,16 +19,15 @@ use Rattle.px_xmp_forms.specs.declared.labels.Container.TheVariants as container
 use Rattle.px_xmp.specs.Names.{is_rdf}
 use Rattle.px_xmp.specs.Tags.{Field}
 use Rattle.px_xmp.specs.Nodes.{Nodes}
-use Rattle.px_xmp.specs.Meaning.{IsRow, AreAttributes, HasAttributes, IsLiteral, IsResource, IsParsed, IsUri, AreEntries, IsNode}
+use Rattle.px_xmp.specs.Meaning.{IsRow, AreAttributes, HasAttributes, IsLiteral, IsResource, IsParsed, IsUri, IsDescribed, AreEntries, IsNode}
 use Rattle.px_xmp.specs.Readable.{IsShallow}
-use Rattle.px_xmp.specs.Usual.{IsUsualField}
 use Rattle.px_xmp.specs.declared.elements.Node.{Node}
 use Rattle.px_xmp.specs.declared.elements.Node.TheVariants as nodes
 use Rattle.px_xmp.specs.calls.Opening.{node_view}
 use Rattle.px_xmp.specs.calls.Contents.{with_entries, IsShallowInside, IsNodeDepth, HasValue}
-use Rattle.px_xmp.specs.calls.Fits.{ContentFits, InsideFits, EntryFits, AreFit, JoinFits, NodeFits, FillingFits}
+use Rattle.px_xmp.specs.calls.Fits.{ContentFits, InsideFits, EntryFits, AreFit, JoinFits, NodeFits, FieldsFit, FillingFits}
 use Rattle.px_xmp.proofs.OrderLaws.{written_more, before_more, total, totals_moved, literal_octets, start_more, opening_more}
-use Rattle.px_xmp.proofs.MeaningLaws.{CanAll, CanValue, row_parts, can_append, way_of, parsed_way, uri_way, ways_clash}
+use Rattle.px_xmp.proofs.MeaningLaws.{CanAll, CanValue, row_parts, can_append, way_of, parsed_way, uri_way, described_way, ways_clash}
 use Rattle.px_xmp.proofs.AgainLaws.{uri_again}
 
 -- ---- lengths
@@ -48,13 +46,18 @@ shallow_parts : (d : ℕ) (l : Label) (v : Value) (c : Content) → IsShallow d 
 shallow_parts d l (Plain p) c h = ((h.0, tt), h.1)
 shallow_parts d l (Inside s inner) c h = ((h.0, h.1, tt), h.2)
 
+short_parts : (l : Label) (v : Value) (c : Content) → HaveShortLanguages (before l v c) → HaveShortLanguages (before l v End) × HaveShortLanguages c
+short_parts l (Plain p) c h = ((h.0, tt), h.1)
+short_parts l (Inside s inner) c h = ((h.0, tt), h.1)
+
 fits_parts : (d : ℕ) (fs : List Entry) → ContentFits d (row fs) → AreFit d fs
 fits_parts d [] h = tt
-fits_parts d (e ∷ fs) (can, shallow, short) =
+fits_parts d (e ∷ fs) (can, shallow, short, heard) =
     let (one, others) = row_parts e.label e.value (row fs) can in
     let (first, rest) = shallow_parts d e.label e.value (row fs) shallow in
+    let (said, more) = short_parts e.label e.value (row fs) heard in
     let sum = entry_length e.label e.value (row fs) in
-    ((one, first, omega (arith, short, sum)), fits_parts d fs (others, rest, omega (arith, short, sum)))
+    ((one, first, omega (arith, short, sum), said), fits_parts d fs (others, rest, omega (arith, short, sum), more))
 
 abbrev FitsAt : ℕ → Entry → Type 0
 FitsAt d e = EntryFits d e.label e.value
@@ -115,7 +118,7 @@ inside_shorter l s c =
     omega (arith, tag_longer l (compound_start s (written c k)), start_longer s (written c k), ap length (written_more c k), length-append (written c []) k)
 
 pub inside_fits : (d : ℕ) (l : Label) (s : Compound) (c : Content) → EntryFits d l (Inside s c) → InsideFits (suc d) s c
-inside_fits d l s c (can, shallow, short) = (can.1, by s shallow, omega (arith, short, inside_shorter l s c))
+inside_fits d l s c (can, shallow, short, heard) = (can.1, by s shallow, omega (arith, short, inside_shorter l s c), heard.0)
   where
     by : (s : Compound) → IsShallow d (before l (Inside s c) End) → IsShallowInside (suc d) s c
     by Structure h = h.1
@@ -124,7 +127,7 @@ inside_fits d l s c (can, shallow, short) = (can.1, by s shallow, omega (arith, 
     by Alt h = (h.0, h.1)
 
 pub text_short : (d : ℕ) (l : Label) (y t : List ℕ) → EntryFits d l (Plain (Literal y t)) → length (normal_text t) ≤ limit
-text_short d l y t (can, shallow, short) =
+text_short d l y t (can, shallow, short, heard) =
     omega (
       arith,
       short,
@@ -141,15 +144,23 @@ text_short d l y t (can, shallow, short) =
 
 pub node_fits : (node : Node) (d : ℕ) (c : Content) → InsideFits d (node_view node) c → NodeFits node d
 node_fits nodes.Description d c h = tt
-node_fits (nodes.Container containers.Bag) d c (can, shallow, short) = shallow.0
-node_fits (nodes.Container containers.Seq) d c (can, shallow, short) = shallow.0
-node_fits (nodes.Container containers.Alt) d c (can, shallow, short) = shallow.0
+node_fits (nodes.Container containers.Bag) d c (can, shallow, short, heard) = shallow.0
+node_fits (nodes.Container containers.Seq) d c (can, shallow, short, heard) = shallow.0
+node_fits (nodes.Container containers.Alt) d c (can, shallow, short, heard) = shallow.0
 
 pub content_fits : (node : Node) (outer d : ℕ) (c : Content) → IsNodeDepth node outer d → InsideFits outer (node_view node) c → ContentFits d c
-content_fits nodes.Description outer d c e (can, shallow, short) = (can, subst (λ (n : ℕ). IsShallow n c) (sym e) shallow, short)
-content_fits (nodes.Container containers.Bag) outer d c e (can, shallow, short) = (can, subst (λ (n : ℕ). IsShallow n c) (sym e.0) shallow.1, short)
-content_fits (nodes.Container containers.Seq) outer d c e (can, shallow, short) = (can, subst (λ (n : ℕ). IsShallow n c) (sym e.0) shallow.1, short)
-content_fits (nodes.Container containers.Alt) outer d c e (can, shallow, short) = (can, subst (λ (n : ℕ). IsShallow n c) (sym e.0) shallow.1, short)
+content_fits nodes.Description outer d c e (can, shallow, short, heard) = (can, subst (λ (n : ℕ). IsShallow n c) (sym e) shallow, short, heard)
+content_fits (nodes.Container containers.Bag) outer d c e (can, shallow, short, heard) = (can, subst (λ (n : ℕ). IsShallow n c) (sym e.0) shallow.1, short, heard)
+content_fits (nodes.Container containers.Seq) outer d c e (can, shallow, short, heard) = (can, subst (λ (n : ℕ). IsShallow n c) (sym e.0) shallow.1, short, heard)
+content_fits (nodes.Container containers.Alt) outer d c e (can, shallow, short, heard) = (can, subst (λ (n : ℕ). IsShallow n c) (sym e.0) shallow.1, short, heard)
+
+-- the attributes of a node, of which an array has none
+pub attributes_fit : (node : Node) (d : ℕ) (l : List ℕ) (place : ℕ) (fields : List Field) (fs es : List Entry) (c : Content)
+    → HasAttributes (node_view node) l place fields fs → IsRow (node_view node) (fs ++ es) c → InsideFits d (node_view node) c → AreFit d fs
+attributes_fit nodes.Description d l place fields fs es c are row fits = fit_front d fs es (row_fits Structure d (fs ++ es) c row fits).0
+attributes_fit (nodes.Container containers.Bag) d l place fields fs es c are row fits = subst (AreFit d) (sym are.1) tt
+attributes_fit (nodes.Container containers.Seq) d l place fields fs es c are row fits = subst (AreFit d) (sym are.1) tt
+attributes_fit (nodes.Container containers.Alt) d l place fields fs es c are row fits = subst (AreFit d) (sym are.1) tt
 
 -- ---- what the output has
 
@@ -179,54 +190,52 @@ value_can_be (content.Members container) t inner h = h
 
 -- ---- attributes
 
-pub no_attributes : (l : List ℕ) (place : ℕ) (fields : List Field) (es : List Entry) → AllByRecursion IsUsualField fields
-    → AreAttributes l place fields es → (fields ≡ []) × (es ≡ [])
-no_attributes l place [] es usual h = (refl, h)
-no_attributes l place (f ∷ fields) es usual (label, t, more, named, text, e, others) = let wrong = sym usual.0.0 ∙ named in absurd (cc)
-
-pub none_of_node : (s : Compound) (l : List ℕ) (place : ℕ) (fields : List Field) (es : List Entry) → AllByRecursion IsUsualField fields
-    → HasAttributes s l place fields es → (fields ≡ []) × (es ≡ [])
-none_of_node Structure l place fields es usual h = no_attributes l place fields es usual h
-none_of_node Bag l place fields es usual h = h
-none_of_node Seq l place fields es usual h = h
-none_of_node Alt l place fields es usual h = h
-
 pub filling_fits : (d : ℕ) (label : Label) (l : List ℕ) (place : ℕ) (fields : List Field) (inner : Nodes) (v : Value) → EntryFits d label v
-    → AllByRecursion IsUsualField fields → HasValue l place fields inner v → FillingFits fields
-filling_fits d label l place fields inner v fits usual (inl h) = inl h.0
-filling_fits d label l place fields inner v fits usual (inr (inl h)) = inl h.0
-filling_fits d label l place fields inner v fits usual (inr (inr (inl (f, one, named, is, es, c, are, row, e)))) = inr (f, one, inl (named, is))
-filling_fits d label l place fields inner v fits usual (inr (inr (inr (inl (f, one, named, absolute, white, t, text, e))))) =
-    let short : length (normal_text t) ≤ limit = uri_short t (subst (EntryFits d label) e fits) in
+    → FieldsFit fields → HasValue l place fields inner v → FillingFits l place (suc d) fields
+filling_fits d label l place fields inner v fits short (inl h) = inl h.0
+filling_fits d label l place fields inner v fits short (inr (inl h)) = inl h.0
+filling_fits d label l place fields inner v fits short (inr (inr (inl (f, one, named, is, es, c, are, row, e)))) = inr (inl (f, one, inl (named, is)))
+filling_fits d label l place fields inner v fits short (inr (inr (inr (inl (f, one, named, absolute, white, t, text, e))))) =
+    let few : length (normal_text t) ≤ limit = uri_short t (subst (EntryFits d label) e fits) in
     let same = ap length (uri_again f.value t absolute text) in
-    inr (f, one, inr (named, absolute, (t, text, omega (arith, short, same), omega (arith, short))))
+    inr (inl (f, one, inr (named, absolute, (t, text, omega (arith, few, same), omega (arith, few)))))
   where
     uri_short : (t : List ℕ) → EntryFits d label (Plain (Uri t)) → length (normal_text t) ≤ limit
-    uri_short t (can, shallow, short) =
+    uri_short t (can, shallow, short, heard) =
         omega (arith, short, tag_longer label (simple label (Uri t) []), length-append (normal_text t) (codes "\"/>"))
-filling_fits d label l place fields inner v fits usual (inr (inr (inr (inr (some, white, es, c, are, row, e))))) =
-    absurd (some (no_attributes l place fields es usual are).0)
+filling_fits d label l place fields inner v fits short (inr (inr (inr (inr (some, white, es, c, are, row, e))))) =
+    inr (inr (es, (are, (row_fits Structure (suc d) es c row (inside_fits d label Structure c (subst (EntryFits d label) e fits))).0, short)))
 
 -- by its attributes a value is one production
-pub parsed_only : (l : List ℕ) (place : ℕ) (fields : List Field) (inner : Nodes) (v : Value) (f : Field) → AllByRecursion IsUsualField fields
-    → fields ≡ f ∷ [] → is_rdf (codes "parseType") f.name ≡ true → HasValue l place fields inner v → IsParsed fields (AreEntries Structure l inner) v
-parsed_only l place fields inner v f usual one named (inl h) = absurd (ways_clash fields 0 1 (ap way_of h.0) (parsed_way fields f one named) refl)
-parsed_only l place fields inner v f usual one named (inr (inl h)) = absurd (ways_clash fields 0 1 (ap way_of h.0) (parsed_way fields f one named) refl)
-parsed_only l place fields inner v f usual one named (inr (inr (inl h))) = h
-parsed_only l place fields inner v f usual one named (inr (inr (inr (inl (g, other, called, absolute, white, t, text, e))))) =
+pub parsed_only : (l : List ℕ) (place : ℕ) (fields : List Field) (inner : Nodes) (v : Value) (f : Field) → fields ≡ f ∷ []
+    → is_rdf (codes "parseType") f.name ≡ true → HasValue l place fields inner v → IsParsed fields (AreEntries Structure l inner) v
+parsed_only l place fields inner v f one named (inl h) = absurd (ways_clash fields 0 1 (ap way_of h.0) (parsed_way fields f one named) refl)
+parsed_only l place fields inner v f one named (inr (inl h)) = absurd (ways_clash fields 0 1 (ap way_of h.0) (parsed_way fields f one named) refl)
+parsed_only l place fields inner v f one named (inr (inr (inl h))) = h
+parsed_only l place fields inner v f one named (inr (inr (inr (inl (g, other, called, absolute, white, t, text, e))))) =
     absurd (ways_clash fields 2 1 (uri_way fields g other called) (parsed_way fields f one named) refl)
-parsed_only l place fields inner v f usual one named (inr (inr (inr (inr (some, white, es, c, are, row, e))))) =
-    absurd (some (no_attributes l place fields es usual are).0)
+parsed_only l place fields inner v f one named (inr (inr (inr (inr (some, white, es, c, are, row, e))))) =
+    absurd (ways_clash fields 3 1 (described_way l place fields es some are) (parsed_way fields f one named) refl)
 
-pub uri_only : (l : List ℕ) (place : ℕ) (fields : List Field) (inner : Nodes) (v : Value) (f : Field) → AllByRecursion IsUsualField fields
-    → fields ≡ f ∷ [] → is_rdf (codes "resource") f.name ≡ true → HasValue l place fields inner v → IsUri fields inner v
-uri_only l place fields inner v f usual one named (inl h) = absurd (ways_clash fields 0 2 (ap way_of h.0) (uri_way fields f one named) refl)
-uri_only l place fields inner v f usual one named (inr (inl h)) = absurd (ways_clash fields 0 2 (ap way_of h.0) (uri_way fields f one named) refl)
-uri_only l place fields inner v f usual one named (inr (inr (inl (g, other, called, is, es, c, are, row, e)))) =
+pub uri_only : (l : List ℕ) (place : ℕ) (fields : List Field) (inner : Nodes) (v : Value) (f : Field) → fields ≡ f ∷ []
+    → is_rdf (codes "resource") f.name ≡ true → HasValue l place fields inner v → IsUri fields inner v
+uri_only l place fields inner v f one named (inl h) = absurd (ways_clash fields 0 2 (ap way_of h.0) (uri_way fields f one named) refl)
+uri_only l place fields inner v f one named (inr (inl h)) = absurd (ways_clash fields 0 2 (ap way_of h.0) (uri_way fields f one named) refl)
+uri_only l place fields inner v f one named (inr (inr (inl (g, other, called, is, es, c, are, row, e)))) =
     absurd (ways_clash fields 1 2 (parsed_way fields g other called) (uri_way fields f one named) refl)
-uri_only l place fields inner v f usual one named (inr (inr (inr (inl h)))) = h
-uri_only l place fields inner v f usual one named (inr (inr (inr (inr (some, white, es, c, are, row, e))))) =
-    absurd (some (no_attributes l place fields es usual are).0)
+uri_only l place fields inner v f one named (inr (inr (inr (inl h)))) = h
+uri_only l place fields inner v f one named (inr (inr (inr (inr (some, white, es, c, are, row, e))))) =
+    absurd (ways_clash fields 3 2 (described_way l place fields es some are) (uri_way fields f one named) refl)
+
+pub described_only : (l : List ℕ) (place : ℕ) (fields : List Field) (inner : Nodes) (v : Value) (es : List Entry) → fields ≢ []
+    → AreAttributes l place fields es → HasValue l place fields inner v → IsDescribed l place fields inner v
+described_only l place fields inner v es some are (inl h) = absurd (some h.0)
+described_only l place fields inner v es some are (inr (inl h)) = absurd (some h.0)
+described_only l place fields inner v es some are (inr (inr (inl (g, other, called, is, fs, c, inside, row, e)))) =
+    absurd (ways_clash fields 1 3 (parsed_way fields g other called) (described_way l place fields es some are) refl)
+described_only l place fields inner v es some are (inr (inr (inr (inl (g, other, called, absolute, white, t, text, e))))) =
+    absurd (ways_clash fields 2 3 (uri_way fields g other called) (described_way l place fields es some are) refl)
+described_only l place fields inner v es some are (inr (inr (inr (inr h)))) = h
 
 pub bare_only : (l : List ℕ) (place : ℕ) (inner : Nodes) (v : Value) → HasValue l place [] inner v
     → IsLiteral l [] inner v ⊎ IsResource [] (IsNode l inner) v

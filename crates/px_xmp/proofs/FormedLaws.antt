@@ -15,7 +15,8 @@ use Rattle.px_xmp.specs.Marks.{Mark, Start, End, Text, Other, IsKind, AreRow}
 use Rattle.px_xmp.specs.Nodes.{Nodes, AreNodes}
 use Rattle.px_xmp.specs.Meaning.{Means, HasMeaning}
 use Rattle.px_xmp.specs.Readable.{IsShallow}
-use Rattle.px_xmp.specs.Laws.{IsFormOf, HasNoMeaning, IsReadableForm, MeaningsAreReadable}
+use Rattle.px_xmp.specs.Laws.{IsFormOf, HasNoMeaning, MeaningsAreReadable}
+use Rattle.px_xmp.specs.Accepted.{FormFits}
 use Rattle.px_xmp.specs.Packet.{is_padding, AreAround, BeginsBare, EndsBare, IsPacket}
 use Rattle.px_xmp.specs.calls.Steps.{IsLeft}
 use Rattle.px_xmp.proofs.AroundLaws.{packet_is}
@@ -72,17 +73,22 @@ pub form_of : (x d : List ℕ) (e : Option (List ℕ)) (start head at : ℕ) (sc
 form_of x d e start head at scope y nodes c output form parts within place none same octets means has is =
     (c, has.can, meaning_of x d e start head at scope y nodes c parts within place none same octets means, is)
 
--- and it can be read again
+-- and it can be read again, within the limits of the reader
 pub form_again : MeaningsAreReadable → (x d : List ℕ) (e : Option (List ℕ)) (start head at : ℕ) (scope : List Item) (y : List ℕ) (nodes : Nodes)
     (c : Content) (output : Output) (form : List ℕ) → IsFile x → IsSplit (drop (order_mark_len x) x) d e (drop head x) → head ≤ length x
     → at ≡ start + head → scope ≡ [] → y ≡ drop head x → AreNodes nodes scope at y [] → Means nodes c → IsShallow 3 c
-    → Has output (record { opened = []; properties = c }) → form ≡ normal_packet c → IsReadableForm form
-form_again law x d e start head at scope y nodes c output form file parts within place none same octets means shallow has is =
-    let (ordered, readable) =
-    law x start c file (meaning_of x d e start head at scope y nodes c parts within place none same octets means) has.can in
-    (c, has.can, (ordered, readable, shallow), is)
+    → Has output (record { opened = []; properties = c }) → form ≡ normal_packet c
+    → length form ≤ limit → FormFits form
+form_again law x d e start head at scope y nodes c output form file parts within place none same octets means shallow has is few =
+    let (can, ordered, readable) =
+    law x start c file (meaning_of x d e start head at scope y nodes c parts within place none same octets means) in
+    (c, can, (ordered, readable, shallow), has.short, few, is)
 
 -- ---- results
+
+pub if_ok_both : {T E : Type 0} (r : Result T E) (P Q R : T → Type 0) → ((x : T) → P x → Q x → R x) → IfOk r P → IfOk r Q → IfOk r R
+if_ok_both (Ok x) P Q R f h k = f x h k
+if_ok_both (Err e) P Q R f h k = tt
 
 pub if_ok_map : {T E : Type 0} (r : Result T E) (P Q : T → Type 0) → ((x : T) → P x → Q x) → IfOk r P → IfOk r Q
 if_ok_map (Ok x) P Q f h = f x h

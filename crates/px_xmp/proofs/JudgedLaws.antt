@@ -4,7 +4,7 @@ use Rattle.px_xmp_marks.specs.Reading.{Attr}
 use Rattle.px_xmp_spaces.specs.declared.faults.Cause.{Cause}
 use Rattle.px_xmp_spaces.specs.declared.faults.Cause.TheVariants.{RareSpace, Reserved, TooMany, Undeclared, ManyAttributes, SameName}
 use Rattle.px_xmp_spaces.specs.Scopes.{Item, Element, Declaration, limit}
-use Rattle.px_xmp_spaces.specs.Bindings.{declared_prefix, is_usual_space, is_reserved, with_declaration, or_same, with_attribute, with_attributes, and_then}
+use Rattle.px_xmp_spaces.specs.Bindings.{declared_prefix, is_usual_space, is_reserved, is_left, with_declaration, or_same, with_attribute, with_attributes, and_then}
 use Rattle.px_xmp_spaces.specs.Tags.{is_element_bound, are_bound, attribute_limit, are_unique, judged}
 use Rattle.px_xmp.specs.Tags.{with_prefix, declared, inside}
 use Rattle.px_xmp.specs.Laws.{ScopesAreJudged}
@@ -15,11 +15,13 @@ done s = Ok s
 ok_same : (s t : List Item) → done s ≡ Ok t → s ≡ t
 ok_same s t h = cc
 
-third_is : (a b c : Bool) (e f g : Cause) (s t : List Item) → (if a then Err e else if b then Err f else if c then Err g else Ok s) ≡ Ok t → s ≡ t
-third_is true b c e f g s t h = absurd (cc)
-third_is false true c e f g s t h = absurd (cc)
-third_is false false true e f g s t h = absurd (cc)
-third_is false false false e f g s t h = ok_same s t h
+fourth_is : (a b c d : Bool) (e f g h : Cause) (s t : List Item)
+    → (if a then Err e else if b then Err f else if c then Err g else if d then Err h else Ok s) ≡ Ok t → s ≡ t
+fourth_is true b c d e f g h s t k = absurd (cc)
+fourth_is false true c d e f g h s t k = absurd (cc)
+fourth_is false false true d e f g h s t k = absurd (cc)
+fourth_is false false false true e f g h s t k = absurd (cc)
+fourth_is false false false false e f g h s t k = ok_same s t k
 
 last_is : (a b c : Bool) (e f g : Cause) (s t : List Item) → (if a then Err e else if b then Err f else if c then Ok s else Err g) ≡ Ok t → s ≡ t
 last_is true b c e f g s t h = absurd (cc)
@@ -30,7 +32,7 @@ last_is false false false e f g s t h = absurd (cc)
 one_declared : (q : Option (List ℕ)) (v : List ℕ) (s t : List Item) → or_same (λ p. with_declaration p v s) s q ≡ Ok t → with_prefix q v s ≡ t
 one_declared None v s t h = ok_same s t h
 one_declared (Some p) v s t h =
-    third_is (not (is_usual_space v)) (is_reserved p v) (nat_le limit (length s)) RareSpace Reserved TooMany (Declaration p v ∷ s) t h
+    fourth_is (not (is_usual_space v)) (is_reserved p v) (is_left v) (nat_le limit (length s)) RareSpace Reserved RareSpace TooMany (Declaration p v ∷ s) t h
 
 then_is : (r : Result (List Item) Cause) (f : List Item → Result (List Item) Cause) (s t : List Item)
     → ((u : List Item) → r ≡ Ok u → f u ≡ Ok t → s ≡ t) → and_then r f ≡ Ok t → s ≡ t

@@ -2,7 +2,7 @@
 use Rattle.std.proofs.Common.{◌≡◌, ◌≤◌, ◌==◌, ◌&&◌, ◌||◌, inl, inr, ℕ, suc, Bool, true, false, nat_le, if◌then◌else◌, Some, None, List, [], ◌∷◌, ◌++◌, length, refl, sym, ap, subst, ◌∙◌, arith}
 use Rattle.std.proofs.lemmas.Bool.{cases_Bool, and_parts, and_from, leb-true, le-leb}
 use Rattle.std.specs.List.{AllByRecursion}
-use Rattle.px_xmp_text.specs.Values.{Label, Property, Structure, IsLabel, Without}
+use Rattle.px_xmp_text.specs.Values.{Label, Property, Structure, Without}
 use Rattle.px_xmp_marks.specs.Grammar.{IsNcName}
 use Rattle.px_xmp_marks.specs.Reading as reading
 use Rattle.px_xmp_marks.specs.Declarations.{every}
@@ -13,6 +13,7 @@ use Rattle.px_xmp.specs.Meaning.{label_in}
 use Rattle.px_xmp.specs.Readable.{IsReadableLabel}
 use Rattle.px_xmp.proofs.AgainLaws.{label_again}
 use Rattle.px_xmp.proofs.SoundLaws.{IsPlainSpace, IsSoundName}
+use Rattle.px_xmp.proofs.SpaceLaws.{kept_before, kept_known}
 
 -- ---- what is before the name at the end of a namespace
 
@@ -76,11 +77,12 @@ before_shorter (o ∷ x) = by_name (is_name (o ∷ x)) (before_shorter x)
     by_name false h = omega (arith, h)
 
 before_plain : (x : List ℕ) → IsPlainSpace x → IsPlainSpace (before_name x)
-before_plain x (usual, without) =
+before_plain x (usual, without, known) =
     let p = and_parts (nat_le (length x) space_limit) (every is_plain x) usual in
     let (plain, others) = before_octets x (p.1, without) in
     let short : length (before_name x) ≤ space_limit = omega (arith, leb-true (length x) space_limit p.0, before_shorter x) in
-    (and_from (nat_le (length (before_name x)) space_limit) (every is_plain (before_name x)) (le-leb (length (before_name x)) space_limit short) plain, others)
+    let usually = and_from (nat_le (length (before_name x)) space_limit) (every is_plain (before_name x)) (le-leb (length (before_name x)) space_limit short) plain in
+    (usually, others, kept_before x (none_before x).0 known)
 
 -- ---- the local name, with the name at the end of the namespace before it
 
@@ -93,7 +95,7 @@ all_chars : (x y : List ℕ) → AllByRecursion (λ o. reading.is_name_char o �
 all_chars [] y h k = k
 all_chars (o ∷ x) y h k = (h.0, all_chars x y h.1 k)
 
-name_chars : (x : List ℕ) → IsNcName x → AllByRecursion (λ o. reading.is_name_char o ≡ true) x
+pub name_chars : (x : List ℕ) → IsNcName x → AllByRecursion (λ o. reading.is_name_char o ≡ true) x
 name_chars x is =
     subst (AllByRecursion (λ o. reading.is_name_char o ≡ true)) (sym is.whole) (start_is_char is.first is.begins, is.contains)
 
@@ -116,12 +118,12 @@ if_some : {A : Type 0} (b : Bool) (p q : A) → (if b then Some p else None) ≡
 if_some true p q h = cc
 if_some false p q h = absurd (cc)
 
-pub property_label : (n : Name) (l : Label) → label_in Structure n ≡ Some l → IsSoundName n → IsLabel l → IsReadableLabel Structure l
-property_label n l h sound can =
+pub property_label : (n : Name) (l : Label) → label_in Structure n ≡ Some l → IsSoundName n → IsReadableLabel Structure l
+property_label n l h sound =
     let u : List ℕ = before_name n.space in
     let m : List ℕ = name_at_end n.space ++ n.local in
     let same : Property u m ≡ l = if_some (is_property n) (label_of n.space n.local) l h in
     let none : HasNone u = none_before n.space in
     let (label, free, some) = label_again n u m none.0 none.1 (h ∙ ap (λ (z : Label). Some z) (sym same)) in
     let plain : IsPlainSpace u = before_plain n.space sound.0 in
-    subst (IsReadableLabel Structure) same ((plain.0, plain.1, free), local_name n.space n.local sound.1, label)
+    subst (IsReadableLabel Structure) same ((plain.0, plain.1, free, kept_known u plain.2 some free), local_name n.space n.local sound.1, label)

@@ -8,13 +8,14 @@ use Rattle.px_xmp_tree.specs.Nesting.{limit as depth_limit}
 use Rattle.px_xmp_spaces.specs.declared.faults.Cause.{Cause}
 use Rattle.px_xmp_spaces.specs.declared.faults.Cause.TheVariants.{RareSpace, Reserved, TooMany, Undeclared, ManyAttributes, SameName}
 use Rattle.px_xmp_spaces.specs.Pieces as pieces
-use Rattle.px_xmp_spaces.specs.Pieces.{Piece, ArePieces, IsTag}
+use Rattle.px_xmp_spaces.specs.Pieces.{Piece, ArePieces}
 use Rattle.px_xmp_spaces.specs.Scopes as scopes
 use Rattle.px_xmp_spaces.specs.Scopes.{Element, Declaration, limit, space_of, ended}
-use Rattle.px_xmp_spaces.specs.Bindings.{is_usual_space, is_reserved, with_declaration, with_attributes, and_then}
+use Rattle.px_xmp_spaces.specs.Bindings.{is_usual_space, is_reserved, is_left, with_declaration, with_attributes, and_then}
 use Rattle.px_xmp_spaces.specs.Tags.{is_attribute_bound, is_element_bound, are_bound, attribute_limit, are_unique, judged, opened}
 use Rattle.px_xmp_spaces.specs.Faults.{Lead, HasSpaces}
-use Rattle.px_xmp.specs.Readable.{IsShallow, inner_depth, AreReadable}
+use Rattle.px_xmp.specs.Readable.{IsSpace, IsShallow, inner_depth, AreReadable}
+use Rattle.px_xmp.proofs.SpaceLaws.{not_left}
 use Rattle.px_xmp.proofs.StartLaws.{attribute, named, label_named, label_attributes, CanBeNamed, label_named_by}
 use Rattle.px_xmp.proofs.PartLaws.{Part, Begin, Whole, Finish, Words, octets_of, IsPart, AreParts, text_parts, finish_label, simple_parts, begin_parts, finish_parts, parts_of, end_parts, packet_parts, language_attribute, resource_attribute, parse_attribute}
 use Rattle.px_xmp.proofs.NestLaws.{no_less, part_mark}
@@ -69,16 +70,21 @@ label_ended Item scope = refl
 
 -- ---- tags
 
-declares : (p u : List ℕ) (scope : List scopes.Item) → is_usual_space u ≡ true → is_reserved p u ≡ false → nat_le limit (length scope) ≡ false
-    → with_declaration p u scope ≡ Ok (Declaration p u ∷ scope)
-declares p u scope h k l = choose (is_usual_space u) (is_reserved p u) (nat_le limit (length scope)) h k l
+declares : (u : List ℕ) (scope : List scopes.Item) → IsSpace u → nat_le limit (length scope) ≡ false
+    → with_declaration (codes "p") u scope ≡ Ok (Declaration (codes "p") u ∷ scope)
+declares u scope (usual, less, free, known) l =
+    choose (is_usual_space u) (is_reserved (codes "p") u) (is_left u) (nat_le limit (length scope)) usual free (not_left u known) l
   where
-    choose : (a b c : Bool) → a ≡ true → b ≡ false → c ≡ false
-        → (if not a then Err RareSpace else if b then Err Reserved else if c then Err TooMany else Ok (Declaration p u ∷ scope)) ≡ Ok (Declaration p u ∷ scope)
-    choose false b c h k l = absurd (cc)
-    choose true true c h k l = absurd (cc)
-    choose true false true h k l = absurd (cc)
-    choose true false false h k l = refl
+    done : Result (List scopes.Item) Cause
+    done = Ok (Declaration (codes "p") u ∷ scope)
+
+    choose : (a b c d : Bool) → a ≡ true → b ≡ false → c ≡ false → d ≡ false
+        → (if not a then Err RareSpace else if b then Err Reserved else if c then Err RareSpace else if d then Err TooMany else done) ≡ done
+    choose false b c d h k l m = absurd (cc)
+    choose true true c d h k l m = absurd (cc)
+    choose true false true d h k l m = absurd (cc)
+    choose true false false true h k l m = absurd (cc)
+    choose true false false false h k l m = refl
 
 judges : (n : Named) (attributes : List Attr) (inner : List scopes.Item) → is_element_bound inner n ≡ true → are_bound inner attributes ≡ true
     → nat_lt attribute_limit (length attributes) ≡ false → are_unique inner attributes ≡ true → judged n attributes inner ≡ Ok inner
@@ -117,13 +123,12 @@ bound a more scope h k = choose (is_attribute_bound scope a.name) (are_bound sco
     choose false b h k = absurd (cc)
 
 -- the attribute of a property's element that declares its namespace, and others that declare nothing
-with_space : (space : List ℕ) (more : List Attr) (d : ℕ) (scope : List scopes.Item) → is_usual_space space ≡ true → is_reserved (codes "p") space ≡ false
-    → d < depth_limit → IsScope d scope
+with_space : (space : List ℕ) (more : List Attr) (d : ℕ) (scope : List scopes.Item) → IsSpace space → d < depth_limit → IsScope d scope
     → with_attributes more (Declaration (codes "p") space ∷ Element ∷ scope) ≡ Ok (Declaration (codes "p") space ∷ Element ∷ scope)
     → with_attributes (attribute (codes "xmlns") (codes "p") space ∷ more) (Element ∷ scope) ≡ Ok (Declaration (codes "p") space ∷ Element ∷ scope)
-with_space space more d scope h k l is e =
+with_space space more d scope h l is e =
     ap (λ (r : Result (List scopes.Item) Cause). and_then r (λ z. with_attributes more z))
-    (declares (codes "p") space (Element ∷ scope) h k (few_items d (length scope) l is.few).1)
+    (declares space (Element ∷ scope) h (few_items d (length scope) l is.few).1)
     ∙ e
 
 -- what is in scope in an element with a label and more attributes
@@ -131,11 +136,11 @@ abbrev Opens : Label → List Attr → List scopes.Item → Type 0
 Opens l more scope = opened (label_named l) (label_attributes l more) scope ≡ Ok (label_scope l scope)
 
 opens_bare : (l : Label) → CanBeNamed l → (d : ℕ) (scope : List scopes.Item) → d < depth_limit → IsScope d scope → Opens l [] scope
-opens_bare (Property space local) ((plain, less, free), name) d scope l is =
+opens_bare (Property space local) (can, name) d scope l is =
     let inner = label_scope (Property space local) scope in
     let declaring = attribute (codes "xmlns") (codes "p") space in
     opens (named (codes "p") local) (declaring ∷ []) scope inner (few_items d (length scope) l is.few).0
-    (with_space space [] d scope plain free l is refl)
+    (with_space space [] d scope can l is refl)
     (judges (named (codes "p") local) (declaring ∷ []) inner refl (bound declaring [] inner is.xmlns refl) refl refl)
 opens_bare Item can d scope l is =
     let inner = label_scope Item scope in
@@ -147,12 +152,12 @@ opens_with : (l : Label) (q y v : List ℕ) → CanBeNamed l → (d : ℕ) (scop
     → is_attribute_bound (label_scope l scope) (named q y) ≡ true
     → are_unique (label_scope l scope) (label_attributes l (attribute q y v ∷ [])) ≡ true
     → Opens l (attribute q y v ∷ []) scope
-opens_with (Property space local) q y v ((plain, less, free), name) d scope l is same has unique =
+opens_with (Property space local) q y v (can, name) d scope l is same has unique =
     let inner = label_scope (Property space local) scope in
     let declaring = attribute (codes "xmlns") (codes "p") space in
     let a = attribute q y v in
     opens (named (codes "p") local) (declaring ∷ a ∷ []) scope inner (few_items d (length scope) l is.few).0
-    (with_space space (a ∷ []) d scope plain free l is (same inner))
+    (with_space space (a ∷ []) d scope can l is (same inner))
     (judges (named (codes "p") local) (declaring ∷ a ∷ []) inner refl
     (bound declaring (a ∷ []) inner is.xmlns (bound a [] inner has refl)) refl unique)
 opens_with Item q y v can d scope l is same has unique =

@@ -11,7 +11,6 @@ use Rattle.px_xmp.specs.Marks.{Mark, Start, End, Text, IsKind}
 use Rattle.px_xmp.specs.Nodes.{Nodes, Nothing, Words, Element, AreNodes}
 use Rattle.px_xmp.specs.Meaning.{AreWhite, IsText}
 use Rattle.px_xmp.specs.Tags.{Tag}
-use Rattle.px_xmp.specs.Usual.{AreElements}
 use Rattle.px_xmp.specs.Reading as reading
 use Rattle.px_xmp.specs.Reading.{What, IsReadAs, kind_view}
 use Rattle.px_xmp_marks.specs.declared.tags.StartTag.{StartTag}
@@ -23,11 +22,11 @@ use Rattle.px_xmp.specs.declared.elements.Opened.{Opened}
 use Rattle.px_xmp.specs.declared.source.Source.{Source}
 use Rattle.px_xmp.specs.calls.Steps.{IsFirst, Next, TagAfter}
 use Rattle.px_xmp.proofs.RefusedLaws.{enter_after}
-use Rattle.px_xmp.specs.calls.Fits.{WordsFit}
+use Rattle.px_xmp.specs.calls.Fits.{HasElement, WordsFit}
 use Rattle.px_xmp.proofs.StepLaws.{joined}
 use Rattle.px_xmp.proofs.NodeLaws.{mark_once, IsWords, words_mark, words_same, IsStop, at_stop, words_stop, words_start, no_tag}
 use Rattle.px_xmp.proofs.CharacterLaws.{normal_append}
-use Rattle.px_xmp.proofs.UsualLaws.{IsTagRead, is_tag, true_false}
+use Rattle.px_xmp.proofs.AheadLaws.{IsTagRead, is_tag, true_false}
 
 -- what follows a text in a row of nodes
 pub text_passed : KindsAreRead → (a b : Nodes) (s : List ℕ) (scope : List Item) (at to : ℕ) (x y z : List ℕ) → IsText a s → AreNodes a scope at x y
@@ -63,11 +62,6 @@ text_front (Words w more) b s t (v, e, h) (u, f, k) =
     )
 text_front (Element tag place inner more) b s t h k = absurd h
 
-pub no_text : (a b : Nodes) (s : List ℕ) → IsText a s → AreElements (joined a b) → a ≡ Nothing
-no_text Nothing b s h k = refl
-no_text (Words t more) b s h k = absurd k
-no_text (Element tag place inner more) b s h k = absurd h
-
 -- a text has no element
 pub text_element : (white : Nodes) (tag : Tag) (place : ℕ) (inner more : Nodes) (t : List ℕ) → IsText (joined white (Element tag place inner more)) t → ⊥
 text_element Nothing tag place inner more t h = h
@@ -79,7 +73,7 @@ pub text_no_tag : KindsAreRead → (o : Opened) (white nodes : Nodes) (old mid :
 text_no_tag law o white nodes old mid e y t is_white tag row ends text =
     let (u, start) = tag.is in
     let after = enter_after law o white u nodes old mid (e ++ y) is_white tag start row (inr (e, y, ends, refl)) in
-    text_element white u after.entered.place after.entered.content after.entered.more t
+    text_element white u o.place after.entered.content after.entered.more t
     (subst (λ (q : Nodes). IsText q t) (after.whole ∙ ap (λ (q : Nodes). joined white q) after.entered.is) text)
 
 -- ---- a mark in a text
@@ -99,13 +93,13 @@ text_goes_on law a nodes s t scope at to x y e tail is octets row ends same text
     let (u, joins, after) = text_front a more s t is (subst (λ (q : Nodes). IsText q t) whole text) in
     text_first more u scope to y e tail after left ends
 
-tag_of_mark : (w : What) (k : Mark) → IsReadAs w k → is_tag k ≡ true → IsTagRead w
+pub tag_of_mark : (w : What) (k : Mark) → IsReadAs w k → is_tag k ≡ true → IsTagRead w
 tag_of_mark (reading.Tag t) k is h = tt
 tag_of_mark reading.End k is h = tt
 tag_of_mark (reading.Words kind octets) k is h = true_false (is_tag k) h (ap is_tag is)
 tag_of_mark reading.Other k is h = true_false (is_tag k) h (ap is_tag is)
 
-kind_short : (kind : TextKind) (octets m y : List ℕ) → IsKind (Text kind octets) m y → length octets ≤ length m
+pub kind_short : (kind : TextKind) (octets m y : List ℕ) → IsKind (Text kind octets) m y → length octets ≤ length m
 kind_short CharacterData octets m y h = omega (arith, ap length h.2)
 kind_short CdataSection octets m y h =
     omega (arith, ap length h.1, length-append (codes "<![CDATA[") (octets ++ codes "]]>"), length-append octets (codes "]]>"))
@@ -171,13 +165,19 @@ text_no_start law b a nodes s t scope at to on x y z e tail is octets row ends s
         words_start law v n rest b.name xs b.is_empty m z j (subst (λ (q : Mark). IsKind q m z) k kind) (sym i ∙ whole)
     by (Element tag place inner others) u f h xs k = h
 
--- at an element nothing was read of a text
-pub nothing_read : KindsAreRead → (a nodes : Nodes) (s : List ℕ) (scope : List Item) (at to : ℕ) (x y e tail : List ℕ) → IsText a s
-    → AreNodes a scope at x y → AreNodes nodes scope at x (e ++ tail) → IsKind End e tail → at + length x ≡ to + length y → AreElements nodes → x ≡ y
-nothing_read law a nodes s scope at to x y e tail is octets row ends same elements =
+-- texts before an element are white space
+element_white : (a b : Nodes) (s : List ℕ) → IsText a s → HasElement (joined a b) → AreWhite a
+element_white Nothing b s is h = tt
+element_white (Words t more) b s (u, e, is) (white, h) = (white, element_white more b u is h)
+element_white (Element tag place inner more) b s is h = absurd is
+
+-- before an element only white space was read
+pub blank_read : KindsAreRead → (a nodes : Nodes) (s : List ℕ) (scope : List Item) (at to : ℕ) (x y e tail : List ℕ) → IsText a s
+    → AreNodes a scope at x y → AreNodes nodes scope at x (e ++ tail) → IsKind End e tail → at + length x ≡ to + length y → HasElement nodes
+    → AreWhite a
+blank_read law a nodes s scope at to x y e tail is octets row ends same element =
     let (more, whole, left) = text_passed law a nodes s scope at to x y (e ++ tail) is octets row same (inr (e, tail, ends, refl)) in
-    let none : a ≡ Nothing = no_text a more s is (subst AreElements whole elements) in
-    subst (λ (q : Nodes). AreNodes q scope at x y) none octets
+    element_white a more s is (subst HasElement whole element)
 
 -- ---- what a mark is not
 

@@ -91,14 +91,14 @@ entry_once a b v w place es fs e f g =
     ap (λ (z : Label). entry_of z v place ∷ es) e ∙ ap (λ (z : Value). entry_of b z place ∷ es) f
     ∙ ap (λ (z : List Entry). entry_of b w place ∷ z) g
 
-attributes_once : (l : List ℕ) (place : ℕ) (fields : List Field) (es fs : List Entry) → AreAttributes l place fields es
+pub attributes_once : (l : List ℕ) (place : ℕ) (fields : List Field) (es fs : List Entry) → AreAttributes l place fields es
     → AreAttributes l place fields fs → es ≡ fs
 attributes_once l place [] es fs e f = e ∙ sym f
 attributes_once l place (x ∷ fields) es fs (a, t, more, named, text, e, rest) (b, u, others, called, word, f, after) =
     e ∙ entry_once a b (literal l t) (literal l u) place more others (some_same a b (sym named ∙ called))
     (ap (literal l) (some_same t u (sym text ∙ word))) (attributes_once l place fields more others rest after) ∙ sym f
 
-has_once : (s : Compound) (l : List ℕ) (place : ℕ) (fields : List Field) (es fs : List Entry) → HasAttributes s l place fields es
+pub has_once : (s : Compound) (l : List ℕ) (place : ℕ) (fields : List Field) (es fs : List Entry) → HasAttributes s l place fields es
     → HasAttributes s l place fields fs → es ≡ fs
 has_once Structure l place fields es fs h k = attributes_once l place fields es fs h k
 has_once Bag l place fields es fs h k = h.1 ∙ sym k.1
@@ -163,7 +163,7 @@ way_by_property n label h = choose (is_rdf (codes "parseType") n) (is_rdf (codes
     choose false true e f = absurd (no_property (codes "resource") n label refl f h)
     choose false false e f = refl
 
-described_way : (l : List ℕ) (place : ℕ) (fields : List Field) (es : List Entry) → fields ≢ [] → AreAttributes l place fields es → way_of fields ≡ 3
+pub described_way : (l : List ℕ) (place : ℕ) (fields : List Field) (es : List Entry) → fields ≢ [] → AreAttributes l place fields es → way_of fields ≡ 3
 described_way l place [] es some h = absurd (some refl)
 described_way l place (f ∷ []) es some (label, t, more, named, text, e, rest) = way_by_property f.name label named
 described_way l place (f ∷ g ∷ fields) es some h = refl

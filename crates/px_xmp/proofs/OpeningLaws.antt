@@ -1,6 +1,7 @@
 -- Attributes that are properties, one after another.
-use Rattle.std.proofs.Common.{◌≡◌, ◌+◌, ℕ, Option, Some, None, option_map, is_some, Bool, true, false, not, nat_eq, List, [], ◌∷◌, ◌++◌, length, refl, sym, ap, subst, ◌∙◌, append_assoc, append-nil, map, inl, inr}
+use Rattle.std.proofs.Common.{◌≡◌, ◌≢◌, ◌≤◌, ◌⊎◌, ◌+◌, ℕ, Option, Some, None, option_map, is_some, Bool, true, false, not, nat_eq, List, [], ◌∷◌, ◌++◌, length, refl, sym, ap, subst, ◌∙◌, append_assoc, append-nil, map, inl, inr}
 use Rattle.std.specs.Cmp.Lexicographic.{pointwise, same_text}
+use Rattle.px_bytes.specs.Parts.{limit}
 use Rattle.px_xmp_text.specs.Texts.{text_of}
 use Rattle.px_xmp_text.specs.declared.pieces.TextKind.TheVariants.{AttributeValue}
 use Rattle.px_xmp_text.specs.Values.{Label, Structure}
@@ -12,9 +13,9 @@ use Rattle.px_xmp_forms.specs.Outputs.{State, Open, Has, changed, with_entry, fi
 use Rattle.px_xmp_forms.specs.declared.output.Output.{Output}
 use Rattle.px_xmp.specs.Names.{Name, attribute_name}
 use Rattle.px_xmp.specs.Tags.{Field, field_of, fields_in, plain}
-use Rattle.px_xmp.specs.Meaning.{label_in, AreAttributes}
+use Rattle.px_xmp.specs.Meaning.{label_in, literal, AreAttributes}
 use Rattle.px_xmp.specs.calls.Listed.{AreListed, IsNextPlain}
-use Rattle.px_xmp.specs.calls.Fits.{OneFits, FillingFits}
+use Rattle.px_xmp.specs.calls.Fits.{EntryFits, AreFit, AttributesFit, OneFits, FillingFits}
 use Rattle.px_xmp.specs.calls.Contents.{with_entries, attribute, AreShallow, PropertyPut, PropertiesPut}
 use Rattle.px_xmp.proofs.DepthLaws.{shallow_append}
 
@@ -145,10 +146,44 @@ same_octets x y h = same_text x y (sym (by_not (pointwise nat_eq x y) h))
     by_not true e = refl
     by_not false e = absurd (cc)
 
--- ---- attributes that are no properties
+-- ---- attributes that are properties, which the output has room for
 
-pub none_some_is : {A : Type 0} (o : Option A) (x : A) → o ≡ None → o ≡ Some x → ⊥
-none_some_is o x e f = let wrong = sym e ∙ f in absurd (cc)
+-- the properties that are left
+abbrev pub PropertiesAhead : Option NextAttribute → List Item → List ℕ → ℕ → ℕ → Type 0
+PropertiesAhead n scope l place depth =
+    (more : List Attr) × IsNextPlain (option_map next_view n) more × (es : List Entry) × AttributesFit l place depth (fields_in scope more) es
+
+-- an attribute that is one
+abbrev pub PropertyFits : Field → List ℕ → ℕ → Type 0
+PropertyFits f l depth =
+    (label : Label) × (t : List ℕ) × (label_in Structure f.name ≡ Some label) × (text_of AttributeValue f.value ≡ Some t)
+    × (length f.value ≤ limit) × EntryFits depth label (literal l t)
+
+pub first_fits : (l : List ℕ) (place depth : ℕ) (f : Field) (fields : List Field) (es : List Entry) → AttributesFit l place depth (f ∷ fields) es
+    → PropertyFits f l depth × (others : List Entry) × AttributesFit l place depth fields others
+first_fits l place depth f fields es ((label, t, others, named, says, is, are), fit, short) =
+    let all = subst (AreFit depth) is fit in ((label, t, named, says, short.0, all.0), others, (are, all.1, short.1))
+
+pub ahead_next : (m n : Option NextAttribute) (x : NextAttribute) (scope : List Item) (l : List ℕ) (place depth : ℕ) → m ≡ Some x
+    → PropertiesAhead m scope l place depth → ((rest : List Attr) → AreListed x.rest.now rest → IsNextPlain (option_map next_view n) rest)
+    → PropertyFits (field_of scope (next_view x).attribute) l depth × PropertiesAhead n scope l place depth
+ahead_next m n x scope l place depth is (more, found, es, fits) next =
+    let (rest, listed, same) = subst (λ (z : Option NextAttribute). IsNextPlain (option_map next_view z) more) is found in
+    let (first, others, left) = first_fits l place depth (field_of scope (next_view x).attribute) (fields_in scope rest) es
+    (subst (λ (z : List Attr). AttributesFit l place depth (map (field_of scope) z) es) same fits) in
+    (first, (rest, next rest listed, others, left))
+
+pub ahead_first : (m : Option NextAttribute) (x : NextAttribute) (scope : List Item) (l : List ℕ) (place depth : ℕ) → m ≡ Some x
+    → PropertiesAhead m scope l place depth → PropertyFits (field_of scope (next_view x).attribute) l depth
+ahead_first m x scope l place depth is (more, found, es, fits) =
+    let (rest, listed, same) = subst (λ (z : Option NextAttribute). IsNextPlain (option_map next_view z) more) is found in
+    (first_fits l place depth (field_of scope (next_view x).attribute) (fields_in scope rest) es
+    (subst (λ (z : List Attr). AttributesFit l place depth (map (field_of scope) z) es) same fits)).0
+
+-- ---- the attributes of a property or an item, of which there is a first one
+
+pub some_field : (scope : List Item) (all more : List Attr) (n : Next) → plain all ≡ n.attribute ∷ plain more → fields_in scope all ≢ []
+some_field scope all more n same none = let wrong = sym none ∙ ap (λ (z : List Attr). map (field_of scope) z) same in absurd (cc)
 
 map_none : (scope : List Item) (xs : List Attr) → map (field_of scope) xs ≡ [] → xs ≡ []
 map_none scope [] e = refl
@@ -162,18 +197,24 @@ pub no_field : (n : Option NextAttribute) (scope : List Item) (all : List Attr) 
     → n ≡ None
 no_field n scope all e next = none_next n all (map_none scope (plain all) e) next
 
--- the first attribute of a property or an item is the only one
-pub filling_first : (scope : List Item) (all more : List Attr) (n : Next) → plain all ≡ n.attribute ∷ plain more → FillingFits (fields_in scope all)
-    → (plain more ≡ []) × OneFits (field_of scope n.attribute)
-filling_first scope all more n same (inl none) =
-    let wrong = sym none ∙ ap (λ (z : List Attr). map (field_of scope) z) same in absurd (cc)
-filling_first scope all more n same (inr (f, one, fits)) =
+-- it is the only one, or all are properties
+pub filling_first : (l : List ℕ) (place depth : ℕ) (scope : List Item) (all more : List Attr) (n : Next) → plain all ≡ n.attribute ∷ plain more
+    → FillingFits l place depth (fields_in scope all)
+    → ((plain more ≡ []) × OneFits (field_of scope n.attribute))
+    ⊎ ((es : List Entry) × AttributesFit l place depth (fields_in scope all) es
+    × ((label : Label) × (label_in Structure (field_of scope n.attribute).name ≡ Some label)))
+filling_first l place depth scope all more n same (inl none) = absurd (some_field scope all more n same none)
+filling_first l place depth scope all more n same (inr (inl (f, one, fits))) =
     let whole : field_of scope n.attribute ∷ map (field_of scope) (plain more) ≡ f ∷ [] =
     sym (ap (λ (z : List Attr). map (field_of scope) z) same) ∙ one in
-    (map_none scope (plain more) (tails whole), subst OneFits (sym (heads whole)) fits)
+    inl (map_none scope (plain more) (tails whole), subst OneFits (sym (heads whole)) fits)
   where
     tails : {x y : Field} {xs ys : List Field} → x ∷ xs ≡ y ∷ ys → xs ≡ ys
     tails e = cc
 
     heads : {x y : Field} {xs ys : List Field} → x ∷ xs ≡ y ∷ ys → x ≡ y
     heads e = cc
+filling_first l place depth scope all more n same (inr (inr (es, fits))) =
+    let first = (first_fits l place depth (field_of scope n.attribute) (fields_in scope more) es
+    (subst (λ (z : List Attr). AttributesFit l place depth (map (field_of scope) z) es) same fits)).0 in
+    let (label, t, named, says, short, room) = first in inr (es, fits, (label, named))

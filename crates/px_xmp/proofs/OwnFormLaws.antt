@@ -1,10 +1,17 @@
 -- A normal packet that can be read is a packet, and its own form.
-use Rattle.std.proofs.Common.{◌≡◌, ◌≤◌, ◌++◌, ◌∙◌, inl, inr, refl, ℕ, true, false, List, [], ◌∷◌, codes, length, sym, ap, subst, arith, append_assoc, append-nil, length-append}
+use Rattle.std.proofs.Common.{◌≡◌, ◌≤◌, ◌++◌, ◌∙◌, inl, inr, refl, ℕ, true, false, Option, Some, List, [], ◌∷◌, codes, length, sym, ap, subst, arith, append_assoc, append-nil, length-append}
+use Rattle.std.specs.Prelude.{Err, IfSome}
 use Rattle.px_bytes.specs.Parts.{limit}
 use Rattle.px_xmp_text.specs.Values.{Content, written, normal_packet, packet_end}
 use Rattle.px_xmp_document.specs.Document.{IsFile}
+use Rattle.px_xmp_forms.specs.Causes.{IfWrong, FailsByMemory}
+use Rattle.px_xmp_forms.specs.declared.faults.Cause.{Cause}
+use Rattle.px_xmp_forms.specs.declared.faults.Refusal.{Refusal}
+use Rattle.px_xmp_forms.specs.declared.faults.Refusal.TheVariants as refusals
 use Rattle.px_xmp.specs.Packet.{is_padding, BeginsBare, EndsBare, IsPacket}
-use Rattle.px_xmp.specs.Laws.{OneMeaning, FormIsItsOwn, IsFormOf, IsFormOfPacket, IsReadableForm}
+use Rattle.px_xmp.specs.Refusals.{IfRefused}
+use Rattle.px_xmp.specs.Laws.{OneMeaning, FormsDecide, FormIsItsOwn, IsFormOf, IsFormOfPacket, IsReadableForm, SayTheSame}
+use Rattle.px_xmp.specs.Accepted.{FormFits}
 use Rattle.px_xmp.proofs.AroundLaws.{one_packet}
 use Rattle.px_xmp.proofs.OrderLaws.{written_more}
 
@@ -99,3 +106,37 @@ own_form law once x form (c, can, readable, is) (p, formed) =
     let (before, document) = own_parts c (subst IsFile is file) x is p in
     same_form once x form 0
     (subst (λ (z : List ℕ). IsFormOf z 0 form) document (subst (λ (n : ℕ). IsFormOf p.document n form) (ap length before) formed)) own
+
+-- ---- another form with this form
+
+-- two packets with one form mean the same
+pub same_said : FormsDecide → (x y form : List ℕ) → IsFormOfPacket x form → IsFormOfPacket y form → SayTheSame x y
+same_said law x y form (p, first) (q, second) =
+    (p, q, (law p.document q.document (length p.before) (length q.before) form form first second).0 refl)
+
+-- a form is its own form
+its_form : FormIsItsOwn → (form : List ℕ) → FormFits form → IsFormOfPacket form form
+its_form law form (c, can, readable, short, few, is) =
+    let (file, own) = law form (c, can, readable, is) in
+    let whole : IsWhole form =
+    subst IsWhole (sym is) (form_packet c (subst IsFile is file) (subst (λ (z : List ℕ). length z ≤ limit) is few)) in (
+      whole.packet,
+      subst (λ (z : List ℕ). IsFormOf z (length whole.packet.before) form) (sym whole.document)
+          (subst (λ (n : ℕ). IsFormOf form n form) (sym (ap length whole.before)) own),
+    )
+
+pub form_said : FormIsItsOwn → FormsDecide → (x form : List ℕ) → IsFormOfPacket x form → FormFits form → SayTheSame x form
+form_said law decide x form is fits = same_said decide x form form is (its_form law form fits)
+
+-- what holds of what is there
+pub some_has : {X : Type 0} (o : Option X) (x : X) (P : X → Type 0) → o ≡ Some x → IfSome o P → P x
+some_has {X} o x P e h = subst (λ (z : Option X). IfSome z P) e h
+
+-- a call that fails only if memory runs out says of no packet that it is wrong, and refuses none
+pub memory_wrong : (X Y : Type 0) (e : Refusal) (P : Type 0) → FailsByMemory {X = X} (Err e) → IfWrong {X = Y} (Err e) P
+memory_wrong X Y (refusals.Content cause place) P h = absurd h
+memory_wrong X Y refusals.OutOfMemory P h = tt
+
+pub memory_refused : (X Y : Type 0) (e : Refusal) (P : Cause → ℕ → Type 0) → FailsByMemory {X = X} (Err e) → IfRefused {X = Y} (Err e) P
+memory_refused X Y (refusals.Content cause place) P h = absurd h
+memory_refused X Y refusals.OutOfMemory P h = tt

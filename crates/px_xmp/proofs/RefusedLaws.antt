@@ -3,9 +3,10 @@ use Rattle.std.proofs.Common.{◌≡◌, ◌≤◌, ◌+◌, ◌-◌, ℕ, Bool,
 use Rattle.px_xmp_text.specs.Values.{Content}
 use Rattle.px_xmp_text.specs.declared.pieces.TextKind.{TextKind}
 use Rattle.px_xmp_spaces.specs.Scopes.{Item, ended}
-use Rattle.px_xmp_forms.specs.Causes.{is_rare, IsRare, IfWrong}
+use Rattle.px_xmp_forms.specs.Causes.{is_rare_in_rdf, is_rare, IsRare, IfWrong}
 use Rattle.px_xmp_forms.specs.Forms.{is_white}
 use Rattle.px_xmp_forms.specs.declared.faults.Cause.{Cause}
+use Rattle.px_xmp_forms.specs.declared.faults.Cause.TheVariants.{RareEncoding, RareName, RareCount}
 use Rattle.px_xmp_forms.specs.declared.faults.Refusal.{Refusal}
 use Rattle.px_xmp_forms.specs.declared.faults.Refusal.TheVariants as refusals
 use Rattle.px_xmp.specs.Marks.{Mark, Start, End, Text}
@@ -27,15 +28,22 @@ true_false : {P : Type 0} (b : Bool) → b ≡ true → b ≡ false → P
 true_false true e f = absurd (cc)
 true_false false e f = absurd (cc)
 
+-- a cause by which RDF leaves a packet is rare
+rare_in : (c : Cause) → is_rare_in_rdf c ≡ true → is_rare c ≡ true
+rare_in RareEncoding h = refl
+rare_in RareName h = refl
+rare_in RareCount h = refl
+rare_in cause h = h
+
 -- ---- results
 
 pub rare_says : (X Y : Type 0) (e : Refusal) (P : Type 0) → IsRare {X = X} (Err e) → IfWrong {X = Y} (Err e) P
-rare_says X Y (refusals.Content cause place) P h = λ wrong. true_false (is_rare cause) h wrong
+rare_says X Y (refusals.Content cause place) P h = λ wrong. true_false (is_rare cause) (rare_in cause h) wrong
 rare_says X Y refusals.OutOfMemory P h = tt
 
 pub rare_wrong : (X : Type 0) (r : Result X Refusal) (P : Type 0) → IsRare r → IfWrong r P
 rare_wrong X (Ok x) P h = tt
-rare_wrong X (Err (refusals.Content cause place)) P h = λ wrong. true_false (is_rare cause) h wrong
+rare_wrong X (Err (refusals.Content cause place)) P h = λ wrong. true_false (is_rare cause) (rare_in cause h) wrong
 rare_wrong X (Err refusals.OutOfMemory) P h = tt
 
 pub wrong_says : (X Y : Type 0) (e : Refusal) (P Q : Type 0) → (P → Q) → IfWrong {X = X} (Err e) P → IfWrong {X = Y} (Err e) Q
@@ -165,12 +173,11 @@ white_passed law (Element tag place inner more) b scope at to x y z white e f sa
 
 -- nodes are an element with this tag, what is in it, and others
 pub record Entered (o : Opened) (t : Tag) (nodes : Nodes) (scope inner : List Item) (at : ℕ) (y z : List ℕ) : Type 0 where
-  pub place : ℕ
   pub content : Nodes
   pub more : Nodes
   pub to : ℕ
   pub tail : List ℕ
-  pub is : nodes ≡ Element t place content more
+  pub is : nodes ≡ Element t o.place content more
   pub within : HasInside o.is_empty content inner at y tail
   pub row : AreNodes more scope to tail z
   pub same : at + length y ≡ to + length tail
@@ -189,12 +196,11 @@ tag_entered law o t (Element tag place content more) scope inner at on x y z sta
     let (tags, octets, follow, alone, scopes) = tag_once law scope tag t n start.name xs start.attributes true o.is_empty m rest l y x
     (is, w, i) (start.tag_is, whole, kind) in
     record {
-      place = place;
       content = content;
       more = more;
       to = at + length m;
       tail = y;
-      is = ap (λ (q : Tag). Element q place content more) tags;
+      is = ap (λ (q : Tag). Element q place content more) tags ∙ ap (λ (p : ℕ). Element t p content more) (here ∙ sym start.place);
       within = subst (λ (b : Bool). HasInside b content inner on y y) alone (none, refl);
       row = subst (λ (q : List ℕ). AreNodes more scope (at + length m) q z) follow r;
       same = omega (arith, same, ap length w, length-append m rest, ap length follow);
@@ -211,12 +217,11 @@ tag_entered law o t (Element tag place content more) scope inner at on x y z sta
     let shorter : length tail ≤ length x =
     omega (arith, ap length w, length-append m rest, nodes_shorter content _ _ rest (end ++ tail) c, length-append end tail) in
     record {
-      place = place;
       content = content;
       more = more;
       to = at + (length x - length tail);
       tail = tail;
-      is = ap (λ (q : Tag). Element q place content more) tags;
+      is = ap (λ (q : Tag). Element q place content more) tags ∙ ap (λ (p : ℕ). Element t p content more) (here ∙ sym start.place);
       within = subst (λ (b : Bool). HasInside b content inner on y tail) alone (end, moved, ends);
       row = r;
       same = omega (arith, same, shorter);

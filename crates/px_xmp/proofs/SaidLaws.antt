@@ -1,5 +1,5 @@
 -- The elements of a normal packet mean its content.
-use Rattle.std.proofs.Common.{◌≡◌, ◌⊎◌, ◌==◌, ◌+◌, ◌-◌, ◌++◌, ◌∙◌, inl, inr, refl, ℕ, Bool, true, false, Option, Some, None, List, [], ◌∷◌, codes, length, sym, ap, subst, append-nil, eq-eqb}
+use Rattle.std.proofs.Common.{◌≡◌, ◌==◌, ◌+◌, ◌-◌, ◌++◌, ◌∙◌, inl, inr, refl, ℕ, Bool, true, false, Option, Some, None, List, [], ◌∷◌, codes, length, sym, ap, subst, append-nil, eq-eqb}
 use Rattle.px_xmp_text.specs.Texts.{normal_text}
 use Rattle.px_xmp_text.specs.Laws.{NormalReadsBack, NormalBound, FaultOrText}
 use Rattle.px_xmp_text.specs.declared.pieces.TextKind.TheVariants.{CharacterData}
@@ -12,6 +12,7 @@ use Rattle.px_xmp_marks.specs.Declarations.{IsDeclaration}
 use Rattle.px_xmp_spaces.specs.Scopes as scopes
 use Rattle.px_xmp_spaces.specs.Scopes.{space_of}
 use Rattle.px_xmp_forms.specs.Entries.{Value, Plain, Inside, Entry, before, row}
+use Rattle.px_xmp_forms.specs.Forms.{HaveShortLanguages}
 use Rattle.px_xmp.specs.Marks as marks
 use Rattle.px_xmp.specs.Marks.{IsKind}
 use Rattle.px_xmp.specs.Names.{Name, rdf_space, meta_space, or_none}
@@ -20,8 +21,7 @@ use Rattle.px_xmp.specs.Nodes.{Nodes, Nothing, Words, Element, AreNodes}
 use Rattle.px_xmp.specs.Meaning.{label_in, compound_of, IsRow, HasAttributes, IsValue, IsText, AreEntries, IsNode}
 use Rattle.px_xmp.specs.Meaning.{AreSubjects, Means, HasMeaning}
 use Rattle.px_xmp.specs.Readable.{IsReadableLabel, IsOrdered, AreReadable, IsReadable}
-use Rattle.px_xmp.specs.Usual.{IsUsualField, IsUsualTag, IsTextElement, AreElements}
-use Rattle.px_xmp.specs.Accepted.{IsUsualContent}
+use Rattle.px_xmp.specs.Limits.{IsShortLanguage, DeclareShortLanguages}
 use Rattle.px_xmp.specs.Laws.{NormalSays}
 use Rattle.px_xmp.proofs.OrderLaws.{end_more}
 use Rattle.px_xmp.proofs.AlikeLaws.{row_ordered}
@@ -48,16 +48,6 @@ HasRdfPrefix scope = space_of (codes "rdf") scope ≡ Some rdf_space
 
 abbrev rdf_field : List ℕ → List ℕ → Field
 rdf_field local value = record { name = rdf_name local; value = value }
-
--- these attributes are no properties, and name no subject
-resource_usual : (value : List ℕ) → IsUsualField (rdf_field (codes "resource") value)
-resource_usual value = (refl, λ h. absurd (cc))
-
-parsed_usual : IsUsualField (rdf_field (codes "parseType") (codes "Resource"))
-parsed_usual = (refl, λ h. absurd (cc))
-
-about_usual : IsUsualField (rdf_field (codes "about") [])
-about_usual = (refl, λ h. refl)
 
 -- ---- tags
 
@@ -130,12 +120,12 @@ label_read Alt Item h = refl
 abbrev pub AreSaid : Compound → List scopes.Item → ℕ → List ℕ → List ℕ → Content → Type 0
 AreSaid s scope at x y c =
     (nodes : Nodes) × (es : List Entry) × AreNodes nodes scope at x y × AreEntries s [] nodes es × (c ≡ row es)
-    × (IsUsualContent c → AreElements nodes)
+    × (HaveShortLanguages c → DeclareShortLanguages nodes)
 
--- an element and others are usual if what they say is
-abbrev pub IsUsualElement : Label → Value → Content → Tag → Nodes → Type 0
-IsUsualElement l v c tag inner =
-    IsUsualContent (before l v c) → (IsUsualTag tag × (IsTextElement tag inner ⊎ AreElements inner)) × IsUsualContent c
+-- an element declares short languages if a value and others have no longer ones
+abbrev pub DeclaresShort : Label → Value → Content → Tag → Nodes → Type 0
+DeclaresShort l v c tag inner =
+    HaveShortLanguages (before l v c) → (IsShortLanguage tag.language × DeclareShortLanguages inner) × HaveShortLanguages c
 
 -- a start tag, which is a tag in its scope, and the octets that follow it
 abbrev pub IsBegun : List scopes.Item → Tag → Named → List Attr → Bool → List ℕ → List ℕ → Type 0
@@ -147,15 +137,15 @@ element_said : (s : Compound) (scope : List scopes.Item) (at : ℕ) (l : Label) 
     (m rest e tail y : List ℕ) (inner : Nodes) → label_in s tag.name ≡ Some l → IsBegun scope tag n attributes false m rest
     → AreNodes inner (inside scope attributes) (at + length m) rest (e ++ tail) → IsKind marks.End e tail
     → IsValue (inherited [] tag.language) at tag.fields inner (IsNode (inherited [] tag.language) inner) (AreEntries Structure (inherited [] tag.language) inner) v
-    → IsUsualElement l v c tag inner
+    → DeclaresShort l v c tag inner
     → AreSaid s scope (at + (length (m ++ rest) - length tail)) tail y c → AreSaid s scope at (m ++ rest) y (before l v c)
-element_said s scope at l v c n attributes tag m rest e tail y inner label (declares, same, start) within ends is usual (more, es, are, mean, rows, others) = (
+element_said s scope at l v c n attributes tag m rest e tail y inner label (declares, same, start) within ends is short (more, es, are, mean, rows, others) = (
   Element tag at inner more,
   record { label = l; value = v; place = at } ∷ es,
   (n, attributes, m, rest, sym same, refl, refl, inr (e, tail, start, within, ends, are)),
   (declares, l, v, es, label, refl, mean, is),
   ap (before l v) rows,
-  λ u. let (here, after) = usual u in (here.0, here.1, others after),
+  λ u. let (here, after) = short u in (here.0, here.1, others after),
 )
 
 -- an empty element is a value before others
@@ -163,14 +153,14 @@ alone_said : (s : Compound) (scope : List scopes.Item) (at : ℕ) (l : Label) (v
     (m rest y : List ℕ) → label_in s tag.name ≡ Some l → IsBegun scope tag n attributes true m rest
     → IsValue (inherited [] tag.language) at tag.fields Nothing (IsNode (inherited [] tag.language) Nothing)
     (AreEntries Structure (inherited [] tag.language) Nothing) v
-    → IsUsualElement l v c tag Nothing → AreSaid s scope (at + length m) rest y c → AreSaid s scope at (m ++ rest) y (before l v c)
-alone_said s scope at l v c n attributes tag m rest y label (declares, same, start) is usual (more, es, are, mean, rows, others) = (
+    → DeclaresShort l v c tag Nothing → AreSaid s scope (at + length m) rest y c → AreSaid s scope at (m ++ rest) y (before l v c)
+alone_said s scope at l v c n attributes tag m rest y label (declares, same, start) is short (more, es, are, mean, rows, others) = (
   Element tag at Nothing more,
   record { label = l; value = v; place = at } ∷ es,
   (n, attributes, m, rest, sym same, refl, refl, inl (start, refl, are)),
   (declares, l, v, es, label, refl, mean, is),
   ap (before l v) rows,
-  λ u. let (here, after) = usual u in (here.0, here.1, others after),
+  λ u. let (here, after) = short u in (here.0, here.1, others after),
 )
 
 -- an array in an element is its node
@@ -178,13 +168,13 @@ node_said : (s : Compound) (scope : List scopes.Item) (at : ℕ) (c : Content) (
     (nodes : Nodes) (es : List Entry) → compound_of tag.name ≡ Some s → HasAttributes s (inherited [] tag.language) at tag.fields []
     → inherited [] tag.language ≡ []
     → IsBegun scope tag n [] false m rest → AreNodes nodes (inside scope []) (at + length m) rest (e ++ tail) → IsKind marks.End e tail
-    → AreEntries s [] nodes es → IsRow s es c → IsUsualTag tag
-    → (inner : Nodes) × AreNodes inner scope at (m ++ rest) tail × IsNode [] inner s c × (AreElements nodes → AreElements inner)
-node_said s scope at c n tag m rest e tail nodes es kind bare silent (declares, same, start) within ends are rows usual = (
+    → AreEntries s [] nodes es → IsRow s es c → IsShortLanguage tag.language
+    → (inner : Nodes) × AreNodes inner scope at (m ++ rest) tail × IsNode [] inner s c × (DeclareShortLanguages nodes → DeclareShortLanguages inner)
+node_said s scope at c n tag m rest e tail nodes es kind bare silent (declares, same, start) within ends are rows short = (
   Element tag at nodes Nothing,
   (n, [], m, rest, sym same, refl, refl, inr (e, tail, start, within, ends, refl)),
   (declares, kind, tt, [], es, bare, subst (λ (z : List ℕ). AreEntries s z nodes es) (sym silent) are, rows),
-  λ u. (usual, inr u, tt),
+  λ u. (short, u, tt),
 )
 
 -- ---- texts
@@ -197,6 +187,10 @@ text_nodes (o ∷ t) = Words (o ∷ t) Nothing
 text_is : (t : List ℕ) → IsText (text_nodes t) t
 text_is [] = refl
 text_is (o ∷ t) = ([], sym (append-nil (o ∷ t)), refl)
+
+text_short : (t : List ℕ) → DeclareShortLanguages (text_nodes t)
+text_short [] = tt
+text_short (o ∷ t) = tt
 
 text_said : NormalReadsBack → NormalBound → FaultOrText → (t : List ℕ) (scope : List scopes.Item) (at : ℕ) (y : List ℕ) → EndsText y
     → AreNodes (text_nodes t) scope at (normal_text t ++ y) y
@@ -220,12 +214,12 @@ labelled_said : (s : Compound) (scope : List scopes.Item) (at : ℕ) (l : Label)
     (m rest w x y : List ℕ) (inner : Nodes) → label_in s tag.name ≡ Some l → IsBegun scope tag (label_named l) attributes false m rest
     → AreNodes inner (inside scope attributes) (at + length m) rest (end_tag l w) → IsEndTag (end_tag l []) (label_named l)
     → IsValue (inherited [] tag.language) at tag.fields inner (IsNode (inherited [] tag.language) inner) (AreEntries Structure (inherited [] tag.language) inner) v
-    → IsUsualElement l v c tag inner
+    → DeclaresShort l v c tag inner
     → ((place : ℕ) → AreSaid s scope place w y c) → x ≡ m ++ rest → AreSaid s scope at x y (before l v c)
-labelled_said s scope at l v c attributes tag m rest w x y inner label begun within ends is usual more whole =
+labelled_said s scope at l v c attributes tag m rest w x y inner label begun within ends is short more whole =
     subst (λ (z : List ℕ). AreSaid s scope at z y (before l v c)) (sym whole)
     (element_said s scope at l v c (label_named l) attributes tag m rest (end_tag l []) w y inner label begun
-    (subst (λ (z : List ℕ). AreNodes inner (inside scope attributes) (at + length m) rest z) (end_more l w) within) (label_named l, ends) is usual
+    (subst (λ (z : List ℕ). AreNodes inner (inside scope attributes) (at + length m) rest z) (end_more l w) within) (label_named l, ends) is short
     (more (at + (length (m ++ rest) - length w))))
 
 abbrev bare_tag : Label → Tag
@@ -242,15 +236,15 @@ array_said s t name begin stop scope at l inner c m w x y body label bound start
     let scope_in : List scopes.Item = inside scope (label_attributes l []) in
     let bound_in : HasRdfPrefix scope_in = inside_label scope l bound in
     let place : ℕ = at + length m in
-    let (nodes, es, row, mean, rows, elements) = items (place + length begin) in
+    let (nodes, es, row, mean, rows, heard) = items (place + length begin) in
     let tag : Tag = record { name = rdf_name name; fields = []; language = None } in
     let same : tag_of scope_in (named (codes "rdf") name) [] ≡ tag =
     ap (λ u. record { name = record { space = or_none u; local = name }; fields = []; language = None }) bound_in in
-    let (node, node_row, is, inside_usual) =
+    let (node, node_row, is, inside_short) =
     node_said t scope_in place inner (named (codes "rdf") name) tag begin body stop (end_tag l w) nodes es kind (bare place) refl (tt, same, opens) row
-    (named (codes "rdf") name, closes) mean (row_ordered t inner es ordered rows) (tt, tt) in
+    (named (codes "rdf") name, closes) mean (row_ordered t inner es ordered rows) tt in
     labelled_said s scope at l (Inside t inner) c (label_attributes l []) (bare_tag l) m (begin ++ body) w x y node label (tt, tag_bare scope l bound, start)
-    node_row ends (inr (inl (refl, t, inner, is, refl))) (λ u. (((tt, tt), inr (inside_usual (elements u.1))), u.2)) more whole
+    node_row ends (inr (inl (refl, t, inner, is, refl))) (λ u. ((tt, inside_short (heard u.0)), u.1)) more whole
 
 module _ (reads : NormalReadsBack) (bounds : NormalBound) (faults : FaultOrText) where
   content_said : (s : Compound) (c : Content) → AreReadable s c → IsContent c → (scope : List scopes.Item) → HasRdfPrefix scope → (at : ℕ) (k : List ℕ)
@@ -262,7 +256,7 @@ module _ (reads : NormalReadsBack) (bounds : NormalBound) (faults : FaultOrText)
       (tt, tag_bare scope l bound, start_bare faults l (label_named_by s l label) can)
       (text_said reads bounds faults t (inside scope (label_attributes l [])) (at + length (opening_tag l (62 ∷ []))) (end_tag l (written rest k))
       (ends_label l (written rest k))) (end_label l (label_named_by s l label)) (inl (refl, t, text_is t, refl))
-      (λ u. (((tt, tt), inl ((s, l, label_read s l label), refl, t, text_is t)), u.2))
+      (λ u. ((tt, text_short t), u.1))
       (λ place. content_said s rest readable others scope bound place k)
       (opening_shift l (62 ∷ []) (normal_text t ++ end_tag l (written rest k)))
   content_said s (Flat l (Literal (o ∷ language) t) rest) (label, (language_is, lower, characters), readable) (can, ok, others) scope bound at k =
@@ -275,7 +269,7 @@ module _ (reads : NormalReadsBack) (bounds : NormalBound) (faults : FaultOrText)
       (text_said reads bounds faults t (inside scope attributes) (at + length m) (end_tag l (written rest k)) (ends_label l (written rest k)))
       (end_label l (label_named_by s l label))
       (inl (refl, t, text_is t, ap (λ (z : List ℕ). Plain (Literal z t)) (sym lower)))
-      (λ u. (((u.1, tt), inl ((s, l, label_read s l label), refl, t, text_is t)), u.2))
+      (λ u. ((u.0, text_short t), u.1))
       (λ place. content_said s rest readable others scope bound place k)
       (ap (λ (z : List ℕ). opening_tag l z) (spoken_more (o ∷ language) (normal_text t ++ end_tag l (written rest k)))
       ∙ opening_shift l (spoken (o ∷ language)) (normal_text t ++ end_tag l (written rest k)))
@@ -287,21 +281,21 @@ module _ (reads : NormalReadsBack) (bounds : NormalBound) (faults : FaultOrText)
       (record { name = label_name l; fields = rdf_field (codes "resource") (normal_text uri) ∷ []; language = None }) m (written rest k) k
       (label_read s l label) (tt, tag_resource scope l (normal_text uri) bound, start_resource faults bounds l uri (label_named_by s l label) can octets)
       (inr (inr (inr (inl (rdf_field (codes "resource") (normal_text uri), refl, refl, octets, tt, uri, uri_reads_back bounds uri octets, refl)))))
-      (λ u. (((tt, (resource_usual (normal_text uri), tt)), inr tt), u.2))
+      (λ u. ((tt, tt), u.1))
       (content_said s rest readable others scope bound (at + length m) k))
   content_said s (Nested l Structure inner rest) (label, ordered, members, readable) (can, within, others) scope bound at k =
       let attributes : List Attr = label_attributes l (attribute (codes "rdf") (codes "parseType") (codes "Resource") ∷ []) in
       let m : List ℕ = opening_tag l (compound_start Structure []) in
       let w : List ℕ = written rest k in
       let field : Field = rdf_field (codes "parseType") (codes "Resource") in
-      let (nodes, es, row, mean, rows, elements) =
+      let (nodes, es, row, mean, rows, heard) =
       content_said Structure inner members within (inside scope attributes) (inside_parsed scope l bound) (at + length m) (end_tag l w) in
       labelled_said s scope at l (Inside Structure inner) rest attributes
       (record { name = label_name l; fields = field ∷ []; language = None }) m (written inner (end_tag l w)) w
       (written (Nested l Structure inner rest) k) k nodes (label_read s l label) (tt, tag_parsed scope l bound, start_parsed faults l (label_named_by s l label) can) row
       (end_label l (label_named_by s l label))
       (inr (inr (inl (field, refl, refl, refl, es, inner, mean, row_ordered Structure inner es ordered rows, refl))))
-      (λ u. (((tt, (parsed_usual, tt)), inr (elements u.1)), u.2))
+      (λ u. ((tt, heard u.0), u.1))
       (λ place. content_said s rest readable others scope bound place k) (opening_shift l (compound_start Structure []) (written inner (end_tag l w)))
   content_said s (Nested l Bag inner rest) (label, ordered, members, readable) (can, within, others) scope bound at k =
       let w : List ℕ = written rest k in
@@ -382,14 +376,14 @@ no_declaration c d y e h w =
     w ∙ ap (λ (z : List ℕ). z ++ y) h.whole in
     apart 120 63 (ap second wrong) refl
 
--- it means its content by elements that are usual if the content is
+-- it means its content, by elements that declare short languages if the content has no longer ones
 pub packet_says : NormalReadsBack → NormalBound → FaultOrText → (c : Content) → IsContent c → IsReadable c
-    → (h : HasMeaning (normal_packet c) 0 c) × (h.tree ≡ normal_packet c) × (IsUsualContent c → AreElements h.nodes)
+    → (h : HasMeaning (normal_packet c) 0 c) × (HaveShortLanguages c → DeclareShortLanguages h.nodes)
 packet_says reads bounds faults c can (ordered, readable, shallow) =
     let a : ℕ = 0 + (length (normal_packet c) - length (normal_packet c)) in
     let b : ℕ = a + length meta_start in
     let d : ℕ = b + length root_start in
-    let (inner, es, row, mean, rows, elements) =
+    let (inner, es, row, mean, rows, heard) =
     content_said reads bounds faults Structure c readable can description_scope refl (d + length description_start) packet_end in (
       record {
         declaration = [];
@@ -406,8 +400,7 @@ packet_says reads bounds faults c can (ordered, readable, shallow) =
             (start_description faults) row end_description) end_root) end_meta;
         means = packet_means c inner es a b d mean (row_ordered Structure c es ordered rows);
       },
-      refl,
-      λ u. ((tt, tt), inr ((tt, tt), inr ((tt, (about_usual, tt)), inr (elements u), tt), tt), tt),
+      λ u. (tt, (tt, (tt, heard u, tt), tt), tt),
     )
 
 pub normal_says : NormalReadsBack → NormalBound → FaultOrText → NormalSays

@@ -17,7 +17,7 @@ use Rattle.px_xmp_spaces.specs.declared.faults.Cause.{Cause}
 use Rattle.px_xmp_spaces.specs.declared.faults.Cause.TheVariants.{RareSpace, Reserved, TooMany}
 use Rattle.px_xmp_spaces.specs.Scopes.{Item, Declaration, limit, is_same, xml_space, xmlns_space, built_in, space_of}
 use Rattle.px_xmp_spaces.specs.Scopes as scopes
-use Rattle.px_xmp_spaces.specs.Bindings.{declared_prefix, is_usual_space, is_reserved, with_declaration, or_same, with_attribute, with_attributes, and_then}
+use Rattle.px_xmp_spaces.specs.Bindings.{declared_prefix, is_usual_space, is_reserved, is_left, with_declaration, or_same, with_attribute, with_attributes, and_then}
 use Rattle.px_xmp_spaces.specs.Tags.{attribute_space, judged, opened, passed}
 use Rattle.px_xmp_spaces.specs.Pieces.{Piece, Opening, Alone, Closing, IsPiece, ArePieces}
 use Rattle.px_xmp_spaces.specs.Pieces as pieces
@@ -30,13 +30,14 @@ use Rattle.px_xmp.specs.Tags as tags
 use Rattle.px_xmp.specs.Nodes.{Nodes, Nothing, Words, Element, AreNodes}
 use Rattle.px_xmp.specs.Laws.{KindsAreRead}
 use Rattle.px_xmp.proofs.NodeLaws.{mark_once, some_mark}
+use Rattle.px_xmp.proofs.SpaceLaws.{IsKept}
 use Rattle.px_xmp.proofs.TextLaws.{none_are, characters_split, characters_past, characters_after, text_is}
 
 -- ---- names, tags and nodes
 
--- a namespace that a declaration can have
+-- a namespace that a declaration can have; or that of the prefix xmlns, or none
 abbrev pub IsPlainSpace : List ℕ → Type 0
-IsPlainSpace u = (is_usual_space u ≡ true) × Without 60 u
+IsPlainSpace u = (is_usual_space u ≡ true) × Without 60 u × IsKept u
 
 abbrev pub IsSoundName : Name → Type 0
 IsSoundName n = IsPlainSpace n.space × IsNcName n.local
@@ -62,7 +63,7 @@ abbrev IsPlainScope : List Item → Type 0
 IsPlainScope scope = AllByRecursion IsPlainItem scope
 
 abbrev IsPlainDeclared : Attr → Type 0
-IsPlainDeclared a = (p : List ℕ) → declared_prefix a.name ≡ Some p → is_usual_space a.value ≡ true
+IsPlainDeclared a = (p : List ℕ) → declared_prefix a.name ≡ Some p → (is_usual_space a.value ≡ true) × (is_left a.value ≡ false)
 
 abbrev IsWritten : Attr → Type 0
 IsWritten a = IsNcName a.name.local × AreCharacters a.value × Without 60 a.value
@@ -80,9 +81,9 @@ built_in_plain : (p : List ℕ) → IsPlainSpace (or_none (built_in p))
 built_in_plain p = by_prefix (is_same p (codes "xml")) (is_same p (codes "xmlns"))
   where
     by_prefix : (a b : Bool) → IsPlainSpace (or_none (if a then Some xml_space else if b then Some xmlns_space else None))
-    by_prefix true b = (refl, without_if 60 xml_space refl)
-    by_prefix false true = (refl, without_if 60 xmlns_space refl)
-    by_prefix false false = (refl, tt)
+    by_prefix true b = (refl, without_if 60 xml_space refl, inl refl)
+    by_prefix false true = (refl, without_if 60 xmlns_space refl, inr refl)
+    by_prefix false false = (refl, tt, inl refl)
 
 space_plain : (p : List ℕ) (scope : List Item) → IsPlainScope scope → IsPlainSpace (or_none (space_of p scope))
 space_plain p [] h = built_in_plain p
@@ -97,13 +98,14 @@ attribute_plain : (scope : List Item) (n : Named) → IsPlainScope scope → IsP
 attribute_plain scope n h = by_prefix (is_same n.prefix []) (space_of n.prefix scope) (space_plain n.prefix scope h)
   where
     by_prefix : (b : Bool) (s : Option (List ℕ)) → IsPlainSpace (or_none s) → IsPlainSpace (or_none (if b then None else s))
-    by_prefix true s k = (refl, tt)
+    by_prefix true s k = (refl, tt, inl refl)
     by_prefix false s k = k
 
-prefix_plain : (q : Option (List ℕ)) (u : List ℕ) (scope : List Item) → IsPlainScope scope → ((p : List ℕ) → q ≡ Some p → is_usual_space u ≡ true)
+prefix_plain : (q : Option (List ℕ)) (u : List ℕ) (scope : List Item) → IsPlainScope scope
+    → ((p : List ℕ) → q ≡ Some p → (is_usual_space u ≡ true) × (is_left u ≡ false))
     → Without 60 u → IsPlainScope (with_prefix q u scope)
 prefix_plain None u scope h k w = h
-prefix_plain (Some p) u scope h k w = ((k p refl, w), h)
+prefix_plain (Some p) u scope h k w = let (usual, known) = k p refl in ((usual, w, inl known), h)
 
 declared_plain : (attributes : List Attr) (scope : List Item) → IsPlainScope scope → AllByRecursion IsWritten attributes
     → AllByRecursion IsPlainDeclared attributes → IsPlainScope (declared attributes scope)
@@ -253,14 +255,17 @@ then_both (Err c) f t h = absurd (cc)
 then_both (Ok u) f t h = (u, refl, h)
 
 one_plain : (q : Option (List ℕ)) (v : List ℕ) (s t : List Item) → or_same (λ p. with_declaration p v s) s q ≡ Ok t → (p : List ℕ) → q ≡ Some p
-    → is_usual_space v ≡ true
+    → (is_usual_space v ≡ true) × (is_left v ≡ false)
 one_plain None v s t h p e = absurd (cc)
 one_plain (Some r) v s t h p e =
-    by_test (is_usual_space v) (if is_reserved r v then Err Reserved else if nat_le limit (length s) then Err TooMany else Ok (Declaration r v ∷ s)) h
+    by_test (is_usual_space v) (is_reserved r v) (is_left v) (if nat_le limit (length s) then Err TooMany else Ok (Declaration r v ∷ s)) h
   where
-    by_test : (b : Bool) (r : Result (List Item) Cause) → (if not b then Err RareSpace else r) ≡ Ok t → b ≡ true
-    by_test true r h = refl
-    by_test false r h = absurd (cc)
+    by_test : (a b c : Bool) (r : Result (List Item) Cause)
+        → (if not a then Err RareSpace else if b then Err Reserved else if c then Err RareSpace else r) ≡ Ok t → (a ≡ true) × (c ≡ false)
+    by_test false b c r h = absurd (cc)
+    by_test true true c r h = absurd (cc)
+    by_test true false true r h = absurd (cc)
+    by_test true false false r h = (refl, refl)
 
 attributes_plain : (attributes : List Attr) (s t : List Item) → with_attributes attributes s ≡ Ok t → AllByRecursion IsPlainDeclared attributes
 attributes_plain [] s t h = tt

@@ -285,7 +285,7 @@ label_named_by Alt Item h = tt
 
 label_start : FaultOrText → (l : Label) → CanBeNamed l → IsLabel l → (z : List ℕ) (more : List Attr) (empty : Bool)
     → AreAttributes z more → IsStartTag (opening_tag l (z ++ closing empty)) (label_named l) (label_attributes l more) empty
-label_start faults (Property space local) ((plain, less, free), name) (quote, white) z more empty h = (
+label_start faults (Property space local) ((plain, less, free, known), name) (quote, white) z more empty h = (
   112 ∷ 58 ∷ local,
   32 ∷ (attribute_octets (codes "xmlns") (codes "p") space ++ z),
   name_is (codes "p") local p_name name,

@@ -5,7 +5,6 @@ use Rattle.px_xmp_marks.specs.Laws.{AttributesInOrder}
 use Rattle.px_xmp_spaces.specs.Scopes.{Item, Element, ended}
 use Rattle.px_xmp_spaces.specs.Bindings.{declared_prefix}
 use Rattle.px_xmp.specs.Tags.{with_prefix, declared, names_language, language_after, is_plain, plain, field_of, fields_in, inside}
-use Rattle.px_xmp.specs.Usual.{IsUsualSpace, HaveUsualSpaces}
 use Rattle.px_xmp.specs.calls.Listed.{AreListed, ArePlain, IsNextPlain, first_after, or_rest}
 
 -- n is the first attribute, and others follow it
@@ -82,19 +81,6 @@ whole_left law y s outer language (Some x) all (tail, l, e, g, k) f =
 whole_left law y s outer language None all (tail, l, e, g, k) f =
     let none = none_listed law y tail l f in
     (ap (λ (z : List Attr). declared z s) (sym none) ∙ e, ap (λ (z : List Attr). language_after language z) (sym none) ∙ g, (tail, l, k))
-
--- attributes at the start, whose namespaces are usual
-abbrev pub AreUsualFrom : List ℕ → Type 0
-AreUsualFrom y = (tail : List Attr) × AreListed y tail × HaveUsualSpaces tail
-
-pub usual_left : AttributesInOrder → (y : List ℕ) (n : Next) → AreUsualFrom y → next_attribute y ≡ Some n → AreUsualFrom n.rest
-usual_left law y n (tail, l, usual) e =
-    let (more, same, listed) = next_listed law y tail n l e in (more, listed, (subst HaveUsualSpaces same usual).1)
-
-pub usual_next : AttributesInOrder → (y : List ℕ) (n : Next) → AreUsualFrom y → next_attribute y ≡ Some n
-    → IsUsualSpace (declared_prefix n.attribute.name) n.attribute.value
-usual_next law y n (tail, l, usual) e =
-    let (more, same, listed) = next_listed law y tail n l e in (subst HaveUsualSpaces same usual).0
 
 -- attributes that declare nothing have the same names in one scope
 pub fields_same : (a b : List Attr) (s t : List Item) → s ≡ t → plain a ≡ plain b → fields_in s a ≡ fields_in t b

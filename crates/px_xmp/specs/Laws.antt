@@ -59,6 +59,10 @@ OnePacket = (x : List ℕ) (p q : IsPacket x) → (p.before ≡ q.before) × (p.
 abbrev pub MeanTheSame : List ℕ → ℕ → List ℕ → ℕ → Type 0
 MeanTheSame x m y n = (c : Content) × IsContent c × HasMeaning x m c × HasMeaning y n c
 
+-- the documents of two packets mean one thing
+abbrev pub SayTheSame : List ℕ → List ℕ → Type 0
+SayTheSame x y = (p : IsPacket x) × (q : IsPacket y) × MeanTheSame p.document (length p.before) q.document (length q.before)
+
 -- Documents mean the same exactly if their forms are the same.
 abbrev pub FormsDecide : Type 0
 FormsDecide = (x y : List ℕ) (m n : ℕ) (f g : List ℕ) → IsFormOf x m f → IsFormOf y n g → (f ≡ g) ↔ MeanTheSame x m y n
@@ -73,12 +77,12 @@ NormalIsFile = (c : Content) → IsContent c → IsReadable c → IsFile (normal
 
 -- What a document means can be written and read again, if it is not too deep.
 abbrev pub MeaningsAreReadable : Type 0
-MeaningsAreReadable = (x : List ℕ) (start : ℕ) (c : Content) → IsFile x → HasMeaning x start c → IsContent c
-    → IsOrdered Structure c × AreReadable Structure c
+MeaningsAreReadable = (x : List ℕ) (start : ℕ) (c : Content) → IsFile x → HasMeaning x start c
+    → IsContent c × IsOrdered Structure c × AreReadable Structure c
 
 -- The normal packet of what a document means is a document with this meaning, if it is not too deep.
 abbrev pub NormalKeepsMeaning : Type 0
-NormalKeepsMeaning = (x : List ℕ) (start : ℕ) (c : Content) → IsFile x → HasMeaning x start c → IsContent c → IsShallow 3 c
+NormalKeepsMeaning = (x : List ℕ) (start : ℕ) (c : Content) → IsFile x → HasMeaning x start c → IsShallow 3 c
     → IsFile (normal_packet c) × HasMeaning (normal_packet c) 0 c
 
 -- The normal packet of content that can be read is a document, and its own form.

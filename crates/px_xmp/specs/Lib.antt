@@ -6,7 +6,8 @@ pub mod Nodes
 pub mod Reading
 pub mod Meaning
 pub mod Readable
-pub mod Usual
+pub mod Limits
 pub mod Laws
 pub mod Accepted
+pub mod Refusals
 pub mod calls

@@ -9,13 +9,15 @@ use Rattle.px_xmp_marks.specs.Grammar.{IsNcName}
 use Rattle.px_xmp_tree.specs.Nesting.{limit}
 use Rattle.px_xmp_spaces.specs.Bindings.{is_usual_space, is_reserved}
 use Rattle.px_xmp_forms.specs.Languages.{IsLanguage}
+use Rattle.px_xmp_forms.specs.Spaces.{is_rare_space}
 use Rattle.px_xmp_forms.specs.Uris.{IsAbsolute}
 use Rattle.px_xmp_forms.specs.Entries.{Entry, row}
 use Rattle.px_xmp.specs.Meaning.{label_in, Joins}
 
--- a namespace to which the prefix p can be bound (Namespaces, 3), as the value of an attribute without a reference
+-- a namespace to which the prefix p can be bound (Namespaces, 3), as the value of an attribute without a reference; and one that is
+-- not left to another reader
 abbrev pub IsSpace : List ℕ → Type 0
-IsSpace u = (is_usual_space u ≡ true) × Without 60 u × (is_reserved (codes "p") u ≡ false)
+IsSpace u = (is_usual_space u ≡ true) × Without 60 u × (is_reserved (codes "p") u ≡ false) × (is_rare_space u ≡ false)
 
 -- a label of what is in a structure or an array: of a property a name that is a property's, and is the whole name again
 abbrev pub IsReadableLabel : Compound → Label → Type 0

@@ -62,7 +62,7 @@ pub(crate) fn next_plain<'a>(octets: &'a [u8]) -> Option<NextAttribute<'a>>
 pub(crate) fn language_of<'a>(declared: Option<&'a [u8]>, outer: &'a [u8]) -> Option<&'a [u8]>
     ensures declares { IfSome result (λ l. DeclaresLanguage (option_map (λ d. d.now) declared.entry)) }
     ensures language { IfSome result (λ l. l.now ≡ inherited outer.now (option_map (λ d. d.now) declared.entry)) }
-    ensures usual { LanguageFits (option_map (λ d. d.now) declared.entry) → is_some result ≡ true }
+    ensures accepts { LanguageFits (option_map (λ d. d.now) declared.entry) → is_some result ≡ true }
 {
     match declared {
         Some(language) => {

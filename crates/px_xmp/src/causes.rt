@@ -1,10 +1,15 @@
 // The causes of documents, as those of packets.
+ghost use Rattle.std.specs.Prelude.{◌≡◌, ◌≤◌, length};
+ghost use Rattle.px_xmp.specs.Refusals.{IsNestingCause, attribute_cause, space_cause, IsDocumentCause, IsCauseOf};
+
 use crate::why::mark_cause;
 use px_xmp_document::{Cause as DocumentCause, Fault};
 use px_xmp_forms::Cause;
 
 // Of nested elements. `octets` begin where the fault is.
-fn nesting_cause(cause: px_xmp_tree::Cause, octets: &[u8]) -> Cause {
+fn nesting_cause(cause: px_xmp_tree::Cause, octets: &[u8]) -> Cause
+    ensures { IsNestingCause cause octets.now result }
+{
     match cause {
         px_xmp_tree::Cause::NoMark => mark_cause(octets),
         px_xmp_tree::Cause::DocumentType => Cause::DocumentType,
@@ -18,7 +23,9 @@ fn nesting_cause(cause: px_xmp_tree::Cause, octets: &[u8]) -> Cause {
 }
 
 // Of attributes.
-fn attributes_cause(cause: px_xmp_attributes::Cause) -> Cause {
+fn attributes_cause(cause: px_xmp_attributes::Cause) -> Cause
+    ensures { result ≡ attribute_cause cause }
+{
     match cause {
         px_xmp_attributes::Cause::NoMark => Cause::BadMarkup,
         px_xmp_attributes::Cause::AttributeTwice => Cause::AttributeTwice,
@@ -26,7 +33,9 @@ fn attributes_cause(cause: px_xmp_attributes::Cause) -> Cause {
 }
 
 // Of prefixes.
-fn spaces_cause(cause: px_xmp_spaces::Cause) -> Cause {
+fn spaces_cause(cause: px_xmp_spaces::Cause) -> Cause
+    ensures { result ≡ space_cause cause }
+{
     match cause {
         px_xmp_spaces::Cause::NoMark => Cause::BadMarkup,
         px_xmp_spaces::Cause::Undeclared => Cause::BadPrefix,
@@ -39,7 +48,9 @@ fn spaces_cause(cause: px_xmp_spaces::Cause) -> Cause {
 }
 
 // Of a document. `octets` begin where the fault is.
-fn document_cause(cause: DocumentCause, octets: &[u8]) -> Cause {
+fn document_cause(cause: DocumentCause, octets: &[u8]) -> Cause
+    ensures { IsDocumentCause cause octets.now result }
+{
     match cause {
         DocumentCause::NoCharacter => Cause::BadCharacter,
         DocumentCause::OtherEncoding => Cause::RareEncoding,
@@ -50,7 +61,9 @@ fn document_cause(cause: DocumentCause, octets: &[u8]) -> Cause {
 }
 
 // The cause of a fault of a document. A declaration that is not read is one of another version or form.
-pub(crate) fn cause_of(document: &[u8], fault: Fault) -> Cause {
+pub(crate) fn cause_of(document: &[u8], fault: Fault) -> Cause
+    ensures { fault.offset ≤ length document.now → IsCauseOf document.now fault.cause fault.offset result }
+{
     let octets = document.split_at(fault.offset.min(document.len())).1;
     if fault.offset == 0 && octets.starts_with(b"<?xml") {
         return Cause::RareEncoding;

@@ -1,20 +1,19 @@
 // Reads properties and items with their values. Each function reads what one production of RDF/XML, 7.2, has.
-ghost use Rattle.std.specs.Prelude.{◌≡◌, ◌≤◌, ◌⊎◌, ℕ, suc, List, [], length, option_map, OnOk, IfOk};
+ghost use Rattle.std.specs.Prelude.{◌≡◌, ◌≤◌, ℕ, suc, List, [], length, option_map, OnOk, IfOk};
 ghost use Rattle.px_xmp_text.specs.Values as values;
 ghost use Rattle.px_xmp_forms.specs.Labels.{label_view};
 ghost use Rattle.px_xmp_forms.specs.Allocations.{CountsAllocFailureInPacket};
 ghost use Rattle.px_xmp_forms.specs.Causes.{IsRare, FailsByMemory};
 ghost use Rattle.px_xmp_forms.specs.Entries.{Value, Entry};
 ghost use Rattle.px_xmp_forms.specs.Outputs.{State, Has, begun, nothing, first_entries};
-ghost use Rattle.px_xmp.specs.Tags.{Tag};
+ghost use Rattle.px_xmp.specs.Tags.{Tag, DeclaresLanguage, inherited};
 ghost use Rattle.px_xmp.specs.Nodes.{Nodes, Nothing, Element};
-ghost use Rattle.px_xmp.specs.Meaning.{IsText, label_in, AreEntries, IsNode};
-ghost use Rattle.px_xmp.specs.Usual.{IsUsualTag, AreElements};
+ghost use Rattle.px_xmp.specs.Meaning.{label_in, HasAttributes, AreEntries, IsNode};
 ghost use Rattle.px_xmp.specs.calls.Steps.{IsLeft};
 ghost use Rattle.px_xmp.specs.calls.Opening.{name_of, node_view, IsOpened};
 ghost use Rattle.px_xmp.specs.calls.Contents.{is_bag, NodeBegun, JoinsNode, NodeEnded, ItemsRead, ValueRead, ContentRead, NodeRead};
 ghost use Rattle.px_xmp.specs.calls.Contents.{HasValue};
-ghost use Rattle.px_xmp.specs.calls.Fits.{IsAhead, IsUsualInside, IsValueOf, LanguageFits};
+ghost use Rattle.px_xmp.specs.calls.Fits.{IsAhead, IsValueOf, TagFits};
 ghost use Rattle.px_xmp.specs.calls.Fits.{InsideFits, EntryFits, AreFit, JoinFits, NodeFits};
 
 use crate::attributes::next_plain;
@@ -57,7 +56,7 @@ fn join_node(memory: &mut Memory, output: &mut Output, node: Node) -> Result<(),
     ensures value { (s : State) → Has output.old s → OnOk result ((after : State) × Has output.new after × JoinsNode node s after) }
     ensures memory { CountsAllocFailureInPacket result memory.old memory.new }
     ensures rare { IsRare result }
-    ensures usual { (s : State) → Has output.old s → JoinFits node (first_entries s.opened) → FailsByMemory result }
+    ensures accepts { (s : State) → Has output.old s → JoinFits node (first_entries s.opened) → FailsByMemory result }
 {
     match node {
         Node::Description => output.join_properties(memory),
@@ -71,7 +70,7 @@ fn end_node(memory: &mut Memory, output: &mut Output, node: Node) -> Result<(), 
     ensures value { (s : State) → Has output.old s → OnOk result (NodeEnded node s output.new) }
     ensures memory { CountsAllocFailureInPacket result memory.old memory.new }
     ensures rare { IsRare result }
-    ensures usual { (s : State) → Has output.old s → JoinFits node (first_entries s.opened) → FailsByMemory result }
+    ensures accepts { (s : State) → Has output.old s → JoinFits node (first_entries s.opened) → FailsByMemory result }
 {
     join_node(memory, output, node)?;
     output.end_node(memory)
@@ -92,8 +91,9 @@ impl<'a> Reader<'a> {
             → IfOk result (λ a. NodeBegun node t outer.entry.language.now outer.entry.depth opened.entry.place a s self.new.output) }
         ensures memory { CountsAllocFailureInPacket result memory.old memory.new }
         ensures rare { IsRare result }
-        ensures usual { (t : Tag) → IsOpened self.old.source.scope opened.entry t → LanguageFits t.language → t.fields ≡ []
-            → NodeFits node outer.entry.depth → FailsByMemory result }
+        ensures accepts { (t : Tag) (es : List Entry) → IsOpened self.old.source.scope opened.entry t → DeclaresLanguage t.language
+            → TagFits t → HasAttributes (node_view node) (inherited outer.entry.language.now t.language) opened.entry.place t.fields es
+            → AreFit outer.entry.depth es → NodeFits node outer.entry.depth → FailsByMemory result }
     {
         let Some(around) = outer.inside(opened) else {
             return Err(Cause::RareLanguage.at(opened.place));
@@ -138,8 +138,8 @@ impl<'a> Reader<'a> {
             self.old.source self.new.source s self.new.output) }
         ensures memory { CountsAllocFailureInPacket result memory.old memory.new }
         ensures rare { IsRare result }
-        ensures usual { (s : State) (nodes : Nodes) (es : List Entry) (y : List ℕ) → Has self.old.output s
-            → IsAhead is_empty nodes self.old.source y → AreElements nodes
+        ensures accepts { (s : State) (nodes : Nodes) (es : List Entry) (y : List ℕ) → Has self.old.output s
+            → IsAhead is_empty nodes self.old.source y
             → AreEntries (node_view node) around.entry.language.now nodes es → AreFit around.entry.depth es → FailsByMemory result }
     {
         crate::laws::kinds_are_read();
@@ -173,10 +173,9 @@ impl<'a> Reader<'a> {
             self.old.source self.new.source s self.new.output) }
         ensures memory { CountsAllocFailureInPacket result memory.old memory.new }
         ensures rare { IsRare result }
-        ensures usual { (s : State) (t : Tag) (nodes : Nodes) (v : Value) (y : List ℕ) → Has self.old.output s
+        ensures accepts { (s : State) (t : Tag) (nodes : Nodes) (v : Value) (y : List ℕ) → Has self.old.output s
             → IsOpened self.old.source.scope opened.entry t → IsAhead opened.entry.is_empty nodes self.old.source y
-            → IsUsualTag t → IsUsualInside t nodes
-            → IsValueOf outer.entry.language.now opened.entry.place t nodes v
+            → TagFits t → IsValueOf outer.entry.language.now opened.entry.place t nodes v
             → EntryFits outer.entry.depth (label_view label.entry) v → FailsByMemory result }
     {
         crate::laws::kinds_are_read();
@@ -208,9 +207,9 @@ impl<'a> Reader<'a> {
             ContentRead content opened.entry.is_empty t.fields around.entry self.old.source self.new.source s self.new.output) }
         ensures memory { CountsAllocFailureInPacket result memory.old memory.new }
         ensures rare { IsRare result }
-        ensures usual { (s : State) (t : Tag) (nodes : Nodes) (depth : ℕ) (l : values.Label) (v : Value) (y : List ℕ)
+        ensures accepts { (s : State) (t : Tag) (nodes : Nodes) (depth : ℕ) (l : values.Label) (v : Value) (y : List ℕ)
             → Has self.old.output (begun nothing s) → IsOpened self.old.source.scope opened.entry t
-            → IsAhead opened.entry.is_empty nodes self.old.source y → IsUsualTag t → IsUsualInside t nodes
+            → IsAhead opened.entry.is_empty nodes self.old.source y → TagFits t
             → HasValue around.entry.language.now around.entry.place t.fields nodes v
             → around.entry.depth ≡ suc depth → EntryFits depth l v → FailsByMemory result }
     {
@@ -257,9 +256,8 @@ impl<'a> Reader<'a> {
             ContentRead content is_empty [] around.entry self.old.source self.new.source s self.new.output) }
         ensures memory { CountsAllocFailureInPacket result memory.old memory.new }
         ensures rare { IsRare result }
-        ensures usual { (s : State) (nodes : Nodes) (depth : ℕ) (l : values.Label) (v : Value) (y : List ℕ)
+        ensures accepts { (s : State) (nodes : Nodes) (depth : ℕ) (l : values.Label) (v : Value) (y : List ℕ)
             → Has self.old.output (begun nothing s) → IsAhead is_empty nodes self.old.source y
-            → ((t : List ℕ) × IsText nodes t) ⊎ AreElements nodes
             → HasValue around.entry.language.now around.entry.place [] nodes v
             → around.entry.depth ≡ suc depth → EntryFits depth l v → FailsByMemory result }
     {
@@ -290,9 +288,9 @@ impl<'a> Reader<'a> {
             NodeRead node opened.entry t outer.entry.language.now outer.entry.depth self.old.source self.new.source s self.new.output) }
         ensures memory { CountsAllocFailureInPacket result memory.old memory.new }
         ensures rare { IsRare result }
-        ensures usual { (s : State) (t : Tag) (nodes : Nodes) (k : values.Compound) (c : values.Content) (y : List ℕ)
+        ensures accepts { (s : State) (t : Tag) (nodes : Nodes) (k : values.Compound) (c : values.Content) (y : List ℕ)
             → Has self.old.output (begun nothing s) → IsOpened self.old.source.scope opened.entry t
-            → IsAhead opened.entry.is_empty nodes self.old.source y → AreElements (Element t opened.entry.place nodes Nothing)
+            → IsAhead opened.entry.is_empty nodes self.old.source y → TagFits t
             → IsNode outer.entry.language.now (Element t opened.entry.place nodes Nothing) k c
             → InsideFits outer.entry.depth k c → FailsByMemory result }
     {

@@ -44,7 +44,7 @@ impl<'a> Around<'a> {
             a.language.now ≡ inherited self.entry.language.now (option_map (λ l. l.now) opened.entry.language)) }
         ensures place { IfSome result (λ a. a.place ≡ opened.entry.place) }
         ensures depth { IfSome result (λ a. a.depth ≡ self.entry.depth) }
-        ensures usual { LanguageFits (option_map (λ l. l.now) opened.entry.language) → is_some result ≡ true }
+        ensures accepts { LanguageFits (option_map (λ l. l.now) opened.entry.language) → is_some result ≡ true }
     {
         let Some(language) = language_of(opened.language, self.language) else {
             return None;
@@ -62,7 +62,7 @@ impl<'a> Around<'a> {
         ensures place { IfSome result (λ a. a.place ≡ self.entry.place) }
         ensures depth { IfSome result (λ a. a.depth ≡ suc self.entry.depth) }
         ensures within { IfSome result (λ a. a.depth ≤ limit) }
-        ensures usual { suc self.entry.depth ≤ limit → is_some result ≡ true }
+        ensures accepts { suc self.entry.depth ≤ limit → is_some result ≡ true }
     {
         if self.depth >= DEPTH_LIMIT {
             return None;

@@ -1,6 +1,7 @@
 //! The laws of packets. Each is the contract of a function that computes nothing.
 ghost use Rattle.px_xmp.specs.Laws.{FormIsItsOwn, FormsDecide, KindsAreRead, MeaningsAreReadable, NodesMeanOnce, NormalIsFile};
-ghost use Rattle.px_xmp.specs.Accepted.{FormsAreUsual};
+ghost use Rattle.px_xmp.specs.Accepted.{FormsFit};
+ghost use Rattle.px_xmp.specs.Refusals.{OneRefusal, RefusedIsNoFile};
 ghost use Rattle.px_xmp.specs.Laws.{NormalKeepsMeaning, NormalSays, OneMeaning, OnePacket, OneReading, ScopesAreJudged};
 
 /// Each mark of a document is read as what it is, and with its length.
@@ -102,11 +103,29 @@ pub fn form_is_its_own()
 }
 
 /// A normal form within the limits of this reader is a packet that it accepts, if memory suffices.
-pub fn forms_are_usual()
-    ensures { FormsAreUsual }
+pub fn forms_fit()
+    ensures { FormsFit }
 {
     px_xmp_text::laws::normal_reads_back();
     px_xmp_text::laws::normal_bound();
     px_xmp_text::laws::fault_or_text();
     normal_is_file();
+}
+
+/// A packet that is refused before RDF is judged is so at one place, by one cause.
+pub fn one_refusal()
+    ensures { OneRefusal }
+{
+    px_xmp_marks::laws::declarations_are_read();
+    px_xmp_document::laws::one_fault();
+}
+
+/// A packet whose document RDF refuses is refused by nothing before.
+pub fn refused_is_no_file()
+    ensures { RefusedIsNoFile }
+{
+    px_xmp_marks::laws::marks_are_read();
+    px_xmp_marks::laws::start_tags_are_read();
+    px_xmp_marks::laws::declarations_are_read();
+    px_xmp_document::laws::one_fault();
 }

@@ -6,14 +6,16 @@
 //!
 //! It is proved that a packet with a form is a document, that this document has a meaning by the productions of RDF/XML that
 //! XMP has, and that the form is the normal packet of this meaning. So two packets with equal forms mean the same, and with
-//! different forms don't. A packet that is refused by a cause that is not rare is proved to have no such meaning. That each
-//! packet with a meaning in the usual forms is accepted, and which fault of RDF is the first, are tested, and no contract states
-//! them.
+//! different forms don't. Each packet with such a meaning, within limits of its length, its depth and its languages, is proved
+//! to be accepted if memory suffices. A packet that is refused by a cause that is not rare has no such meaning, and each refusal
+//! is one of the first layer with a fault, before RDF at its place. Which fault of RDF is the first is tested, and no contract
+//! states it.
 #![tactic(auto)]
 
 mod attributes;
 mod causes;
 mod content;
+mod crowded;
 mod elements;
 pub mod laws;
 mod marks;
@@ -23,9 +25,11 @@ mod packet;
 mod reader;
 mod root;
 mod scope;
+mod showing;
 mod source;
 mod subject;
 mod why;
 
-pub use packet::{check_in, normal_form_in, unsorted_form_in};
+pub use packet::{check_in, normal_form_in};
 pub use px_xmp_forms::{Cause, LIMIT, Refusal};
+pub use showing::unsorted_form_in;

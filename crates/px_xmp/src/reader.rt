@@ -8,12 +8,11 @@ ghost use Rattle.px_xmp_forms.specs.Outputs.{State, Open, Has, begun, nothing};
 ghost use Rattle.px_xmp_text.specs.Texts.{normal_text};
 ghost use Rattle.px_xmp.specs.Nodes.{Nodes};
 ghost use Rattle.px_xmp.specs.Meaning.{IsText};
-ghost use Rattle.px_xmp.specs.Usual.{AreElements};
 ghost use Rattle.px_xmp_forms.specs.declared.items.BagOrder.TheVariants.{Sorted};
 ghost use Rattle.px_xmp.specs.Reading.{kind_view};
 ghost use Rattle.px_xmp.specs.calls.Steps.{IsLeft};
 ghost use Rattle.px_xmp.specs.calls.Contents.{PutsWords, TextRead};
-ghost use Rattle.px_xmp.specs.calls.Fits.{IsAhead, WordsFit};
+ghost use Rattle.px_xmp.specs.calls.Fits.{HasElement, IsAhead, WordsFit};
 
 use crate::elements::{Around, Opened};
 use crate::marks::MarkKind;
@@ -39,7 +38,7 @@ fn put_words(
     ensures value { (s : State) → Has output.old s → IfOk result (λ more. PutsWords (kind_view kind.entry) s more output.new) }
     ensures memory { CountsAllocFailureInPacket result memory.old memory.new }
     ensures rare { IsRare result }
-    ensures usual { (s : State) (o : Open) (os : List Open) → Has output.old s → s.opened ≡ o ∷ os
+    ensures accepts { (s : State) (o : Open) (os : List Open) → Has output.old s → s.opened ≡ o ∷ os
         → WordsFit (kind_view kind.entry) (length (normal_text o.text)) → FailsByMemory result }
 {
     match kind {
@@ -81,10 +80,11 @@ impl<'a> Reader<'a> {
         ensures rare { IsRare result }
         ensures text { (s : State) (nodes : Nodes) (t y : List ℕ) → Has self.old.output (begun nothing s)
             → IsAhead false nodes self.old.source y → IsText nodes t → length (normal_text t) ≤ most → FailsByMemory result }
-        ensures elements { (s : State) (nodes : Nodes) (y : List ℕ) → Has self.old.output (begun nothing s)
-            → IsAhead false nodes self.old.source y → AreElements nodes → FailsByMemory result }
+        ensures node { (s : State) (nodes : Nodes) (y : List ℕ) → Has self.old.output (begun nothing s)
+            → IsAhead false nodes self.old.source y → HasElement nodes → FailsByMemory result }
     {
         crate::laws::kinds_are_read();
+        px_xmp_text::laws::only_references_are_read();
         let mut says = false;
         'marks: loop {
             let place = self.source.at;

@@ -1,22 +1,23 @@
 // Reads the root of a document, and rdf:RDF. XMP part 1, 7.
-ghost use Rattle.std.specs.Prelude.{◌≡◌, ◌≤◌, ◌<◌, ℕ, List, [], Option, None, false, codes, length, OnOk};
+ghost use Rattle.std.specs.Prelude.{◌≡◌, ◌≤◌, ◌<◌, ◌++◌, ◌∷◌, ℕ, List, [], Option, None, false, codes, length, OnOk};
 ghost use Rattle.px_xmp_text.specs.Values.{Content, End};
 ghost use Rattle.px_xmp_marks.specs.Reading.{Attr, next_view};
 ghost use Rattle.px_xmp_forms.specs.Allocations.{CountsAllocFailureInPacket};
 ghost use Rattle.px_xmp_forms.specs.Causes.{IsRare, IfWrong, FailsByMemory};
+ghost use Rattle.px_xmp.specs.Refusals.{IsOfRdf};
 ghost use Rattle.px_xmp_forms.specs.Entries.{Entry};
 ghost use Rattle.px_xmp_forms.specs.Outputs.{State, Has};
 ghost use Rattle.px_xmp.specs.Tags.{Tag, field_of, fields_in};
 ghost use Rattle.px_xmp.specs.Names.{is_rdf};
 ghost use Rattle.px_xmp.specs.Nodes.{Nodes, AreNodes};
-ghost use Rattle.px_xmp.specs.Meaning.{AreSubjects, IsRdf, IsRoot, HasRdf, Means};
-ghost use Rattle.px_xmp.specs.Usual.{IsUsualTag, AreUsual, AreElements};
+ghost use Rattle.px_xmp.specs.Meaning.{AreAttributes, without_about, AreSubjects, IsRdf, IsRoot, HasRdf, Means};
 ghost use Rattle.px_xmp.specs.calls.Listed.{AreListed};
 ghost use Rattle.px_xmp.specs.calls.Opening.{IsOpened};
 ghost use Rattle.px_xmp.specs.calls.Steps.{IsLeft, HasInside};
 ghost use Rattle.px_xmp.specs.calls.Roots.{IsNew, AttributeRead, AttributesRead, SubjectRead, SubjectsRead};
 ghost use Rattle.px_xmp.specs.calls.Roots.{RdfRead, AroundRead, RootRead, DocumentRead};
-ghost use Rattle.px_xmp.specs.calls.Fits.{IsAhead, IsUsualInside, IsSilentSubject, ContentFits, AreFit, IsSilent, AreSilent};
+ghost use Rattle.px_xmp.specs.calls.Fits.{FieldFits, FieldsFit, TagFits, NodesFit, SubjectFits, IsAhead, IsSubjectNode};
+ghost use Rattle.px_xmp.specs.calls.Fits.{ContentFits, AreFit};
 
 use crate::attributes::next_plain;
 use crate::elements::{Around, Node, Opened, SUBJECT_DEPTH};
@@ -43,7 +44,11 @@ impl<'a> Reader<'a> {
             subject.old subject.new self.new.output) }
         ensures memory { CountsAllocFailureInPacket result memory.old memory.new }
         ensures rare { IsRare result }
-        ensures usual { IsSilent (field_of self.old.source.scope (next_view next.entry).attribute) → FailsByMemory result }
+        ensures accepts { (es : List Entry) → AreAttributes around.entry.language.now around.entry.place
+            (without_about (field_of self.old.source.scope (next_view next.entry).attribute ∷ [])) es → AreFit around.entry.depth es
+            → FieldFits (field_of self.old.source.scope (next_view next.entry).attribute) → SubjectFits subject.old → FailsByMemory result }
+        ensures fits { FieldFits (field_of self.old.source.scope (next_view next.entry).attribute) → SubjectFits subject.old
+            → OnOk result (SubjectFits subject.new) }
     {
         let name = self.source.scope.attribute(next.attribute.name);
         if name.is_about() {
@@ -66,8 +71,12 @@ impl<'a> Reader<'a> {
             subject.old subject.new self.new.output) }
         ensures memory { CountsAllocFailureInPacket result memory.old memory.new }
         ensures rare { IsRare result }
-        ensures usual { (all : List Attr) → AreListed attributes.now all → AreSilent (fields_in self.old.source.scope all)
+        ensures accepts { (all : List Attr) (es : List Entry) → AreListed attributes.now all
+            → AreAttributes around.entry.language.now around.entry.place (without_about (fields_in self.old.source.scope all)) es
+            → AreFit around.entry.depth es → FieldsFit (fields_in self.old.source.scope all) → SubjectFits subject.old
             → FailsByMemory result }
+        ensures fits { (all : List Attr) → AreListed attributes.now all → FieldsFit (fields_in self.old.source.scope all)
+            → SubjectFits subject.old → OnOk result (SubjectFits subject.new) }
     {
         let mut found = next_plain(attributes);
         while let Some(next) = found {
@@ -92,9 +101,12 @@ impl<'a> Reader<'a> {
             self.new.output) }
         ensures memory { CountsAllocFailureInPacket result memory.old memory.new }
         ensures rare { IsRare result }
-        ensures usual { (s : State) (t : Tag) (nodes : Nodes) (es : List Entry) (y : List ℕ) → Has self.old.output s
-            → IsOpened self.old.source.scope opened.entry t → IsAhead opened.entry.is_empty nodes self.old.source y
-            → IsSilentSubject outer.entry.language.now t nodes es → AreFit outer.entry.depth es → FailsByMemory result }
+        ensures accepts { (s : State) (t : Tag) (nodes : Nodes) (fs es : List Entry) (y : List ℕ) → Has self.old.output s
+            → IsOpened self.old.source.scope opened.entry t → IsAhead opened.entry.is_empty nodes self.old.source y → TagFits t
+            → IsSubjectNode outer.entry.language.now opened.entry.place t nodes fs es → AreFit outer.entry.depth (fs ++ es)
+            → SubjectFits subject.old → FailsByMemory result }
+        ensures fits { (t : Tag) → IsOpened self.old.source.scope opened.entry t → TagFits t → SubjectFits subject.old
+            → OnOk result (SubjectFits subject.new) }
     {
         if !opened.name.is_rdf(b"Description") {
             return Err(Cause::RareElement.at(opened.place));
@@ -122,9 +134,9 @@ impl<'a> Reader<'a> {
             self.new.output) }
         ensures memory { CountsAllocFailureInPacket result memory.old memory.new }
         ensures rare { IsRare result }
-        ensures usual { (s : State) (nodes : Nodes) (u : Option (List ℕ)) (es : List Entry) (y : List ℕ) → Has self.old.output s
-            → IsAhead opened.entry.is_empty nodes self.old.source y → AreElements nodes
-            → AreSubjects u around.entry.language.now nodes es → AreFit around.entry.depth es → FailsByMemory result }
+        ensures accepts { (s : State) (nodes : Nodes) (u : Option (List ℕ)) (es : List Entry) (y : List ℕ) → Has self.old.output s
+            → IsAhead opened.entry.is_empty nodes self.old.source y → AreSubjects u around.entry.language.now nodes es
+            → AreFit around.entry.depth es → SubjectFits subject.old → FailsByMemory result }
     {
         crate::laws::kinds_are_read();
         if opened.is_empty {
@@ -149,12 +161,13 @@ impl<'a> Reader<'a> {
             → IsLeft self.old.source.at self.old.source.rest.now → IsNew subject.old → IsOpened self.old.source.scope opened.entry t
             → OnOk result (RdfRead opened.entry t self.old.source self.new.source subject.new self.new.output) }
         ensures memory { CountsAllocFailureInPacket result memory.old memory.new }
+        ensures rdf { IsOfRdf result }
         ensures refused { (t : Tag) → IsOpened self.old.source.scope opened.entry t
             → IfWrong result (is_rdf (codes "RDF") t.name ≡ false) }
-        ensures usual { (t : Tag) (nodes : Nodes) (c : Content) (y : List ℕ)
+        ensures accepts { (t : Tag) (nodes : Nodes) (c : Content) (y : List ℕ)
             → Has self.old.output (record { opened = []; properties = End }) → IsNew subject.old
             → IsOpened self.old.source.scope opened.entry t → IsAhead opened.entry.is_empty nodes self.old.source y
-            → IsUsualTag t → IsUsualInside t nodes → IsRdf t nodes c → ContentFits 3 c → FailsByMemory result }
+            → TagFits t → IsRdf t nodes c → ContentFits 3 c → FailsByMemory result }
     {
         crate::laws::kinds_are_read();
         px_xmp_text::laws::packet_is_injective();
@@ -191,13 +204,13 @@ impl<'a> Reader<'a> {
             → IsLeft self.old.source.at self.old.source.rest.now → IsNew subject.old → OnOk result
             (AroundRead self.old.source self.new.source subject.new self.new.output) }
         ensures memory { CountsAllocFailureInPacket result memory.old memory.new }
+        ensures rdf { IsOfRdf result }
         ensures refused { (nodes : Nodes) (c : Content) (y : List ℕ) → Has self.old.output (record { opened = []; properties = End })
             → IsLeft self.old.source.at self.old.source.rest.now → IsNew subject.old
             → HasInside false nodes self.old.source.scope self.old.source.at self.old.source.rest.now y
             → IfWrong result (HasRdf nodes c → ⊥) }
-        ensures usual { (nodes : Nodes) (c : Content) (y : List ℕ) → Has self.old.output (record { opened = []; properties = End })
-            → IsNew subject.old → IsAhead false nodes self.old.source y → AreElements nodes → HasRdf nodes c → ContentFits 3 c
-            → FailsByMemory result }
+        ensures accepts { (nodes : Nodes) (c : Content) (y : List ℕ) → Has self.old.output (record { opened = []; properties = End })
+            → IsNew subject.old → IsAhead false nodes self.old.source y → HasRdf nodes c → ContentFits 3 c → FailsByMemory result }
     {
         crate::laws::kinds_are_read();
         let Some(inner) = self.source.next_tag(memory, Cause::NoRdf)? else {
@@ -221,15 +234,16 @@ impl<'a> Reader<'a> {
             → IsLeft self.old.source.at self.old.source.rest.now → IsNew subject.old → IsOpened self.old.source.scope opened.entry t
             → OnOk result (RootRead opened.entry t self.old.source self.new.source subject.new self.new.output) }
         ensures memory { CountsAllocFailureInPacket result memory.old memory.new }
+        ensures rdf { IsOfRdf result }
         ensures refused { (t : Tag) (nodes : Nodes) (c : Content) (y : List ℕ)
             → Has self.old.output (record { opened = []; properties = End })
             → IsLeft self.old.source.at self.old.source.rest.now → IsNew subject.old → IsOpened self.old.source.scope opened.entry t
             → HasInside opened.entry.is_empty nodes self.old.source.scope self.old.source.at self.old.source.rest.now y
             → IfWrong result (IsRoot t nodes c → ⊥) }
-        ensures usual { (t : Tag) (nodes : Nodes) (c : Content) (y : List ℕ)
+        ensures accepts { (t : Tag) (nodes : Nodes) (c : Content) (y : List ℕ)
             → Has self.old.output (record { opened = []; properties = End }) → IsNew subject.old
             → IsOpened self.old.source.scope opened.entry t → IsAhead opened.entry.is_empty nodes self.old.source y
-            → IsUsualTag t → IsUsualInside t nodes → IsRoot t nodes c → ContentFits 3 c → FailsByMemory result }
+            → TagFits t → IsRoot t nodes c → ContentFits 3 c → FailsByMemory result }
     {
         if !opened.name.is_root() {
             return self.read_rdf(memory, subject, opened);
@@ -252,6 +266,7 @@ impl<'a> Reader<'a> {
             → IsLeft self.old.source.at self.old.source.rest.now → IsNew subject.old
             → OnOk result (subject.new.other ≡ None → DocumentRead self.old.source self.new.output) }
         ensures memory { CountsAllocFailureInPacket result memory.old memory.new }
+        ensures rdf { IsOfRdf result }
         ensures refused { (nodes : Nodes) (c : Content) → Has self.old.output (record { opened = []; properties = End })
             → IsLeft self.old.source.at self.old.source.rest.now → IsNew subject.old
             → AreNodes nodes self.old.source.scope self.old.source.at self.old.source.rest.now []
@@ -260,10 +275,10 @@ impl<'a> Reader<'a> {
             → IsLeft self.old.source.at self.old.source.rest.now → IsNew subject.old
             → AreNodes nodes self.old.source.scope self.old.source.at self.old.source.rest.now []
             → OnOk result (Means nodes c → subject.new.other ≡ None) }
-        ensures usual { (nodes : Nodes) (c : Content) → Has self.old.output (record { opened = []; properties = End })
+        ensures accepts { (nodes : Nodes) (c : Content) → Has self.old.output (record { opened = []; properties = End })
             → IsLeft self.old.source.at self.old.source.rest.now → IsNew subject.old
             → AreNodes nodes self.old.source.scope self.old.source.at self.old.source.rest.now []
-            → Means nodes c → AreElements nodes → AreUsual self.old.source.rest.now → ContentFits 3 c → FailsByMemory result }
+            → NodesFit nodes → Means nodes c → ContentFits 3 c → FailsByMemory result }
     {
         crate::laws::kinds_are_read();
         let place = self.source.at;

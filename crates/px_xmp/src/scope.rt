@@ -1,13 +1,12 @@
 // What prefixes stand for. Namespaces in XML 1.0, 6.
 ghost use Rattle.std.specs.Prelude.{◌≡◌, ◌≤◌, ◌∷◌, [], List, Some, length, option_map, if◌then◌else◌, OnOk, IfOk, MatchOption};
-ghost use Rattle.px_xmp_marks.specs.Reading.{Attr, name_view, attribute_view};
+ghost use Rattle.px_xmp_marks.specs.Reading.{Attr, name_view};
 ghost use Rattle.px_xmp_spaces.specs.Scopes.{built_in, space_of, ended};
 ghost use Rattle.px_xmp_spaces.specs.Bindings.{declared_prefix};
 ghost use Rattle.px_xmp_forms.specs.Allocations.{CountsAllocFailureInPacket};
 ghost use Rattle.px_xmp_forms.specs.Causes.{IsRare, FailsByMemory};
 ghost use Rattle.px_xmp.specs.Names.{or_none, element_name, attribute_name};
 ghost use Rattle.px_xmp.specs.Tags.{names_language, is_plain, with_prefix, inside, tag_of};
-ghost use Rattle.px_xmp.specs.Usual.{IsUsualSpace, HaveUsualSpaces};
 ghost use Rattle.px_xmp.specs.calls.Entries.{entry_view, entries_of};
 ghost use Rattle.px_xmp.specs.calls.Listed.{AreListed, first_after, or_rest};
 ghost use Rattle.px_xmp.specs.calls.Opening.{name_of, IsDeclared, IsOpened};
@@ -16,7 +15,7 @@ use crate::attributes::{declared_prefix, is_plain, names_language};
 use crate::elements::Opened;
 use crate::names::{Named, XML, XMLNS};
 use px_bytes::Memory;
-use px_xmp_forms::{Cause, Refusal, is_rare_space};
+use px_xmp_forms::Refusal;
 use px_xmp_marks::{Attribute, Name, StartTag, next_attribute};
 use std::marker::Model;
 
@@ -148,48 +147,33 @@ impl<'a> Scope<'a> {
         ensures items { OnOk result (self.new ≡ entry_view entry.entry ∷ self.old) }
         ensures memory { CountsAllocFailureInPacket result memory.old memory.new }
         ensures rare { IsRare result }
-        ensures usual { FailsByMemory result }
+        ensures accepts { FailsByMemory result }
     {
         memory.push(&mut self.entries, entry)?;
         Ok(())
     }
 
     // Binds what an attribute declares.
-    fn declare(
-        &mut self,
-        memory: &mut Memory,
-        attribute: Attribute<'a>,
-        place: usize,
-    ) -> Result<(), Refusal>
+    fn declare(&mut self, memory: &mut Memory, attribute: Attribute<'a>) -> Result<(), Refusal>
         ensures items { OnOk result (self.new
             ≡ with_prefix (declared_prefix (name_view attribute.entry.name)) attribute.entry.value.now self.old) }
         ensures memory { CountsAllocFailureInPacket result memory.old memory.new }
         ensures rare { IsRare result }
-        ensures usual { IsUsualSpace (declared_prefix (name_view attribute.entry.name)) attribute.entry.value.now
-            → FailsByMemory result }
+        ensures accepts { FailsByMemory result }
     {
         let Some(prefix) = declared_prefix(attribute.name) else {
             return Ok(());
         };
-        let space = attribute.value;
-        if !space.is_empty() && is_rare_space(space) {
-            return Err(Cause::RareNamespace.at(place));
-        }
-        self.put(memory, Entry::Declaration(prefix, space))
+        self.put(memory, Entry::Declaration(prefix, attribute.value))
     }
 
     // Opens an element, and binds what its attributes declare.
-    fn open(
-        &mut self,
-        memory: &mut Memory,
-        attributes: &'a [u8],
-        place: usize,
-    ) -> Result<Declared<'a>, Refusal>
+    fn open(&mut self, memory: &mut Memory, attributes: &'a [u8]) -> Result<Declared<'a>, Refusal>
         ensures items { (all : List Attr) → AreListed attributes.now all → OnOk result (self.new ≡ inside self.old all) }
         ensures tag { (all : List Attr) → AreListed attributes.now all → IfOk result (λ d. IsDeclared d all) }
         ensures memory { CountsAllocFailureInPacket result memory.old memory.new }
         ensures rare { IsRare result }
-        ensures usual { (all : List Attr) → AreListed attributes.now all → HaveUsualSpaces all → FailsByMemory result }
+        ensures accepts { FailsByMemory result }
     {
         px_xmp_marks::laws::attributes_in_order();
         self.put(memory, Entry::Element)?;
@@ -199,7 +183,7 @@ impl<'a> Scope<'a> {
         };
         let mut rest = attributes;
         while let Some(next) = next_attribute(rest) {
-            self.declare(memory, next.attribute, place)?;
+            self.declare(memory, next.attribute)?;
             noted = Noted {
                 language: noted.language_after(next.attribute),
                 first: noted.first_after(next.attribute.name, rest),
@@ -223,9 +207,9 @@ impl<'a> Scope<'a> {
         ensures place { IfOk result (λ o. o.place ≡ place) }
         ensures memory { CountsAllocFailureInPacket result memory.old memory.new }
         ensures rare { IsRare result }
-        ensures usual { (all : List Attr) → AreListed tag.entry.rest.now all → HaveUsualSpaces all → FailsByMemory result }
+        ensures accepts { FailsByMemory result }
     {
-        let declared = self.open(memory, tag.rest, place)?;
+        let declared = self.open(memory, tag.rest)?;
         Ok(Opened {
             name: self.element(tag.name),
             attributes: declared.attributes,

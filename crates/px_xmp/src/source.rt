@@ -2,15 +2,16 @@
 ghost use Rattle.std.specs.Prelude.{◌≡◌, ◌≤◌, ◌<◌, ℕ, List, [], true, false, length, is_some, OnOk, IfOk, IfSome};
 ghost use Rattle.px_xmp_marks.specs.Declarations.{every};
 ghost use Rattle.px_xmp_forms.specs.Allocations.{CountsAllocFailureInPacket};
-ghost use Rattle.px_xmp_forms.specs.Causes.{is_rare, IsRare, IfWrong, FailsByMemory};
+ghost use Rattle.px_xmp_forms.specs.Causes.{is_rare_in_rdf, IsRare, IfWrong, FailsByMemory};
+ghost use Rattle.px_xmp.specs.Refusals.{IsCauseOfRdf, IsOfRdf};
 ghost use Rattle.px_xmp_forms.specs.Forms.{is_white};
-ghost use Rattle.px_xmp.specs.Nodes.{Nodes, Nothing, AreNodes};
+ghost use Rattle.px_xmp.specs.Nodes.{Nodes, AreNodes};
 ghost use Rattle.px_xmp.specs.Meaning.{AreWhite};
 ghost use Rattle.px_xmp.specs.Reading.{Words, kind_view};
-ghost use Rattle.px_xmp.specs.Marks.{Mark, End};
+ghost use Rattle.px_xmp.specs.Marks.{Mark};
 ghost use Rattle.px_xmp.specs.calls.Steps.{IsLeft, IsFirst, HasInside, Says, Next, TagAfter, EndRead, AfterRead, is_plain_space};
 ghost use Rattle.px_xmp.specs.calls.Refused.{IsOther, BeginsWithText};
-ghost use Rattle.px_xmp.specs.calls.Fits.{BeginsWithTag};
+ghost use Rattle.px_xmp.specs.calls.Fits.{HasTag, SaysWhite};
 
 use crate::elements::Opened;
 use crate::marks::{MarkKind, Text, read_mark};
@@ -61,10 +62,12 @@ impl<'a> Source<'a> {
         ensures read { IsLeft self.old.at self.old.rest.now
             → IfOk result (λ o. (white : Nodes) × AreWhite white × TagAfter o white self.old self.new) }
         ensures memory { CountsAllocFailureInPacket result memory.old memory.new }
-        ensures rare { is_rare other ≡ true → IsRare result }
+        ensures rare { is_rare_in_rdf other ≡ true → IsRare result }
+        ensures rdf { IsCauseOfRdf other → IsOfRdf result }
         ensures refused { IsLeft self.old.at self.old.rest.now
             → IfWrong result (BeginsWithText self.old.scope self.old.at self.old.rest.now) }
-        ensures usual { IsLeft self.old.at self.old.rest.now → BeginsWithTag self.old.rest.now → FailsByMemory result }
+        ensures accepts { (nodes : Nodes) (y : List ℕ) → IsLeft self.old.at self.old.rest.now
+            → AreNodes nodes self.old.scope self.old.at self.old.rest.now y → HasTag nodes y → FailsByMemory result }
     {
         crate::laws::kinds_are_read();
         'marks: loop {
@@ -88,8 +91,8 @@ impl<'a> Source<'a> {
         ensures read { IsLeft self.old.at self.old.rest.now → OnOk result (EndRead false self.old self.new) }
         ensures memory { CountsAllocFailureInPacket result memory.old memory.new }
         ensures rare { IsRare result }
-        ensures usual { (y : List ℕ) → IsLeft self.old.at self.old.rest.now → IsFirst End self.old.rest.now y
-            → FailsByMemory result }
+        ensures accepts { (nodes : Nodes) (y : List ℕ) → IsLeft self.old.at self.old.rest.now → AreWhite nodes
+            → HasInside false nodes self.old.scope self.old.at self.old.rest.now y → FailsByMemory result }
     {
         crate::laws::kinds_are_read();
         match self.next_tag(memory, Cause::RareText)? {
@@ -109,8 +112,8 @@ impl<'a> Source<'a> {
         ensures read { IsLeft self.old.at self.old.rest.now → OnOk result (EndRead is_empty self.old self.new) }
         ensures memory { CountsAllocFailureInPacket result memory.old memory.new }
         ensures rare { IsRare result }
-        ensures usual { (y : List ℕ) → IsLeft self.old.at self.old.rest.now
-            → HasInside is_empty Nothing self.old.scope self.old.at self.old.rest.now y → FailsByMemory result }
+        ensures accepts { (nodes : Nodes) (y : List ℕ) → IsLeft self.old.at self.old.rest.now → AreWhite nodes
+            → HasInside is_empty nodes self.old.scope self.old.at self.old.rest.now y → FailsByMemory result }
     {
         if is_empty {
             return Ok(());
@@ -122,9 +125,11 @@ impl<'a> Source<'a> {
     pub(crate) fn read_after(&mut self, memory: &mut Memory) -> Result<(), Refusal>
         ensures read { IsLeft self.old.at self.old.rest.now → OnOk result (AfterRead self.old) }
         ensures memory { CountsAllocFailureInPacket result memory.old memory.new }
+        ensures rdf { IsOfRdf result }
         ensures refused { (nodes : Nodes) → IsLeft self.old.at self.old.rest.now
             → AreNodes nodes self.old.scope self.old.at self.old.rest.now [] → IfWrong result (AreWhite nodes → ⊥) }
-        ensures usual { self.old.rest.now ≡ [] → FailsByMemory result }
+        ensures accepts { (nodes : Nodes) → IsLeft self.old.at self.old.rest.now
+            → AreNodes nodes self.old.scope self.old.at self.old.rest.now [] → AreWhite nodes → FailsByMemory result }
     {
         crate::laws::kinds_are_read();
         while !self.rest.is_empty() {
@@ -161,12 +166,15 @@ fn are_plain_spaces(octets: &[u8]) -> bool
 fn judge_blank(memory: &mut Memory, text: Text, other: Cause, place: usize) -> Result<(), Refusal>
     ensures says { OnOk result ((t : List ℕ) × Says (Words text.entry.kind text.entry.octets.now) t × (is_white t ≡ true)) }
     ensures memory { CountsAllocFailureInPacket result memory.old memory.new }
-    ensures rare { is_rare other ≡ true → IsRare result }
+    ensures rare { is_rare_in_rdf other ≡ true → IsRare result }
+    ensures rdf { IsCauseOfRdf other → IsOfRdf result }
     ensures refused { IfWrong result (IsOther (Words text.entry.kind text.entry.octets.now)) }
+    ensures accepts { SaysWhite (Words text.entry.kind text.entry.octets.now) → FailsByMemory result }
 {
     if text.kind == TextKind::CharacterData && are_plain_spaces(text.octets) {
         return Ok(());
     }
+    px_xmp_text::laws::only_references_are_read();
     let mut form = memory.list();
     append_text(memory, &mut form, text.octets, text.kind)?;
     if is_blank(form.as_slice()) {
@@ -184,7 +192,9 @@ fn judge_white(
 ) -> Result<(), Refusal>
     ensures says { OnOk result ((t : List ℕ) × Says (kind_view kind.entry) t × (is_white t ≡ true)) }
     ensures memory { CountsAllocFailureInPacket result memory.old memory.new }
+    ensures rdf { IsCauseOfRdf other → IsOfRdf result }
     ensures refused { IfWrong result (IsOther (kind_view kind.entry)) }
+    ensures accepts { SaysWhite (kind_view kind.entry) → FailsByMemory result }
 {
     match kind {
         MarkKind::Text(text) => judge_blank(memory, text, other, place),

@@ -1,8 +1,10 @@
 // The subject of a packet.
-ghost use Rattle.std.specs.Prelude.{◌≡◌, [], OnOk};
+ghost use Rattle.std.specs.Prelude.{◌≤◌, length, OnOk};
+ghost use Rattle.px_bytes.specs.Parts.{limit};
 ghost use Rattle.px_xmp_forms.specs.Allocations.{CountsAllocFailureInPacket};
 ghost use Rattle.px_xmp_forms.specs.Causes.{IsRare, FailsByMemory};
 ghost use Rattle.px_xmp.specs.calls.Roots.{IsAbout, Keeps, Stays};
+ghost use Rattle.px_xmp.specs.calls.Fits.{SubjectFits};
 
 use px_bytes::Memory;
 use px_xmp_forms::{Refusal, same_text};
@@ -28,7 +30,8 @@ impl<'a> Subject<'a> {
         ensures only { OnOk result (Stays self.old self.new (IsAbout value.now)) }
         ensures memory { CountsAllocFailureInPacket result memory.old memory.new }
         ensures rare { IsRare result }
-        ensures usual { value.now ≡ [] → FailsByMemory result }
+        ensures accepts { length value.now ≤ limit → SubjectFits self.old → FailsByMemory result }
+        ensures fits { length value.now ≤ limit → SubjectFits self.old → OnOk result (SubjectFits self.new) }
     {
         if value.is_empty() || self.other.is_some() {
             return Ok(());

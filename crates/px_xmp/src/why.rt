@@ -1,4 +1,7 @@
 // Why no mark begins at a place: of XML, or of names that are for another reader.
+ghost use Rattle.std.specs.Prelude.{◌≡◌, true};
+ghost use Rattle.px_xmp.specs.Refusals.{is_unread, IsMarkCause};
+
 use px_xmp_forms::Cause;
 use px_xmp_marks::{len_before, next_attribute, read_name};
 use px_xmp_text::{TextKind, first_fault};
@@ -55,7 +58,9 @@ fn has_bad_value(octets: &[u8]) -> bool {
 }
 
 // Why no attribute begins after some octets of a tag.
-fn attribute_cause(octets: &[u8]) -> Cause {
+fn attribute_cause(octets: &[u8]) -> Cause
+    ensures { is_unread result ≡ true }
+{
     let name = after_space(octets);
     if has_rare_name(name) {
         return Cause::RareName;
@@ -77,7 +82,9 @@ fn unread_rest(octets: &[u8]) -> &[u8] {
 }
 
 // Why no tag begins with what follows `<` or `</`.
-fn tag_cause(octets: &[u8]) -> Cause {
+fn tag_cause(octets: &[u8]) -> Cause
+    ensures { is_unread result ≡ true }
+{
     if has_rare_name(octets) {
         return Cause::RareName;
     }
@@ -88,7 +95,9 @@ fn tag_cause(octets: &[u8]) -> Cause {
 }
 
 // Why no character data is at the start.
-fn data_cause(octets: &[u8]) -> Cause {
+fn data_cause(octets: &[u8]) -> Cause
+    ensures { is_unread result ≡ true }
+{
     let data = octets.split_at(len_before(octets, b'<')).0;
     match first_fault(data, TextKind::CharacterData) {
         Some(_) => Cause::BadReference,
@@ -97,7 +106,9 @@ fn data_cause(octets: &[u8]) -> Cause {
 }
 
 // Why no mark begins with some octets, which are not empty.
-pub(crate) fn mark_cause(octets: &[u8]) -> Cause {
+pub(crate) fn mark_cause(octets: &[u8]) -> Cause
+    ensures { IsMarkCause octets.now result }
+{
     if !octets.starts_with(b"<") {
         return data_cause(octets);
     }

@@ -1,8 +1,8 @@
--- Tags with more attributes than this reader judges.
-use Rattle.std.specs.Prelude.{◌≡◌, ◌≤◌, ◌<◌, ◌++◌, ℕ, Bool, true, false, Option, Some, None, List, length, drop}
-use Rattle.px_xmp_marks.specs.Reading.{Named, Attr}
-use Rattle.px_xmp_marks.specs.Grammar.{IsStartTag}
-use Rattle.px_xmp_marks.specs.Marks.{AreMarks}
+-- Tags with more attributes than this reader judges: how they are found.
+use Rattle.std.specs.Prelude.{◌≡◌, ◌≤◌, ◌<◌, ◌+◌, ◌-◌, ◌==◌, ℕ, suc, if◌then◌else◌, Bool, true, false}
+use Rattle.std.specs.Prelude.{Option, Some, None, List, [], ◌∷◌, length, take, drop}
+use Rattle.std.specs.List.{list_any}
+use Rattle.px_xmp_marks.specs.Reading.{Attr}
 use Rattle.px_xmp_marks.specs.declared.tags.StartTag.{StartTag}
 use Rattle.px_xmp_spaces.specs.Tags.{attribute_limit}
 use Rattle.px_xmp.specs.calls.Listed.{AreListed}
@@ -17,15 +17,19 @@ abbrev pub HasMany : Option StartTag → Bool → Type 0
 HasMany None many = many ≡ false
 HasMany (Some t) many = (attributes : List Attr) → AreListed t.rest.now attributes → AreMany many attributes
 
--- the octets before the offset n are marks in a row, and a tag with more attributes follows them
-pub record IsCrowded (x : List ℕ) (n : ℕ) : Type 0 where
-  pub marks : List (List ℕ)
-  pub before : AreMarks marks x (drop n x)
-  pub name : Named
-  pub attributes : List Attr
-  pub empty : Bool
-  pub tag : List ℕ
-  pub rest : List ℕ
-  pub is_tag : IsStartTag tag name attributes empty
-  pub whole : drop n x ≡ tag ++ rest
-  pub many : attribute_limit < length attributes
+-- ---- where such tags can be
+
+-- octets have an octet c
+abbrev pub has : ℕ → List ℕ → Bool
+has c x = list_any (λ o. o == c) x
+
+abbrev pub equals_signs : List ℕ → ℕ
+equals_signs [] = 0
+equals_signs (o ∷ x) = if o == 61 then suc (equals_signs x) else equals_signs x
+
+-- an equals sign at the offset n, with w octets from it on, and as many up to it or all that there are, and no `<` in these
+pub record IsInRun (w : ℕ) (x : List ℕ) (n : ℕ) : Type 0 where
+  pub sign : take 1 (drop n x) ≡ 61 ∷ []
+  pub within : n + w ≤ length x
+  pub before : has 60 (drop (n + 1 - w) (take n x)) ≡ false
+  pub after : has 60 (take w (drop n x)) ≡ false

@@ -1,80 +1,97 @@
 -- What a call surely reads: what is left of the octets, and values that the output has room for.
-use Rattle.std.specs.Prelude.{◌≡◌, ◌≤◌, ◌⊎◌, ℕ, suc, Bool, true, codes, Option, List, [], ◌∷◌, ⊤, length}
+use Rattle.std.specs.Prelude.{◌≡◌, ◌≤◌, ◌⊎◌, ℕ, suc, Bool, true, codes, Option, Some, List, [], ◌∷◌, option_map, ⊤, length}
 use Rattle.std.specs.List.{AllByRecursion}
 use Rattle.px_xmp_text.specs.declared.pieces.TextKind.TheVariants.{AttributeValue}
+use Rattle.px_xmp_text.specs.Texts.{text_of}
 use Rattle.px_xmp_text.specs.Values as values
 use Rattle.px_xmp_text.specs.Values.{Label, Compound, Structure, Content, IsContent, written}
-use Rattle.px_xmp_marks.specs.Reading.{Named, Attr}
 use Rattle.px_xmp_tree.specs.Nesting as Nesting
 use Rattle.px_bytes.specs.Parts.{limit}
 use Rattle.px_xmp_forms.specs.Entries.{Value, Entry, before, row, AreDistinct}
-use Rattle.px_xmp_forms.specs.Forms.{most, TextFits}
+use Rattle.px_xmp_forms.specs.Forms.{most, HaveShortLanguages, TextFits, is_white}
 use Rattle.px_xmp_forms.specs.Uris.{IsAbsolute}
-use Rattle.px_xmp.specs.Marks.{Start, End}
-use Rattle.px_xmp.specs.Names.{is_rdf, is_about}
+use Rattle.px_xmp.specs.Marks.{End}
+use Rattle.px_xmp.specs.Names.{is_rdf}
 use Rattle.px_xmp.specs.Tags.{Field, Tag, DeclaresLanguage, inherited}
-use Rattle.px_xmp.specs.Nodes.{Nodes}
+use Rattle.px_xmp.specs.Nodes.{Nodes, Nothing, Words, Element}
 use Rattle.px_xmp.specs.Readable.{IsShallow}
 use Rattle.px_xmp.specs.Reading as reading
 use Rattle.px_xmp.specs.Reading.{What}
-use Rattle.px_xmp.specs.Meaning.{AreEntries}
-use Rattle.px_xmp.specs.Usual.{HaveUsualSpaces, AreUsual, IsShortLanguage, IsUsualTag, IsTextElement, AreElements}
+use Rattle.px_xmp.specs.Meaning.{AreAttributes, AreEntries, without_about}
+use Rattle.px_xmp.specs.Limits.{IsShortLanguage}
 use Rattle.px_xmp.specs.declared.elements.Node.{Node}
 use Rattle.px_xmp.specs.declared.elements.Node.TheVariants as nodes
 use Rattle.px_xmp.specs.declared.source.Source.{Source}
+use Rattle.px_xmp.specs.declared.subject.Subject.{Subject}
 use Rattle.px_xmp.specs.calls.Steps.{IsLeft, IsFirst, HasInside}
 use Rattle.px_xmp.specs.calls.Contents.{IsShallowInside, HasValue}
 
--- ---- attributes of rdf:Description
-
--- an attribute names no subject, and is no property
-abbrev pub IsSilent : Field → Type 0
-IsSilent f = (is_about f.name ≡ true) × (f.value ≡ [])
-
-abbrev pub AreSilent : List Field → Type 0
-AreSilent fields = AllByRecursion IsSilent fields
-
 -- ---- what is left
 
--- octets begin with a tag, whose namespaces are usual
-abbrev pub BeginsWithTag : List ℕ → Type 0
-BeginsWithTag x =
-    ((n : Named) × (attributes : List Attr) × (empty : Bool) × (y : List ℕ) × IsFirst (Start n attributes empty) x y
-    × HaveUsualSpaces attributes)
-    ⊎ ((y : List ℕ) × IsFirst End x y)
+-- the value of an attribute is no longer than a packet
+abbrev pub FieldFits : Field → Type 0
+FieldFits f = length f.value ≤ limit
+
+abbrev pub FieldsFit : List Field → Type 0
+FieldsFit fields = AllByRecursion FieldFits fields
+
+abbrev pub TagFits : Tag → Type 0
+TagFits t = IsShortLanguage t.language × FieldsFit t.fields
+
+abbrev pub NodesFit : Nodes → Type 0
+NodesFit Nothing = ⊤
+NodesFit (Words t more) = NodesFit more
+NodesFit (Element tag place inner more) = TagFits tag × NodesFit inner × NodesFit more
+
+-- an element is there, before which is only white space
+abbrev pub HasElement : Nodes → Type 0
+HasElement Nothing = ⊥
+HasElement (Words t more) = (is_white t ≡ true) × HasElement more
+HasElement (Element tag place inner more) = ⊤
+
+-- an element is there, or an end tag after the nodes, before which is only white space
+abbrev pub HasTag : Nodes → List ℕ → Type 0
+HasTag Nothing x = (y : List ℕ) × IsFirst End x y
+HasTag (Words t more) x = (is_white t ≡ true) × HasTag more x
+HasTag (Element tag place inner more) x = ⊤
+
+-- a mark that is no tag, and no longer than a packet, says white space
+abbrev pub SaysWhite : What → Type 0
+SaysWhite (reading.Tag t) = ⊥
+SaysWhite reading.End = ⊥
+SaysWhite (reading.Words kind octets) = (length octets ≤ limit) × (t : List ℕ) × (text_of kind octets ≡ Some t) × (is_white t ≡ true)
+SaysWhite reading.Other = ⊤
 
 -- the nodes in an element are left to be read, and its end tag if it is not empty; then y
 pub record IsAhead (empty : Bool) (nodes : Nodes) (source : Source) (y : List ℕ) : Type 0 where
   pub left : IsLeft source.at source.rest.now
   pub row : HasInside empty nodes source.scope source.at source.rest.now y
-  pub usual : AreUsual source.rest.now
-
--- what is in an element is usual
-abbrev pub IsUsualInside : Tag → Nodes → Type 0
-IsUsualInside t nodes = IsTextElement t nodes ⊎ AreElements nodes
+  pub fit : NodesFit nodes
 
 -- the value of a property or an item in an outer language
 abbrev pub IsValueOf : List ℕ → ℕ → Tag → Nodes → Value → Type 0
 IsValueOf outer place t nodes v = DeclaresLanguage t.language × HasValue (inherited outer t.language) place t.fields nodes v
 
--- what is in rdf:Description in rdf:RDF, whose attributes are silent
-pub record IsSilentSubject (outer : List ℕ) (t : Tag) (nodes : Nodes) (es : List Entry) : Type 0 where
+-- what is in rdf:Description in rdf:RDF: its attributes that are properties, and other properties
+pub record IsSubjectNode (outer : List ℕ) (place : ℕ) (t : Tag) (nodes : Nodes) (fs es : List Entry) : Type 0 where
   pub declares : DeclaresLanguage t.language
   pub named : is_rdf (codes "Description") t.name ≡ true
-  pub silent : AreSilent t.fields
-  pub tag : IsUsualTag t
-  pub inside : IsUsualInside t nodes
+  pub attributes : AreAttributes (inherited outer t.language) place (without_about t.fields) fs
   pub are : AreEntries Structure (inherited outer t.language) nodes es
+
+-- the subject that was named, if one was, has a name that is no longer than a packet
+abbrev pub SubjectFits : Subject → Type 0
+SubjectFits s = (v : List ℕ) → option_map (λ x. x.now) s.value ≡ Some v → length v ≤ limit
 
 -- ---- what the output has room for
 
 -- what is in a structure or an array, inside so many elements
 abbrev pub ContentFits : ℕ → Content → Type 0
-ContentFits depth c = IsContent c × IsShallow depth c × (length (written c []) ≤ limit)
+ContentFits depth c = IsContent c × IsShallow depth c × (length (written c []) ≤ limit) × HaveShortLanguages c
 
 -- the same inside an element that is the last one of so many
 abbrev pub InsideFits : ℕ → Compound → Content → Type 0
-InsideFits depth s c = IsContent c × IsShallowInside depth s c × (length (written c []) ≤ limit)
+InsideFits depth s c = IsContent c × IsShallowInside depth s c × (length (written c []) ≤ limit) × HaveShortLanguages c
 
 -- properties or items, inside so many elements
 abbrev pub EntryFits : ℕ → Label → Value → Type 0
@@ -112,6 +129,11 @@ OneFits f =
     ((is_rdf (codes "parseType") f.name ≡ true) × (f.value ≡ codes "Resource"))
     ⊎ ((is_rdf (codes "resource") f.name ≡ true) × IsAbsolute f.value × TextFits AttributeValue f.value 0)
 
--- a property or an item has no attribute, or one of these
-abbrev pub FillingFits : List Field → Type 0
-FillingFits fields = (fields ≡ []) ⊎ ((f : Field) × (fields ≡ f ∷ []) × OneFits f)
+-- attributes are properties, of which the output has room inside so many elements
+abbrev pub AttributesFit : List ℕ → ℕ → ℕ → List Field → List Entry → Type 0
+AttributesFit l place depth fields es = AreAttributes l place fields es × AreFit depth es × FieldsFit fields
+
+-- a property or an item has no attribute, one of these, or attributes that are properties
+abbrev pub FillingFits : List ℕ → ℕ → ℕ → List Field → Type 0
+FillingFits l place depth fields =
+    (fields ≡ []) ⊎ ((f : Field) × (fields ≡ f ∷ []) × OneFits f) ⊎ ((es : List Entry) × AttributesFit l place depth fields es)

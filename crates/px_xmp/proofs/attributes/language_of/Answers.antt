@@ -5,7 +5,7 @@ use Rattle.px_xmp.proofs.attributes.language_of.Goals as goal
 abbrev Bytes : Type 0
 Bytes = Bor (List ℕ)
 
-pub returns-then-not-is_language-clause-usual : goal.returns-then-not-is_language-clause-usual
-returns-then-not-is_language-clause-usual c fits =
+pub returns-then-not-is_language-clause-accepts : goal.returns-then-not-is_language-clause-accepts
+returns-then-not-is_language-clause-accepts c fits =
     let (declares, short) = subst (λ (z : Option Bytes). LanguageFits (option_map (λ d. d.now) z)) c.in-Some.is fits in
-    sym c.if-not-is_language.true ∙ c.is_language.ensures.usual declares short
+    sym c.if-not-is_language.true ∙ c.is_language.ensures.accepts declares short

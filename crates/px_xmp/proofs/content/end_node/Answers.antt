@@ -11,5 +11,5 @@ returns-clause-value c s has =
     let (fs, are, opened, same) = node_joined c.args.node s after es o os e joins in
     (row fs, (fs, are, refl), node_closed after es fs o os s.properties c.end_node.new.self opened same closed)) (c.end_node.ensures.value after now)
 
-pub returns-clause-usual : goal.returns-clause-usual
-returns-clause-usual c s has fits = c.end_node.ensures.usual
+pub returns-clause-accepts : goal.returns-clause-accepts
+returns-clause-accepts c s has fits = c.end_node.ensures.accepts

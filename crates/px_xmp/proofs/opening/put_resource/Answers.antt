@@ -2,19 +2,19 @@ use Rattle.std.proofs.Common.{is_some, ap, ◌∙◌}
 use Rattle.px_xmp.proofs.OpeningLaws.{none_next}
 use Rattle.std.specs.Bool.{⊤}
 use Rattle.std.proofs.lemmas.Result.{err_from_is_err_and}
-use Rattle.px_xmp.proofs.UsualLaws.{memory_says, true_false}
+use Rattle.px_xmp.proofs.AheadLaws.{memory_says, true_false}
 use Rattle.px_xmp.proofs.opening.put_resource.Goals as goal
 
-pub returns-then-not-is_absolute-clause-usual : goal.returns-then-not-is_absolute-clause-usual
-returns-then-not-is_absolute-clause-usual c more listed none absolute fits =
+pub returns-then-not-is_absolute-clause-accepts : goal.returns-then-not-is_absolute-clause-accepts
+returns-then-not-is_absolute-clause-accepts c more listed none absolute fits =
     true_false c.is_absolute.result (c.is_absolute.ensures.1 absolute) c.if-not-is_absolute.true
 
-pub returns-in_err-put_resource-clause-usual : goal.returns-in_err-put_resource-clause-usual
-returns-in_err-put_resource-clause-usual c more listed none absolute fits =
+pub returns-in_err-put_resource-clause-accepts : goal.returns-in_err-put_resource-clause-accepts
+returns-in_err-put_resource-clause-accepts c more listed none absolute fits =
     let p = err_from_is_err_and c.from_residual.result c.from_residual.ensures.1 in
-    rw (p.1, p.2) (memory_says ⊤ ⊤ c.in_err-put_resource.field-0.0 (c.in_err-put_resource.ensures.usual fits))
+    rw (p.1, p.2) (memory_says ⊤ ⊤ c.in_err-put_resource.field-0.0 (c.in_err-put_resource.ensures.accepts fits))
 
-pub returns-then-is_some-clause-usual : goal.returns-then-is_some-clause-usual
-returns-then-is_some-clause-usual c more listed none absolute fits =
+pub returns-then-is_some-clause-accepts : goal.returns-then-is_some-clause-accepts
+returns-then-is_some-clause-accepts c more listed none absolute fits =
     true_false c.is_some.result c.if-is_some.true
     (c.is_some.ensures ∙ ap is_some (none_next c.next_plain.result more none (c.next_plain.ensures.value more listed)))

@@ -6,10 +6,10 @@ use Rattle.px_xmp.specs.calls.Fits.{WordsFit}
 use Rattle.px_xmp.proofs.LiteralLaws.{no_other_kind}
 use Rattle.px_xmp.proofs.reader.put_words.Goals as goal
 
-pub returns-in-Text-clause-usual : goal.returns-in-Text-clause-usual
-returns-in-Text-clause-usual c s o os has opened fits =
-    c.put_text.ensures.usual s o os has opened (subst (λ (z : MarkKind). WordsFit (kind_view z) (length (normal_text o.text))) c.in-Text.is fits)
+pub returns-in-Text-clause-accepts : goal.returns-in-Text-clause-accepts
+returns-in-Text-clause-accepts c s o os has opened fits =
+    c.put_text.ensures.accepts s o os has opened (subst (λ (z : MarkKind). WordsFit (kind_view z) (length (normal_text o.text))) c.in-Text.is fits)
 
-pub returns-in_default-clause-usual : goal.returns-in_default-clause-usual
-returns-in_default-clause-usual c s o os has opened fits =
+pub returns-in_default-clause-accepts : goal.returns-in_default-clause-accepts
+returns-in_default-clause-accepts c s o os has opened fits =
     absurd (no_other_kind c.args.kind (length (normal_text o.text)) c.in_default.not-Text c.in_default.not-Other fits)

@@ -1,13 +1,16 @@
 use Rattle.std.specs.Bool.{⊤}
-use Rattle.std.proofs.Common.{◌≡◌, ◌++◌, ℕ, List, Some, ap, sym, subst, ◌∙◌, rules}
+use Rattle.std.proofs.Common.{◌≡◌, ◌++◌, ℕ, List, Some, ap, sym, subst, ◌∙◌, length, arith, rules}
 use denote.Enum.Bare.{same_true}
 use Rattle.px_xmp_text.specs.contracts.pieces.TextKind.{the_type}
 use Rattle.px_xmp_text.specs.Texts.{text_of, normal_text}
 use Rattle.px_xmp_text.specs.declared.pieces.TextKind.{TextKind}
 use Rattle.px_xmp.proofs.WhiteLaws.{own_text}
+use Rattle.px_xmp.proofs.BlankLaws.{some_same, white_short}
 use Rattle.px_xmp.proofs.source.judge_blank.Goals as goal
 use Rattle.std.proofs.lemmas.Result.{err_from_is_err_and}
 use Rattle.px_xmp.proofs.RefusedLaws.{rare_says, wrong_at}
+use Rattle.px_xmp.proofs.AheadLaws.{memory_says, true_false}
+use Rattle.px_xmp_forms.specs.Forms.{is_white}
 
 pub returns-then-are_plain_spaces-clause-says : goal.returns-then-are_plain_spaces-clause-says
 returns-then-are_plain_spaces-clause-says c =
@@ -25,3 +28,22 @@ pub returns-clause-refused : goal.returns-clause-refused
 returns-clause-refused c =
     let (t, says, form) = c.in_ok-append_text.ensures.items in
     wrong_at ⊤ _ _ _ _ c.at.ensures (t, says, sym (c.is_blank.ensures t (c.as_slice.ensures.value ∙ form ∙ ap (λ (z : List ℕ). z ++ normal_text t) c.list-form.ensures.items)) ∙ c.if-is_blank.false)
+
+-- ---- white space
+
+pub returns-in_err-append_text-clause-accepts : goal.returns-in_err-append_text-clause-accepts
+returns-in_err-append_text-clause-accepts c (few, t, says, white) =
+    let p = err_from_is_err_and c.from_residual.result c.from_residual.ensures.1 in
+    rw (p.1, p.2) (memory_says ⊤ ⊤ c.in_err-append_text.field-0.0 (c.in_err-append_text.ensures.accepts (
+      t,
+      says,
+      few,
+      omega (arith, white_short c.only_references_are_read.ensures c.args.text.kind c.args.text.octets.now t says white, few, ap length c.list-form.ensures.items),
+    )))
+
+pub returns-clause-accepts : goal.returns-clause-accepts
+returns-clause-accepts c (few, t, says, white) =
+    let (u, is, form) = c.in_ok-append_text.ensures.items in
+    let same : t ≡ u = some_same t u (sym says ∙ is) in
+    let blank = c.is_blank.ensures u (c.as_slice.ensures.value ∙ form ∙ ap (λ (z : List ℕ). z ++ normal_text u) c.list-form.ensures.items) in
+    true_false c.is_blank.result (blank ∙ ap is_white (sym same) ∙ white) c.if-is_blank.false

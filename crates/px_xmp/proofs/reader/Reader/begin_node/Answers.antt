@@ -6,7 +6,7 @@ use Rattle.px_xmp.specs.calls.Contents.{NodeBegun}
 use Rattle.std.specs.Bool.{⊤}
 use Rattle.std.proofs.lemmas.Result.{err_from_is_err_and}
 use Rattle.px_xmp.specs.declared.elements.Around.{Around}
-use Rattle.px_xmp.proofs.UsualLaws.{memory_says}
+use Rattle.px_xmp.proofs.AheadLaws.{memory_says}
 use Rattle.px_xmp.proofs.ContentLaws.{description_begun}
 use Rattle.px_xmp.proofs.reader.Reader.begin_node.Goals as goal
 
@@ -19,12 +19,12 @@ returns-in_ok-put_properties-in-Description-clause-value c s t has (name, langua
     (c.in-Some.ensures.language ∙ ap (λ (z : Option (List ℕ)). inherited c.args.outer.language.now z) language) c.in-Some.ensures.place c.in-Some.ensures.depth fields
     (c.in_ok-put_properties-in-Description.ensures.value (begun nothing s) all (c.in_ok-begin-in-Description.ensures.value s has) listed))
 
-pub returns-in_err-begin-in-Description-clause-usual : goal.returns-in_err-begin-in-Description-clause-usual
-returns-in_err-begin-in-Description-clause-usual c t opened language bare fits =
+pub returns-in_err-begin-in-Description-clause-accepts : goal.returns-in_err-begin-in-Description-clause-accepts
+returns-in_err-begin-in-Description-clause-accepts c t es opened language tag attributes room fits =
     let p = err_from_is_err_and c.from_residual.result c.from_residual.ensures.1 in
-    rw (p.1, p.2) (memory_says ⊤ Around c.in_err-begin-in-Description.field-0.0 (c.in_err-begin-in-Description.ensures.usual))
+    rw (p.1, p.2) (memory_says ⊤ Around c.in_err-begin-in-Description.field-0.0 (c.in_err-begin-in-Description.ensures.accepts))
 
-pub returns-in_err-begin-in-Container-clause-usual : goal.returns-in_err-begin-in-Container-clause-usual
-returns-in_err-begin-in-Container-clause-usual c t opened language bare fits =
+pub returns-in_err-begin-in-Container-clause-accepts : goal.returns-in_err-begin-in-Container-clause-accepts
+returns-in_err-begin-in-Container-clause-accepts c t es opened language tag attributes room fits =
     let p = err_from_is_err_and c.from_residual-in_err-begin-in-Container.result c.from_residual-in_err-begin-in-Container.ensures.1 in
-    rw (p.1, p.2) (memory_says ⊤ Around c.in_err-begin-in-Container.field-0.0 (c.in_err-begin-in-Container.ensures.usual))
+    rw (p.1, p.2) (memory_says ⊤ Around c.in_err-begin-in-Container.field-0.0 (c.in_err-begin-in-Container.ensures.accepts))

@@ -1,7 +1,7 @@
 use Rattle.std.specs.Bool.{⊤}
 use Rattle.std.proofs.Common.{Option, ◌++◌, codes, inr, refl, subst}
 use Rattle.px_xmp.specs.Names.{is_rdf}
-use Rattle.px_xmp.specs.Nodes.{Nodes, Nothing}
+use Rattle.px_xmp.specs.Nodes.{Nodes, Nothing, Element}
 use Rattle.px_xmp.specs.Meaning.{HasRdf}
 use Rattle.px_xmp.proofs.NodeLaws.{IsStop}
 use Rattle.px_xmp.proofs.RootLaws.{true_false}
@@ -10,8 +10,9 @@ use Rattle.px_xmp.specs.calls.Steps.{TagAfter}
 use Rattle.px_xmp.proofs.RootLaws.{around_done}
 use Rattle.px_xmp.proofs.reader.Reader.read_around.Goals as goal
 use Rattle.std.proofs.lemmas.Result.{err_from_is_err_and}
-use Rattle.px_xmp.proofs.UsualLaws.{memory_says, ahead_begins, no_start, element_entered}
-use Rattle.px_xmp.proofs.SubjectLaws.{alone_ahead}
+use Rattle.px_xmp.proofs.AheadLaws.{memory_says, element_entered, inside_ahead}
+use Rattle.px_xmp.proofs.SubjectLaws.{rdf_tag}
+use Rattle.px_xmp.proofs.TagAheadLaws.{white_tag}
 use Rattle.px_xmp.proofs.RefusedLaws.{text_found, rdf_text, white_text, rdf_front, white_at_end, enter_after, row_after, rdf_inside, white_inside, wrong_says, wrong_at}
 
 pub returns-in-None-clause-read : goal.returns-in-None-clause-read
@@ -93,22 +94,23 @@ returns-in-Some-2-clause-refused c nodes d y has left fresh (e, row, ends) =
     wrong_at ⊤ _ _ _ _ c.at-in-Some-2.ensures (λ h. white_inside c.in-Some-2.second blank u entered.entered.more on new (e ++ y) second
     (rdf_inside c.in-Some.inner white t nodes old mid (e ++ y) d entered is_white h).1)
 
-pub returns-in_err-inner-clause-usual : goal.returns-in_err-inner-clause-usual
-returns-in_err-inner-clause-usual c nodes d y has fresh ahead elements is fits =
+pub returns-in_err-inner-clause-accepts : goal.returns-in_err-inner-clause-accepts
+returns-in_err-inner-clause-accepts c nodes d y has fresh ahead is fits =
+    let (e, row, ends) = ahead.row in
     let p = err_from_is_err_and c.from_residual.result c.from_residual.ensures.1 in
     rw (p.1, p.2) (memory_says (Option Opened) ⊤ c.in_err-inner.field-0.0
-    (c.in_err-inner.ensures.usual ahead.left (ahead_begins c.kinds_are_read.ensures nodes c.args.self.now.source y ahead elements)))
+    (c.in_err-inner.ensures.accepts nodes (e ++ y) ahead.left row (rdf_tag nodes d (e ++ y) is)))
 
-pub returns-in_default-clause-usual : goal.returns-in_default-clause-usual
-returns-in_default-clause-usual c nodes d y has fresh ahead elements is fits =
+pub returns-in_default-clause-accepts : goal.returns-in_default-clause-accepts
+returns-in_default-clause-accepts c nodes d y has fresh ahead is fits =
     let (e, row, ends) = ahead.row in
     let (white, is_white, first) = c.in_ok-inner.ensures.read ahead.left in
     let tag = subst (λ (z : Option Opened). TagAfter z white c.args.self.now.source c.next_tag.new.self) c.in_default.is first in
     let whole = white_at_end c.kinds_are_read.ensures white nodes c.args.self.now.source c.next_tag.new.self (e ++ y) is_white tag row (inr (e, y, ends, refl)) in
     absurd (rdf_front white Nothing d is_white (subst (λ (q : Nodes). HasRdf q d) whole is))
 
-pub returns-in_err-read_rdf-clause-usual : goal.returns-in_err-read_rdf-clause-usual
-returns-in_err-read_rdf-clause-usual c nodes d y has fresh ahead elements is fits =
+pub returns-in_err-read_rdf-clause-accepts : goal.returns-in_err-read_rdf-clause-accepts
+returns-in_err-read_rdf-clause-accepts c nodes d y has fresh ahead is fits =
     let old = c.args.self.now.source in
     let mid = c.next_tag.new.self in
     let (e, row, ends) = ahead.row in
@@ -116,15 +118,16 @@ returns-in_err-read_rdf-clause-usual c nodes d y has fresh ahead elements is fit
     let tag = subst (λ (z : Option Opened). TagAfter z white old mid) c.in-Some.is first in
     let (t, start) = tag.is in
     let stop : IsStop (e ++ y) = inr (e, y, ends, refl) in
-    let at = element_entered c.kinds_are_read.ensures c.in-Some.inner white t nodes old mid (e ++ y) elements is_white tag start row stop ahead.usual in
-    let (rdf, blank) = subst (λ (q : Nodes). HasRdf q d) at.is is in
-    let a = alone_ahead c.in-Some.inner white t nodes old mid (e ++ y) c.kinds_are_read.ensures elements tag start at blank in
+    let at = element_entered c.kinds_are_read.ensures c.in-Some.inner white t nodes old mid (e ++ y) ahead.fit is_white tag start row stop in
+    let (rdf, blank) = rdf_front white (Element t c.in-Some.inner.place at.entered.content at.entered.more) d is_white
+    (subst (λ (q : Nodes). HasRdf q d) at.is is) in
     let p = err_from_is_err_and c.from_residual-in_err-read_rdf.result c.from_residual-in_err-read_rdf.ensures.1 in
     rw (p.1, p.2) (memory_says ⊤ ⊤ c.in_err-read_rdf.field-0.0
-    (c.in_err-read_rdf.ensures.usual t at.entered.content d at.entered.tail has fresh start.opened a.ahead a.tag a.inside rdf fits))
+    (c.in_err-read_rdf.ensures.accepts t at.entered.content d at.entered.tail has fresh start.opened
+    (inside_ahead c.in-Some.inner white t nodes old mid (e ++ y) at tag.moves.left) at.fit.0 rdf fits))
 
-pub returns-in_err-second-clause-usual : goal.returns-in_err-second-clause-usual
-returns-in_err-second-clause-usual c nodes d y has fresh ahead elements is fits =
+pub returns-in_err-second-clause-accepts : goal.returns-in_err-second-clause-accepts
+returns-in_err-second-clause-accepts c nodes d y has fresh ahead is fits =
     let old = c.args.self.now.source in
     let mid = c.next_tag.new.self in
     let (e, row, ends) = ahead.row in
@@ -132,17 +135,18 @@ returns-in_err-second-clause-usual c nodes d y has fresh ahead elements is fits 
     let tag = subst (λ (z : Option Opened). TagAfter z white old mid) c.in-Some.is first in
     let (t, start) = tag.is in
     let stop : IsStop (e ++ y) = inr (e, y, ends, refl) in
-    let at = element_entered c.kinds_are_read.ensures c.in-Some.inner white t nodes old mid (e ++ y) elements is_white tag start row stop ahead.usual in
-    let (rdf, blank) = subst (λ (q : Nodes). HasRdf q d) at.is is in
-    let a = alone_ahead c.in-Some.inner white t nodes old mid (e ++ y) c.kinds_are_read.ensures elements tag start at blank in
+    let at = element_entered c.kinds_are_read.ensures c.in-Some.inner white t nodes old mid (e ++ y) ahead.fit is_white tag start row stop in
+    let (rdf, blank) = rdf_front white (Element t c.in-Some.inner.place at.entered.content at.entered.more) d is_white
+    (subst (λ (q : Nodes). HasRdf q d) at.is is) in
     let read = c.in_ok-read_rdf.ensures.read t has tag.moves.left fresh start.opened in
-    let same = a.last read.nodes c.read_rdf.new.self.source read.inside read.scope in
+    let others = row_after c.kinds_are_read.ensures c.in-Some.inner white t at.left read.nodes old mid c.read_rdf.new.self.source (e ++ y) tag start
+    at.entered read.inside read.scope in
     let p = err_from_is_err_and c.from_residual-in_err-second.result c.from_residual-in_err-second.ensures.1 in
     rw (p.1, p.2) (memory_says (Option Opened) ⊤ c.in_err-second.field-0.0
-    (c.in_err-second.ensures.usual read.inside.moves.left (inr (y, (e, ends, same)))))
+    (c.in_err-second.ensures.accepts at.entered.more (e ++ y) read.inside.moves.left others (white_tag at.entered.more (e ++ y) y blank (e, ends, refl))))
 
-pub returns-in-Some-2-clause-usual : goal.returns-in-Some-2-clause-usual
-returns-in-Some-2-clause-usual c nodes d y has fresh ahead elements is fits =
+pub returns-in-Some-2-clause-accepts : goal.returns-in-Some-2-clause-accepts
+returns-in-Some-2-clause-accepts c nodes d y has fresh ahead is fits =
     let old = c.args.self.now.source in
     let mid = c.next_tag.new.self in
     let (e, row, ends) = ahead.row in
@@ -150,11 +154,15 @@ returns-in-Some-2-clause-usual c nodes d y has fresh ahead elements is fits =
     let tag = subst (λ (z : Option Opened). TagAfter z white old mid) c.in-Some.is first in
     let (t, start) = tag.is in
     let stop : IsStop (e ++ y) = inr (e, y, ends, refl) in
-    let at = element_entered c.kinds_are_read.ensures c.in-Some.inner white t nodes old mid (e ++ y) elements is_white tag start row stop ahead.usual in
-    let (rdf, blank) = subst (λ (q : Nodes). HasRdf q d) at.is is in
-    let a = alone_ahead c.in-Some.inner white t nodes old mid (e ++ y) c.kinds_are_read.ensures elements tag start at blank in
+    let at = element_entered c.kinds_are_read.ensures c.in-Some.inner white t nodes old mid (e ++ y) ahead.fit is_white tag start row stop in
+    let (rdf, blank) = rdf_front white (Element t c.in-Some.inner.place at.entered.content at.entered.more) d is_white
+    (subst (λ (q : Nodes). HasRdf q d) at.is is) in
     let read = c.in_ok-read_rdf.ensures.read t has tag.moves.left fresh start.opened in
-    let same = a.last read.nodes c.read_rdf.new.self.source read.inside read.scope in
+    let others = row_after c.kinds_are_read.ensures c.in-Some.inner white t at.left read.nodes old mid c.read_rdf.new.self.source (e ++ y) tag start
+    at.entered read.inside read.scope in
     let (more, is_more, last) = c.in_ok-second.ensures.read read.inside.moves.left in
-    absurd (no_start c.kinds_are_read.ensures c.in-Some-2.second more c.read_rdf.new.self.source c.next_tag-2.new.self y is_more (e, ends, same)
-    (subst (λ (z : Option Opened). TagAfter z more c.read_rdf.new.self.source c.next_tag-2.new.self) c.in-Some-2.is last))
+    let again = subst (λ (z : Option Opened). TagAfter z more c.read_rdf.new.self.source c.next_tag-2.new.self) c.in-Some-2.is last in
+    let (u, begin) = again.is in
+    let second = enter_after c.kinds_are_read.ensures c.in-Some-2.second more u at.entered.more c.read_rdf.new.self.source c.next_tag-2.new.self (e ++ y)
+    is_more again begin others stop in
+    absurd (white_inside c.in-Some-2.second more u at.entered.more c.read_rdf.new.self.source c.next_tag-2.new.self (e ++ y) second blank)

@@ -1,6 +1,6 @@
 use Rattle.std.specs.Bool.{⊤}
 use Rattle.std.proofs.Common.{Option, [], inl, refl, subst}
-use Rattle.px_xmp.specs.Nodes.{Nodes, Nothing}
+use Rattle.px_xmp.specs.Nodes.{Nodes, Nothing, Element}
 use Rattle.px_xmp.specs.Meaning.{Means}
 use Rattle.std.proofs.lemmas.Result.{on_ok_weaker}
 use Rattle.px_xmp.specs.declared.elements.Opened.{Opened}
@@ -8,8 +8,8 @@ use Rattle.px_xmp.specs.calls.Steps.{TagAfter}
 use Rattle.px_xmp.proofs.RootLaws.{document_done, document_subject}
 use Rattle.px_xmp.proofs.reader.Reader.read_document.Goals as goal
 use Rattle.std.proofs.lemmas.Result.{err_from_is_err_and}
-use Rattle.px_xmp.proofs.UsualLaws.{memory_says, element_entered}
-use Rattle.px_xmp.proofs.SubjectLaws.{alone_ahead, means_begins}
+use Rattle.px_xmp.proofs.AheadLaws.{memory_says, element_entered, inside_ahead}
+use Rattle.px_xmp.proofs.SubjectLaws.{means_tag}
 use Rattle.px_xmp.proofs.RefusedLaws.{text_found, means_text, means_front, white_at_end, enter_after, row_after, means_inside, wrong_says, wrong_weaker, wrong_at}
 
 pub returns-clause-read : goal.returns-clause-read
@@ -78,42 +78,45 @@ returns-clause-subject c nodes d has left fresh row =
     (λ u opened. c.in_ok-read_root.ensures.read u has first.moves.left fresh opened) (λ e. last) row means)
     (c.read_after.ensures.read root.inside.moves.left)
 
-pub returns-in_err-opened-clause-usual : goal.returns-in_err-opened-clause-usual
-returns-in_err-opened-clause-usual c nodes d has left fresh row is elements usual fits =
+pub returns-in_err-opened-clause-accepts : goal.returns-in_err-opened-clause-accepts
+returns-in_err-opened-clause-accepts c nodes d has left fresh row fit is fits =
     let p = err_from_is_err_and c.from_residual.result c.from_residual.ensures.1 in
     rw (p.1, p.2) (memory_says (Option Opened) ⊤ c.in_err-opened.field-0.0
-    (c.in_err-opened.ensures.usual left (means_begins c.kinds_are_read.ensures nodes d c.args.self.now.source [] elements is row usual)))
+    (c.in_err-opened.ensures.accepts nodes [] left row (means_tag nodes d [] is)))
 
-pub returns-in_default-clause-usual : goal.returns-in_default-clause-usual
-returns-in_default-clause-usual c nodes d has left fresh row is elements usual fits =
+pub returns-in_default-clause-accepts : goal.returns-in_default-clause-accepts
+returns-in_default-clause-accepts c nodes d has left fresh row fit is fits =
     let (white, is_white, first) = c.in_ok-opened.ensures.read left in
     let tag = subst (λ (z : Option Opened). TagAfter z white c.args.self.now.source c.next_tag.new.self) c.in_default.is first in
     let whole = white_at_end c.kinds_are_read.ensures white nodes c.args.self.now.source c.next_tag.new.self [] is_white tag row (inl refl) in
     absurd (means_front white Nothing d is_white (subst (λ (q : Nodes). Means q d) whole is))
 
-pub returns-in_err-read_root-clause-usual : goal.returns-in_err-read_root-clause-usual
-returns-in_err-read_root-clause-usual c nodes d has left fresh row is elements usual fits =
+pub returns-in_err-read_root-clause-accepts : goal.returns-in_err-read_root-clause-accepts
+returns-in_err-read_root-clause-accepts c nodes d has left fresh row fit is fits =
     let old = c.args.self.now.source in
     let mid = c.next_tag.new.self in
     let (white, is_white, first) = c.in_ok-opened.ensures.read left in
     let tag = subst (λ (z : Option Opened). TagAfter z white old mid) c.in-Some.is first in
     let (t, start) = tag.is in
-    let at = element_entered c.kinds_are_read.ensures c.in-Some.opened white t nodes old mid [] elements is_white tag start row (inl refl) usual in
-    let (root, blank) = subst (λ (q : Nodes). Means q d) at.is is in
-    let a = alone_ahead c.in-Some.opened white t nodes old mid [] c.kinds_are_read.ensures elements tag start at blank in
+    let at = element_entered c.kinds_are_read.ensures c.in-Some.opened white t nodes old mid [] fit is_white tag start row (inl refl) in
+    let (root, blank) = means_front white (Element t c.in-Some.opened.place at.entered.content at.entered.more) d is_white
+    (subst (λ (q : Nodes). Means q d) at.is is) in
     let p = err_from_is_err_and c.from_residual-in_err-read_root.result c.from_residual-in_err-read_root.ensures.1 in
     rw (p.1, p.2) (memory_says ⊤ ⊤ c.in_err-read_root.field-0.0
-    (c.in_err-read_root.ensures.usual t at.entered.content d at.entered.tail has fresh start.opened a.ahead a.tag a.inside root fits))
+    (c.in_err-read_root.ensures.accepts t at.entered.content d at.entered.tail has fresh start.opened
+    (inside_ahead c.in-Some.opened white t nodes old mid [] at tag.moves.left) at.fit.0 root fits))
 
-pub returns-clause-usual : goal.returns-clause-usual
-returns-clause-usual c nodes d has left fresh row is elements usual fits =
+pub returns-clause-accepts : goal.returns-clause-accepts
+returns-clause-accepts c nodes d has left fresh row fit is fits =
     let old = c.args.self.now.source in
     let mid = c.next_tag.new.self in
     let (white, is_white, first) = c.in_ok-opened.ensures.read left in
     let tag = subst (λ (z : Option Opened). TagAfter z white old mid) c.in-Some.is first in
     let (t, start) = tag.is in
-    let at = element_entered c.kinds_are_read.ensures c.in-Some.opened white t nodes old mid [] elements is_white tag start row (inl refl) usual in
-    let (root, blank) = subst (λ (q : Nodes). Means q d) at.is is in
-    let a = alone_ahead c.in-Some.opened white t nodes old mid [] c.kinds_are_read.ensures elements tag start at blank in
+    let at = element_entered c.kinds_are_read.ensures c.in-Some.opened white t nodes old mid [] fit is_white tag start row (inl refl) in
+    let (root, blank) = means_front white (Element t c.in-Some.opened.place at.entered.content at.entered.more) d is_white
+    (subst (λ (q : Nodes). Means q d) at.is is) in
     let read = c.in_ok-read_root.ensures.read t has tag.moves.left fresh start.opened in
-    c.read_after.ensures.usual (a.last read.nodes c.read_root.new.self.source read.inside read.scope)
+    let others = row_after c.kinds_are_read.ensures c.in-Some.opened white t at.left read.nodes old mid c.read_root.new.self.source [] tag start at.entered
+    read.inside read.scope in
+    c.read_after.ensures.accepts at.entered.more read.inside.moves.left others blank

@@ -16,9 +16,9 @@ use Rattle.px_xmp.specs.Meaning.{AreSubjects}
 use Rattle.px_xmp.specs.declared.elements.Node.TheVariants as node_kinds
 use Rattle.px_xmp.specs.calls.Fits.{LanguageFits, AreFit, JoinFits}
 use Rattle.px_xmp.proofs.OpeningLaws.{no_field}
-use Rattle.px_xmp.proofs.UsualLaws.{memory_says, none_some}
+use Rattle.px_xmp.proofs.AheadLaws.{memory_says, none_some}
 use Rattle.px_xmp.proofs.FitLaws.{row_fits, join_fits, has_can}
-use Rattle.px_xmp.proofs.SubjectLaws.{rdf_elements, subjects_same}
+use Rattle.px_xmp.proofs.SubjectLaws.{subjects_same, new_fits}
 use Rattle.px_xmp.proofs.RootLaws.{true_false}
 
 pub returns-clause-read : goal.returns-clause-read
@@ -53,33 +53,33 @@ returns-in_err-join_properties-clause-refused c t opened =
     let p = err_from_is_err_and c.from_residual-in_err-join_properties.result c.from_residual-in_err-join_properties.ensures.1 in
     rw (p.1, p.2) (rare_says ⊤ ⊤ c.in_err-join_properties.field-0.0 _ c.in_err-join_properties.ensures.rare)
 
-pub returns-then-is_some-clause-usual : goal.returns-then-is_some-clause-usual
-returns-then-is_some-clause-usual c t nodes d y has fresh (name, language, all, listed, fields) ahead tag inside (declares, is, bare, u, es, subjects, row) fits =
+pub returns-then-is_some-clause-accepts : goal.returns-then-is_some-clause-accepts
+returns-then-is_some-clause-accepts c t nodes d y has fresh (name, language, all, listed, fields) ahead tag (declares, is, bare, u, es, subjects, row) fits =
     true_false c.is_some.result c.if-is_some.true
     (c.is_some.ensures ∙ ap is_some (no_field c.next_plain.result c.args.self.now.source.scope all (fields ∙ bare) (c.next_plain.ensures.value all listed)))
 
-pub returns-in_default-clause-usual : goal.returns-in_default-clause-usual
-returns-in_default-clause-usual c t nodes d y has fresh opened ahead tag inside (declares, is, bare, u, es, subjects, row) fits =
-    absurd (none_some c.inside.result c.in_default.is (c.inside.ensures.usual (subst LanguageFits (sym opened.1) (declares, tag.0))))
+pub returns-in_default-clause-accepts : goal.returns-in_default-clause-accepts
+returns-in_default-clause-accepts c t nodes d y has fresh opened ahead tag (declares, is, bare, u, es, subjects, row) fits =
+    absurd (none_some c.inside.result c.in_default.is (c.inside.ensures.accepts (subst LanguageFits (sym opened.1) (declares, tag.0))))
 
-pub returns-in_err-begin-clause-usual : goal.returns-in_err-begin-clause-usual
-returns-in_err-begin-clause-usual c t nodes d y has fresh opened ahead tag inside is fits =
+pub returns-in_err-begin-clause-accepts : goal.returns-in_err-begin-clause-accepts
+returns-in_err-begin-clause-accepts c t nodes d y has fresh opened ahead tag is fits =
     let p = err_from_is_err_and c.from_residual.result c.from_residual.ensures.1 in
-    rw (p.1, p.2) (memory_says ⊤ ⊤ c.in_err-begin.field-0.0 (c.in_err-begin.ensures.usual))
+    rw (p.1, p.2) (memory_says ⊤ ⊤ c.in_err-begin.field-0.0 (c.in_err-begin.ensures.accepts))
 
-pub returns-in_err-read_subjects-clause-usual : goal.returns-in_err-read_subjects-clause-usual
-returns-in_err-read_subjects-clause-usual c t nodes d y has fresh opened ahead tag inside is fits =
+pub returns-in_err-read_subjects-clause-accepts : goal.returns-in_err-read_subjects-clause-accepts
+returns-in_err-read_subjects-clause-accepts c t nodes d y has fresh opened ahead tag is fits =
     let (declares, named, bare, u, es, subjects, row) = is in
     let empty : State = record { opened = []; properties = End } in
     let spoken = c.in-Some.ensures.language ∙ ap (λ (z : Option (List ℕ)). inherited [] z) opened.1 in
     let p = err_from_is_err_and c.from_residual-in_err-read_subjects.result c.from_residual-in_err-read_subjects.ensures.1 in
     rw (p.1, p.2) (memory_says ⊤ ⊤ c.in_err-read_subjects.field-0.0
-    (c.in_err-read_subjects.ensures.usual (begun nothing empty) nodes u es y (c.in_ok-begin.ensures.value empty has) ahead (rdf_elements t nodes d is inside)
+    (c.in_err-read_subjects.ensures.accepts (begun nothing empty) nodes u es y (c.in_ok-begin.ensures.value empty has) ahead
     (subst (λ (z : List ℕ). AreSubjects u z nodes es) (sym spoken) subjects)
-    (subst (λ (z : ℕ). AreFit z es) (sym c.in-Some.ensures.depth) (row_fits Structure 3 es d row fits).0)))
+    (subst (λ (z : ℕ). AreFit z es) (sym c.in-Some.ensures.depth) (row_fits Structure 3 es d row fits).0) (new_fits c.args.subject.now fresh)))
 
-pub returns-in_err-join_properties-clause-usual : goal.returns-in_err-join_properties-clause-usual
-returns-in_err-join_properties-clause-usual c t nodes d y has fresh opened ahead tag inside is fits =
+pub returns-in_err-join_properties-clause-accepts : goal.returns-in_err-join_properties-clause-accepts
+returns-in_err-join_properties-clause-accepts c t nodes d y has fresh opened ahead tag is fits =
     let (declares, named, bare, u, es, subjects, row) = is in
     let empty : State = record { opened = []; properties = End } in
     let spoken = c.in-Some.ensures.language ∙ ap (λ (z : Option (List ℕ)). inherited [] z) opened.1 in
@@ -92,4 +92,4 @@ returns-in_err-join_properties-clause-usual c t nodes d y has fresh opened ahead
     let join = subst (λ (z : List Entry). JoinFits node_kinds.Description z) (sym entries) (join_fits node_kinds.Description 3 es d row fits) in
     let p = err_from_is_err_and c.from_residual-in_err-join_properties.result c.from_residual-in_err-join_properties.ensures.1 in
     rw (p.1, p.2) (memory_says ⊤ ⊤ c.in_err-join_properties.field-0.0
-    (c.in_err-join_properties.ensures.usual (changed (with_entries sub.entries) (begun nothing empty)) sub.has join.0 join.1))
+    (c.in_err-join_properties.ensures.accepts (changed (with_entries sub.entries) (begun nothing empty)) sub.has join.0 join.1))

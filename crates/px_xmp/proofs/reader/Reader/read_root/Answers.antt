@@ -10,8 +10,7 @@ use Rattle.px_xmp.proofs.reader.Reader.read_root.Goals as goal
 use Rattle.std.proofs.lemmas.Result.{err_from_is_err_and}
 use Rattle.px_xmp.proofs.RefusedLaws.{wrong_weaker, wrong_says, wrong_at}
 use Rattle.px_xmp.specs.calls.Fits.{IsAhead}
-use Rattle.px_xmp.proofs.UsualLaws.{memory_says}
-use Rattle.px_xmp.proofs.SubjectLaws.{around_elements}
+use Rattle.px_xmp.proofs.AheadLaws.{memory_says}
 
 pub returns-then-not-is_root-clause-read : goal.returns-then-not-is_root-clause-read
 returns-then-not-is_root-clause-read c t has left fresh opened =
@@ -46,23 +45,23 @@ returns-in_err-read_around-clause-refused c t nodes d y has left fresh opened wi
     (subst (λ (b : Bool). HasInside b nodes c.args.self.now.source.scope c.args.self.now.source.at c.args.self.now.source.rest.now y)
     c.if-opened.false within)))
 
-pub returns-then-not-is_root-clause-usual : goal.returns-then-not-is_root-clause-usual
-returns-then-not-is_root-clause-usual c t nodes d y has fresh opened ahead tag inside is fits =
-    c.read_rdf.ensures.usual t nodes d y has fresh opened ahead tag inside
+pub returns-then-not-is_root-clause-accepts : goal.returns-then-not-is_root-clause-accepts
+returns-then-not-is_root-clause-accepts c t nodes d y has fresh opened ahead tag is fits =
+    c.read_rdf.ensures.accepts t nodes d y has fresh opened ahead tag
     (rdf_alone t nodes d (ap is_root (sym opened.0) ∙ sym c.is_root.ensures ∙ c.if-not-is_root.true) is) fits
 
-pub returns-then-opened-clause-usual : goal.returns-then-opened-clause-usual
-returns-then-opened-clause-usual c t nodes d y has fresh opened ahead tag inside is fits =
+pub returns-then-opened-clause-accepts : goal.returns-then-opened-clause-accepts
+returns-then-opened-clause-accepts c t nodes d y has fresh opened ahead tag is fits =
     let none : nodes ≡ Nothing =
     (subst (λ (b : Bool). HasInside b nodes c.args.self.now.source.scope c.args.self.now.source.at c.args.self.now.source.rest.now y)
     c.if-opened.true ahead.row).0 in
     absurd (subst (λ (q : Nodes). HasRdf q d) none
     (around_alone t nodes d (ap is_root (sym opened.0) ∙ sym c.is_root.ensures ∙ c.if-not-is_root.false) is))
 
-pub returns-in_err-read_around-clause-usual : goal.returns-in_err-read_around-clause-usual
-returns-in_err-read_around-clause-usual c t nodes d y has fresh opened ahead tag inside is fits =
+pub returns-in_err-read_around-clause-accepts : goal.returns-in_err-read_around-clause-accepts
+returns-in_err-read_around-clause-accepts c t nodes d y has fresh opened ahead tag is fits =
     let rdf = around_alone t nodes d (ap is_root (sym opened.0) ∙ sym c.is_root.ensures ∙ c.if-not-is_root.false) is in
     let p = err_from_is_err_and c.from_residual.result c.from_residual.ensures.1 in
     rw (p.1, p.2) (memory_says ⊤ ⊤ c.in_err-read_around.field-0.0
-    (c.in_err-read_around.ensures.usual nodes d y has fresh
-    (subst (λ (b : Bool). IsAhead b nodes c.args.self.now.source y) c.if-opened.false ahead) (around_elements t nodes d rdf inside) rdf fits))
+    (c.in_err-read_around.ensures.accepts nodes d y has fresh
+    (subst (λ (b : Bool). IsAhead b nodes c.args.self.now.source y) c.if-opened.false ahead) rdf fits))

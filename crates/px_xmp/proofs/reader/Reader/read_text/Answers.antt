@@ -1,4 +1,4 @@
-use Rattle.std.proofs.Common.{◌≡◌, ◌++◌, true, false, not, Bool, Option, [], length, refl, ap, subst, ◌∙◌, arith}
+use Rattle.std.proofs.Common.{◌≡◌, ◌++◌, true, false, not, Bool, Option, [], refl, subst, ◌∙◌, arith}
 use Rattle.px_xmp_forms.specs.Outputs.{nothing, begun, with_text}
 use Rattle.px_xmp_forms.specs.Forms.{is_white}
 use Rattle.px_xmp.specs.Nodes.{Nothing, Words}
@@ -9,26 +9,26 @@ use Rattle.px_xmp_marks.specs.Reading.{start_tag_view}
 use Rattle.px_xmp.specs.declared.marks.MarkKind.{MarkKind}
 use Rattle.px_xmp.specs.declared.elements.Opened.{Opened}
 use Rattle.px_xmp.specs.calls.Steps.{Next}
-use Rattle.px_xmp.specs.calls.Fits.{BeginsWithTag}
-use Rattle.px_xmp.proofs.UsualLaws.{memory_says, none_some, first_of, ahead_begins, tag_read, start_usual}
-use Rattle.px_xmp.proofs.LiteralLaws.{no_tag_kind, words_fit, text_no_start, nothing_read, text_goes_on}
+use Rattle.px_xmp.proofs.AheadLaws.{memory_says, none_some, true_false}
+use Rattle.px_xmp.proofs.RefusedLaws.{white_front}
+use Rattle.px_xmp.proofs.TagAheadLaws.{tag_ahead, first_mark, element_tag, white_fits, white_back}
+use Rattle.px_xmp.proofs.LiteralLaws.{no_tag_kind, words_fit, text_no_start, blank_read, text_goes_on}
 use Rattle.px_xmp.proofs.reader.Reader.read_text.Goals as goal
-
-true_false : {P : Type 0} (b : Bool) → b ≡ true → b ≡ false → P
-true_false true e f = absurd (cc)
-true_false false e f = absurd (cc)
 
 white_if : (b more : Bool) → more ≡ not b → more ≡ false → b ≡ true
 white_if true more e f = refl
 white_if false more e f = absurd (cc)
+
+other_if : (b more : Bool) → more ≡ not b → more ≡ true → b ≡ true → ⊥
+other_if true more e f h = absurd (cc)
+other_if false more e f h = absurd (cc)
 
 pub marks-init : goal.marks-init
 marks-init c =
     record {
       within = omega (arith);
       scope = refl;
-      read = λ s has left. (Nothing, [], refl, λ e. tt, refl, record { left = left; same = refl }, has);
-      says = λ e. true_false false e refl;
+      read = λ s has left. (Nothing, [], refl, λ e. tt, λ e. true_false false e refl, refl, record { left = left; same = refl }, has);
       failed_allocations = refl;
     }
 
@@ -38,14 +38,21 @@ marks-preserved-then-says-2 c =
       within = omega (arith, c.in-Some.ensures.shorter, c.marks.invariant.within);
       scope = c.next.ensures.scope ∙ c.marks.invariant.scope;
       read = λ s has left.
-          let (nodes, text, is_text, white, octets, moves, now) = c.marks.invariant.read s has left in
+          let (nodes, text, is_text, white, other, octets, moves, now) = c.marks.invariant.read s has left in
           let (t, says, more, put) = c.in_ok-more-in_default-kind.ensures.value (begun (with_text text nothing) s) now (with_text text nothing) s.opened refl in
           let (texts, after, on) =
           text_step nodes c.args.self.now.source.scope c.args.self.now.source.at c.args.self.now.source.rest.now c.marks.self.source.at
           c.marks.self.source.rest.now c.next.new.self.at c.next.new.self.rest.now (kind_view c.in-Some.kind) text t is_text octets moves
-          (c.in-Some.ensures.read moves.left) says in
-          (joined nodes (Words t Nothing), text ++ t, texts, λ e. true_false c.marks.says c.if-says-2.true e, after, on, put);
-      says = λ e. omega (arith, c.in-Some.ensures.shorter, c.marks.invariant.within);
+          (c.in-Some.ensures.read moves.left) says in (
+            joined nodes (Words t Nothing),
+            text ++ t,
+            texts,
+            λ e. true_false c.marks.says c.if-says-2.true e,
+            λ e h. other c.if-says-2.true (white_back nodes (Words t Nothing) h),
+            after,
+            on,
+            put,
+          );
       failed_allocations = c.in_ok-more-in_default-kind.ensures.memory ∙ c.marks.invariant.failed_allocations;
     }
 
@@ -55,7 +62,7 @@ marks-preserved c =
       within = omega (arith, c.in-Some.ensures.shorter, c.marks.invariant.within);
       scope = c.next.ensures.scope ∙ c.marks.invariant.scope;
       read = λ s has left.
-          let (nodes, text, is_text, white, octets, moves, now) = c.marks.invariant.read s has left in
+          let (nodes, text, is_text, white, other, octets, moves, now) = c.marks.invariant.read s has left in
           let (t, says, more, put) = c.in_ok-more-in_default-kind.ensures.value (begun (with_text text nothing) s) now (with_text text nothing) s.opened refl in
           let (texts, after, on) =
           text_step nodes c.args.self.now.source.scope c.args.self.now.source.at c.args.self.now.source.rest.now c.marks.self.source.at
@@ -65,17 +72,17 @@ marks-preserved c =
             text ++ t,
             texts,
             λ e. white_joined nodes (Words t Nothing) (white c.if-says-2.false) (white_if (is_white t) c.in_ok-more-in_default-kind.more more e, tt),
+            λ e h. other_if (is_white t) c.in_ok-more-in_default-kind.more more e (white_front nodes (Words t Nothing) h).0,
             after,
             on,
             put,
           );
-      says = λ e. omega (arith, c.in-Some.ensures.shorter, c.marks.invariant.within);
       failed_allocations = c.in_ok-more-in_default-kind.ensures.memory ∙ c.marks.invariant.failed_allocations;
     }
 
 pub returns-in-Start-clause-read : goal.returns-in-Start-clause-read
 returns-in-Start-clause-read c s has left =
-    let (nodes, text, is_text, white, octets, moves, now) = c.marks.invariant.read s has left in
+    let (nodes, text, is_text, white, other, octets, moves, now) = c.marks.invariant.read s has left in
     let next = c.in-Some.ensures.read moves.left in
     record {
       nodes = nodes;
@@ -104,7 +111,7 @@ returns-in_default-clause-text c s nodes t y has ahead text short =
     let old = c.args.self.now.source in
     let now = c.marks.self.source in
     let (e, row, ends) = ahead.row in
-    let (so, said, is, white, octets, moves, has_now) = c.marks.invariant.read s has ahead.left in
+    let (so, said, is, white, other, octets, moves, has_now) = c.marks.invariant.read s has ahead.left in
     let (k, z, first) = text_goes_on c.kinds_are_read.ensures so nodes said t old.scope old.at now.at old.rest.now now.rest.now e y is octets row ends moves.same text in
     absurd (none_some c.next.result c.in_default.is (c.next.ensures.some k z first))
 
@@ -113,7 +120,7 @@ returns-in_err-opened-in-Start-clause-text c s nodes t y has ahead text short =
     let old = c.args.self.now.source in
     let now = c.marks.self.source in
     let (e, row, ends) = ahead.row in
-    let (so, said, is, white, octets, moves, has_now) = c.marks.invariant.read s has ahead.left in
+    let (so, said, is, white, other, octets, moves, has_now) = c.marks.invariant.read s has ahead.left in
     let next = subst (λ (z : MarkKind). Next (kind_view z) now.at now.rest.now c.next.new.self.at c.next.new.self.rest.now) c.in-Start.is
     (c.in-Some.ensures.read moves.left) in
     absurd (text_no_start c.kinds_are_read.ensures (start_tag_view c.in-Start.tag) so nodes said t old.scope old.at now.at c.next.new.self.at old.rest.now
@@ -124,7 +131,7 @@ returns-then-says-clause-text c s nodes t y has ahead text short =
     let old = c.args.self.now.source in
     let now = c.marks.self.source in
     let (e, row, ends) = ahead.row in
-    let (so, said, is, white, octets, moves, has_now) = c.marks.invariant.read s has ahead.left in
+    let (so, said, is, white, other, octets, moves, has_now) = c.marks.invariant.read s has ahead.left in
     let next = subst (λ (z : MarkKind). Next (kind_view z) now.at now.rest.now c.next.new.self.at c.next.new.self.rest.now) c.in-Start.is
     (c.in-Some.ensures.read moves.left) in
     absurd (text_no_start c.kinds_are_read.ensures (start_tag_view c.in-Start.tag) so nodes said t old.scope old.at now.at c.next.new.self.at old.rest.now
@@ -135,7 +142,7 @@ returns-in_err-more-in_default-kind-clause-text c s nodes t y has ahead text sho
     let old = c.args.self.now.source in
     let now = c.marks.self.source in
     let (e, row, ends) = ahead.row in
-    let (so, said, is, white, octets, moves, has_now) = c.marks.invariant.read s has ahead.left in
+    let (so, said, is, white, other, octets, moves, has_now) = c.marks.invariant.read s has ahead.left in
     let next = c.in-Some.ensures.read moves.left in
     let fits =
     words_fit c.kinds_are_read.ensures (kind_view c.in-Some.kind) so nodes said t old.scope old.at now.at c.next.new.self.at old.rest.now
@@ -143,51 +150,48 @@ returns-in_err-more-in_default-kind-clause-text c s nodes t y has ahead text sho
     (no_tag_kind c.in-Some.kind c.in_default-kind.not-Start c.in_default-kind.not-End) in
     let p = err_from_is_err_and c.from_residual-in_err-more-in_default-kind.result c.from_residual-in_err-more-in_default-kind.ensures.1 in
     rw (p.1, p.2) (memory_says Bool (Option Opened) c.in_err-more-in_default-kind.field-0.0
-    (c.in_err-more-in_default-kind.ensures.usual (begun (with_text said nothing) s) (with_text said nothing) s.opened has_now refl fits))
+    (c.in_err-more-in_default-kind.ensures.accepts (begun (with_text said nothing) s) (with_text said nothing) s.opened has_now refl fits))
 
--- ---- elements
+-- ---- white space, and an element
 
-pub returns-in_default-clause-elements : goal.returns-in_default-clause-elements
-returns-in_default-clause-elements c s nodes y has ahead elements =
+pub returns-in_default-clause-node : goal.returns-in_default-clause-node
+returns-in_default-clause-node c s nodes y has ahead element =
     let old = c.args.self.now.source in
     let now = c.marks.self.source in
     let (e, row, ends) = ahead.row in
-    let (so, said, is, white, octets, moves, has_now) = c.marks.invariant.read s has ahead.left in
-    let same = nothing_read c.kinds_are_read.ensures so nodes said old.scope old.at now.at old.rest.now now.rest.now e y is octets row ends moves.same elements in
-    let (k, z, first) = first_of now.rest.now (subst BeginsWithTag same (ahead_begins c.kinds_are_read.ensures nodes old y ahead elements)) in
+    let (so, said, is, white, other, octets, moves, has_now) = c.marks.invariant.read s has ahead.left in
+    let blank = blank_read c.kinds_are_read.ensures so nodes said old.scope old.at now.at old.rest.now now.rest.now e y is octets row ends moves.same element in
+    let (more, others, tag) =
+    tag_ahead c.kinds_are_read.ensures so nodes old.scope old.at now.at old.rest.now now.rest.now (e ++ y) blank octets row moves.same
+    (element_tag nodes (e ++ y) element) in
+    let (k, z, first) = first_mark more old.scope now.at now.rest.now (e ++ y) others tag in
     absurd (none_some c.next.result c.in_default.is (c.next.ensures.some k z first))
 
-pub returns-in_err-opened-in-Start-clause-elements : goal.returns-in_err-opened-in-Start-clause-elements
-returns-in_err-opened-in-Start-clause-elements c s nodes y has ahead elements =
-    let old = c.args.self.now.source in
-    let now = c.marks.self.source in
-    let (e, row, ends) = ahead.row in
-    let (so, said, is, white, octets, moves, has_now) = c.marks.invariant.read s has ahead.left in
-    let same = nothing_read c.kinds_are_read.ensures so nodes said old.scope old.at now.at old.rest.now now.rest.now e y is octets row ends moves.same elements in
-    let next = subst (λ (z : MarkKind). Next (kind_view z) now.at now.rest.now c.next.new.self.at c.next.new.self.rest.now) c.in-Start.is
-    (c.in-Some.ensures.read moves.left) in
-    let (all, listed, usual) =
-    start_usual c.kinds_are_read.ensures (start_tag_view c.in-Start.tag) now.at c.next.new.self.at now.rest.now c.next.new.self.rest.now
-    (subst BeginsWithTag same (ahead_begins c.kinds_are_read.ensures nodes old y ahead elements)) next in
+pub returns-in_err-opened-in-Start-clause-node : goal.returns-in_err-opened-in-Start-clause-node
+returns-in_err-opened-in-Start-clause-node c s nodes y has ahead element =
     let p = err_from_is_err_and c.from_residual.result c.from_residual.ensures.1 in
-    rw (p.1, p.2) (memory_says Opened (Option Opened) c.in_err-opened-in-Start.field-0.0 (c.in_err-opened-in-Start.ensures.usual all listed usual))
+    rw (p.1, p.2) (memory_says Opened (Option Opened) c.in_err-opened-in-Start.field-0.0 c.in_err-opened-in-Start.ensures.accepts)
 
-pub returns-then-says-clause-elements : goal.returns-then-says-clause-elements
-returns-then-says-clause-elements c s nodes y has ahead elements =
+pub returns-then-says-clause-node : goal.returns-then-says-clause-node
+returns-then-says-clause-node c s nodes y has ahead element =
     let old = c.args.self.now.source in
     let now = c.marks.self.source in
     let (e, row, ends) = ahead.row in
-    let (so, said, is, white, octets, moves, has_now) = c.marks.invariant.read s has ahead.left in
-    let same = nothing_read c.kinds_are_read.ensures so nodes said old.scope old.at now.at old.rest.now now.rest.now e y is octets row ends moves.same elements in
-    absurd (omega (arith, c.marks.invariant.says c.if-says.true, ap length same))
+    let (so, said, is, white, other, octets, moves, has_now) = c.marks.invariant.read s has ahead.left in
+    absurd (other c.if-says.true
+    (blank_read c.kinds_are_read.ensures so nodes said old.scope old.at now.at old.rest.now now.rest.now e y is octets row ends moves.same element))
 
-pub returns-in_err-more-in_default-kind-clause-elements : goal.returns-in_err-more-in_default-kind-clause-elements
-returns-in_err-more-in_default-kind-clause-elements c s nodes y has ahead elements =
+pub returns-in_err-more-in_default-kind-clause-node : goal.returns-in_err-more-in_default-kind-clause-node
+returns-in_err-more-in_default-kind-clause-node c s nodes y has ahead element =
     let old = c.args.self.now.source in
     let now = c.marks.self.source in
     let (e, row, ends) = ahead.row in
-    let (so, said, is, white, octets, moves, has_now) = c.marks.invariant.read s has ahead.left in
-    let same = nothing_read c.kinds_are_read.ensures so nodes said old.scope old.at now.at old.rest.now now.rest.now e y is octets row ends moves.same elements in
-    let is_tag = tag_read c.kinds_are_read.ensures (kind_view c.in-Some.kind) now.at c.next.new.self.at now.rest.now c.next.new.self.rest.now
-    (subst BeginsWithTag same (ahead_begins c.kinds_are_read.ensures nodes old y ahead elements)) (c.in-Some.ensures.read moves.left) in
-    absurd (no_tag_kind c.in-Some.kind c.in_default-kind.not-Start c.in_default-kind.not-End is_tag)
+    let (so, said, is, white, other, octets, moves, has_now) = c.marks.invariant.read s has ahead.left in
+    let blank = blank_read c.kinds_are_read.ensures so nodes said old.scope old.at now.at old.rest.now now.rest.now e y is octets row ends moves.same element in
+    let fits =
+    white_fits c.kinds_are_read.ensures c.only_references_are_read.ensures (kind_view c.in-Some.kind) so nodes said old.scope old.at now.at
+    c.next.new.self.at old.rest.now now.rest.now c.next.new.self.rest.now (e ++ y) is blank octets moves.same ahead.left.few row element
+    (c.in-Some.ensures.read moves.left) (no_tag_kind c.in-Some.kind c.in_default-kind.not-Start c.in_default-kind.not-End) in
+    let p = err_from_is_err_and c.from_residual-in_err-more-in_default-kind.result c.from_residual-in_err-more-in_default-kind.ensures.1 in
+    rw (p.1, p.2) (memory_says Bool (Option Opened) c.in_err-more-in_default-kind.field-0.0
+    (c.in_err-more-in_default-kind.ensures.accepts (begun (with_text said nothing) s) (with_text said nothing) s.opened has_now refl fits))

@@ -1,11 +1,7 @@
 use Rattle.std.proofs.Common.{sym, subst, ◌∙◌, option_map, List, ℕ}
 use Rattle.px_xmp_marks.specs.Reading.{next_view}
 use Rattle.px_xmp.specs.calls.Listed.{ArePlain}
-use Rattle.std.proofs.lemmas.Result.{err_from_is_err_and}
-use Rattle.px_xmp.specs.declared.scope.Declared.{Declared}
-use Rattle.std.specs.Bool.{⊤}
-use Rattle.px_xmp.proofs.UsualLaws.{memory_says}
-use Rattle.px_xmp.proofs.TagLaws.{next_left, whole_left, usual_left, usual_next}
+use Rattle.px_xmp.proofs.TagLaws.{next_left, whole_left}
 use Rattle.px_xmp.proofs.scope.Scope.open.Goals as goal
 
 pub loop-next-preserved : goal.loop-next-preserved
@@ -18,9 +14,6 @@ loop-next-preserved c =
           (option_map (λ x. x.now) c.loop-next.noted.first) (option_map (λ x. x.now) c.first_after.result) all (next_view c.in-Some.next)
           (c.loop-next.invariant.left all l) (sym c.in-Some.ensures.value) c.in_ok-declare.ensures.items c.language_after.ensures
           c.first_after.ensures;
-      usual = λ all l usual.
-          usual_left c.attributes_in_order.ensures c.loop-next.rest.now (next_view c.in-Some.next) (c.loop-next.invariant.usual all l usual)
-          (sym c.in-Some.ensures.value);
     }
 
 pub returns-clause-items : goal.returns-clause-items
@@ -38,10 +31,3 @@ returns-clause-tag c all l =
     (option_map (λ x. x.now) c.loop-next.noted.language) (option_map (λ x. x.now) c.loop-next.noted.first) all
     (c.loop-next.invariant.left all l) (sym c.in_default.ensures.value) in
     (c.whole.ensures.language ∙ language, subst (λ (z : List ℕ). ArePlain z all) (sym c.whole.ensures.attributes) plain)
-
-pub returns-in_err-declare-clause-usual : goal.returns-in_err-declare-clause-usual
-returns-in_err-declare-clause-usual c all l usual =
-    let p = err_from_is_err_and c.from_residual-in_err-declare.result c.from_residual-in_err-declare.ensures.1 in
-    rw (p.1, p.2) (memory_says ⊤ Declared c.in_err-declare.field-0.0 (c.in_err-declare.ensures.usual
-    (usual_next c.attributes_in_order.ensures c.loop-next.rest.now (next_view c.in-Some.next) (c.loop-next.invariant.usual all l usual)
-    (sym c.in-Some.ensures.value))))

@@ -1,13 +1,12 @@
 use Rattle.std.specs.Bool.{⊤}
 use Rattle.px_xmp.specs.declared.elements.Opened.{Opened}
-use Rattle.std.proofs.Common.{Option, [], refl, sym, subst, ◌∙◌, arith}
+use Rattle.std.proofs.Common.{Option, [], refl, subst, ◌∙◌, arith}
 use Rattle.px_xmp.specs.Reading as reading
 use Rattle.px_xmp.specs.declared.marks.MarkKind.{MarkKind}
 use Rattle.px_xmp.specs.calls.Steps.{Next}
-use Rattle.px_xmp_marks.specs.Reading.{start_tag_view}
-use Rattle.px_xmp.specs.calls.Fits.{BeginsWithTag}
 use Rattle.px_xmp.proofs.RefusedLaws.{rare_says, wrong_says, text_begins}
-use Rattle.px_xmp.proofs.UsualLaws.{memory_says, none_some, first_of, tag_read, start_usual}
+use Rattle.px_xmp.proofs.AheadLaws.{memory_says, none_some}
+use Rattle.px_xmp.proofs.TagAheadLaws.{tag_ahead, first_mark, next_white}
 use Rattle.px_xmp.specs.Reading.{kind_view}
 use Rattle.px_xmp.proofs.StepLaws.{white_step, moves_on, tag_started, tag_ended}
 use Rattle.std.proofs.lemmas.Result.{err_from_is_err_and}
@@ -26,13 +25,6 @@ marks-preserved-in_ok-judge_blank-in-Text c =
           (c.in-Some.ensures.read moves.left) in
           white_step white c.args.self.now.scope c.args.self.now.at c.args.self.now.rest.now c.marks.self.at c.marks.self.rest.now
           c.next.new.self.at c.next.new.self.rest.now _ t is_white octets moves next says blank;
-      first = λ begins left.
-          let (white, is_white, octets, moves) = c.marks.invariant.read left in
-          let next =
-          subst (λ (z : MarkKind). Next (kind_view z) c.marks.self.at c.marks.self.rest.now c.next.new.self.at c.next.new.self.rest.now) c.in-Text.is
-          (c.in-Some.ensures.read moves.left) in
-          absurd (tag_read c.kinds_are_read.ensures _ c.marks.self.at c.next.new.self.at c.marks.self.rest.now c.next.new.self.rest.now
-          (subst BeginsWithTag (sym (c.marks.invariant.first begins left)) begins) next);
       failed_allocations = c.in_ok-judge_blank-in-Text.ensures.memory ∙ c.marks.invariant.failed_allocations;
     }
 
@@ -48,13 +40,6 @@ marks-preserved c =
           (c.in-Some.ensures.read moves.left) in
           white_step white c.args.self.now.scope c.args.self.now.at c.args.self.now.rest.now c.marks.self.at c.marks.self.rest.now
           c.next.new.self.at c.next.new.self.rest.now reading.Other [] is_white octets moves next refl refl;
-      first = λ begins left.
-          let (white, is_white, octets, moves) = c.marks.invariant.read left in
-          let next =
-          subst (λ (z : MarkKind). Next (kind_view z) c.marks.self.at c.marks.self.rest.now c.next.new.self.at c.next.new.self.rest.now) c.in-Other.is
-          (c.in-Some.ensures.read moves.left) in
-          absurd (tag_read c.kinds_are_read.ensures reading.Other c.marks.self.at c.next.new.self.at c.marks.self.rest.now c.next.new.self.rest.now
-          (subst BeginsWithTag (sym (c.marks.invariant.first begins left)) begins) next);
       failed_allocations = c.marks.invariant.failed_allocations;
     }
 
@@ -114,28 +99,35 @@ returns-in_err-judge_blank-in-Text-clause-refused c left =
     c.marks.self.rest.now c.next.new.self.rest.now c.in-Text.text.kind c.in-Text.text.octets.now is_white octets moves.same next)
     c.in_err-judge_blank-in-Text.ensures.refused)
 
-pub returns-in_err-enter-in-Start-clause-usual : goal.returns-in_err-enter-in-Start-clause-usual
-returns-in_err-enter-in-Start-clause-usual c left begins =
+-- ---- a tag ahead
+
+pub returns-in_default-clause-accepts : goal.returns-in_default-clause-accepts
+returns-in_default-clause-accepts c nodes y left row tag =
+    let old = c.args.self.now in
+    let now = c.marks.self in
     let (white, is_white, octets, moves) = c.marks.invariant.read left in
-    let next =
-    subst (λ (z : MarkKind). Next (kind_view z) c.marks.self.at c.marks.self.rest.now c.next.new.self.at c.next.new.self.rest.now) c.in-Start.is
-    (c.in-Some.ensures.read moves.left) in
-    let (all, listed, usual) =
-    start_usual c.kinds_are_read.ensures (start_tag_view c.in-Start.tag) c.marks.self.at c.next.new.self.at c.marks.self.rest.now c.next.new.self.rest.now
-    (subst BeginsWithTag (sym (c.marks.invariant.first begins left)) begins) next in
+    let (more, others, ahead) =
+    tag_ahead c.kinds_are_read.ensures white nodes old.scope old.at now.at old.rest.now now.rest.now y is_white octets row moves.same tag in
+    let (k, z, first) = first_mark more old.scope now.at now.rest.now y others ahead in
+    absurd (none_some c.next.result c.in_default.is (c.next.ensures.some k z first))
+
+pub returns-in_err-enter-in-Start-clause-accepts : goal.returns-in_err-enter-in-Start-clause-accepts
+returns-in_err-enter-in-Start-clause-accepts c nodes y left row tag =
     let p = err_from_is_err_and c.from_residual.result c.from_residual.ensures.1 in
-    rw (p.1, p.2) (memory_says Opened (Option Opened) c.in_err-enter-in-Start.field-0.0 (c.in_err-enter-in-Start.ensures.usual all listed usual))
+    rw (p.1, p.2) (memory_says Opened (Option Opened) c.in_err-enter-in-Start.field-0.0 c.in_err-enter-in-Start.ensures.accepts)
 
-pub returns-in_err-judge_blank-in-Text-clause-usual : goal.returns-in_err-judge_blank-in-Text-clause-usual
-returns-in_err-judge_blank-in-Text-clause-usual c left begins =
+pub returns-in_err-judge_blank-in-Text-clause-accepts : goal.returns-in_err-judge_blank-in-Text-clause-accepts
+returns-in_err-judge_blank-in-Text-clause-accepts c nodes y left row tag =
+    let old = c.args.self.now in
+    let now = c.marks.self in
     let (white, is_white, octets, moves) = c.marks.invariant.read left in
+    let (more, others, ahead) =
+    tag_ahead c.kinds_are_read.ensures white nodes old.scope old.at now.at old.rest.now now.rest.now y is_white octets row moves.same tag in
     let next =
-    subst (λ (z : MarkKind). Next (kind_view z) c.marks.self.at c.marks.self.rest.now c.next.new.self.at c.next.new.self.rest.now) c.in-Text.is
+    subst (λ (z : MarkKind). Next (kind_view z) now.at now.rest.now c.next.new.self.at c.next.new.self.rest.now) c.in-Text.is
     (c.in-Some.ensures.read moves.left) in
-    absurd (tag_read c.kinds_are_read.ensures _ c.marks.self.at c.next.new.self.at c.marks.self.rest.now c.next.new.self.rest.now
-    (subst BeginsWithTag (sym (c.marks.invariant.first begins left)) begins) next)
-
-pub returns-in_default-clause-usual : goal.returns-in_default-clause-usual
-returns-in_default-clause-usual c left begins =
-    let (k, y, first) = first_of c.marks.self.rest.now (subst BeginsWithTag (sym (c.marks.invariant.first begins left)) begins) in
-    absurd (none_some c.next.result c.in_default.is (c.next.ensures.some k y first))
+    let says =
+    next_white c.kinds_are_read.ensures (reading.Words c.in-Text.text.kind c.in-Text.text.octets.now) more old.scope now.at c.next.new.self.at now.rest.now
+    c.next.new.self.rest.now y next others ahead (λ h. h) moves.left.few in
+    let p = err_from_is_err_and c.from_residual-in_err-judge_blank-in-Text.result c.from_residual-in_err-judge_blank-in-Text.ensures.1 in
+    rw (p.1, p.2) (memory_says ⊤ (Option Opened) c.in_err-judge_blank-in-Text.field-0.0 (c.in_err-judge_blank-in-Text.ensures.accepts says))

@@ -1,11 +1,13 @@
 use Rattle.std.specs.Bool.{⊤}
-use Rattle.std.proofs.Common.{◌∙◌}
+use Rattle.std.proofs.Common.{◌==◌, ◌∙◌, ℕ, List, [], length, refl, sym, ap, inl, subst}
 use Rattle.px_xmp.specs.Reading.{kind_view}
 use Rattle.px_xmp.proofs.StepLaws.{white_step}
 use Rattle.px_xmp.proofs.source.Source.read_after.Goals as goal
 use Rattle.std.proofs.lemmas.Result.{err_from_is_err_and}
-use Rattle.px_xmp.proofs.RefusedLaws.{after_refused, wrong_says}
-use Rattle.px_xmp.proofs.UsualLaws.{none_shorter}
+use Rattle.px_xmp.proofs.RefusedLaws.{after_refused, white_passed, white_front, wrong_says}
+use Rattle.px_xmp.specs.Meaning.{AreWhite}
+use Rattle.px_xmp.proofs.TagAheadLaws.{last_mark, last_white}
+use Rattle.px_xmp.proofs.AheadLaws.{memory_says, none_some, true_false}
 
 pub loop-place-preserved : goal.loop-place-preserved
 loop-place-preserved c =
@@ -15,7 +17,6 @@ loop-place-preserved c =
           let (t, says, blank) = c.in_ok-judge_white.ensures.says in
           white_step white c.args.self.now.scope c.args.self.now.at c.args.self.now.rest.now c.loop-place.self.at c.loop-place.self.rest.now
           c.next.new.self.at c.next.new.self.rest.now (kind_view c.in-Some.kind) t is_white octets moves (c.in-Some.ensures.read moves.left) says blank;
-      empty = λ e. absurd (none_shorter c.next.new.self.rest.now c.loop-place.self.rest.now c.in-Some.ensures.shorter (c.loop-place.invariant.empty e));
       failed_allocations = c.in_ok-judge_white.ensures.memory ∙ c.loop-place.invariant.failed_allocations;
     }
 
@@ -29,6 +30,28 @@ returns-in_err-judge_white-clause-refused c nodes left row =
     old.rest.now now.rest.now c.next.new.self.rest.now is_white octets moves.same row (c.in-Some.ensures.read moves.left))
     c.in_err-judge_white.ensures.refused)
 
-pub returns-in_err-judge_white-clause-usual : goal.returns-in_err-judge_white-clause-usual
-returns-in_err-judge_white-clause-usual c e =
-    absurd (none_shorter c.next.new.self.rest.now c.loop-place.self.rest.now c.in-Some.ensures.shorter (c.loop-place.invariant.empty e))
+-- ---- white space up to the end
+
+pub returns-in_err-judge_white-clause-accepts : goal.returns-in_err-judge_white-clause-accepts
+returns-in_err-judge_white-clause-accepts c nodes left row blank =
+    let old = c.args.self.now in
+    let now = c.loop-place.self in
+    let (white, is_white, octets, moves) = c.loop-place.invariant.read left in
+    let (more, whole, others) =
+    white_passed c.kinds_are_read.ensures white nodes old.scope old.at now.at old.rest.now now.rest.now [] is_white octets row moves.same (inl refl) in
+    let says =
+    last_white c.kinds_are_read.ensures (kind_view c.in-Some.kind) more old.scope now.at c.next.new.self.at now.rest.now c.next.new.self.rest.now
+    (c.in-Some.ensures.read moves.left) others (white_front white more (subst AreWhite whole blank)) moves.left.few in
+    let p = err_from_is_err_and c.from_residual.result c.from_residual.ensures.1 in
+    rw (p.1, p.2) (memory_says ⊤ ⊤ c.in_err-judge_white.field-0.0 (c.in_err-judge_white.ensures.accepts says))
+
+pub returns-in_default-clause-accepts : goal.returns-in_default-clause-accepts
+returns-in_default-clause-accepts c nodes left row blank =
+    let old = c.args.self.now in
+    let now = c.loop-place.self in
+    let (white, is_white, octets, moves) = c.loop-place.invariant.read left in
+    let (more, whole, others) =
+    white_passed c.kinds_are_read.ensures white nodes old.scope old.at now.at old.rest.now now.rest.now [] is_white octets row moves.same (inl refl) in
+    let (k, z, first) =
+    last_mark more old.scope now.at now.rest.now others (white_front white more (subst AreWhite whole blank)) (λ e. true_false (length now.rest.now == 0) (ap (λ (q : List ℕ). length q == 0) e) (sym c.is_empty.ensures ∙ c.loop-place-test.true)) in
+    absurd (none_some c.next.result c.in_default.is (c.next.ensures.some k z first))

@@ -1,4 +1,4 @@
-use Rattle.std.proofs.Common.{◌≡◌, [], length}
+use Rattle.std.proofs.Common.{◌≡◌, length}
 use Rattle.px_xmp.specs.Nodes.{Nodes, AreNodes}
 use Rattle.px_xmp.specs.Meaning.{AreWhite}
 use Rattle.px_xmp.specs.calls.Steps.{IsLeft, Moves}
@@ -9,7 +9,6 @@ invariant-loop-place l = record {
   read : IsLeft l.fn.self.at l.fn.self.rest.now → (white : Nodes) × AreWhite white
       × AreNodes white l.fn.self.scope l.fn.self.at l.fn.self.rest.now l.self.rest.now
       × Moves l.fn.self.at l.fn.self.rest.now l.self.at l.self.rest.now;
-  empty : l.fn.self.rest.now ≡ [] → l.self.rest.now ≡ [];
   failed_allocations : l.memory.failed_allocations ≡ l.fn.memory.failed_allocations;
 }
 

@@ -1,8 +1,0 @@
-use Rattle.std.proofs.Common.{◌≤◌, ◌+◌, ◌-◌, length}
-use Rattle.px_xmp.proofs.packet.can_be_crowded.Given as goal
-
-abbrev pub invariant-loop-at : goal.invariant-loop-at
-invariant-loop-at l = l.at ≤ length l.octets + 1
-
-abbrev pub decreases-loop-at : goal.decreases-loop-at
-decreases-loop-at l = length l.octets + 1 - l.at
