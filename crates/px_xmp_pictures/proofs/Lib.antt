@@ -1,3 +1,4 @@
 pub mod AnswerLaws
 pub mod PartLaws
 pub mod CutLaws
+pub mod LeftLaws

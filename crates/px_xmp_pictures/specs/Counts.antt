@@ -1,5 +1,5 @@
--- What a call that reads XMP states of failed allocations.
-use Rattle.std.specs.Prelude.{◌≡◌, ◌+◌, ℕ, Result, Ok, Err}
+-- What a call that reads XMP states if it fails.
+use Rattle.std.specs.Prelude.{◌≡◌, ◌+◌, ℕ, ⊤, Result, Ok, Err}
 use Rattle.px_bytes.specs.Allocations.{MemoryCounts}
 use Rattle.px_xmp_forms.specs.declared.faults.Refusal.{Refusal}
 use Rattle.px_xmp_forms.specs.declared.faults.Refusal.TheVariants as refusal
@@ -10,6 +10,12 @@ use Rattle.px_xmp_pictures.specs.declared.unjoined.Unjoined.TheVariants.{NotRead
 abbrev pub unjoined : Refusal → Unjoined
 unjoined (refusal.Content cause place) = NotRead
 unjoined refusal.OutOfMemory = OutOfMemory
+
+-- if a call leaves XMP unread, this is so
+abbrev pub IfLeft : {X : Type 0} → Result X Unjoined → Type 0 → Type 0
+IfLeft (Ok x) P = ⊤
+IfLeft (Err NotRead) P = P
+IfLeft (Err OutOfMemory) P = ⊤
 
 -- OutOfMemory means one failed allocation; any other result means none: `old` and `new` are the counts
 abbrev pub CountsAllocFailureOfXmp : Unjoined → ℕ → ℕ → Type 0

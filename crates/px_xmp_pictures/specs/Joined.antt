@@ -1,11 +1,12 @@
 -- The packet of XMP of a picture with the properties of its extended XMP. XMP part 3, 1.1.3.1: the property HasExtendedXMP of
 -- http://ns.adobe.com/xmp/note/ has the name of the extended XMP.
-use Rattle.std.specs.Prelude.{◌≡◌, ℕ, false, None, List, [], ◌∷◌, ◌++◌, codes}
+use Rattle.std.specs.Prelude.{◌≡◌, ◌⊎◌, ℕ, false, None, List, [], ◌∷◌, ◌++◌, codes}
 use Rattle.px_jpeg.specs.declared.pieces.Piece.{Piece}
 use Rattle.px_jpeg.specs.Head.{Picture}
 use Rattle.px_jpeg.specs.Pieces.{pieces, range}
 use Rattle.px_pictures.specs.Xmp.{has_part}
 use Rattle.px_xmp.specs.Packet.{IsPacket}
+use Rattle.px_xmp.specs.Accepted.{PacketFits}
 use Rattle.px_xmp.specs.Laws.{IsFormOfPacket}
 use Rattle.px_xmp_text.specs.Values.{packet_end}
 use Rattle.px_xmp_pictures.specs.Extension.{packets, extension_pieces, IsExtension}
@@ -30,6 +31,10 @@ name_end = codes "</p:HasExtendedXMP>"
 -- there is no HasExtendedXMP in a normal packet, neither as a property of the picture nor inside another one
 abbrev pub NamesNone : List ℕ → Type 0
 NamesNone form = has_part label form ≡ false
+
+-- a packet has no meaning within the limits of px_xmp; or it has a normal form, and that names extended XMP
+abbrev pub IsLeftPacket : List ℕ → Type 0
+IsLeftPacket x = (PacketFits x → ⊥) ⊎ ((form : List ℕ) × IsFormOfPacket x form × (NamesNone form → ⊥))
 
 -- the pieces of the picture b, which have this name, are a packet, and this is its normal form
 pub record HasExtension (b : List ℕ) (ps : List Piece) (name form : List ℕ) : Type 0 where

@@ -8,9 +8,9 @@ ghost use Rattle.px_xmp.specs.Laws.{IsFormOfPacket};
 ghost use Rattle.px_xmp_forms.specs.Forms.{IsNormal};
 ghost use Rattle.px_xmp_text.specs.Values.{packet_end};
 ghost use Rattle.px_xmp_pictures.specs.Extension.{extension_pieces, IsExtension};
-ghost use Rattle.px_xmp_pictures.specs.Joined.{packet_start, name_start, name_end, NamesNone};
+ghost use Rattle.px_xmp_pictures.specs.Joined.{packet_start, name_start, name_end, NamesNone, IsLeftPacket};
 ghost use Rattle.px_xmp_pictures.specs.Joined.{HasExtension, IsJoinedPacket, IsJoined};
-ghost use Rattle.px_xmp_pictures.specs.Counts.{CountsAllocFailureInXmp};
+ghost use Rattle.px_xmp_pictures.specs.Counts.{IfLeft, CountsAllocFailureInXmp};
 
 use crate::digests::is_name_of;
 use crate::portions::{
@@ -203,6 +203,7 @@ fn plain_form(memory: &mut Memory, packet: &[u8]) -> Result<Vec<u8>, Unjoined>
     ensures form { IfOk result (λ form. IsFormOfPacket packet.now form.items) }
     ensures normal { IfOk result (λ form. IsNormal form.items) }
     ensures none { IfOk result (λ form. NamesNone form.items) }
+    ensures left { IfLeft result (IsLeftPacket packet.now) }
     ensures memory { CountsAllocFailureInXmp result memory.old memory.new }
 {
     let form = normal_form_in(memory, packet)?;
@@ -236,6 +237,7 @@ pub(crate) fn only_form(
     ensures form { IfOk result (λ form. IsFormOfPacket (range front.now.octets start size) form.items) }
     ensures normal { IfOk result (λ form. IsNormal form.items) }
     ensures none { IfOk result (λ form. NamesNone form.items) }
+    ensures left { IfLeft result (IsLeftPacket (range front.now.octets start size)) }
     ensures memory { CountsAllocFailureInXmp result memory.old memory.new }
 {
     let form = plain_form(memory, range(front.bytes(), start, size))?;

@@ -2,7 +2,8 @@
 //! forms of px_xmp. Extended XMP is joined to the packet that names it. It opens no file.
 //!
 //! What is proved of Exif and IPTC is what px_pictures proves. Of XMP it is proved where the packets are, which pieces of extended XMP
-//! are joined and to what, and that the answer is that of the normal forms of what the packets mean. Which packets are read is tested.
+//! are joined and to what, and that the answer is that of the normal forms of what the packets mean. A picture's only packet is left only
+//! if it has no meaning within the limits of px_xmp, or names extended XMP. Which extended XMP is joined is tested.
 #![tactic(auto)]
 
 mod comparing;

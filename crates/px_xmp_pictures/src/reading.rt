@@ -7,6 +7,7 @@ ghost use Rattle.px_pictures.specs.Metadata.{Blocks, HasBlocks};
 ghost use Rattle.px_xmp_pictures.specs.Xmp.{IsXmp, HasXmp};
 ghost use Rattle.px_xmp_pictures.specs.Counts.{CountsAllocFailureOfXmp};
 ghost use Rattle.px_xmp_pictures.specs.declared.reading.ReadXmp.TheVariants.{NotRead};
+ghost use Rattle.px_xmp_pictures.specs.declared.unjoined.Unjoined.TheVariants as unjoined;
 
 use crate::joining::{joined_form, only_form};
 use crate::unjoined::Unjoined;
@@ -38,6 +39,7 @@ fn not_read(start: usize) -> ReadXmp
 // What is known of XMP at an offset that has no form.
 fn left_at(why: Unjoined, start: usize) -> Result<ReadXmp, MetadataFault>
     ensures left { IfOk result (λ x. x ≡ NotRead (record { joined = false; start = start })) }
+    ensures why { IfOk result (λ x. why ≡ unjoined.NotRead) }
     ensures fault { IfErr result (λ e. e ≡ fault.OutOfMemory) }
     ensures memory { (old new : ℕ) → CountsAllocFailureOfXmp why old new → CountsAllocFailureInMetadataBy result old new }
 {

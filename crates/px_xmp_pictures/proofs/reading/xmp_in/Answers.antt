@@ -1,5 +1,7 @@
+use Rattle.std.specs.Prelude.{⊤}
 use Rattle.std.proofs.Common.{subst, sym, None, inl, inr, ◌∙◌}
 use Rattle.px_pictures.specs.Xmp.{IsOtherXmp}
+use Rattle.px_xmp_pictures.proofs.LeftLaws.{left_read}
 use Rattle.px_xmp_pictures.proofs.reading.xmp_in.Goals as goal
 
 pub returns-in-Ok-clause-read : goal.returns-in-Ok-clause-read
@@ -13,3 +15,10 @@ returns-in-Ok-only_form-clause-read c = (
   c.in-Ok-only_form.ensures.none,
   inl (c.in-Packet.start, c.in-Packet.size, (sym c.find_xmp.ensures ∙ c.in-Packet.is, c.in-Ok-only_form.ensures.form)),
 )
+
+pub returns-in-Err-only_form-clause-read : goal.returns-in-Err-only_form-clause-read
+returns-in-Err-only_form-clause-read c =
+    let left = c.left_at-in-Err-only_form in
+    left_read ⊤ left.result c.args.front.now c.in-Packet.start c.in-Packet.size c.in-Err-only_form.why
+    (subst (λ y. IsOtherXmp y None) c.requires c.in_default.ensures) (sym c.find_xmp.ensures ∙ c.in-Packet.is)
+    c.in-Err-only_form.ensures.left left.ensures.left left.ensures.why
