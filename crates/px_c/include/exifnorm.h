@@ -12,9 +12,8 @@
  *
  * Whether two blocks of Exif or IPTC mean the same is proved. Whether two JPEGs have the same Exif and IPTC is proved of
  * exifnorm_jpeg_same_blocks, and exifnorm_jpeg_same returns nothing else of these. Where the packets of XMP are is proved, that a form
- * is that of what its packet means, and that a packet which is refused has no meaning; which packets are left to another reader
- * (EXIFNORM_RARE) is tested. How blocks are found in other formats, and groups of pictures, are
- * tested. It is proved of each call which status but EXIFNORM_NO_MEMORY it returns for which input, what it sets, and what stays unchanged;
+ * is that of what its packet means, that a packet which is refused has no meaning, and that a packet with a meaning has a form, within limits
+ * of length, depth and languages. How blocks are found in other formats, and groups of pictures, are tested. It is proved of each call which status but EXIFNORM_NO_MEMORY it returns for which input, what it sets, and what stays unchanged;
  * and that exifnorm_check doesn't return EXIFNORM_NO_MEMORY for a block of DataSets. What this page says otherwise of EXIFNORM_NO_MEMORY,
  * and of copies, of the stack, of threads, of ownership, and that EXIFNORM_NAME_ROOM is enough, is tested. That texts are ASCII is read in
  * their definitions, and tested.
@@ -296,7 +295,8 @@ struct exifnorm_unread_part {
  *
  * So two pictures without metadata have the same. Pixels, and what follows the head, are not compared. The first bytes of a file may be
  * enough, as for exifnorm_jpeg_parts. What is read of Exif and IPTC is proved, and so are the places of packets and that the forms are
- * those of what they mean; which packets are read is tested.
+ * those of what they mean. The only packet of a picture is left only if it has no meaning within the limits, or names extended XMP; which
+ * extended XMP is joined is tested.
  *
  * A known difference comes first: in Exif or IPTC; or in XMP, if all XMP of both pictures is read and one has none, or the forms differ.
  * Otherwise, if something is not read, the pictures may differ there. Then the status is NOT_READ or SECOND_NOT_READ, and same is unchanged.
@@ -426,10 +426,10 @@ uint32_t exifnorm_xmp_check(const unsigned char *packet, size_t packet_length, /
  * of the tag or the text that has it.
  *
  * It is proved that the form is that of what the packet means, that it is a packet which means the same, and that a packet which is
- * refused has no meaning. A form is neither refused nor left to another reader, and is its own form, if its namespaces are not rare and
- * its languages have at most 100 characters; that each form which is written is such a form is tested. Which other packets are left to
- * another reader is tested and, unlike which blocks are refused, not proved; one with a meaning could be among them. It is also proved
- * that the call ends and is safe for any bytes, and that it returns NO_MEMORY exactly if an allocation failed.
+ * refused has no meaning. A packet with a meaning, by the forms of RDF/XML that FORMAT.md names, is neither refused nor left to another
+ * reader, within limits: 16,777,216 bytes of the packet and of its form, 100 bytes of a language, and 100 elements in one another, also in
+ * the form. Each form is such a packet, and its own form. It is also proved that the call ends and is safe for any bytes, and that it returns
+ * NO_MEMORY exactly if an allocation failed. Which cause of RDF/XML a packet has is tested.
  *
  *   DONE             out begins with the form; written is its length. The rest of out is unchanged.
  *   REFUSED          the packet is wrong, and has no meaning; fault is set.
@@ -444,11 +444,12 @@ uint32_t exifnorm_xmp_normalise(const unsigned char *packet, size_t packet_lengt
 
 /* Writes the form of a packet of XMP for showing it: the form that exifnorm_xmp_normalise writes, except that the members of each rdf:Bag are
  * in the order of the packet, which programs show, as of keywords. To compare packets, use exifnorm_xmp_normalise: two packets that mean the
- * same may have their members in different orders. Statuses and changes are as for exifnorm_xmp_normalise.
+ * same may have their members in different orders. Statuses and changes are as for exifnorm_xmp_normalise. If a bag has two members, the
+ * packet and what is written for it are read again, and the call takes two to three times as long.
  *
- * It is proved that the call ends and is safe for any bytes, that DONE and TOO_LITTLE_ROOM come with a form of at most EXIFNORM_LIMIT bytes
- * and only for a document of XML, and that it returns NO_MEMORY exactly if an allocation failed. That the form has the properties of the
- * packet, and that it is refused with the fault of exifnorm_xmp_normalise, is tested and not proved.
+ * It is proved that the form is a packet of at most EXIFNORM_LIMIT bytes which means what the packet means, that a packet which is refused
+ * has no meaning, that the call ends and is safe for any bytes, and that it returns NO_MEMORY exactly if an allocation failed. That members
+ * are in the order of the packet is tested and not proved.
  */
 uint32_t exifnorm_xmp_unsorted(const unsigned char *packet, size_t packet_length, /* the packet */
                                unsigned char *out, size_t out_length,             /* receives the form */

@@ -12,8 +12,8 @@ use Rattle.px_xmp_forms.specs.declared.faults.Cause.TheVariants.{RareElement, Ra
 use Rattle.px_xmp_forms.specs.declared.faults.Cause.TheVariants.{RareResource, RareRepeated, RareLength, RareDepth}
 use Rattle.px_xmp_forms.specs.Causes.{is_rare}
 use Rattle.px_xmp_forms.specs.Forms.{IsNormal}
-use Rattle.px_xmp.specs.Packet.{IsPacket}
-use Rattle.px_xmp.specs.Laws.{IsFormOfPacket, IsReadableForm, HasNoMeaning}
+use Rattle.px_xmp.specs.Laws.{IsFormOfPacket, HasNoMeaning, SayTheSame}
+use Rattle.px_xmp.specs.Accepted.{FormFits}
 use Rattle.px_c.specs.declared.faults.ExifnormFault.{ExifnormFault}
 
 -- the numbers of the causes; those of packets that are left to another reader follow 250
@@ -43,14 +43,16 @@ xmp_cause RareRepeated = 260
 xmp_cause RareLength = 261
 xmp_cause RareDepth = 262
 
--- the normal form of what a packet means, which is a packet again, is put into the caller's buffer, or the buffer is too small
+-- the normal form of what a packet means, which is accepted as a packet again, is put into the caller's buffer, or the buffer is too
+-- small
 abbrev pub PutsXmp : List ℕ → Given → List ℕ → List ℕ → Type 0
 PutsXmp packet given old new =
-    (form : List ℕ) × IsFormOfPacket packet form × IsReadableForm form × (length form ≤ limit) × IsPut given form old new
+    (form : List ℕ) × IsFormOfPacket packet form × FormFits form × IsPut given form old new
 
--- a normal packet is put into the caller's buffer for a packet, or the buffer is too small
+-- a normal packet that means what a packet means is put into the caller's buffer, or the buffer is too small
 abbrev pub PutsUnsorted : List ℕ → Given → List ℕ → List ℕ → Type 0
-PutsUnsorted packet given old new = IsPacket packet × ((form : List ℕ) × IsNormal form × (length form ≤ limit) × IsPut given form old new)
+PutsUnsorted packet given old new =
+    (form : List ℕ) × SayTheSame packet form × IsNormal form × (length form ≤ limit) × IsPut given form old new
 
 -- a packet is wrong: a number of such a cause, and an offset
 abbrev pub RefusesXmp : ExifnormFault → Type 0

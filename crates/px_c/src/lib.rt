@@ -20,7 +20,7 @@ ghost use Rattle.px_engine.specs.Slices.{IsPut, PutsForm, IsUnwritten};
 ghost use Rattle.px_engine.specs.Input.{HasMeaning};
 ghost use Rattle.px_engine.specs.Prints.{caption_text, listing};
 ghost use Rattle.px_xmp.specs.Laws.{IsReadableForm};
-ghost use Rattle.px_xmp.specs.Accepted.{IsUsualForm};
+ghost use Rattle.px_xmp.specs.Accepted.{FormFits, PacketFits};
 ghost use Rattle.px_pictures.specs.declared.faults.PictureSide.TheVariants.{First, Second};
 ghost use Rattle.px_c.specs.declared.pictures.Compared.TheVariants.{Blocks, All};
 ghost use Rattle.px_c.specs.Blocks.{StoresBlocks, StoresEnded, IsTooShortForBlocks};
@@ -30,7 +30,7 @@ ghost use Rattle.px_c.specs.Outcomes.{Refuses, PutsText, PutsTextOf, IsOfKind, A
 ghost use Rattle.px_c.specs.Packets.{ShowsPacket, LeavesRest, RefusesHead};
 ghost use Rattle.px_c.specs.Pictures.{ArePicturesCompared, LeavesUnread, RefusesPicture};
 ghost use Rattle.px_c.specs.Unread.{ShowsUnread, RefusesJoining};
-ghost use Rattle.px_c.specs.Xmp.{PutsXmp, PutsUnsorted, RefusesXmp, RefusesPacket, LeavesXmp};
+ghost use Rattle.px_c.specs.Xmp.{PutsXmp, PutsUnsorted, RefusesPacket, LeavesXmp};
 ghost use Rattle.px_c.specs.Numbers as status;
 
 mod blocks;
@@ -425,17 +425,19 @@ pub extern "C" fn exifnorm_xmp_check(alloc: Global, packet: &[u8], fault: &mut E
     ensures refused { result ≡ status.refused → RefusesPacket packet.now fault.new }
     ensures rare { result ≡ status.rare → LeavesXmp fault.new }
     ensures fault { result ≢ status.refused → result ≢ status.rare → fault.new ≡ fault.old }
-    ensures own { IsUsualForm packet.now → (result ≡ status.done) ⊎ (result ≡ status.no_memory) }
+    ensures accepts { PacketFits packet.now → (result ≡ status.done) ⊎ (result ≡ status.no_memory) }
+    ensures own { FormFits packet.now → (result ≡ status.done) ⊎ (result ≡ status.no_memory) }
 {
     xmp_check_in(&mut Memory::new(alloc), packet, fault)
 }
 
 /// Writes the normal form of a packet of XMP to the start of `out`, and its length to `written`: that of what the packet means,
-/// which is a packet that means the same. Allocates the form, and the values of the elements that are open.
+/// which is a packet that means the same, and is neither refused nor left as rare. Allocates the form, and the values of the
+/// elements that are open.
 ///
-/// `REFUSED`: the packet is wrong, and has no meaning; `fault` is its first fault. `RARE`: it may have a meaning, which this
-/// library doesn't read, and `fault` is where: which packets these are is tested, and no contract states it, except that none is a
-/// form within the limits. `TOO_LITTLE_ROOM`: `out` is shorter than the form, whose length is in `written`. `NO_MEMORY`: an
+/// `REFUSED`: the packet is wrong, and has no meaning; `fault` is its first fault. `RARE`: it is in a form of RDF/XML that this
+/// library doesn't read, or beyond its limits, and `fault` is where; a packet with a meaning within the limits is neither, nor is a
+/// form. `TOO_LITTLE_ROOM`: `out` is shorter than the form, whose length is in `written`. `NO_MEMORY`: an
 /// allocation failed. Only success changes `out`, and only as far as the form goes. Only success and `TOO_LITTLE_ROOM` change
 /// `written`. Only `REFUSED` and `RARE` change `fault`.
 #[unsafe(no_mangle)]
@@ -455,18 +457,20 @@ pub extern "C" fn exifnorm_xmp_normalise(
     ensures out { result ≢ status.done → out.new ≡ out.old }
     ensures written { result ≢ status.done → result ≢ status.too_little_room → written.new ≡ written.old }
     ensures fault { result ≢ status.refused → result ≢ status.rare → fault.new ≡ fault.old }
-    ensures own { IsUsualForm packet.now → (result ≡ status.done) ⊎ (result ≡ status.no_memory) ⊎ (result ≡ status.too_little_room) }
+    ensures accepts { PacketFits packet.now → (result ≡ status.done) ⊎ (result ≡ status.no_memory)
+        ⊎ (result ≡ status.too_little_room) }
+    ensures own { FormFits packet.now → (result ≡ status.done) ⊎ (result ≡ status.no_memory) ⊎ (result ≡ status.too_little_room) }
     ensures same { IsReadableForm packet.now → result ≡ status.done → IsPut (Whole written.new) packet.now out.old out.new }
 {
     xmp_normalise_in(&mut Memory::new(alloc), packet, out, written, fault)
 }
 
 /// Writes the form of a packet of XMP for showing it to the start of `out`, and its length to `written`: the normal form, except
-/// that the members of each bag are in the packet's order. Two packets that mean the same may differ in it. Allocates as
-/// `exifnorm_xmp_normalise` does.
+/// that the members of each bag are in the packet's order. Two packets that mean the same may differ in it. Allocates three forms,
+/// and the values of the elements that are open.
 ///
-/// Statuses and changes are as for `exifnorm_xmp_normalise`. That the form is that of the packet, and that a refused packet has no
-/// meaning, is tested, and no contract states it.
+/// The form is a packet that means the same. Statuses and changes are as for `exifnorm_xmp_normalise`. That members are in the
+/// packet's order is tested, and no contract states it.
 #[unsafe(no_mangle)]
 pub extern "C" fn exifnorm_xmp_unsorted(
     alloc: Global,
@@ -478,12 +482,15 @@ pub extern "C" fn exifnorm_xmp_unsorted(
     ensures known { (result ≡ status.done) ⊎ (result ≡ status.refused) ⊎ (result ≡ status.rare) ⊎ (result ≡ status.no_memory)
         ⊎ (result ≡ status.too_little_room) }
     ensures done { result ≡ status.done → PutsUnsorted packet.now (Whole written.new) out.old out.new }
-    ensures refused { result ≡ status.refused → RefusesXmp fault.new }
+    ensures refused { result ≡ status.refused → RefusesPacket packet.now fault.new }
     ensures rare { result ≡ status.rare → LeavesXmp fault.new }
     ensures short { result ≡ status.too_little_room → PutsUnsorted packet.now (Needs written.new) out.old out.new }
     ensures out { result ≢ status.done → out.new ≡ out.old }
     ensures written { result ≢ status.done → result ≢ status.too_little_room → written.new ≡ written.old }
     ensures fault { result ≢ status.refused → result ≢ status.rare → fault.new ≡ fault.old }
+    ensures accepts { PacketFits packet.now → (result ≡ status.done) ⊎ (result ≡ status.no_memory)
+        ⊎ (result ≡ status.too_little_room) }
+    ensures own { FormFits packet.now → (result ≡ status.done) ⊎ (result ≡ status.no_memory) ⊎ (result ≡ status.too_little_room) }
 {
     xmp_unsorted_in(&mut Memory::new(alloc), packet, out, written, fault)
 }

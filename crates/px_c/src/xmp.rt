@@ -1,11 +1,10 @@
 // XMP packets. The calls are over memory: each returns `NO_MEMORY` exactly if an allocation failed in that call.
-ghost use Rattle.std.specs.Prelude.{◌≡◌, ◌≢◌, ◌⊎◌, ◌≤◌, ◌+◌, false};
-ghost use Rattle.px_bytes.specs.Parts.{limit};
+ghost use Rattle.std.specs.Prelude.{◌≡◌, ◌≢◌, ◌⊎◌, ◌+◌, false};
 ghost use Rattle.px_engine.specs.declared.normal.Given.TheVariants.{Whole, Needs};
 ghost use Rattle.px_engine.specs.Slices.{IsPut};
 ghost use Rattle.px_xmp_forms.specs.Causes.{is_rare};
 ghost use Rattle.px_xmp.specs.Laws.{IsReadableForm};
-ghost use Rattle.px_xmp.specs.Accepted.{IsUsualForm};
+ghost use Rattle.px_xmp.specs.Accepted.{FormFits, PacketFits};
 ghost use Rattle.px_c.specs.Numbers as status;
 ghost use Rattle.px_c.specs.Xmp.{xmp_cause, PutsXmp, PutsUnsorted, RefusesXmp, RefusesPacket, LeavesXmp};
 
@@ -72,7 +71,8 @@ pub(crate) fn xmp_check_in(memory: &mut Memory, packet: &[u8], fault: &mut Exifn
     ensures fault { result ≢ status.refused → result ≢ status.rare → fault.new ≡ fault.old }
     ensures lacking { result ≡ status.no_memory → memory.new.failed_allocations ≡ memory.old.failed_allocations + 1 }
     ensures memory { result ≢ status.no_memory → memory.new.failed_allocations ≡ memory.old.failed_allocations }
-    ensures own { IsUsualForm packet.now → (result ≡ status.done) ⊎ (result ≡ status.no_memory) }
+    ensures accepts { PacketFits packet.now → (result ≡ status.done) ⊎ (result ≡ status.no_memory) }
+    ensures own { FormFits packet.now → (result ≡ status.done) ⊎ (result ≡ status.no_memory) }
 {
     match px_xmp::check_in(memory, packet) {
         Ok(_) => DONE,
@@ -100,7 +100,9 @@ pub(crate) fn xmp_normalise_in(
     ensures fault { result ≢ status.refused → result ≢ status.rare → fault.new ≡ fault.old }
     ensures lacking { result ≡ status.no_memory → memory.new.failed_allocations ≡ memory.old.failed_allocations + 1 }
     ensures memory { result ≢ status.no_memory → memory.new.failed_allocations ≡ memory.old.failed_allocations }
-    ensures own { IsUsualForm packet.now → (result ≡ status.done) ⊎ (result ≡ status.no_memory) ⊎ (result ≡ status.too_little_room) }
+    ensures accepts { PacketFits packet.now → (result ≡ status.done) ⊎ (result ≡ status.no_memory)
+        ⊎ (result ≡ status.too_little_room) }
+    ensures own { FormFits packet.now → (result ≡ status.done) ⊎ (result ≡ status.no_memory) ⊎ (result ≡ status.too_little_room) }
     ensures same { IsReadableForm packet.now → result ≡ status.done → IsPut (Whole written.new) packet.now out.old out.new }
 {
     match px_xmp::normal_form_in(memory, packet) {
@@ -121,7 +123,7 @@ pub(crate) fn xmp_unsorted_in(
     ensures known { (result ≡ status.done) ⊎ (result ≡ status.refused) ⊎ (result ≡ status.rare) ⊎ (result ≡ status.no_memory)
         ⊎ (result ≡ status.too_little_room) }
     ensures done { result ≡ status.done → PutsUnsorted packet.now (Whole written.new) out.old out.new }
-    ensures refused { result ≡ status.refused → RefusesXmp fault.new }
+    ensures refused { result ≡ status.refused → RefusesPacket packet.now fault.new }
     ensures rare { result ≡ status.rare → LeavesXmp fault.new }
     ensures short { result ≡ status.too_little_room → PutsUnsorted packet.now (Needs written.new) out.old out.new }
     ensures out { result ≢ status.done → out.new ≡ out.old }
@@ -129,6 +131,9 @@ pub(crate) fn xmp_unsorted_in(
     ensures fault { result ≢ status.refused → result ≢ status.rare → fault.new ≡ fault.old }
     ensures lacking { result ≡ status.no_memory → memory.new.failed_allocations ≡ memory.old.failed_allocations + 1 }
     ensures memory { result ≢ status.no_memory → memory.new.failed_allocations ≡ memory.old.failed_allocations }
+    ensures accepts { PacketFits packet.now → (result ≡ status.done) ⊎ (result ≡ status.no_memory)
+        ⊎ (result ≡ status.too_little_room) }
+    ensures own { FormFits packet.now → (result ≡ status.done) ⊎ (result ≡ status.no_memory) ⊎ (result ≡ status.too_little_room) }
 {
     match px_xmp::unsorted_form_in(memory, packet) {
         Ok(form) => give(form.as_slice(), out, written),

@@ -4,5 +4,8 @@ pub returns-in-Err-Content-clause-refused : goal.returns-in-Err-Content-clause-r
 returns-in-Err-Content-clause-refused c is =
     (c.refuse.ensures.refused is, (rw c.in-Err-Content.field-0-is at c.in-Err-Content.ensures.refused) (c.refuse.ensures.wrong is))
 
+pub returns-in-Err-Content-clause-accepts : goal.returns-in-Err-Content-clause-accepts
+returns-in-Err-Content-clause-accepts c packet = absurd ((rw c.in-Err-Content.field-0-is at c.in-Err-Content.ensures.accepts) packet)
+
 pub returns-in-Err-Content-clause-own : goal.returns-in-Err-Content-clause-own
 returns-in-Err-Content-clause-own c form = absurd ((rw c.in-Err-Content.field-0-is at c.in-Err-Content.ensures.own) form)
