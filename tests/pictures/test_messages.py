@@ -408,7 +408,7 @@ class Messages(WithPictures):
         os.mkdir(self.path("room"))
         for script, text in (
             ("exit 3", "ExifTool ended with status 3 at this file"),
-            ("exec >&-; sleep 60", "ExifTool ended with status 0 at this file"),
+            ("exec >&-; sleep 1", "ExifTool ended with status 0 at this file"),
         ):
             write(self.path("exiftool"), f"#!/bin/sh\nread line\n{script}\n".encode())
             os.chmod(self.path("exiftool"), 0o755)
