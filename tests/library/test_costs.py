@@ -242,22 +242,25 @@ def in_orders(make, parts):
     return {"usual": make(parts), "descending": make(parts[::-1]), "random": make(Random(1).sample(parts, len(parts)))}
 
 
-# Packets, each with the bytes that a call takes at once for each byte of the packet at most: an eighth more than now.
+# Packets, each with the bytes that a call takes at once for each byte of the packet at most: an eighth more than now. The form for showing
+# has another number if there is a bag, because the packet and what is written for it are read again beside the normal form.
 PACKETS = {
-    "properties": (packet(PROPERTIES), 8),
-    "a bag": (bag(MEMBERS), 7.5),
-    "a long text": (packet([f"<d:a>{'x' * 100_000}</d:a>"]), 8),
-    "long attributes": (packet([f"<d:a d:b='{'x' * 100_000}' d:c='{'y' * 100_000}'/>"]), 4),
-    "structures in structures": (packet(["<d:a r:parseType='Resource'>" * 90, "<d:a>1</d:a>", "</d:a>" * 90]), 13),
-    "attributes": (packet(["<d:a ", *(f"d:a{it}='1' " for it in range(200)), "/>"]), 17.5),
+    "properties": (packet(PROPERTIES), 8, 8),
+    "a bag": (bag(MEMBERS), 7.5, 9),
+    "a bag in another order": (bag(MEMBERS[::-1]), 7.5, 10.5),
+    "a long text": (packet([f"<d:a>{'x' * 100_000}</d:a>"]), 8, 8),
+    "long attributes": (packet([f"<d:a d:b='{'x' * 100_000}' d:c='{'y' * 100_000}'/>"]), 4, 4),
+    "structures in structures": (packet(["<d:a r:parseType='Resource'>" * 90, "<d:a>1</d:a>", "</d:a>" * 90]), 13, 13),
+    "attributes": (packet(["<d:a ", *(f"d:a{it}='1' " for it in range(200)), "/>"]), 17.5, 17.5),
 }
 
 
-@pytest.mark.parametrize("octets, most", PACKETS.values(), ids=PACKETS)
-def test_memory_of_packets(costs, octets, most):
+@pytest.mark.parametrize("octets, most, shown", PACKETS.values(), ids=PACKETS)
+def test_memory_of_packets(costs, octets, most, shown):
     """In proportion to the packet."""
-    for call in ("xmp_check", "xmp_normalise", "xmp_unsorted"):
+    for call in ("xmp_check", "xmp_normalise"):
         assert costs.counts(call, octets).peak <= most * len(octets), call
+    assert costs.counts("xmp_unsorted", octets).peak <= shown * len(octets)
 
 
 # Pictures with extended XMP in so many pieces of one octet, and others that aren't read.
