@@ -17,8 +17,8 @@ def xmp_normal(packet: Block) -> bytes:
     `rdf:Bag`. Extended XMP is a packet of its own.
 
     Raises XmpRefused if the packet is wrong, or in a rare form of RDF/XML; MemoryError and LibraryMissing. It is proved that the form is
-    that of what the packet means, that it is a packet which means the same, and that a wrong packet has no meaning; which packets are in a
-    rare form is tested.
+    that of what the packet means, that it is a packet which means the same, that a wrong packet has no meaning, and that a packet with a
+    meaning has a form, within limits of length, depth and languages.
 
     >>> rdf = "<r:RDF xmlns:r='http://www.w3.org/1999/02/22-rdf-syntax-ns#' xmlns:d='http://d/'><r:Description {}</r:RDF>"
     >>> first = rdf.format("d:a='Vase'/>").encode()
@@ -52,7 +52,8 @@ def xmp_properties(packet: Block, *, sort: bool = True) -> List[XmpProperty]:
     `sort=False` leaves the members of a Bag in the packet's order, in which programs show keywords. Don't compare these properties: two
     packets that mean the same may have their members in different orders.
 
-    Raises what `xmp_normal` raises. What the properties are is tested, and not proved.
+    Raises what `xmp_normal` raises. It is proved that the form that is read, in either order, means what the packet means. What is read of
+    it, and that `sort=False` gives the packet's order, is tested.
 
     >>> rdf = "<r:RDF xmlns:r='http://www.w3.org/1999/02/22-rdf-syntax-ns#' xmlns:d='http://d/'><r:Description {}</r:RDF>"
     >>> packet = rdf.format("d:a='Vase'><d:b><r:Bag><r:li>urn</r:li><r:li>bowl</r:li></r:Bag></d:b></r:Description>").encode()

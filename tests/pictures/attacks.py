@@ -141,10 +141,10 @@ FILES = {
         written(lambda: png(png_xmp(xmp("", " ".join(f"dc:a{number}='1'" for number in range(1_000_000))), packed=True))),
         "TooLong",
     ),
-    "language.png": (written(lambda: png(png_xmp(xmp("<dc:a>x</dc:a>" * 1000, f"xml:lang='{A_TEXT}'"), packed=True))), "TooLong"),
+    "language.png": (written(lambda: png(png_xmp(xmp("<dc:a>x</dc:a>" * 1000, f"xml:lang='{A_TEXT}'"), packed=True))), "LongLanguage"),
     "namespace.png": (
         written(lambda: png(png_xmp(xmp("<q:a/>" * 100_000, f"xmlns:q='urn:{A_TEXT[:10_000_000]}'"), packed=True))),
-        "TooLong",
+        "LongNamespace",
     ),
     "bags.png": (
         written(

@@ -275,7 +275,7 @@ def long_name(number, mark):
 def long_namespace(number, mark):
     """A namespace as long as there are properties with it, each of which repeats it."""
     properties = "".join(f"<q:a{it}>{mark.decode()}</q:a{it}>" for it in range(number))
-    return with_packet(xmp(properties, f"xmlns:q='urn:{'x' * number}'"), 0, "TooLong")
+    return with_packet(xmp(properties, f"xmlns:q='urn:{'x' * number}'"), 0, "LongNamespace")
 
 
 def structures(number, mark):

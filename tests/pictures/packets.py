@@ -26,6 +26,7 @@ _ATTRIBUTES = (
     "rdf:nodeID='n'",
     "rdf:datatype='http://www.w3.org/2001/XMLSchema#integer'",
     "xmp:c='3'",
+    "rdf:value='v'",
     "about='z'",
     "rdf:type='http://t/'",
     "rdf:bagID='b'",

@@ -38,6 +38,7 @@ ENDS = (
     "<dc:b xml:lang='de'>text</dc:b>",
     "<dc:b dc:c='1'/>",
     "<dc:b dc:c='1' dc:d='2'></dc:b>",
+    "<dc:b rdf:value='1' dc:c='1'/>",
     "<dc:b rdf:resource='u:1'/>",
     "<dc:b rdf:parseType='Resource'/>",
     "<dc:b rdf:parseType='Resource'><rdf:value>v</rdf:value><dc:q>w</dc:q></dc:b>",

@@ -157,6 +157,13 @@ def test_spelling():
     assert exifnorm.xmp_normal(packet).decode() == head + inside + "</rdf:Description></rdf:RDF></x:xmpmeta>"
 
 
+@pytest.mark.parametrize("attributes", ["rdf:value='v' xmp:q='w'", "xmp:q='w' rdf:value='v'"])
+def test_a_text_with_qualifiers_may_be_attributes(attributes):
+    """RDF/XML, 7.2.21: of a property without content too."""
+    form = check(xmp("<dc:a rdf:parseType='Resource'><rdf:value>v</rdf:value><xmp:q>w</xmp:q></dc:a>"))
+    assert check(xmp(f"<dc:a {attributes}/>")) == check(xmp(f"<dc:a><rdf:Description {attributes}/></dc:a>")) == form
+
+
 LI = "<rdf:li>{}</rdf:li>"
 
 

@@ -17,6 +17,7 @@ from ..fields.field import Field
 from ..fields.left_out import lines, members_of
 from ..fields.typed import together
 from ..model.budgets import COMPARED_FIELDS
+from ..model.found import XMP_FILE
 from ..model.problems import NO_BYTES
 from ..model.records import BlockRecord, PictureRecord
 from ..model.results import Result
@@ -140,7 +141,10 @@ def _of_pictures(comparison: ComparedPair, names: Sequence[bytes]) -> str:
     """What is known of the coded pictures; nothing if only some fields are compared."""
     if comparison.has_only_fields:
         return "Only these fields were compared."
-    if comparison.compared.picture == Coded.UNKNOWN and len({it.type for it in comparison.records}) > 1:
+    types = {it.type for it in comparison.records}
+    if comparison.compared.picture == Coded.UNKNOWN and XMP_FILE in types:
+        return "Only metadata was compared: an XMP file has no picture."
+    if comparison.compared.picture == Coded.UNKNOWN and len(types) > 1:
         return "Only metadata was compared: the pictures are in two formats."
     damages = [f"{shown_path(name)} is damaged: {it.damage}." for name, it in zip(names, comparison.records) if it.damage]
     return " ".join(damages) or comparison.compared.picture.sentence

@@ -16,6 +16,7 @@ from ..model.sides import Status
 from ..model.texts import Members, path_members, reason
 from ..picture import Block, Picture
 from ..refusals import explain, mend
+from ..refusals.causes import OVER_LIMITS
 from .each_block import each_block, each_picture, status_of
 from .exit_codes import SUCCESS
 from .not_read import damage_lines, damage_members, damage_remedy
@@ -34,7 +35,7 @@ def run(arguments: argparse.Namespace) -> int:
     def describe(picture: Picture, block: Block) -> List[str]:
         if block.is_accepted:
             return [f"{block.name}: ok"]
-        mended = tried(picture.path)
+        mended = _tried_of(picture, tried)
         return [f"{block.name}: {block.record.line}", *_explained(block, mended).lines()[1:], *_repair(block), *_lines(mended)]
 
     return each_block(arguments, lambda: describe, True, damage_lines)
@@ -44,6 +45,13 @@ def _explained(block: Block, mended: Union[mend.Mended, str]) -> explain.Explana
     explained = explain.explain_packet(block.record) if block.kind == XMP else explain.explain(block.kind, block.data)
     explained.is_without_remedy = isinstance(mended, mend.Mended) and mended.remedy == mend.Remedy.NONE
     return explained
+
+
+def _tried_of(picture: Picture, tried: Try) -> Union[mend.Mended, str]:
+    """What `mend` does with a picture, or why that isn't known: nothing is tried of one whose XMP is over a limit."""
+    if any(it.kind == XMP and it.record.cause in OVER_LIMITS for it in picture.blocks):
+        return "ExifTool may take long for a packet that is over a limit"
+    return tried(picture.path)
 
 
 def _tried(session: Session, name: bytes) -> Union[mend.Mended, str]:
@@ -92,7 +100,7 @@ def _print_objects(arguments: argparse.Namespace, tried: Try) -> int:
     for picture in each_picture(arguments):
         worst = max(worst, status_of(picture, True))
         for block in picture.blocks:
-            mended = "" if block.is_accepted else tried(picture.path)
+            mended = "" if block.is_accepted else _tried_of(picture, tried)
             print_object("explain", "block", {**path_members(picture.path), **_block_members(block, mended)})
         if picture.problem or picture.not_read or picture.damage or not picture.blocks:
             print_object("explain", "picture", _picture_members(picture))

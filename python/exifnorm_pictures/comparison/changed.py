@@ -19,7 +19,7 @@ from ..files.session import Session
 from ..judge.sides import Sides
 from ..model import steps
 from ..model.budgets import COMPARED_FIELDS, WAITING_BYTES
-from ..model.found import EXIF, NAMES, OWN, PROGRAMS, cut
+from ..model.found import EXIF, NAMES, OWN, PROGRAMS, XMP_FILE, cut
 from ..model.problems import Problem
 from ..model.records import BlockRecord, PictureRecord, is_same_file
 from ..model.results import Result
@@ -112,7 +112,10 @@ def compared(pair: Pair, pairs: Sides, session: Optional[Session], choice: Choic
 
 
 def _have_other_bytes(pair: Pair) -> bool:
-    return bool(pair.old and pair.new and pair.old.sha256 and pair.new.sha256 and pair.old.sha256 != pair.new.sha256)
+    """Whether a picture that isn't compared may have changed, by the digests of its file: an XMP file has none."""
+    if not pair.old or not pair.new or pair.old.type == pair.new.type == XMP_FILE:
+        return False
+    return bool(pair.old.sha256 and pair.new.sha256 and pair.old.sha256 != pair.new.sha256)
 
 
 _DAMAGED = {Coded.DAMAGED: Result.DAMAGED, Coded.DAMAGED_BEFORE: Result.DAMAGED_BEFORE}

@@ -231,6 +231,8 @@ _WHOLE_COPY = "Take the file from its source again: a program has copied its XMP
 # The remedies of XMP packets that can't be read, by the causes of `exifnorm_pictures.xmp`, which has their meanings.
 XMP_REMEDIES: Dict[str, str] = {
     "TooLong": "No packet of a real picture is so long. Keep what is long, such as masks of an editor, outside of the picture.",
+    "LongNamespace": "No real namespace is so long. `exifnorm-pictures mend` makes a copy without its properties, where ExifTool reads the packet.",
+    "LongLanguage": "No real language is so long. Put another one in its place.",
     "TooRare": _WRITE_AGAIN,
     "Markup": _WRITE_AGAIN,
     "NotText": _WRITE_AGAIN,
@@ -247,6 +249,8 @@ XMP_REMEDIES: Dict[str, str] = {
     "ExtensionDamaged": _WHOLE_COPY,
     "NeedsRdflib": "Install python3-rdflib and run the same `index` again: it reads these pictures again.",
 }
+# Those of packets over a limit. They make other programs slow too, so `explain` doesn't let them try what helps.
+OVER_LIMITS = ("TooLong", "LongNamespace", "LongLanguage", "TooRare")
 # Of blocks whose form is too long, that are compressed, or for which the memory didn't suffice: these have no cause of the grammar.
 OTHER_REMEDIES: Dict[str, Tuple[str, str]] = {
     "NormalTooLong": (

@@ -44,9 +44,9 @@ class Explanation:
         return NO_REMEDY if self.is_without_remedy or self.cause is None else self.cause.remedy
 
     def _here(self) -> List[str]:
-        """The parts at the offset, or for a block of another kind what is wrong, and the remedy."""
-        is_with_remedy = self.is_without_remedy and self.cause is None and bool(self.here)
-        return [*self.here[:-1], f"Remedy: {NO_REMEDY}"] if is_with_remedy else self.here
+        """The parts at the offset, or for a block of another kind what is wrong, and the remedy. One that isn't `mend` may help all the same."""
+        has_failed = self.is_without_remedy and self.cause is None and "mend`" in "".join(self.here[-1:])
+        return [*self.here[:-1], f"Remedy: {NO_REMEDY}"] if has_failed else self.here
 
     def lines(self) -> List[str]:
         """The explanation as text."""

@@ -33,7 +33,7 @@ class _Builder(ElementTree.TreeBuilder):
 
     def start_ns(self, prefix: str, uri: str) -> None:
         if len(uri) > NAMESPACE:
-            raise Unreadable("TooLong")
+            raise Unreadable("LongNamespace")
 
 
 def rdf_of(packet: bytes) -> ElementTree.Element:

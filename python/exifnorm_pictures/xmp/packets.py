@@ -7,8 +7,9 @@ from ..model.budgets import LANGUAGE, LIMITS, NAMESPACE, NESTED, PACKET_BYTES, B
 
 CAUSES = {
     "TooLong": f"The packet has more than {PACKET_BYTES:,} bytes, or the packets of its file together have more than"
-    f" {LIMITS[budgets.XMP_BYTES]:,} bytes, {LIMITS[budgets.XMP_TAGS]:,} tags or {LIMITS[budgets.XMP_ATTRIBUTES]:,} attributes,"
-    f" or a language has more than {LANGUAGE} characters, or a namespace more than {NAMESPACE}.",
+    f" {LIMITS[budgets.XMP_BYTES]:,} bytes, {LIMITS[budgets.XMP_TAGS]:,} tags or {LIMITS[budgets.XMP_ATTRIBUTES]:,} attributes.",
+    "LongNamespace": f"A namespace of the packet has more than {NAMESPACE} characters.",
+    "LongLanguage": f"A language of the packet (xml:lang) has more than {LANGUAGE} characters.",
     "TooRare": f"The packets of the file have more than {LIMITS[budgets.RARE_ELEMENTS]:,} elements in a rare form of RDF/XML.",
     "Markup": "A value is XML or HTML text (rdf:parseType Literal, or the datatype XMLLiteral or HTML), which XMP does not allow.",
     "NotText": "The packet is no text in UTF-8, UTF-16 or UTF-32, or declares another encoding.",

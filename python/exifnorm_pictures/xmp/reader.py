@@ -15,7 +15,7 @@ from .tree import MEMBER, PICTURE, RDF, TYPE, Literal, Node, Uri, Statement, Sta
 _R = f"{{{RDF}}}"
 _XML = "{http://www.w3.org/XML/1998/namespace}"
 _LANG = _XML + "lang"
-_ABOUT, _RESOURCE, _PARSE_TYPE, _LI = _R + "about", _R + "resource", _R + "parseType", _R + "li"
+_ABOUT, _RESOURCE, _PARSE_TYPE, _LI, _VALUE = _R + "about", _R + "resource", _R + "parseType", _R + "li", _R + "value"
 _DESCRIPTION = _R + "Description"
 _NODES = (_DESCRIPTION, _R + "Bag", _R + "Seq", _R + "Alt")
 _PLAIN = re.compile(re.escape(_R) + r"(?:value|type)\Z")  # names of RDF that are ordinary properties
@@ -60,7 +60,7 @@ def _language(element: Element, outer: str) -> str:
     if language is None:
         return outer
     if len(language) > LANGUAGE:
-        raise Unreadable("TooLong")
+        raise Unreadable("LongLanguage")
     if not _LANGUAGE.match(language):
         raise Unusual
     return language.lower()
@@ -153,6 +153,6 @@ def _content(element: Element, language: str, inner: List[Statements]) -> Value:
 
 def _by_attributes(own: Dict[str, str], language: str) -> Node:
     """The attributes of a property element without content are a node of their own."""
-    if any(name.startswith(_R) for name in own):
+    if any(name.startswith(_R) and name != _VALUE for name in own):
         raise Unusual
     return Node(tuple(Statement(_uri(name), Literal(text, language)) for name, text in own.items()))

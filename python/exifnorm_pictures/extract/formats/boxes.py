@@ -12,6 +12,7 @@ from typing import Callable, Iterator, List, NamedTuple, Optional, Set
 from ...model.budgets import BOXES, BOX_BYTES, budget_of
 from ...model.found import CUT, REST, SIX, XMP, Blocks, Broken, NotRead, damage
 from ...model.tiff_types import HEADS
+from .packet_start import begins_packet
 from .streams import Stream, digest_of_rest, leave, leave_rest, read_at, size_of
 
 _LONGEST_HEAD = 32
@@ -122,14 +123,14 @@ def exif_in(data: bytes) -> Optional[bytes]:
     return data[start:] if start <= len(data) else None
 
 
-# How a packet begins, which other XML doesn't: with a wrapper, or with its first element after a declaration
-_PACKET = re.compile(rb"(?:\xef\xbb\xbf)?\s*(?:<\?xml\s[^>]{0,200}\?>\s*)?<(?:\?xpacket\s|(?:x:xmpmeta|x:xapmeta|rdf:RDF)\b)")
+# The wrapper of a packet, which no other XML begins with
+_WRAPPER = re.compile(rb"(?:\xef\xbb\xbf)?\s*(?:<\?xml\s[^>]{0,200}\?>\s*)?<\?xpacket\s")
 
 
 def add_xml(blocks: Blocks, stream: Stream, box: Box) -> None:
     """Adds the packet of a box xml, or names the box if it has other XML. Raises `Broken` and `TooMuch`."""
     data = content(stream, box)
-    if _PACKET.match(data[:1024]):
+    if _WRAPPER.match(data[:1024]) or begins_packet(data):
         blocks.add(XMP, data, f"xml box at {box.at}")
     else:
         leave(blocks, box.name, stream, box.start, box.end)
