@@ -11,12 +11,13 @@
  * with XMP, and exifnorm_jpeg_same_blocks without.
  *
  * Whether two blocks of Exif or IPTC mean the same is proved. Whether two JPEGs have the same Exif and IPTC is proved of
- * exifnorm_jpeg_same_blocks, and exifnorm_jpeg_same returns nothing else of these. Where the packets of XMP are is proved, that a form
- * is that of what its packet means, that a packet which is refused has no meaning, and that a packet with a meaning has a form, within limits
- * of length, depth and languages. How blocks are found in other formats, and groups of pictures, are tested. It is proved of each call which status but EXIFNORM_NO_MEMORY it returns for which input, what it sets, and what stays unchanged;
- * and that exifnorm_check doesn't return EXIFNORM_NO_MEMORY for a block of DataSets. What this page says otherwise of EXIFNORM_NO_MEMORY,
- * and of copies, of the stack, of threads, of ownership, and that EXIFNORM_NAME_ROOM is enough, is tested. That texts are ASCII is read in
- * their definitions, and tested.
+ * exifnorm_jpeg_same_blocks, and exifnorm_jpeg_same returns nothing else of these. Where the packets of XMP are is proved. What is proved of
+ * their forms is said at exifnorm_xmp_normalise. How blocks are found in other formats, and groups of pictures, are tested. It is proved of
+ * each call which status but EXIFNORM_NO_MEMORY it returns for which input, what it sets, and what stays unchanged. Two things are only tested:
+ * which packets of XMP without a form have the status REFUSED and which RARE, and which extended XMP exifnorm_jpeg_same joins. It is proved
+ * that exifnorm_check doesn't return EXIFNORM_NO_MEMORY for a block of DataSets. What this page says otherwise of EXIFNORM_NO_MEMORY, and of
+ * copies, of the stack, of threads, of ownership, and that EXIFNORM_NAME_ROOM is enough, is tested. That texts are ASCII is read in their
+ * definitions, and tested.
  *
  * For every call:
  *
@@ -295,8 +296,8 @@ struct exifnorm_unread_part {
  *
  * So two pictures without metadata have the same. Pixels, and what follows the head, are not compared. The first bytes of a file may be
  * enough, as for exifnorm_jpeg_parts. What is read of Exif and IPTC is proved, and so are the places of packets and that the forms are
- * those of what they mean. The only packet of a picture is left only if it has no meaning within the limits, or names extended XMP; which
- * extended XMP is joined is tested.
+ * those of what they mean. It is also proved that one packet which is all XMP of a picture is read, unless it has no meaning within the limits
+ * of exifnorm_xmp_normalise or names extended XMP. Which extended XMP is joined is tested.
  *
  * A known difference comes first: in Exif or IPTC; or in XMP, if all XMP of both pictures is read and one has none, or the forms differ.
  * Otherwise, if something is not read, the pictures may differ there. Then the status is NOT_READ or SECOND_NOT_READ, and same is unchanged.
@@ -397,7 +398,7 @@ enum {
     EXIFNORM_XMP_SEVERAL_SUBJECTS = 212, /* the packet has properties of several subjects */
     EXIFNORM_XMP_RARE_ENCODING = 251,    /* another encoding than UTF-8 */
     EXIFNORM_XMP_RARE_NAME = 252,        /* a name that is not of ASCII */
-    EXIFNORM_XMP_RARE_NAMESPACE = 253,   /* a namespace that is long or has odd characters, could be part of a name, or begins as XML's */
+    EXIFNORM_XMP_RARE_NAMESPACE = 253,   /* a namespace that is long or has odd characters, is a name itself, or begins as RDF's or XML's */
     EXIFNORM_XMP_RARE_COUNT = 254,       /* more than 256 attributes of a tag, or too many prefixes in scope */
     EXIFNORM_XMP_RARE_ELEMENT = 255,     /* an element where the usual forms of RDF/XML have none */
     EXIFNORM_XMP_RARE_ATTRIBUTE = 256,   /* an attribute that the usual forms don't have */
@@ -426,10 +427,11 @@ uint32_t exifnorm_xmp_check(const unsigned char *packet, size_t packet_length, /
  * of the tag or the text that has it.
  *
  * It is proved that the form is that of what the packet means, that it is a packet which means the same, and that a packet which is
- * refused has no meaning. A packet with a meaning, by the forms of RDF/XML that FORMAT.md names, is neither refused nor left to another
- * reader, within limits: 16,777,216 bytes of the packet and of its form, 100 bytes of a language, and 100 elements in one another, also in
- * the form. Each form is such a packet, and its own form. It is also proved that the call ends and is safe for any bytes, and that it returns
- * NO_MEMORY exactly if an allocation failed. Which cause of RDF/XML a packet has is tested.
+ * refused has no meaning. It is also proved that each packet with a meaning has a form, if it is within these limits: 16,777,216 bytes,
+ * and 100 elements in one another, of the packet and of its form; 256 attributes of a tag; 356 elements and prefixes in scope; 256 bytes of
+ * a namespace; and 100 bytes of a language. Only the forms of RDF/XML that docs/FORMAT.md describes have a meaning here. Each form is within
+ * the limits, and its own form. The call ends and is safe for any bytes, and returns NO_MEMORY exactly if an allocation failed. This is
+ * proved, too. Which cause a packet has without a form is tested.
  *
  *   DONE             out begins with the form; written is its length. The rest of out is unchanged.
  *   REFUSED          the packet is wrong, and has no meaning; fault is set.
@@ -444,12 +446,11 @@ uint32_t exifnorm_xmp_normalise(const unsigned char *packet, size_t packet_lengt
 
 /* Writes the form of a packet of XMP for showing it: the form that exifnorm_xmp_normalise writes, except that the members of each rdf:Bag are
  * in the order of the packet, which programs show, as of keywords. To compare packets, use exifnorm_xmp_normalise: two packets that mean the
- * same may have their members in different orders. Statuses and changes are as for exifnorm_xmp_normalise. If a bag has two members, the
- * packet and what is written for it are read again, and the call takes two to three times as long.
+ * same may have their members in different orders. Statuses and changes are as for exifnorm_xmp_normalise. If a bag has two members, the call
+ * reads the packet once more, and what it has written too, unless that is the normal form. It then takes two to three times as long.
  *
- * It is proved that the form is a packet of at most EXIFNORM_LIMIT bytes which means what the packet means, that a packet which is refused
- * has no meaning, that the call ends and is safe for any bytes, and that it returns NO_MEMORY exactly if an allocation failed. That members
- * are in the order of the packet is tested and not proved.
+ * It is proved that the form is a packet of at most EXIFNORM_LIMIT bytes which means what the packet means. What is proved of the statuses of
+ * exifnorm_xmp_normalise is also proved of those of this call. That members are in the order of the packet is tested and not proved.
  */
 uint32_t exifnorm_xmp_unsorted(const unsigned char *packet, size_t packet_length, /* the packet */
                                unsigned char *out, size_t out_length,             /* receives the form */
