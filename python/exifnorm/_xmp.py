@@ -17,8 +17,8 @@ def xmp_normal(packet: Block) -> bytes:
     `rdf:Bag`. Extended XMP is a packet of its own.
 
     Raises XmpRefused if the packet is wrong, or in a rare form of RDF/XML; MemoryError and LibraryMissing. It is proved that the form is
-    that of what the packet means, that it is a packet which means the same, that a wrong packet has no meaning, and that a packet with a
-    meaning has a form, within limits of length, depth and languages.
+    that of what the packet means, that it is a packet which means the same, and that a wrong packet has no meaning. It is also proved that
+    each packet with a meaning has a form, if it is within the limits that docs/FORMAT.md names.
 
     >>> rdf = "<r:RDF xmlns:r='http://www.w3.org/1999/02/22-rdf-syntax-ns#' xmlns:d='http://d/'><r:Description {}</r:RDF>"
     >>> first = rdf.format("d:a='Vase'/>").encode()
