@@ -21,7 +21,8 @@ from packets import PACKET, packets
 from studio import needs
 
 RDF = "{http://www.w3.org/1999/02/22-rdf-syntax-ns#}"
-SAMPLES = Path(__file__).resolve().parents[2] / "samples"
+TOP = Path(__file__).resolve().parents[2]
+SAMPLES, FORMAT = TOP / "samples", TOP / "docs" / "FORMAT.md"
 
 
 def said(packet):
@@ -217,11 +218,65 @@ def test_each_cause(cause):
     assert offset in (None, refusal.offset)
 
 
-@pytest.mark.parametrize("size, is_read", [(256, True), (257, False)])
-def test_namespaces_have_a_limit(size, is_read):
-    """Each property of the form repeats its own."""
-    found = check(xmp("<q:a/>").replace(b"xmlns:dc=", b"xmlns:q='" + LONGEST.replace(b"q", b"q" * (size - 255), 1) + b"' xmlns:dc=", 1))
-    assert LONGEST in found if is_read else found.cause == "XmpRareNamespace"
+def bare(inside, attributes=""):
+    """A packet with two elements and two declarations around its properties."""
+    space = RDF.strip("{}")
+    return f"<r:RDF xmlns:r='{space}' xmlns:d='urn:d#'><r:Description {attributes}>{inside}</r:Description></r:RDF>".encode()
+
+
+def nested(count):
+    """So many properties in one another."""
+    return "<d:a r:parseType='Resource'>" * (count - 1) + "<d:a>1</d:a>" + "</d:a>" * (count - 1)
+
+
+def declared(first, count):
+    return " ".join(f"xmlns:n{it}='urn:n{it}#'" for it in range(first, first + count))
+
+
+FORM_OF_NO_TEXT = len(exifnorm.xmp_normal(bare("<d:a></d:a>")))
+# Each limit in the words of docs/FORMAT.md, packets that have as much of it as is asked for, and the cause of one that has too much
+LIMITS = {
+    "in UTF-8 of at most N bytes": (lambda most: bare("").ljust(most), "XmpTooLong"),
+    "and with at most N elements": (
+        lambda most: b"<x:xmpmeta xmlns:x='adobe:ns:meta/'>" + bare(nested(most - 3)) + b"</x:xmpmeta>",
+        "XmpTooDeep",
+    ),
+    "more than N attributes": (
+        lambda most: bare("", declared(0, 100) + "".join(f" d:a{it}='1'" for it in range(most - 100))),
+        "XmpRareCount",
+    ),
+    "more than N elements and declarations": (
+        lambda most: bare(f"<d:a {declared(200, most - 205)}>1</d:a>", declared(0, 200)),
+        "XmpRareCount",
+    ),
+    "a namespace of more than N bytes": (lambda most: bare("<n:a/>", f"xmlns:n='{'urn:':n<{most - 1}}#'"), "XmpRareNamespace"),
+    "a language of more than N bytes": (
+        lambda most: bare(f"<d:a xml:lang='{('en' + '-abcdefg' * most)[:most]}'>1</d:a>"),
+        "XmpRareLanguage",
+    ),
+    "a form of more than N bytes": (lambda most: bare(f"<d:a>{'t' * (most - FORM_OF_NO_TEXT)}</d:a>"), "XmpRareLength"),
+    "or with more than N elements": (lambda most: bare(nested(most - 3)), "XmpRareDepth"),
+}
+
+
+@pytest.mark.parametrize("words", LIMITS)
+def test_each_limit(words):
+    """A packet at a limit has a form, and one over it a cause."""
+    make, cause = LIMITS[words]
+    section = FORMAT.read_text(encoding="utf-8").split("## 10.")[1].split("## 11.")[0]
+    [most] = re.findall(words.replace("N", "([0-9,]+)"), section)
+    most = int(most.replace(",", ""))
+    form = form_of(make(most))
+    assert isinstance(form, bytes), f"refused at the limit of {most}: {form}"
+    over = form_of(make(most + 1))
+    assert isinstance(over, exifnorm.XmpRefused) and over.cause == cause, f"over the limit of {most}: {over}"
+
+
+@pytest.mark.parametrize("zeros", range(6))
+def test_zeros_may_begin_a_packet_in_another_encoding(zeros):
+    """XML 1.0, F.1: one zero before a `<` is UTF-16, and three are UTF-32."""
+    found = form_of(bytes(zeros) + bare("<d:a>1</d:a>"))
+    assert found.cause == "XmpRareEncoding" if zeros in (1, 3) else found == form_of(bare("<d:a>1</d:a>"))
 
 
 def test_only_rdf_names_the_subject():
