@@ -253,10 +253,14 @@ export class Engine {
 
   // ---- blocks
 
-  /** What one of the calls that write bytes has written, as `read` takes it out of the module. */
-  #written(name, block, room, read, require = (status) => this.#require(status)) {
+  /**
+   * What one of the calls that write bytes has written, as `read` takes it out of the module. There is room for `times` the bytes of the
+   * block first.
+   */
+  #written(name, block, times, read, require = (status) => this.#require(status)) {
     return this.#call((written, fault) => {
       const arguments_ = this.#copyIn(block);
+      let room = times * Math.min(block.length, LIMIT) + 1024;
       for (;;) {
         const out = this.#allocate(room), status = this.#exports[name](...arguments_, BigInt(out), BigInt(room), written, fault);
         const size = this.#size(this.#answer);
@@ -278,15 +282,15 @@ export class Engine {
   }
 
   normalise(block) {
-    return this.#written("exifnorm_normalise", block, Math.min(block.length, LIMIT) + 1024, (start, size) => this.#slice(start, size));
+    return this.#written("exifnorm_normalise", block, 1, (start, size) => this.#slice(start, size));
   }
 
   show(block) {
-    return this.#written("exifnorm_show", block, 4 * Math.min(block.length, LIMIT) + 1024, (start, size) => this.#text(start, size));
+    return this.#written("exifnorm_show", block, 4, (start, size) => this.#text(start, size));
   }
 
   captions(block) {
-    return this.#written("exifnorm_captions", block, 2 * Math.min(block.length, LIMIT) + 1024, (start, size) => this.#text(start, size));
+    return this.#written("exifnorm_captions", block, 2, (start, size) => this.#text(start, size));
   }
 
   compare(first, second) {
@@ -311,8 +315,7 @@ export class Engine {
   }
 
   #form(name, packet) {
-    const room = Math.min(packet.length, LIMIT) + 1024, read = (start, size) => this.#slice(start, size);
-    return this.#written(name, packet, room, read, (status) => this.#requireForm(status));
+    return this.#written(name, packet, 1, (start, size) => this.#slice(start, size), (status) => this.#requireForm(status));
   }
 
   // ---- pictures

@@ -110,7 +110,7 @@ export class XmpRefused extends Refused {
   get isRare(): boolean;
 }
 
-/** A JPEG has a second packet of XMP, or extended XMP: its first packet is not all of its XMP. */
+/** A JPEG has a second packet of XMP, or extended XMP: its first packet is not all of its XMP. jpegParts finds each packet and each piece. */
 export class XmpNotRead extends Error {
   /** The offset in the JPEG of the second packet or of the first piece of extended XMP, whichever comes first. */
   readonly offset: number;
@@ -162,7 +162,7 @@ export function jpegBlocks(picture: Uint8Array, most?: number): JpegBlock[];
  * XMP, or one packet each, with equal normal forms together with its extended XMP. So two JPEGs without metadata are the same. Pixels, and
  * what follows the head, are not compared. Throws NotRead if they are the same as far as they are read, but one has more that other programs
  * may read: a place that jpegUnread returns, XMP in another place, a packet that xmpNormalise refuses, a second packet, or extended XMP that
- * is missing or can't be joined to the packet. Also throws PictureRefused, OutOfMemory. Which properties a packet has is tested and, unlike
+ * is missing or can't be joined to the packet. Also throws PictureRefused, OutOfMemory. Which extended XMP is joined is tested and, unlike
  * the rest, not proved.
  */
 export function jpegSame(first: Uint8Array, second: Uint8Array): boolean;
@@ -193,8 +193,8 @@ export function xmpCheck(packet: Uint8Array): void;
 
 /**
  * The normal form of a packet of XMP, such as the data of a part of the kind "xmp": a packet of the same properties, in one order and one
- * way of writing. Two packets with equal forms have the same properties, with the same values and languages. Which form a packet has is
- * tested and, unlike that of a block, not proved. Extended XMP is a packet of its own. Throws XmpRefused, OutOfMemory.
+ * way of writing. Two packets with equal forms have the same properties, with the same values and languages. Extended XMP is a packet of
+ * its own. Throws XmpRefused, OutOfMemory.
  */
 export function xmpNormalise(packet: Uint8Array): Uint8Array;
 
@@ -205,8 +205,9 @@ export function xmpNormalise(packet: Uint8Array): Uint8Array;
 export function xmpUnsorted(packet: Uint8Array): Uint8Array;
 
 /**
- * The properties of a packet of XMP, from its normal form or that of xmpUnsorted. Throws SyntaxError for bytes that aren't laid out as one. Bytes without that error
- * may still be no normal form: with properties in another order, for instance.
+ * The properties of a packet of XMP, from its normal form, or from that of xmpUnsorted to show them. Throws SyntaxError for bytes that
+ * aren't laid out as one, such as a packet. Bytes without that error may still be no normal form: with properties in another order, for
+ * instance.
  */
 export function xmpProperties(form: Uint8Array): XmpProperty[];
 

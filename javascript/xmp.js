@@ -24,7 +24,7 @@ class Reader {
   }
 
   fail() {
-    throw new SyntaxError(`no normal form of XMP, at ${this.#at}: xmpProperties takes what xmpNormalise returns`);
+    throw new SyntaxError(`no normal form of XMP, at ${this.#at}: xmpProperties takes what xmpNormalise or xmpUnsorted returns`);
   }
 
   /** Whether a word is next, which is passed then. */

@@ -26,12 +26,12 @@ DIRECTORIES = ("main", "iptc", "exif", "interop", "gps", "thumb")
 
 STATUSES = {
     "DONE": "The call has succeeded.",
-    "REFUSED": "The block, the first of two, or the head of the JPEG is refused.",
+    "REFUSED": "The block, the packet or the head of the JPEG is refused; of two, the first.",
     "TOO_LONG": "The block is valid, but its normal form is too long.",
     "NO_MEMORY": "There is not enough memory.",
     "TOO_LITTLE_ROOM": "The output is too short.",
     "SECOND_REFUSED": "The second block or JPEG is refused.",
-    "NOT_READ": "Two JPEGs are the same as far as they were read; a part of the first was not read.",
+    "NOT_READ": "A part of the JPEG was not read; or of the first of two, which are the same as far as they were read.",
     "SECOND_NOT_READ": "Two JPEGs are the same as far as they were read; a part of the second was not read.",
     "RARE": "The packet of XMP is in a rare form, which this library does not read.",
 }

@@ -19,9 +19,9 @@ can run in several threads at once.
     >>> exifnorm.fields(block)
     [Field(directory='main', tag=274, type='SHORT', values=(6,))]
 
-The functions call the library libexifnorm. Of its answers three are proved: whether two blocks of Exif or IPTC mean the same, whether two
-JPEGs have the same Exif and IPTC (`jpeg_same_blocks`), and that the normal form of a packet of XMP is that of what the packet means. Which
-packets of XMP have a form is tested. The Python code that makes these calls, and objects of what they return, is tested.
+The functions call the library libexifnorm. Of its answers these are proved: whether two blocks of Exif or IPTC mean the same, whether two
+JPEGs have the same Exif and IPTC (`jpeg_same_blocks`), that the normal form of a packet of XMP is that of what the packet means, and that a
+packet with a meaning has a form, within limits of length, depth and languages. The Python code that makes these calls, and objects of what they return, is tested.
 """
 
 from ._calls import Block, digest, kind, normal, same, show, version

@@ -187,6 +187,8 @@ class XmpNotRead(ValueError):
 
     - `offset`: the byte offset of the second packet or of the first piece of extended XMP, whichever comes first, after its mark
 
+    `jpeg_parts` finds each packet and each piece, as parts of the kinds "xmp" and "extended xmp".
+
     >>> import exifnorm
     >>> head = b"http://ns.adobe.com/xap/1.0/\\0"
     >>> segment = b"\\xff\\xe1" + (2 + len(head)).to_bytes(2, "big") + head

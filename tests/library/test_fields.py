@@ -17,6 +17,7 @@ from exifnorm._jpeg import CAUSES
 from exifnorm_pictures.fields.names import TABLES
 from exifnorm_pictures.fields.plain_names import group_of, plain_name
 from judged import NAMES, all_judged
+from made_files import app1_xmp, xmp
 from small_packets import small_packets
 
 SAMPLES = sorted(TOP.glob("samples/*/*/*.jpg"))
@@ -42,16 +43,27 @@ def sanitized(session_folder):
     return session_folder / "sanitized fields"
 
 
-def example_of_the_page():
-    return PAGE.partition(".SH EXAMPLES\n")[2].partition(".nf\n")[2].partition(".fi\n")[0].replace("\\-", "-").replace("\\e", "\\")
+def examples_of_the_page():
+    text = PAGE.partition(".SH EXAMPLES\n")[2].partition(".SH ")[0].replace("\\-", "-").replace("\\e", "\\")
+    return re.findall(r"(?s)\.nf\n(.*?)\.fi\n", text)
 
 
 @pytest.fixture(scope="module")
-def example(session_folder, archive):
-    """The program of exifnorm-fields(3)."""
-    (session_folder / "example.c").write_text(example_of_the_page(), encoding="ascii")
-    run(*C99, session_folder / "example.c", archive, "-o", session_folder / "example")
-    return session_folder / "example"
+def examples(session_folder, archive):
+    """The programs of exifnorm-fields(3)."""
+    programs = []
+    for number, text in enumerate(examples_of_the_page()):
+        program = session_folder / f"example {number}"
+        program.with_suffix(".c").write_text(text, encoding="ascii")
+        run(*C99, program.with_suffix(".c"), archive, "-o", program)
+        programs.append(program)
+    return programs
+
+
+@pytest.fixture
+def example(examples):
+    """The program that prints texts of Exif and IPTC."""
+    return examples[0]
 
 
 # ---- the fields
@@ -583,8 +595,8 @@ def test_every_warning_is_an_error_of_the_headers(folder, compiler):
 # ---- the program of the manual page
 
 
-def test_the_example_has_at_most_sixty_lines():
-    assert 30 < len(example_of_the_page().splitlines()) <= 60
+def test_the_examples_have_at_most_sixty_lines():
+    assert [30 < len(it.splitlines()) <= 60 for it in examples_of_the_page()] == [True, True]
 
 
 LABELS = {
@@ -643,3 +655,60 @@ def test_the_example_prints_a_position_and_other_texts(example, folder):
 def test_the_example_refuses_what_is_no_jpeg(example):
     ran = subprocess.run([example], input=b"text", capture_output=True, check=False)
     assert (ran.returncode, ran.stdout) == (1, b"not read: The bytes don't begin as a JPEG does, with FF D8.\n")
+
+
+OF_XMP = {"title": "XMP-dc:Title", "description": "XMP-dc:Description", "creator": "XMP-dc:Creator", "subject": "XMP-dc:Subject"}
+
+
+def of_xmp_by_exiftool(path):
+    """What the example prints of XMP, by ExifTool: the languages of a text are tags such as Title-de."""
+    (found,) = json.loads(subprocess.run(["exiftool", "-j", "-G1", "-XMP-dc:all", path], check=True, capture_output=True).stdout)
+    lines = []
+    for tag, values in found.items():
+        for name in (label for label, start in OF_XMP.items() if tag.partition("-de")[0] == start):
+            lines += [f"{name}: {value}" for value in (values if isinstance(values, list) else [values])]
+    return lines
+
+
+def test_the_example_prints_the_xmp_of_a_picture_and_of_a_sidecar(examples, folder):
+    """Keywords are in the order of the packet, and each text without its qualifiers."""
+    need("exiftool")
+    words = ["-XMP-dc:Title=Bowl <1> & lid", "-XMP-dc:Title-de=Schüssel", "-XMP-dc:Description=Glazed"]
+    words += [f"-XMP-dc:{it}" for it in ("Creator=Zoe", "Creator=Ada", "Subject=urn", "Subject=bowl", "Format=image/jpeg")]
+    run("exiftool", "-q", *words, "-o", folder / "made.jpg", TOP / "samples" / "before" / "ceramics" / "2003-12-bowl.jpg")
+    run("exiftool", "-q", "-o", folder / "made.xmp", "-tagsfromfile", folder / "made.jpg", "-xmp:all")
+    for path in (folder / "made.jpg", folder / "made.xmp"):
+        printed = subprocess.run([examples[1]], stdin=path.open("rb"), check=True, capture_output=True).stdout.decode().splitlines()
+        assert sorted(printed) == sorted(of_xmp_by_exiftool(path)), path.name
+        assert [it for it in printed if it.startswith("subject")] == ["subject: urn", "subject: bowl"], path.name
+        assert {"title: Bowl <1> & lid", "title: Schüssel", "creator: Ada"} <= {*printed}
+    qualified = "<rdf:li rdf:parseType='Resource'><rdf:value>Ada</rdf:value><dc:title>Painter</dc:title></rdf:li>"
+    (folder / "qualified.xmp").write_bytes(xmp(f"<dc:creator><rdf:Seq>{qualified}</rdf:Seq></dc:creator>"))
+    printed = subprocess.run([examples[1]], stdin=(folder / "qualified.xmp").open("rb"), check=True, capture_output=True).stdout
+    assert printed == b"creator: Ada\n"
+
+
+@pytest.mark.parametrize(
+    "octets, status, said",
+    [
+        (b"\xff\xd8\xff\xd9", 0, ""),
+        (b"\xff\xd8", 1, "not read: The JPEG ends inside its head, before the first scan.\n"),
+        (b"\xff\xd8" + 2 * app1_xmp(xmp("")) + b"\xff\xd9", 1, f"not read: {names.STATUSES['NOT_READ']}\n"),
+        (xmp("text"), 1, "not read: The packet has text between elements.\n"),
+        (b"", 1, "not read: The packet is not one XML element: it is empty, or has text or elements beside the root.\n"),
+    ],
+    ids=["no packet", "cut", "two packets", "rare", "empty"],
+)
+def test_the_example_says_why_xmp_is_not_read(examples, octets, status, said):
+    ran = subprocess.run([examples[1]], input=octets, capture_output=True, check=False)
+    assert (ran.returncode, ran.stdout.decode()) == (status, said)
+
+
+def test_a_status_of_one_input_has_words_for_one():
+    """A call for one block, packet or picture may return it, so its sentence can't be of two alone."""
+    calls = re.findall(
+        r"/\*((?:(?!\*/)[\s\S])*)\*/\nuint32_t exifnorm_\w+\(([^;]*)\);", (HEADERS / "exifnorm.h").read_text(encoding="utf-8")
+    )
+    statuses = {it for text, inputs in calls if "second" not in inputs for it in re.findall(r"^ \*   ([A-Z_]+)  ", text, re.M)}
+    assert {"REFUSED", "NOT_READ", "RARE"} <= statuses and "SECOND_REFUSED" not in statuses
+    assert [it for it in statuses if re.match("Two |The second", names.STATUSES[it])] == []

@@ -45,7 +45,14 @@ test("errors have a cause, an offset, and what else belongs to them", () => {
   assert.equal(exifnorm.jpegSameBlocks(one, two), true);
   assert.throws(() => exifnorm.jpegParts(bytes("ffd8 ff01 ff01 ffd9"), 2), { name: "TooMany", most: 2 });
   assert.equal(exifnorm.jpegParts(bytes("ffd8 ff01 ff01 ffd9"), 3).length, 3);
-  for (const wrong of ["text", null, [1, 2], new Uint16Array(2)]) assert.throws(() => exifnorm.check(wrong), TypeError);
+});
+
+test("each call says what it takes", () => {
+  const calls = Object.entries(exifnorm).filter(([name]) => /^[a-z]/.test(name) && name !== "version");
+  assert.ok(calls.length > 10);
+  for (const [name, call] of calls)
+    for (const wrong of ["text", null, undefined, [1, 2], new Uint16Array(2), new ArrayBuffer(2)])
+      assert.throws(() => call(wrong, wrong), { name: "TypeError", message: "exifnorm takes a Uint8Array" }, name);
 });
 
 const RDF = "http://www.w3.org/1999/02/22-rdf-syntax-ns#", encoded = (text) => new TextEncoder().encode(text);
@@ -58,7 +65,6 @@ test("a packet of XMP is wrong, or in a rare form", () => {
     assert.throws(() => call(packet("text")), { cause: "XmpRareText", isRare: true });
     assert.throws(() => call(packet("text")), (error) => error instanceof exifnorm.XmpRefused && error instanceof exifnorm.Refused);
     assert.throws(() => call(new Uint8Array(exifnorm.LIMIT + 1)), { cause: "XmpTooLong", offset: exifnorm.LIMIT });
-    for (const other of ["text", [1, 2]]) assert.throws(() => call(other), TypeError);
   }
   assert.equal(exifnorm.xmpCheck(packet("<d:a>Vase</d:a>")), undefined);
 });
@@ -88,7 +94,6 @@ test("what is no form has no properties", () => {
   for (const other of ["</p:q>", "", " </p:a>x"]) fails(encoded(text.replace("</p:a>", other)));
   const nested = '<p:a xmlns:p="http://d/" rdf:parseType="Resource">'.repeat(100_000) + "</p:a>".repeat(100_000);
   fails(encoded(text.replace(end, nested + end)));
-  for (const wrong of ["text", null]) assert.throws(() => exifnorm.xmpProperties(wrong), TypeError);
 });
 
 test("a result is a copy, and an argument stays as it is", () => {

@@ -446,8 +446,9 @@ static inline size_t exifnorm_field_text_size(const struct exifnorm_field *field
  *             printf("%.*s\n", (int)(size < sizeof text ? size : sizeof text), (const char *)text);
  *         }
  *
- * The order is that of the form: properties by their bytes, so that the members of a Bag are sorted, too. What is inside a structure or a
- * container follows it, with a depth that is greater by one. Bytes, lifetime and threads are as above. */
+ * The order is that of the form: properties by their bytes, so that the members of a Bag are sorted, too. exifnorm_xmp_unsorted writes them
+ * in the order of the packet, to show them: read its form in the same way. What is inside a structure or a container follows it, with a depth
+ * that is greater by one. Bytes, lifetime and threads are as above: so a packet that is no form has no property here, and isn't whole. */
 
 /* What a property is, or a member of a container. */
 enum {

@@ -4,7 +4,7 @@
  *         printf("%s:%s\n", exifnorm_field_group(&field), exifnorm_field_name(&field));      IFD0:Artist
  *
  * The names and the groups are those that ExifTool and the command exifnorm-pictures print. All texts are ASCII, are in the program
- * itself, and end with a zero byte. A header alone, for C99 and C++11; a program that doesn't need its 7,539 bytes of texts leaves it out.
+ * itself, and end with a zero byte. A header alone, for C99 and C++11; a program that doesn't need its 7,570 bytes of texts leaves it out.
  */
 #ifndef EXIFNORM_NAMES_H
 #define EXIFNORM_NAMES_H
@@ -139,12 +139,12 @@ static inline const char *exifnorm_field_group(const struct exifnorm_field *fiel
 static inline const char *exifnorm_status_text(uint32_t status) {
     switch (status) {
     case EXIFNORM_DONE: return "The call has succeeded.";
-    case EXIFNORM_REFUSED: return "The block, the first of two, or the head of the JPEG is refused.";
+    case EXIFNORM_REFUSED: return "The block, the packet or the head of the JPEG is refused; of two, the first.";
     case EXIFNORM_TOO_LONG: return "The block is valid, but its normal form is too long.";
     case EXIFNORM_NO_MEMORY: return "There is not enough memory.";
     case EXIFNORM_TOO_LITTLE_ROOM: return "The output is too short.";
     case EXIFNORM_SECOND_REFUSED: return "The second block or JPEG is refused.";
-    case EXIFNORM_NOT_READ: return "Two JPEGs are the same as far as they were read; a part of the first was not read.";
+    case EXIFNORM_NOT_READ: return "A part of the JPEG was not read; or of the first of two, which are the same as far as they were read.";
     case EXIFNORM_SECOND_NOT_READ: return "Two JPEGs are the same as far as they were read; a part of the second was not read.";
     case EXIFNORM_RARE: return "The packet of XMP is in a rare form, which this library does not read.";
     default: return "";
