@@ -13,9 +13,12 @@ from exifnorm_pictures.extract.formats.streams import HEAD
 from exifnorm_pictures.model.budgets import PACKET_BYTES
 from exifnorm_pictures.model.found import LeftToOthers
 from exifnorm_pictures.refusals import causes, mend
+from exifnorm_pictures.xmp import CAUSES
 from hypothesis import example, given, settings
 from hypothesis import strategies as st
+from made_blocks import BLOCKS, with_exif
 from made_boxes import box, jp2
+from made_files import app1_xmp, jpeg
 from packets import packets
 from studio import SMALL_JPEG, put
 
@@ -101,20 +104,41 @@ OVER_LIMITS = {
     "LongNamespace": BARE.replace(b"urn:d#", b"d" * 100_000),
     "LongLanguage": LONG_LANGUAGE.replace(b"d:a='Bowl'/>", b"><d:a>Bowl</d:a></r:Description>"),
     "TooLong": BARE.replace(b"<r:D", b"<!--" + b"=" * 100_000 + b"--><r:D").replace(b"d:a=", b"r:ID='a' d:a="),
+    "TooDeep": BARE.replace(b"<r:D", b"<r:D>" * 100 + b"<r:D").replace(b"/></", b"/>" + b"</r:D>" * 100 + b"</"),
+    "TooRare": BARE.replace(b"/></", b"><d:b r:ID='a'/>" + b"<d:a/>" * 30_000 + b"</r:Description></"),
 }
 
 
-@pytest.mark.parametrize("cause", OVER_LIMITS)
-def test_nothing_is_tried_of_a_packet_over_a_limit(cause, called, folder, monkeypatch):
-    """Another program may take as long as it is allowed. Of another refused packet `explain` shows what helps."""
+def test_the_causes_of_limits():
+    """`explain` tries nothing where one of these is the cause, which say how much is too much."""
+    assert {cause for cause, words in CAUSES.items() if "ore than" in words} == set(causes.OVER_LIMITS) == set(OVER_LIMITS)
+
+
+@pytest.fixture
+def tried(monkeypatch):
+    """Once for each picture on which the steps of `mend` are tried, in place of trying them."""
     tried = []
     monkeypatch.setattr(mend, "attempt", lambda *_: tried.append(True) or (mend.Mended(mend.Remedy.NONE, {}), None))
+    return tried
+
+
+@pytest.mark.parametrize("cause", OVER_LIMITS)
+def test_nothing_is_tried_on_a_packet_over_a_limit(cause, called, folder, tried):
+    """Another program may take as long as it is allowed. Of another refused packet `explain` shows what helps."""
     (folder / "a.xmp").write_bytes(OVER_LIMITS[cause])
     status, printed, _ = called("explain", "a.xmp")
     assert (status, printed.splitlines()[0], tried) == (2, f"XMP: unreadable: {cause}", []), printed
     assert called("explain", "a.xmp", "--json")[0] == 2 and not tried
     (folder / "a.xmp").write_bytes(BARE[:-1])
     assert called("explain", "a.xmp")[0] == 2 and tried
+
+
+@pytest.mark.parametrize("options", [[], ["--json"]])
+def test_nothing_is_tried_on_another_block_of_its_picture(options, called, tried):
+    """The steps of `mend` are tried on whole pictures."""
+    refused = with_exif(jpeg(app1_xmp(OVER_LIMITS["TooDeep"])), BLOCKS["Unsorted"])
+    status, printed, _ = called("explain", "a.jpg", *options, a=refused)
+    assert (status, "Unsorted" in printed, "TooDeep" in printed, tried) == (2, True, True, []), printed
 
 
 NO_PACKETS = [
@@ -206,7 +230,12 @@ def test_a_beginning_is_looked_at_once(first, piece):
 
 
 def test_boxes():
-    """A box xml of JPEG 2000 has a packet with any prefix, or other XML."""
-    for xml, kinds in ((BARE, ["xmp"]), (LONG + BARE, ["xmp"]), (b"<gml/>", [])):
+    """A box xml of JPEG 2000 has a packet with any prefix, also a damaged one that has its wrapper alone, or other XML."""
+    for xml, kinds in (
+        (BARE, ["xmp"]),
+        (LONG + BARE, ["xmp"]),
+        (b"<?xpacket begin='' id='W5M0MpCehiHzreSzNTczkc9d'?>\n", ["xmp"]),
+        (b"<gml/>", []),
+    ):
         picture = exifnorm_pictures.read_bytes(jp2(box(b"xml ", xml)), name="a.jp2")
         assert ([it.kind for it in picture.blocks], bool(picture.not_read)) == (kinds, not kinds)

@@ -249,8 +249,9 @@ XMP_REMEDIES: Dict[str, str] = {
     "ExtensionDamaged": _WHOLE_COPY,
     "NeedsRdflib": "Install python3-rdflib and run the same `index` again: it reads these pictures again.",
 }
-# Those of packets over a limit. They make other programs slow too, so `explain` doesn't let them try what helps.
-OVER_LIMITS = ("TooLong", "LongNamespace", "LongLanguage", "TooRare")
+# Those of packets over a limit. They make other programs slow too, so `explain` doesn't let these try what helps: on 2,000 elements in one
+# another, 68 kB, ExifTool 12.57 takes 16 seconds of a processor.
+OVER_LIMITS = ("TooLong", "LongNamespace", "LongLanguage", "TooRare", "TooDeep")
 # Of blocks whose form is too long, that are compressed, or for which the memory didn't suffice: these have no cause of the grammar.
 OTHER_REMEDIES: Dict[str, Tuple[str, str]] = {
     "NormalTooLong": (
