@@ -16,9 +16,9 @@ from exifnorm_pictures.refusals import causes, mend
 from exifnorm_pictures.xmp import CAUSES
 from hypothesis import example, given, settings
 from hypothesis import strategies as st
-from made_blocks import BLOCKS, with_exif
+from made_blocks import BLOCKS
 from made_boxes import box, jp2
-from made_files import app1_xmp, jpeg
+from made_files import app1, app1_xmp, jpeg
 from packets import packets
 from studio import SMALL_JPEG, put
 
@@ -133,11 +133,14 @@ def test_nothing_is_tried_on_a_packet_over_a_limit(cause, called, folder, tried)
     assert called("explain", "a.xmp")[0] == 2 and tried
 
 
+SEGMENTS = (app1(BLOCKS["Unsorted"]), app1_xmp(OVER_LIMITS["TooDeep"]))
+
+
 @pytest.mark.parametrize("options", [[], ["--json"]])
-def test_nothing_is_tried_on_another_block_of_its_picture(options, called, tried):
+@pytest.mark.parametrize("segments", [SEGMENTS, SEGMENTS[::-1]], ids=["before", "after"])
+def test_nothing_is_tried_on_another_block_of_its_picture(segments, options, called, tried):
     """The steps of `mend` are tried on whole pictures."""
-    refused = with_exif(jpeg(app1_xmp(OVER_LIMITS["TooDeep"])), BLOCKS["Unsorted"])
-    status, printed, _ = called("explain", "a.jpg", *options, a=refused)
+    status, printed, _ = called("explain", "a.jpg", *options, a=jpeg(*segments))
     assert (status, "Unsorted" in printed, "TooDeep" in printed, tried) == (2, True, True, []), printed
 
 

@@ -259,17 +259,37 @@ LIMITS = {
 }
 
 
+def limit_of(words):
+    section = FORMAT.read_text(encoding="utf-8").split("## 10.")[1].split("## 11.")[0]
+    [most] = re.findall(words.replace("N", "([0-9,]+)"), section)
+    return int(most.replace(",", ""))
+
+
 @pytest.mark.parametrize("words", LIMITS)
 def test_each_limit(words):
     """A packet at a limit has a form, and one over it a cause."""
     make, cause = LIMITS[words]
-    section = FORMAT.read_text(encoding="utf-8").split("## 10.")[1].split("## 11.")[0]
-    [most] = re.findall(words.replace("N", "([0-9,]+)"), section)
-    most = int(most.replace(",", ""))
+    most = limit_of(words)
     form = form_of(make(most))
     assert isinstance(form, bytes), f"refused at the limit of {most}: {form}"
     over = form_of(make(most + 1))
     assert isinstance(over, exifnorm.XmpRefused) and over.cause == cause, f"over the limit of {most}: {over}"
+
+
+OF_BOTH = {
+    "and with at most N elements": "TooDeep",
+    "a namespace of more than N bytes": "LongNamespace",
+    "a language of more than N bytes": "LongLanguage",
+}
+
+
+@pytest.mark.parametrize("words", OF_BOTH)
+def test_limits_of_both_readers(words):
+    """What the library reads at a limit, the Python reader reads too, and it names this limit over it."""
+    (make, _), most = LIMITS[words], limit_of(words)
+    assert rare.statements(make(most), Budget())
+    with pytest.raises(reading.Unreadable, match=OF_BOTH[words]):
+        rare.statements(make(most + 1), Budget())
 
 
 @pytest.mark.parametrize("zeros", range(6))
