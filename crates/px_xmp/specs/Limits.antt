@@ -9,7 +9,7 @@ use Rattle.px_xmp.specs.Nodes.{Nodes, Nothing, Words, Element}
 
 -- ---- languages
 
--- the octets of a language
+-- a tag declares no language, or one with few octets
 abbrev pub IsShortLanguage : Option (List ℕ) → Type 0
 IsShortLanguage None = ⊤
 IsShortLanguage (Some l) = length l ≤ language_limit

@@ -6,10 +6,10 @@
 //!
 //! It is proved that a packet with a form is a document, that this document has a meaning by the productions of RDF/XML that
 //! XMP has, and that the form is the normal packet of this meaning. So two packets with equal forms mean the same, and with
-//! different forms don't. Each packet with such a meaning, within limits of its length, its depth and its languages, is proved
-//! to be accepted if memory suffices. A packet that is refused by a cause that is not rare has no such meaning, and each refusal
-//! is one of the first layer with a fault, before RDF at its place. Which fault of RDF is the first is tested, and no contract
-//! states it.
+//! different forms don't. Each packet with such a meaning is proved to be accepted, if memory suffices and the packet is within
+//! the limits of this crate and those below. A packet that is refused by a cause that is not rare has no such meaning. Each
+//! refusal is one of the first layer with a fault, and before RDF it has the place of this fault. Which fault of RDF is the first
+//! is tested, and no contract states it.
 #![tactic(auto)]
 
 mod attributes;
