@@ -4,6 +4,7 @@ All limits and the memory are an eighth of what they are, and so are the picture
 time. Each format has each filling once, and each command has each filling once.
 """
 
+import gc
 import itertools
 import json
 import re
@@ -107,6 +108,31 @@ def test_memory(name, filling, commands, start, tmp_path):
         if all(memory * SCALE <= MEMORY for memory in taken.values()):
             return
     pytest.fail(f"bytes: {taken}")
+
+
+@pytest.mark.parametrize("name", SIZES)
+def test_nothing_of_a_picture_stays(name, folder, called):
+    """Objects that refer to one another in a ring stay in memory until Python looks for rings, which is seldom: after many pictures."""
+    octets = made(name, "many parts", 100)
+    for number, some in enumerate((octets, octets[: len(octets) // 2])):
+        (folder / f"{number}-{of_name(name)}").write_bytes(some)
+        for words in (
+            ("show", f"{number}-{of_name(name)}"),
+            ("compare", f"{number}-{of_name(name)}", f"0-{of_name(name)}", "--no-exiftool"),
+        ):
+            called(*words)  # which imports what it needs
+            gc.collect()
+            gc.disable()
+            gc.set_debug(gc.DEBUG_SAVEALL)
+            try:
+                called(*words)
+                gc.collect()
+                own = {f"{type(it).__module__}.{type(it).__name__}" for it in gc.garbage}
+            finally:
+                gc.set_debug(0)
+                gc.garbage.clear()
+                gc.enable()
+            assert not [it for it in own if it.startswith("exifnorm")], (words, own)
 
 
 def many_records(number):

@@ -2,7 +2,8 @@
 
 from __future__ import annotations
 
-from typing import Callable, Generic, Iterable, List, Optional, Sequence, Tuple, TypeVar
+from functools import partial
+from typing import Callable, Iterable, List, Optional, Sequence, Tuple
 
 from ..model.records import BlockRecord
 from .field import Field
@@ -10,22 +11,24 @@ from .lines import parted
 from .listing import rest_of
 from .packing import unpacked
 
-Source = TypeVar("Source")
+Make = Callable[[], Optional[List[Field]]]
 
 
-class Fields(Generic[Source]):
+class Fields:
     """The fields of a normal form, of the statements of a packet, or of a block of a catalogue: made once, when somebody asks for them."""
 
-    __slots__ = ("_make", "_source", "_fields")
+    __slots__ = ("_make", "_fields")
 
-    def __init__(self, make: Callable[[Source], Optional[List[Field]]], source: Source) -> None:
-        self._make, self._source = make, source
+    def __init__(self, make: Make) -> None:
+        self._make: Optional[Make] = make
         self._fields: Optional[List[Field]] = None
 
     def all(self) -> Optional[List[Field]]:
         """The fields, in the order of a listing; None if a catalogue doesn't have them."""
-        if self._fields is None:
-            self._fields = self._make(self._source)
+        make = self._make
+        if make is not None:
+            self._fields = make()
+            self._make = None  # with what they are made of, which is as long as they are
         return self._fields
 
 
@@ -45,19 +48,22 @@ class _KeptTexts:
         return self._texts[number]
 
 
-class _KeptFields(Fields[Tuple[_KeptTexts, int]]):
+class _KeptFields(Fields):
     """The fields of a block of a catalogue, by its number in the picture."""
 
-    __slots__ = ()
+    __slots__ = ("_texts", "_number")
+
+    def __init__(self, texts: _KeptTexts, number: int) -> None:
+        super().__init__(partial(_unpacked, texts, number))
+        self._texts, self._number = texts, number
 
     def packed(self) -> Optional[bytes]:
         """The packed fields."""
-        texts, number = self._source
-        return texts.of(number)
+        return self._texts.of(self._number)
 
 
-def _unpacked(source: Tuple[_KeptTexts, int]) -> Optional[List[Field]]:
-    text = source[0].of(source[1])
+def _unpacked(texts: _KeptTexts, number: int) -> Optional[List[Field]]:
+    text = texts.of(number)
     return unpacked(text) if text else None
 
 
@@ -67,9 +73,7 @@ _FIELDS = BlockRecord._fields.index("fields")  # after which only what a catalog
 def with_kept_fields(blocks: Sequence[BlockRecord]) -> List[BlockRecord]:
     """The blocks of a picture of a catalogue, of all its rows in their order, each with its own fields."""
     texts = _KeptTexts([block.fields for block in blocks])
-    return [
-        BlockRecord._make((*block[:_FIELDS], None, block.but_note, _KeptFields(_unpacked, (texts, at)))) for at, block in enumerate(blocks)
-    ]
+    return [BlockRecord._make((*block[:_FIELDS], None, block.but_note, _KeptFields(texts, at))) for at, block in enumerate(blocks)]
 
 
 def packed_fields(block: BlockRecord) -> Optional[bytes]:

@@ -3,6 +3,7 @@
 from __future__ import annotations
 
 import hashlib
+from functools import partial
 from typing import Dict, List, Optional, Set, Tuple
 
 import exifnorm
@@ -63,7 +64,7 @@ def _with_form(block: BlockRecord, form: bytes, packs: bool, budget: Optional[Bu
     if budget is not None:
         normal_form.count(form, budget)
     if not packs:
-        return block._replace(fresh=Fields(normal_form.fields_of_form, form))
+        return block._replace(fresh=Fields(partial(normal_form.fields_of_form, form)))
     kept = packed_contents(normal_form.contents(form))
     return block._replace(fields=kept.octets, but_note=kept.but_note)
 
@@ -199,7 +200,7 @@ def _judge_xmp(at: FoundBlock, extensions: xmp.Extensions, left: Dict[str, bytes
     accepted = (XMP, *at[2:5], Status.ACCEPTED, digest, None, None, len(at.data), octets.hexdigest())
     if packs:
         return BlockRecord(*accepted, None, None, None, *packed(xmp_properties.fields_of_statements(statements)))
-    return BlockRecord(*accepted, fresh=Fields(xmp_properties.fields_of_statements, statements))
+    return BlockRecord(*accepted, fresh=Fields(partial(xmp_properties.fields_of_statements, statements)))
 
 
 def _unreadable(kind: str, at: FoundBlock, length: int, octets: str, cause: str) -> BlockRecord:

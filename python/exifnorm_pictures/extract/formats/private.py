@@ -7,7 +7,7 @@ ExifTool alone (its modules Sony, PanasonicRaw, SamsungRaw), and that of DNG fro
 from __future__ import annotations
 
 import hashlib
-from typing import Callable, List, Optional, Tuple
+from typing import List, Optional, Tuple
 
 from exifnorm import LIMIT
 
@@ -17,7 +17,7 @@ from ...model.tiff_types import HEADS, IFD, LONG
 from .embedded import add_jpeg
 from .streams import Window, digest_of_rest, read_at
 from .tiff_block import Layout, Table, is_pointer
-from .tiff_directories import Directories, Directory
+from .tiff_directories import Directories, Directory, Reached
 from .tiff_entries import IN_ENTRY, Entry
 
 RW2_HEAD = b"IIU\0"
@@ -33,15 +33,13 @@ TAGS = frozenset((_SONY, _ORIGINAL, _PROFILES, _SAMSUNG))
 PANASONIC_TAGS = TAGS | {*_JPEGS, _PANASONIC_PIXELS, _PANASONIC_CAMERA}
 _PROFILE_HEADS = (b"IIRC", b"MMCR", *HEADS)
 
-Reaches = Callable[[int, int], None]  # takes the end and the start of a part that a directory points to
-
 
 class Private:
     """The private entries of one file."""
 
-    def __init__(self, directories: Directories, blocks: Blocks, reaches: Reaches, whole: bool) -> None:
+    def __init__(self, directories: Directories, blocks: Blocks, reached: Reached, whole: bool) -> None:
         self.directories, self.blocks = directories, blocks
-        self._reaches, self._whole = reaches, whole
+        self._reached, self._whole = reached, whole
         self.is_panasonic = read_at(directories.stream, 0, 4) == RW2_HEAD
         self.tags = PANASONIC_TAGS if self.is_panasonic else TAGS
 
@@ -71,7 +69,7 @@ class Private:
                 raise Broken(f"the entry {entry.tag:04x} of {of} has no offset")
             if self.directories.number(entry.last) >= self.directories.size:
                 self.blocks.damage = IN_PICTURE
-            self._reaches(self.directories.size, self.directories.size)  # they have no length, and no trailer is known
+            self._reached.add(self.directories.size, self.directories.size)  # they have no length, and no trailer is known
         return True
 
     def _place_of(self, entry: Entry) -> Optional[Tuple[int, int]]:
@@ -105,7 +103,7 @@ class Private:
 
     def _sony_digest(self, directory: Directory) -> str:
         """The digest of Sony's private directory; none if it leads to more than the encrypted one. Raises `Broken`."""
-        self._reaches(directory.end, directory.at)
+        self._reached.add(directory.end, directory.at)
         digest = hashlib.sha256()
         for entry in directory.entries:
             if entry.tag != _SR2[0]:
@@ -120,7 +118,7 @@ class Private:
             if start + length > self.directories.size:
                 return ""
             digest.update(self.directories.part(start, start + length))
-            self._reaches(start + length, start)
+            self._reached.add(start + length, start)
         return digest.hexdigest()
 
     def _value(self, entry: Entry) -> bytes:
@@ -129,7 +127,7 @@ class Private:
         if entry.size > IN_ENTRY and place is None:
             raise Broken(f"the value of tag {entry.tag:04x} isn't in the file")
         if place:
-            self._reaches(place[1], place[0])
+            self._reached.add(place[1], place[0])
         return self.directories.value(entry) if entry.size else entry.last
 
     def _profiles(self, entry: Entry) -> None:
@@ -149,7 +147,7 @@ class Private:
         directories = Directories(inside)
         directory = directories.read(directories.first)
         for place in _parts(directories, directory):
-            self._reaches(start + place[1], start + place[0])
+            self._reached.add(start + place[1], start + place[0])
         add_directory(self.blocks, directories, directory, directory.entries, f"camera profile at {start}", part)
         directories.check()
 

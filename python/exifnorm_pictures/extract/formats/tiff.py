@@ -9,7 +9,7 @@ from __future__ import annotations
 
 import hashlib
 from collections import deque
-from typing import Deque, Dict, Iterator, List, NamedTuple, Optional, Set, Tuple
+from typing import Deque, Dict, Iterator, List, NamedTuple, Set, Tuple
 
 from exifnorm import LIMIT
 
@@ -22,7 +22,7 @@ from . import photoshop
 from .private import RW2_HEAD, Private
 from .streams import Stream, digest_of_rest, leave_rest, pieces
 from .tiff_block import Layout, Table, is_directory
-from .tiff_directories import Directories, Directory
+from .tiff_directories import Directories, Directory, Reached
 from .tiff_entries import BIG as BIG_TIFF, IN_ENTRY, PIXELS, SUB_IFDS, Entry
 
 __all__ = ["BIG_HEADS", "HEADS", "OTHER_POINTERS", "RAW_HEADS", "read", "read_big"]
@@ -97,12 +97,11 @@ class Reader:
         directories.stream.seek(0)
         self.blocks = Blocks(type=_type_of(directories.stream.read(10)), budget=directories.budget)
         length = 16 if self.blocks.type == "CR2" else directories.variant.header
-        self._covered: List[Tuple[int, int]] = [(0, length)]  # all these parts
+        self._reached = Reached(length)
         self._has_note = False
         self._cut = ""  # where the file ends, if a value isn't wholly in it
         self._notes: Set[int] = set()  # where the MakerNotes begin whose places are compared
-        self._end: Optional[int] = length  # after all parts that the directories point to; None if it is unknown
-        self._private = Private(directories, self.blocks, self._reaches, whole)
+        self._private = Private(directories, self.blocks, self._reached, whole)
         self._pixels = {tag: name for tag, name in PIXELS.items() if not (self._private.is_panasonic and tag in _FREE)}
 
     def pages(self) -> Iterator[_Page]:
@@ -141,7 +140,7 @@ class Reader:
         directory = self.directories.read(at)
         if any(entry.tag == _DNG_VERSION for entry in directory.entries):
             self.blocks.type = "DNG"
-        self._reaches(directory.end, at)
+        self._reached.add(directory.end, at)
         self._values_reach(directory.entries)
         self._pixels_reach(directory)
         return directory
@@ -150,14 +149,9 @@ class Reader:
         for entry in entries:
             place = self.directories.place_of(entry) if entry.size > IN_ENTRY else None
             if place:
-                self._reaches(place[1], place[0])
+                self._reached.add(place[1], place[0])
             elif not self._cut and self.directories.is_cut(entry):
                 self._cut = f"{CUT}inside the value of tag {entry.tag:04x}"
-
-    def _reaches(self, end: int, start: Optional[int] = None) -> None:
-        self._covered.append((end if start is None else start, end))
-        if self._end is not None:
-            self._end = max(self._end, end)
 
     def _pixels_reach(self, directory: Directory) -> None:
         by_tag = {entry.tag: entry for entry in directory.entries}
@@ -166,12 +160,12 @@ class Reader:
                 continue
             pair = [by_tag[tag] for tag in (offsets, lengths) if tag in by_tag]
             if len(pair) < 2 or pair[0].elements != pair[1].elements or pair[0].elements > STRIPS:
-                self._end = None  # old files have no lengths of strips
+                self._reached.end = None  # old files have no lengths of strips
                 continue
             starts, sizes = (self.directories.numbers(entry) for entry in pair)
-            self._covered += [(start, start + size) for start, size in zip(starts, sizes)]
+            self._reached.parts += [(start, start + size) for start, size in zip(starts, sizes)]
             end = max((start + size for start, size in zip(starts, sizes)), default=0)
-            self._reaches(end)
+            self._reached.add(end)
             if end > self.directories.size and not self._private.is_panasonic:  # whose strips are elsewhere
                 self.blocks.damage = IN_PICTURE
 
@@ -229,7 +223,7 @@ class Reader:
         for entry in entries:
             if entry.tag in pointers and is_directory(entry) and entry.tag not in below:
                 directory = self.directories.read(self.directories.number(entry.last))
-                self._reaches(directory.end, directory.at)
+                self._reached.add(directory.end, directory.at)
                 self._has_note = self._has_note or any(one.tag == _MAKER_NOTE and one.size > IN_ENTRY for one in directory.entries)
                 below[entry.tag] = self._table(directory.entries, pointers[entry.tag])
         self._values_reach(entries)
@@ -241,8 +235,8 @@ class Reader:
             self._between()
         if self._cut:
             self.blocks.leave(f"{REST} ({self._cut})", b"")
-        if self._end is not None:
-            leave_rest(self.blocks, self.directories.stream, self._end)
+        if self._reached.end is not None:
+            leave_rest(self.blocks, self.directories.stream, self._reached.end)
 
     def _between(self) -> None:
         """The bytes that no directory covers, if they aren't all 0, with their offsets: from the MakerNote on, if there is one, because a
@@ -250,7 +244,7 @@ class Reader:
         stream, end, count = self.directories.stream, 0, 0
         (first,) = self._notes if len(self._notes) == 1 else (0,)
         digest = hashlib.sha256()
-        for start, stop in sorted(self._covered):
+        for start, stop in sorted(self._reached.parts):
             at = end
             for data in pieces(stream, end, min(start, self.directories.size)) if start > end else ():
                 at += len(data)

@@ -26,6 +26,20 @@ class Directory(NamedTuple):
     end: int
 
 
+class Reached:
+    """The parts of a file that its directories point to."""
+
+    def __init__(self, header: int) -> None:
+        self.parts: List[Tuple[int, int]] = [(0, header)]
+        self.end: Optional[int] = header  # after all of them; None if it is unknown
+
+    def add(self, end: int, start: Optional[int] = None) -> None:
+        """Adds a part; without its start, of one whose bytes count as covered elsewhere."""
+        self.parts.append((end if start is None else start, end))
+        if self.end is not None:
+            self.end = max(self.end, end)
+
+
 class Directories:
     """The directories of one file."""
 
