@@ -40,8 +40,8 @@ def run(arguments: argparse.Namespace) -> int:
     how = How(1, whole=arguments.whole, pixels=True, seconds=arguments.limit, debug=arguments.session.debug)
     old, new = (read(os.fsencode(it), how, arguments.session) for it in (arguments.before, arguments.after))
     choice = _choice(arguments, old, new)
-    heads = (None, None) if choice else (head_of_file(old.path), head_of_file(new.path))
-    comparison = compare(old, new, None if arguments.no_exiftool else arguments.session, choice, heads)
+    session = None if arguments.no_exiftool else arguments.session
+    comparison = compare(old, new, session, choice, (None, None) if choice else (head_of_file(old.path), head_of_file(new.path)))
     rows = rows_of(comparison, arguments.exact)
     rows = rows if arguments.exact else with_position(rows, old, new)
     names = [os.fsencode(it) for it in (arguments.before, arguments.after)]

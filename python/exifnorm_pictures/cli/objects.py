@@ -3,8 +3,10 @@
 from __future__ import annotations
 
 import json
-from typing import Dict, List, Optional
+import sys
+from typing import Any, Dict, Iterator, List, Optional
 
+from ..model.budgets import ENCODED_CHARACTERS
 from ..model.records import BlockRecord, PictureRecord
 from ..model.texts import Members, path_members
 
@@ -13,14 +15,62 @@ from ..model.texts import Members, path_members
 _VERSIONS: Dict[str, int] = {}
 
 
+_ENCODER = json.JSONEncoder(allow_nan=False)
+
+
 def line_of(command: str, record: str, members: Members) -> str:
     """An object as a line: `record` names what it is about, such as `picture` or `summary`."""
-    return json.dumps({"schema": f"exifnorm-pictures/{command}/{_VERSIONS.get(command, 1)}", "record": record, **members}, allow_nan=False)
+    return _ENCODER.encode(_object(command, record, members))
 
 
 def print_object(command: str, record: str, members: Members) -> None:
-    """Prints an object."""
-    print(line_of(command, record, members))
+    """Prints an object. One with long texts is printed in parts, since its line would be in memory several times; and before, all of it is
+    encoded, since a value that can't be must fail before a part is printed."""
+    whole = _object(command, record, members)
+    if _is_long(whole):
+        for _ in _parts(whole):
+            pass
+        sys.stdout.writelines(_parts(whole))
+        print()
+    else:
+        print(_ENCODER.encode(whole))
+
+
+def _object(command: str, record: str, members: Members) -> Members:
+    return {"schema": f"exifnorm-pictures/{command}/{_VERSIONS.get(command, 1)}", "record": record, **members}
+
+
+def _is_long(value: Any) -> bool:
+    """Whether a value has long texts, all together."""
+    left, waiting = ENCODED_CHARACTERS, [value]
+    while waiting:
+        one = waiting.pop()
+        kind = type(one)
+        if kind is str:
+            left -= len(one)
+            if left < 0:
+                return True
+        elif kind is dict:
+            waiting += one.values()
+        elif kind is list or kind is tuple:
+            waiting += one
+    return False
+
+
+def _parts(value: Any) -> Iterator[str]:
+    """The JSON of a value: of an object or a list with long texts that of each member."""
+    if isinstance(value, dict) and _is_long(value):
+        for at, (name, member) in enumerate(value.items()):
+            yield f"{', ' if at else '{'}{_ENCODER.encode(name)}: "
+            yield from _parts(member)
+        yield "}"
+    elif isinstance(value, (list, tuple)) and _is_long(value):
+        for at, member in enumerate(value):
+            yield ", " if at else "["
+            yield from _parts(member)
+        yield "]"
+    else:
+        yield _ENCODER.encode(value)
 
 
 def picture_object(path: bytes, problem: Optional[str], detail: str) -> Members:

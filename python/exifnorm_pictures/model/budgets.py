@@ -70,6 +70,7 @@ LEAST_FIELD = 5  # bytes of a field in a normal form: the head of an empty DataS
 FIELDS = 100_000  # of a block that are kept to be shown; the block is compared by its digest in any case; need 150
 SHOWN_FIELDS = 50_000  # of a picture that a command prints, all its blocks together: as JSON each takes 2.4 kB of memory; need 400
 SHOWN_CHARACTERS = 8 << 20  # of their values, plain and exact
+ENCODED_CHARACTERS = 1 << 18  # of texts that are encoded as JSON together, which takes a multiple of their memory
 COMPARED_FIELDS = 300_000  # of two pictures, those of all blocks together, and of equal pairs of blocks the differing ones; need 800
 FIELD_BYTES = 4 << 20  # of the fields of a block as JSON, here and in a catalogue of others; need 8.6 kB
 KEPT_BYTES = 4 << 20  # of the fields of a picture in a catalogue, all blocks together, as JSON: those of two take 130 MB; need 8.6 kB
