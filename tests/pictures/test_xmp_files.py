@@ -63,12 +63,32 @@ def is_accepted(packet):
 @settings(max_examples=300)
 @given(files())
 @example(DEFAULT)
+@example(b"\0" + BARE)
+@example(b"\0\0\0" + BARE)
 @example(b"\0\xef\xbb\xbf \xef\xbb\xbf" + LONG + BARE)
 def test_what_the_library_accepts_is_read(packet):
     if is_accepted(packet):
         pictures = [exifnorm_pictures.read_bytes(it, name=name) for it, name in ((packet, "a.xmp"), (b"\n" + packet, "b.XMP"))]
         assert [(it.type, it.refusals, it.not_read) for it in pictures] == [("XMP", (), ())] * 2
         assert exifnorm_pictures.compare(*pictures).same is True
+
+
+ENCODINGS = ("utf-16-le", "utf-16-be", "utf-32-le", "utf-32-be")  # of a packet, beside UTF-8 (XMP part 1, 7.1)
+
+
+@pytest.mark.parametrize("encoding", ENCODINGS)
+@given(files())
+@example(DEFAULT)
+@example(b"<?xpacket begin='\xef\xbb\xbf' id='a'?>" + BARE)
+def test_it_is_read_in_each_encoding(encoding, packet):
+    """With a byte order mark, and without one if its first character shows what it is in (XML 1.0, F.1)."""
+    text = packet.decode().lstrip("\ufeff\0 \t\r\n")
+    if is_accepted(packet):
+        expected = exifnorm_pictures.read_bytes(packet, name="a.xmp")
+        for other in ("\ufeff" + text, "\ufeff \ufeff\n" + text, text):
+            read = exifnorm_pictures.read_bytes(other.encode(encoding), name="b.xmp")
+            assert (read.type, read.refusals, read.not_read) == ("XMP", (), ())
+            assert exifnorm_pictures.compare(read, expected).same is True
 
 
 def test_the_law_is_about_most_packets():
@@ -154,6 +174,8 @@ NO_PACKETS = [
     b"<!DOCTYPE a [<!ENTITY r 'RDF'>]>&r;",
     b"<!-- a -><RDF >",
     b"\xff\xfe<\0r\0",
+    *("<svg>\ufeff".encode(it) for it in ENCODINGS),
+    b"<?xpackets ?><svg>",
     b"</RDF>",
     b"<>",
     b"< RDF>",
@@ -169,6 +191,21 @@ def test_what_begins_otherwise(octets):
 def test_a_beginning_that_is_cut(packet, at):
     """It isn't known or what the whole file is: its first bytes decide only when the rest can't change it."""
     assert begins_packet(packet[:at]) in (None, begins_packet(packet))
+
+
+@pytest.mark.parametrize("encoding", ENCODINGS)
+@given(files(), st.integers(0, 300))
+def test_a_beginning_that_is_cut_in_each_encoding(encoding, packet, at):
+    octets = b"".join([it.encode(encoding) for it in ("\ufeff", "<!-- \U0001f3fa -->", packet.decode())])
+    assert begins_packet(octets[: at + 4]) in (None, begins_packet(packet))
+
+
+@pytest.mark.parametrize("at", [12, 25, len(b"<?xpacket begin='\xef\xbb\xbf' id='W5M0MpCehiHzreSzNTczkc9d'?>\n")])
+@pytest.mark.parametrize("encoding", ["utf-8", *ENCODINGS])
+def test_a_packet_that_is_cut_in_its_wrapper_is_one(at, encoding, called, folder):
+    """No other file begins so: it isn't left to programs that may find no picture in it, or several packets."""
+    (folder / "a.xmp").write_bytes("<?xpacket begin='\ufeff' id='W5M0MpCehiHzreSzNTczkc9d'?>\n"[:at].encode(encoding))
+    assert called("show", "a.xmp")[:2] == (2, "XMP: unreadable: NotWellFormed\n")
 
 
 def test_only_as_much_is_read_as_is_needed(monkeypatch):

@@ -2,28 +2,16 @@
 
 from __future__ import annotations
 
-import codecs
 import re
 from xml.etree import ElementTree
 
 from ..model.budgets import NAMESPACE, NESTED
+from ..model.xmp_encodings import encoding_of
 from .packets import Unreadable
 from .tree import RDF
 
 _OUTER = ("{adobe:ns:meta/}xmpmeta", "{adobe:ns:meta/}xapmeta")
 _RDF = f"{{{RDF}}}RDF"
-_MARKS = (
-    (codecs.BOM_UTF32_LE, "utf-32-le"),
-    (codecs.BOM_UTF32_BE, "utf-32-be"),
-    (codecs.BOM_UTF16_LE, "utf-16-le"),
-    (codecs.BOM_UTF16_BE, "utf-16-be"),
-    (codecs.BOM_UTF8, "utf-8"),
-    (b"<\0\0\0", "utf-32-le"),
-    (b"\0\0\0<", "utf-32-be"),
-    (b"<\0", "utf-16-le"),
-    (b"\0<", "utf-16-be"),
-)
-_ANY_MARK = tuple(mark for mark, _ in _MARKS)
 _DECLARATION = re.compile(r"""<\?xml\s[^>]*?\?>\s*""")
 _ENCODING = re.compile(r"""encoding\s*=\s*["']\s*(utf-?(8|16|16-?le|16-?be|32|32-?le|32-?be))\s*["']""", re.I)
 
@@ -66,9 +54,8 @@ def rdf_of(packet: bytes) -> ElementTree.Element:
 
 def _text(packet: bytes) -> str:
     """The text of a packet without the bytes around its XML."""
-    encoding = next(it[1] for it in _MARKS if packet.startswith(it[0])) if packet.startswith(_ANY_MARK) else "utf-8"
     try:
-        text = packet.decode(encoding).lstrip("\ufeff").strip("\0 \t\r\n")
+        text = packet.decode(encoding_of(packet)).lstrip("\ufeff\0 \t\r\n").rstrip("\0 \t\r\n")
     except UnicodeDecodeError:
         raise Unreadable("NotText") from None
     declared = _DECLARATION.match(text) if text.startswith("<?xml") else None

@@ -6,7 +6,6 @@ last box of a file may have the length 0. No reader follows boxes in boxes of un
 
 from __future__ import annotations
 
-import re
 from typing import Callable, Iterator, List, NamedTuple, Optional, Set
 
 from ...model.budgets import BOXES, BOX_BYTES, budget_of
@@ -123,14 +122,10 @@ def exif_in(data: bytes) -> Optional[bytes]:
     return data[start:] if start <= len(data) else None
 
 
-# The wrapper of a packet, which no other XML begins with
-_WRAPPER = re.compile(rb"(?:\xef\xbb\xbf)?\s*(?:<\?xml\s[^>]{0,200}\?>\s*)?<\?xpacket\s")
-
-
 def add_xml(blocks: Blocks, stream: Stream, box: Box) -> None:
     """Adds the packet of a box xml, or names the box if it has other XML. Raises `Broken` and `TooMuch`."""
     data = content(stream, box)
-    if _WRAPPER.match(data[:1024]) or begins_packet(data):
+    if begins_packet(data):
         blocks.add(XMP, data, f"xml box at {box.at}")
     else:
         leave(blocks, box.name, stream, box.start, box.end)

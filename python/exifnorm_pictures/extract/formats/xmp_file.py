@@ -15,7 +15,7 @@ def read(stream: Stream, whole: bool = False) -> Blocks:
     if begins is None and size > HEAD:
         begins = begins_packet(read_at(stream, 0, min(size, PACKET_BYTES)))
     if not begins:
-        raise LeftToOthers("it doesn't begin as XMP in UTF-8 does")
+        raise LeftToOthers("it doesn't begin as XMP does")
     if size > PACKET_BYTES:
         raise TooMuch(f"more than {PACKET_BYTES:,} bytes of XMP")
     blocks = Blocks(type=XMP_FILE, budget=budget_of(stream))
