@@ -104,7 +104,16 @@ class Explanations(unittest.TestCase):
         remedy = remedy.partition("Remedy: ")[2]
         self.assertEqual(
             found.members(),
-            {"kind": "xmp", "status": "unreadable", "cause": "NoRDF", "offset": None, "sentence": line.strip(), "remedy": remedy},
+            {
+                "kind": "xmp",
+                "status": "unreadable",
+                "cause": "NoRDF",
+                "offset": None,
+                "sentence": line.strip(),
+                "remedy": remedy,
+                "here": [],
+                "bytes": [],
+            },
         )
 
     def test_what_is_at_an_offset(self):

@@ -119,6 +119,47 @@ def test_a_refused_packet_is_explained(packet, called, folder):
     assert (status, printed[:16]) == (2, "XMP: unreadable:"), printed
 
 
+LINES = BARE.replace(b" d:a='Bowl'/>", b">\n<d:a>Bowl</d:a>\n<d:b>Urn</d:b></r:Description>\n")
+FAULTS = {
+    b"& ": "NotWellFormed",
+    b"&a;": "NotWellFormed",
+    b"\x0b": "NotWellFormed",
+    b"<": "NotWellFormed",
+    b"</e>": "NotWellFormed",
+    b"\xe9": "NotText",
+}
+
+
+@pytest.mark.parametrize("where", [b"Bowl", b"Urn"])
+@pytest.mark.parametrize("fault", FAULTS)
+def test_explain_shows_where_a_text_is_damaged(fault, where, called, folder, tried):
+    """By its byte, its line, and the bytes around it, which show an archivist the caption that a program has damaged."""
+    at = LINES.index(where)
+    (folder / "a.xmp").write_bytes(LINES[:at] + fault + LINES[at:])
+    _, printed, _ = called("explain", "a.xmp")
+    places = re.findall(r"^  At (\d+), in line (\d+): [a-z].*\.$", printed, re.M)
+    assert places == [(str(at), "2" if where == b"Bowl" else "3")] or (fault == b"<" and places[0][0] == str(at + 1)), printed
+    block = json.loads(called("explain", "a.xmp", "--json")[1])
+    assert block["cause"] == FAULTS[fault] and [f"  {it}" for it in block["here"]] == re.findall("^  At .*", printed, re.M)
+    assert f"^^ {places[0][0]}" in "".join(block["bytes"]) and all(f"    {it}\n" in printed for it in block["bytes"])
+
+
+@pytest.mark.parametrize("packet", [LINES[:-20].decode().encode("utf-16"), BARE.replace(b"RDF", b"RDG")], ids=["in UTF-16", "no RDF"])
+def test_no_place_is_named_that_may_be_another(packet, called, folder, tried):
+    (folder / "a.xmp").write_bytes(
+        b"<x:xmpmeta xmlns:x='adobe:ns:meta/'>" * (packet[:1] == b"<") + packet + b"</x:xmpmeta>" * (packet[:1] == b"<")
+    )
+    block = json.loads(called("explain", "a.xmp", "--json")[1].splitlines()[0])
+    assert block["cause"] in ("NotWellFormed", "NoRDF") and (block["here"], block["bytes"]) == ([], [])
+
+
+def test_words_are_about_the_file(called, folder, tried):
+    """An XMP file is no picture."""
+    (folder / "a.xmp").write_bytes(BARE[:-1])
+    printed = called("explain", "a.xmp")[1]
+    assert "was tried on this file" in printed and "this picture" not in printed
+
+
 LONG_LANGUAGE = BARE.replace(b"r:about=''", b"xml:lang='en-" + b"-".join([b"a" * 8] * 12) + b"'")
 OVER_LIMITS = {
     "LongNamespace": BARE.replace(b"urn:d#", b"d" * 100_000),

@@ -42,7 +42,7 @@ def run(arguments: argparse.Namespace) -> int:
 
 
 def _explained(block: Block, mended: Union[mend.Mended, str]) -> explain.Explanation:
-    explained = explain.explain_packet(block.record) if block.kind == XMP else explain.explain(block.kind, block.data)
+    explained = explain.explain_packet(block.record, block.data) if block.kind == XMP else explain.explain(block.kind, block.data)
     explained.is_without_remedy = isinstance(mended, mend.Mended) and mended.remedy == mend.Remedy.NONE
     return explained
 

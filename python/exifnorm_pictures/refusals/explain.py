@@ -5,6 +5,9 @@ from __future__ import annotations
 from dataclasses import dataclass, field
 from typing import Callable, Dict, List, Optional
 
+from exifnorm import XmpRefused, xmp_normal
+from exifnorm._causes import OF_PACKETS
+
 from ..judge.judge import judge, judge_packet
 from ..model.found import XMP
 from ..model.records import BlockRecord
@@ -25,7 +28,7 @@ _OTHER_FILES = (
 )
 
 
-NO_REMEDY = "none is known. Each step of `exifnorm-pictures mend` was tried on this picture, and none makes a block that is accepted."
+NO_REMEDY = "none is known. Each step of `exifnorm-pictures mend` was tried on this file, and none makes a block that is accepted."
 
 
 @dataclass
@@ -37,7 +40,7 @@ class Explanation:
     cause: Optional[Cause] = None
     here: List[str] = field(default_factory=list)  # the parts at the offset
     octets: List[str] = field(default_factory=list)
-    is_without_remedy: bool = False  # of this picture: each step of `mend` was tried
+    is_without_remedy: bool = False  # of this file: each step of `mend` was tried
 
     @property
     def _remedy(self) -> str:
@@ -51,7 +54,9 @@ class Explanation:
     def lines(self) -> List[str]:
         """The explanation as text."""
         if self.cause is None:
-            return [f"{self.kind}: {self.judgement.line}", *(f"  {it}" for it in self._here())]
+            *here, remedy = self._here() or [""]
+            octets = [f"    {it}" for it in self.octets]
+            return [f"{self.kind}: {self.judgement.line}", *(f"  {it}" for it in here), *octets, *[f"  {remedy}"] * bool(remedy)]
         lines = [f"{self.kind}: {self.judgement.line}", f"  {self.cause.sentence} {self.cause.meaning}"]
         lines += [f"  {it}" for it in self.here]
         lines += [f"    {it}" for it in self.octets]
@@ -65,7 +70,7 @@ class Explanation:
         """The explanation as a JSON object."""
         known: Members = {"kind": self.kind, "status": self.judgement.status, "cause": self.judgement.cause, "offset": self.judgement.place}
         if self.cause is None and self.here:
-            known.update(sentence=self.here[0], remedy=self._here()[-1].replace("Remedy: ", "", 1))
+            known.update(sentence=self.here[0], remedy=self._here()[-1].replace("Remedy: ", "", 1), here=self.here[1:-1], bytes=self.octets)
         if self.cause is not None:
             known.update(sentence=self.cause.sentence, meaning=self.cause.meaning, here=self.here, bytes=self.octets)
             known.update(
@@ -77,7 +82,7 @@ class Explanation:
 def explain(kind: str, block: bytes) -> Explanation:
     """Explains one block that was judged as `kind`; an accepted one needs no explanation."""
     if kind == XMP:
-        return explain_packet(judge_packet(block))
+        return explain_packet(judge_packet(block), block)
     judgement = judge(kind, block)
     cause = CAUSES.get(judgement.cause or "") if judgement.status == Status.REFUSED else None
     if cause is None or judgement.place is None:
@@ -88,10 +93,30 @@ def explain(kind: str, block: bytes) -> Explanation:
     return Explanation(kind, judgement, cause, here, hexadecimal(layout.block, judgement.place))
 
 
-def explain_packet(judgement: BlockRecord) -> Explanation:
+def explain_packet(judgement: BlockRecord, packet: bytes) -> Explanation:
     """Explains an XMP packet that was judged; one that was read needs no explanation."""
     words = words_of(judgement.cause, XMP) if judgement.cause else None
-    return Explanation(XMP, judgement, here=[words[0], f"Remedy: {words[1]}"] if words else [])
+    if not words:
+        return Explanation(XMP, judgement)
+    fault = _fault_of(packet) if judgement.cause in _AT_A_PLACE else None
+    if fault is None:
+        return Explanation(XMP, judgement, here=[words[0], f"Remedy: {words[1]}"])
+    what = OF_PACKETS[fault.cause][0].rpartition("not well-formed: ")[2]
+    line = packet.count(b"\n", 0, fault.offset) + 1
+    here = [words[0], f"At {fault.offset}, in line {line}: {what[0].lower()}{what[1:]}", f"Remedy: {words[1]}"]
+    return Explanation(XMP, judgement, here=here, octets=hexadecimal(packet, fault.offset))
+
+
+_AT_A_PLACE = ("NotWellFormed", "NotText")  # causes of a text that the library refuses at its first fault
+
+
+def _fault_of(packet: bytes) -> Optional[XmpRefused]:
+    """The first fault of a packet in UTF-8 by the library, which names it exactly; none of one that it leaves to another reader."""
+    try:
+        xmp_normal(packet)
+    except XmpRefused as fault:
+        return None if fault.is_rare else fault
+    return None
 
 
 def _length(layout: Layout, cause: str, place: int) -> List[str]:
