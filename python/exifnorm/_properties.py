@@ -3,7 +3,7 @@
 from __future__ import annotations
 
 import re
-from typing import Any, List, NamedTuple, Tuple, Union
+from typing import Any, Callable, List, NamedTuple, Tuple, Union
 
 
 class XmpText(NamedTuple):
@@ -84,10 +84,23 @@ def _decoded(octets: str) -> str:
     return octets.replace("&lt;", "<").replace("&gt;", ">").replace("&#13;", "\r").replace("&amp;", "&")
 
 
-def properties_of_form(form: bytes) -> List[XmpProperty]:
-    """The properties of a normal form.
+class Makers(NamedTuple):
+    """What is made of each part of a form, of what is in it."""
 
-    >>> properties_of_form((_HEAD + '<p:a xmlns:p="http://d/" xml:lang="de">Krug &amp;amp;</p:a>' + _TAIL).encode())
+    text: Callable[[str, str], Any]
+    resource: Callable[[str], Any]
+    container: Callable[[str, Tuple[Any, ...]], Any]
+    structure: Callable[[Tuple[Any, ...]], Any]
+    named: Callable[[str, str, Any], Any]
+
+
+PROPERTIES = Makers(XmpText, XmpResource, XmpContainer, XmpStructure, XmpProperty)
+
+
+def made_of_form(form: bytes, make: Makers) -> List[Any]:
+    """The properties of a normal form, as they are made of it.
+
+    >>> made_of_form((_HEAD + '<p:a xmlns:p="http://d/" xml:lang="de">Krug &amp;amp;</p:a>' + _TAIL).encode(), PROPERTIES)
     [XmpProperty(namespace='http://d/', name='a', value=XmpText(text='Krug &amp;', language='de'))]
     """
     octets = form.decode("utf-8")
@@ -96,18 +109,17 @@ def properties_of_form(form: bytes) -> List[XmpProperty]:
     items = re.compile(_ITEM)  # only now: to compile it takes longer than to import the package
     for item in items.finditer(octets, len(_HEAD), len(octets) - len(_TAIL)):
         name, space, uri, structure, language, kind, text = item.groups()
-        value: XmpValue
         if text is not None:
-            value = XmpText(_decoded(text), language or "")
+            value = make.text(_decoded(text), language or "")
         elif uri is not None:
-            value = XmpResource(_decoded(uri))
+            value = make.resource(_decoded(uri))
         elif structure or kind:
             outside.append((name, space, kind, inside))
             inside = []
             continue
         else:
             name, space, kind, around = outside.pop()
-            value = XmpContainer(kind, tuple(inside)) if kind else XmpStructure(tuple(inside))
+            value = make.container(kind, tuple(inside)) if kind else make.structure(tuple(inside))
             inside = around
-        inside.append(value if name is None else XmpProperty(space, name, value))
+        inside.append(value if name is None else make.named(space, name, value))
     return inside

@@ -2,12 +2,12 @@
 
 from __future__ import annotations
 
-from typing import Callable, List
+from typing import List
 
 from ._calls import Block, _copied
 from ._errors import XmpRefused
-from ._library import Status, Text, library
-from ._properties import XmpProperty, properties_of_form
+from ._library import Status, library
+from ._properties import PROPERTIES, XmpProperty, made_of_form
 
 
 def xmp_normal(packet: Block) -> bytes:
@@ -28,13 +28,13 @@ def xmp_normal(packet: Block) -> bytes:
     >>> xmp_normal(first)[131:-40]
     b'<p:a xmlns:p="http://d/">Vase</p:a>'
     """
-    return _form_by(library().xmp_normalise, packet)
+    return form_of(packet, sort=True)
 
 
-def _form_by(call: Callable[[bytes], Text], packet: Block) -> bytes:
-    """The form that a call of the library writes for a packet."""
+def form_of(packet: Block, *, sort: bool) -> bytes:
+    """The packet's normal form, or its form for showing, in which the members of a Bag are in the packet's order."""
     octets = packet if type(packet) is bytes else _copied(packet)
-    form = call(octets)
+    form = library().xmp_normalise(octets) if sort else library().xmp_unsorted(octets)
     if not isinstance(form, tuple):
         return form
     status, cause, place = form
@@ -64,5 +64,4 @@ def xmp_properties(packet: Block, *, sort: bool = True) -> List[XmpProperty]:
     >>> [member.text for member in xmp_properties(packet, sort=False)[1].value.members]
     ['urn', 'bowl']
     """
-    calls = library()
-    return properties_of_form(_form_by(calls.xmp_normalise if sort else calls.xmp_unsorted, packet))
+    return made_of_form(form_of(packet, sort=sort), PROPERTIES)

@@ -79,7 +79,7 @@ CALLS = {
     "photoshopResources": lambda bytes_: [list(resource) for resource in exifnorm.photoshop_resources(bytes_)],
     "xmpCheck": lambda packet: exifnorm.xmp_normal(packet) and None,
     "xmpNormalise": lambda packet: digest(exifnorm.xmp_normal(packet)),
-    "xmpUnsorted": lambda packet: digest(exifnorm._xmp._form_by(exifnorm._library.library().xmp_unsorted, packet)),
+    "xmpUnsorted": lambda packet: digest(exifnorm._xmp.form_of(packet, sort=False)),
     "xmpProperties": properties,
 }
 OF_BLOCK, OF_BLOCKS = ("check", "normalise", "show", "captions"), ("compare",)

@@ -2,7 +2,11 @@
 
 from __future__ import annotations
 
-import exifnorm
+from typing import Tuple
+
+from exifnorm import XmpRefused
+from exifnorm._properties import Makers, made_of_form
+from exifnorm._xmp import form_of
 
 from .tree import CONTAINERS, RDF, TYPE, Literal, Node, Statement, Statements, Uri, Value
 
@@ -21,22 +25,17 @@ def statements(packet: bytes) -> Statements:
     (Statement(predicate='http://d/a', value=Literal(text='1', language='', datatype='')),)
     """
     try:
-        properties = exifnorm.xmp_properties(packet, sort=False)
-    except exifnorm.XmpRefused:
+        return tuple(made_of_form(form_of(packet, sort=False), _STATEMENTS))
+    except XmpRefused:
         raise NotUsual from None
-    return tuple([_statement(*it) for it in properties])
 
 
-def _statement(namespace: str, name: str, value: exifnorm.XmpValue) -> Statement:
-    return Statement(namespace + name, _value(value))
+def _container(kind: str, members: Tuple[Value, ...]) -> Node:
+    return Node((_TYPES[kind], *[Statement(f"{RDF}_{number}", it) for number, it in enumerate(members, 1)]))
 
 
-def _value(value: exifnorm.XmpValue) -> Value:
-    if isinstance(value, exifnorm.XmpText):
-        return Literal(*value)
-    if isinstance(value, exifnorm.XmpContainer):
-        members = [Statement(f"{RDF}_{n}", _value(it)) for n, it in enumerate(value.members, 1)]
-        return Node((_TYPES[value.kind], *members))
-    if isinstance(value, exifnorm.XmpStructure):
-        return Node(tuple([_statement(*it) for it in value.properties]))
-    return Uri(value.uri)
+def _statement(namespace: str, name: str, value: Value) -> Statement:
+    return Statement(namespace + name, value)
+
+
+_STATEMENTS = Makers(Literal, Uri, _container, Node, _statement)
