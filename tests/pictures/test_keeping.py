@@ -7,7 +7,7 @@ import sqlite3
 
 import pytest
 from made_blocks import ASCII, LONG, segment
-from made_files import app1, chunk, exif, jpeg, page, png, tiff, turned
+from made_files import app1, app1_xmp, chunk, exif, jpeg, page, png, tiff, turned
 from studio import SMALL_JPEG, put
 
 A = exif(b"abc")
@@ -73,3 +73,35 @@ def test_the_text_says_what_is_known_of_the_pictures(folder, called):
     lines = called("same", "--catalogue", "c")[1].splitlines()
     notes = {os.path.basename(it.split()[0]): it.partition("(")[2] for it in lines[1:4]}
     assert notes["c.jpg"] == f"{DAMAGED})" and notes["b.jpg"].startswith("the same picture as") and "any one may stay" not in "".join(lines)
+
+
+XMP = (
+    b"<rdf:RDF xmlns:rdf='http://www.w3.org/1999/02/22-rdf-syntax-ns#' xmlns:dc='http://purl.org/dc/elements/1.1/'>"
+    b"<rdf:Description dc:source='Riverside Museum'/></rdf:RDF>"
+)
+PICTURE = jpeg(app1_xmp(XMP))
+NO_PICTURE = "no picture, and may belong to one, as an XMP file does"
+# Files, and what is said of each: True and False as above
+BESIDE_PICTURES = {
+    "XMP files of two pictures": ({"bowl.jpg.xmp": XMP, "vase.jpg.xmp": XMP}, [NO_PICTURE, NO_PICTURE]),
+    "with other bytes": ({"a.xmp": XMP, "b.XMP": XMP + b"\n"}, [NO_PICTURE, NO_PICTURE]),
+    "refused ones": ({"a.xmp": XMP[:-1], "b.xmp": XMP[:-1]}, [NO_PICTURE, NO_PICTURE]),
+    "empty ones": ({"a.xmp": b"", "b.xmp": b""}, [NO_PICTURE, NO_PICTURE]),
+    "texts": ({"a.txt": b"scanned by Anna\n", "b.txt": b"scanned by Anna\n"}, [NO_PICTURE, NO_PICTURE]),
+    "beside their pictures": ({"a.jpg": PICTURE, "a.xmp": XMP, "b.jpg": PICTURE, "b.xmp": XMP}, [True, NO_PICTURE, False, NO_PICTURE]),
+}
+
+
+@pytest.mark.parametrize("pixels", [False, True])
+@pytest.mark.parametrize("name", BESIDE_PICTURES)
+def test_no_file_that_is_no_picture_may_go(name, pixels, folder, called):
+    """Equal ones may belong to two pictures: whoever deletes one takes the caption of its picture."""
+    files, expected = BESIDE_PICTURES[name]
+    put(folder / "p", files)
+    called("index", "p", "--catalogue", "c", "--quiet", *["--pixels"] * pixels)
+    groups = [json.loads(it) for it in called("same", "c", "--json")[1].splitlines()]
+    said = {os.path.basename(it["path"]): it for group in groups if group["record"] == "group" for it in group["pictures"]}
+    found = [it["keep"] if it["keep"] is not None else it["keep_note"].rpartition("; ")[2] for _, it in sorted(said.items())]
+    assert found == expected
+    text = called("same", "c")[1]
+    assert (NO_PICTURE in text, "may stay" in text, "index --pixels" in text) == (True, False, "a.jpg" in files and not pixels), text

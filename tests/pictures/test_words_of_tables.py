@@ -45,7 +45,10 @@ def test_each_row(golden):
     rows += [("limit", word, f"{number:,}") for word, number in LIMITS.items()]
     rows += [("label", it.word, it.exif, it.iptc, it.xmp, it.limit, it.is_list) for it in LABELS]
     rows += [("fields of", word, *fields) for word, fields in fields_by_label().items()]
-    rows += [("keep", it, getattr(keeping, it)) for it in ("NOT_KNOWN", "OTHER", "OTHER_BESIDE", "OTHER_FILE", "KEEP_ALL", "NOT_ALL")]
+    rows += [
+        ("keep", it, getattr(keeping, it))
+        for it in ("NOT_KNOWN", "OTHER", "OTHER_BESIDE", "OTHER_FILE", "NO_PICTURE", "KEEP_ALL", "NOT_ALL")
+    ]
     rows += [("meant in a rule by", *it) for it in rules._MEANT.items()]
     rows += [("cause", it, explain._FACTS.get(it, explain._entry).__name__[1:].upper()) for it in CAUSES]
     rows += [("cause of XMP", it, *words_of(it, XMP)) for it in (*XMP_REMEDIES, *OTHER_REMEDIES)]

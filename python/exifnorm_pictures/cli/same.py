@@ -12,7 +12,7 @@ from ..catalogue.store import Catalogue
 from ..comparison.group import Basis, Group, Link
 from ..comparison.group_sentence import sentence_of
 from ..comparison.groups import Groups, after_repair, but_for_parts, coded_pictures, left_out, whole_files
-from ..comparison.keeping import KEEP_ALL, NOT_KNOWN, Keep, damaged, keeping
+from ..comparison.keeping import KEEP_ALL, NO_PICTURE, NOT_KNOWN, Keep, damaged, keeping
 from ..comparison.readings import of_unknown
 from ..fields.choosing import Choice
 from ..fields.folding import folded
@@ -277,7 +277,8 @@ def _print_lines(group: Group, number: int, keeps: Keeps, texts: _Texts) -> None
         links.setdefault(link.of, []).append(link)
     reasons = set(group.reasons.values())
     has_same_pictures = sum(one.keep is False for one in keeps.values()) == group.count - 1 > 0
-    about = {} if has_same_pictures or all(one.why in (NOT_KNOWN, KEEP_ALL) for one in keeps.values()) else keeps
+    are_no_pictures = bool(keeps) and all(one.why == NO_PICTURE for one in keeps.values())
+    about = {} if has_same_pictures or are_no_pictures or all(one.why in (NOT_KNOWN, KEEP_ALL) for one in keeps.values()) else keeps
     for picture in group.members:
         reason, others = group.reasons.get(picture.id, ""), group.others.get(picture.id, 0)
         more = f", and {others:,} that {'are' if others > 1 else 'is'} in a group with it above" if others else ""
@@ -287,6 +288,8 @@ def _print_lines(group: Group, number: int, keeps: Keeps, texts: _Texts) -> None
         print_lines(f"      not counted, {link.how}: {shown_path(link.path)}" for link in links.get(picture.path, ()))
     if len(reasons) == 1 and reasons != {""}:
         print_line(f"    all: {reasons.pop()}")
+    if are_no_pictures:
+        print_line(f"    all: {NO_PICTURE}")
     if has_same_pictures:
         print_line(f"    {_ALL_THE_SAME}")
     if group.rests_on_readings:

@@ -1,6 +1,6 @@
 """Which picture of a group may stay alone. The metadata of its pictures mean the same, and the pictures themselves may differ: one may be
 smaller, cropped, or cut off. So one stands for another only if both are whole and known to be equal, by the digests of `index --pixels` or by
-all bytes of their files, which are read then."""
+all bytes of their files, which are read then. A file that is no picture stands for no other: equal ones may belong to two pictures."""
 
 from __future__ import annotations
 
@@ -8,6 +8,8 @@ import contextlib
 from collections import Counter
 from typing import Dict, List, NamedTuple, Optional, Sequence, Tuple
 
+from ..model.found import XMP_FILE
+from ..model.problems import Problem
 from ..model.records import PictureRecord
 from ..model.texts import shown_path
 from .group import Group
@@ -16,6 +18,7 @@ NOT_KNOWN = "whether its picture is that of another one isn't known: index --pix
 OTHER = "no other one has the same picture"
 OTHER_BESIDE = "one with the same picture has another colour profile or comment"
 OTHER_FILE = "no other file has the same bytes, and pictures of this format aren't compared"
+NO_PICTURE = "no picture, and may belong to one, as an XMP file does"
 KEEP_ALL = "which one to keep isn't known: equal readings don't show whose offsets are still right"  # of groups that rest on MakerNotes
 NOT_ALL = "its file has other bytes, outside of metadata, picture, colour profile and comments"
 
@@ -49,7 +52,7 @@ def keeping(group: Group, reads: bool = True) -> Dict[int, Keep]:
     is in, the one that stays is no later one, and a chain of groups ends at a picture that stays. `reads` reads files with equal sizes."""
     if group.rests_on_readings:
         return {it.id: Keep(why=KEEP_ALL) for it in group.members}
-    members = sorted(group.members, key=lambda it: it.path)
+    members = sorted([it for it in group.members if _is_picture(it)], key=lambda it: it.path)
     keys = _keys(members, reads)
     damages = {it.id: it.damage for it in members if it.damage}
     equal: Dict[_Key, List[PictureRecord]] = {}
@@ -60,7 +63,12 @@ def keeping(group: Group, reads: bool = True) -> Dict[int, Keep]:
         if key[0] == "file" and len(pictures) > 1 and pictures[0].coded_picture is None:  # nobody has looked whether it is whole
             damages.update({it.id: damage for damage in [_damage_of(pictures[0])] if damage for it in pictures})
     has_unknown = any(it.coded_picture is None and not (keys.get(it.id) and len(equal[keys[it.id]]) > 1) for it in members)
-    return {it.id: _keep(it, keys, equal, damages, has_unknown) for it in members}
+    known = {it.id: _keep(it, keys, equal, damages, has_unknown) for it in members}
+    return {it.id: known.get(it.id, Keep(why=NO_PICTURE)) for it in group.members}
+
+
+def _is_picture(picture: PictureRecord) -> bool:
+    return picture.problem != Problem.NO_PICTURE and picture.type != XMP_FILE
 
 
 def _keep(
