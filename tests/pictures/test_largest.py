@@ -65,10 +65,16 @@ def test_all_commands_and_formats_are_tried():
 
 
 def choice():
-    """For each format and filling the commands that are tried: the filling of a command is another one with each format."""
+    """For each format and filling the commands that are tried: the filling of a command is another one with each format. The picture that
+    takes the most is tried with each command."""
     names = itertools.cycle(COMMANDS)
     commands = -(-len(COMMANDS) * len(FILLINGS) // (len(SIZES) * len(FILLINGS)))
-    return [(name, filling, [next(names) for _ in range(commands)]) for filling in FILLINGS for name in SIZES]
+    each = [(name, filling, [next(names) for _ in range(commands)]) for filling in FILLINGS for name in SIZES]
+    return each + [("JPEG", "many fields", [it]) for it in COMMANDS if ("JPEG", "many fields", it) not in _tried(each)]
+
+
+def _tried(each):
+    return {(name, filling, command) for name, filling, commands in each for command in commands}
 
 
 def put(folder, name, filling):

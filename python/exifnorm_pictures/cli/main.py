@@ -7,6 +7,7 @@ from . import search_path
 search_path.leave_out_current_folder()  # before other modules are imported
 
 import argparse
+import ctypes
 import gc
 import importlib
 import sys
@@ -16,13 +17,14 @@ from typing import Optional, Sequence
 from ..files import signals
 from ..files.session import Session
 from ..model import errors
-from ..model.budgets import PROGRAM_SECONDS
+from ..model.budgets import OWN_PAGES, PROGRAM_SECONDS
 from ..model.texts import described, reason, shown_path
 from .exit_codes import FAILURE, STOPPED, SUCCESS, USAGE
 from .parser import parsed
 
 COLLECTED = 50_000  # objects after which Python looks for rings of objects: what a picture needs makes none, so mostly it looks in vain
 
+_TRIM_THRESHOLD, _MMAP_THRESHOLD = -1, -3  # of glibc's mallopt
 _OTHERS = (("exifnorm", "LibraryMissing"), ("sqlite3", "OperationalError"))  # errors of other packages whose texts are for people
 
 
@@ -31,6 +33,7 @@ def main(words: Optional[Sequence[str]] = None) -> int:
     try:
         signals.ready_streams()
         signals.heed_signals()
+        _give_memory_back()
         status = _run(words)
         sys.stdout.flush()
         return status
@@ -43,6 +46,15 @@ def main(words: Optional[Sequence[str]] = None) -> int:
         return 128 + stopped.number
     except OSError as error:  # standard output, at the last flush
         return _output_failed(error)
+
+
+def _give_memory_back() -> None:
+    """From now on the system has the memory of a long value back as soon as that is freed. By itself glibc does so up to the first one: then it
+    raises the length of those that get pages of their own to that one's, and keeps what is freed between others."""
+    mallopt = getattr(ctypes.CDLL(None), "mallopt", None)
+    if mallopt:  # not in other C libraries
+        mallopt(_MMAP_THRESHOLD, OWN_PAGES)
+        mallopt(_TRIM_THRESHOLD, 2 * OWN_PAGES)
 
 
 def _run(words: Optional[Sequence[str]]) -> int:

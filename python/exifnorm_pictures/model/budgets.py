@@ -79,6 +79,7 @@ WHOLE_FILE = 16 << 20  # bytes of a file of which no block was read, for a diges
 HOLES = 1 << 30  # bytes of the holes of a file of which a digest is made: with a terabyte of them a file of 4 kB would take an hour; need 0
 MENDED_BYTES = 1 << 30  # of a picture with a refused block that `mend` copies for each remedy, which may write its holes; need 100 MB
 OUTPUT = 64 << 20  # bytes that another program may write about a picture
+OWN_PAGES = 2 << 20  # bytes of a value from which on it has pages of its own, which the system has back when it is freed
 
 # A catalogue may be a stranger's, too.
 ROW_BYTES = 64 << 20  # of a value or a row, and of all rows of a table for one picture, which a file can let share their bytes
