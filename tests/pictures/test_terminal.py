@@ -9,7 +9,7 @@ import subprocess
 import termios
 
 import pytest
-from studio import TOP, Studio, needs, run, write
+from studio import SMALL_JPEG, TOP, Studio, needs, run, write
 
 from exifnorm_pictures.cli.columns import folded, width
 
@@ -39,14 +39,19 @@ COMMANDS = (
 )
 
 
-def on_terminal(words, folder, columns):
-    """What a command prints on a terminal of so many columns."""
+def on_terminal(words, folder, columns, is_error=False):
+    """What a command prints on a terminal of so many columns; with `is_error` on standard error."""
     mine, its = pty.openpty()
     fcntl.ioctl(its, termios.TIOCSWINSZ, struct.pack("HHHH", 24, columns, 0, 0))
     environment = {name: value for name, value in Studio.environment().items() if name != "COLUMNS"}
     program = shutil.which(words[0], path=environment["PATH"])
     with subprocess.Popen(
-        [program, *words[1:]], cwd=folder, env=environment, stdin=subprocess.DEVNULL, stdout=its, stderr=subprocess.PIPE
+        [program, *words[1:]],
+        cwd=folder,
+        env=environment,
+        stdin=subprocess.DEVNULL,
+        stdout=subprocess.PIPE if is_error else its,
+        stderr=its if is_error else subprocess.PIPE,
     ) as process:
         os.close(its)
         printed = b""
@@ -57,8 +62,9 @@ def on_terminal(words, folder, columns):
                 break
             printed += octets
         os.close(mine)
-        assert process.stderr is not None
-        messages = process.stderr.read().decode()
+        other = process.stdout if is_error else process.stderr
+        assert other is not None
+        messages = other.read().decode()
     assert "internal error" not in messages and "Traceback" not in messages, messages
     return printed.decode().replace("\r\n", "\n").splitlines()
 
@@ -85,6 +91,19 @@ def test_no_line_is_wider_than_the_screen(samples, tmp_path, words, columns):
     names = ("exifnorm-pictures ", str(tmp_path), str(samples))
     wide = [it for it in lines if width(it) > columns and " " in it.strip() and not any(name in it for name in names)]
     assert lines and not wide, "\n".join(wide)
+
+
+@needs("exiftool")
+@pytest.mark.parametrize("words", [["--limit", "20"], ["--json", "--limit", "20"]])
+def test_explain_says_what_it_waits_for(words, tmp_path):
+    """The steps of `mend` may take as long as --limit; the line is gone when they are over. An accepted picture needs none."""
+    packet = b"<x:xmpmeta xmlns:x='adobe:ns:meta/'/>"
+    for name, octets, expected in (
+        ("a.xmp", packet, ["trying what mend does, for at most 20 seconds", "\x1b[K"]),
+        ("a.jpg", SMALL_JPEG, []),
+    ):
+        write(str(tmp_path / name), octets)
+        assert on_terminal(["exifnorm-pictures", "explain", name, *words], tmp_path, 80, is_error=True) == expected
 
 
 def test_a_folded_line_has_the_same_words():

@@ -21,6 +21,7 @@ from .each_block import each_block, each_picture, status_of
 from .exit_codes import SUCCESS
 from .not_read import damage_lines, damage_members, damage_remedy
 from .objects import block_object, picture_object, print_object
+from .output import waiting
 
 Try = Callable[[bytes], Union[mend.Mended, str]]  # what `mend` does with a picture, or why that isn't known
 
@@ -57,7 +58,9 @@ def _tried_of(picture: Picture, tried: Try) -> Union[mend.Mended, str]:
 def _tried(session: Session, name: bytes) -> Union[mend.Mended, str]:
     """What `mend` does with a picture, without a copy, or why that isn't known. All that is tried of one picture has the time of one call."""
     try:
-        with session.one_clock(), tempfile.TemporaryDirectory(dir=session.room) as own:
+        with waiting(f"trying what mend does, for at most {session.seconds:g} seconds"), session.one_clock(), tempfile.TemporaryDirectory(
+            dir=session.room
+        ) as own:
             return mend.attempt(session, name, own)[0]
     except programs.TooSlow:
         return f"it takes longer than {session.seconds:g} seconds"

@@ -2,13 +2,14 @@
 
 from __future__ import annotations
 
+import contextlib
 import os
 import re
 import shutil
 import sys
 from collections import Counter
 from datetime import datetime, timezone
-from typing import TYPE_CHECKING, Iterable, List, Optional, Sequence
+from typing import TYPE_CHECKING, Iterable, Iterator, List, Optional, Sequence
 
 from ..files import signals
 from ..model.found import cut, damage
@@ -43,6 +44,26 @@ def say_notes(*texts: str) -> None:
     """Says on standard error what belongs to an answer, and would be in the way of a program that reads it."""
     for text in texts:
         signals.say(f"exifnorm-pictures: note: {text}")
+
+
+@contextlib.contextmanager
+def waiting(text: str) -> Iterator[None]:
+    """Says on a terminal what may take long, as long as it takes."""
+    on_terminal = sys.stderr is not None and sys.stderr.isatty()
+    if on_terminal:
+        _put(text)
+    try:
+        yield
+    finally:
+        if on_terminal:
+            _put("\r\x1b[K")  # the line is cleared
+
+
+def _put(text: str) -> None:
+    try:
+        print(text, end="", file=sys.stderr, flush=True)
+    except OSError:  # nobody reads it
+        signals.drop(sys.stderr)
 
 
 def note_sidecar(picture: bytes) -> None:
