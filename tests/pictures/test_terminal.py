@@ -100,7 +100,7 @@ def test_explain_says_what_it_waits_for(words, tmp_path):
     packet = b"<x:xmpmeta xmlns:x='adobe:ns:meta/'/>"
     for name, octets, expected in (
         ("a.xmp", packet, ["trying what mend does, for at most 20 seconds", "\x1b[K"]),
-        ("a.jpg", SMALL_JPEG, []),
+        ("b.jpg", SMALL_JPEG, []),
     ):
         write(str(tmp_path / name), octets)
         assert on_terminal(["exifnorm-pictures", "explain", name, *words], tmp_path, 80, is_error=True) == expected
