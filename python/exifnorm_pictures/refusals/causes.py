@@ -247,7 +247,7 @@ XMP_REMEDIES: Dict[str, str] = {
     "ExtensionMissing": _WHOLE_COPY,
     "ExtensionNotNamed": _WHOLE_COPY,
     "ExtensionDamaged": _WHOLE_COPY,
-    "NeedsRdflib": "Install python3-rdflib and run the same `index` again: it reads these pictures again.",
+    "NeedsRdflib": "Install python3-rdflib first: with it the packet may be read as it is. The same `index` then reads these pictures again.",
 }
 # Those of packets over a limit. They make other programs slow too, so `explain` doesn't let these try what helps: on 2,000 elements in one
 # another, 68 kB, ExifTool 12.57 takes 16 seconds of a processor.
