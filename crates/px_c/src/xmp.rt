@@ -5,6 +5,7 @@ ghost use Rattle.px_engine.specs.Slices.{IsPut};
 ghost use Rattle.px_xmp_forms.specs.Causes.{is_rare};
 ghost use Rattle.px_xmp.specs.Laws.{IsReadableForm};
 ghost use Rattle.px_xmp.specs.Accepted.{FormFits, PacketFits};
+ghost use Rattle.px_xmp.specs.Asking.{AsksOnlyForRdf};
 ghost use Rattle.px_c.specs.Numbers as status;
 ghost use Rattle.px_c.specs.Xmp.{xmp_cause, PutsXmp, PutsUnsorted, RefusesXmp, RefusesPacket, LeavesXmp};
 
@@ -71,6 +72,7 @@ pub(crate) fn xmp_check_in(memory: &mut Memory, packet: &[u8], fault: &mut Exifn
     ensures fault { result ≢ status.refused → result ≢ status.rare → fault.new ≡ fault.old }
     ensures lacking { result ≡ status.no_memory → memory.new.failed_allocations ≡ memory.old.failed_allocations + 1 }
     ensures memory { result ≢ status.no_memory → memory.new.failed_allocations ≡ memory.old.failed_allocations }
+    ensures asked { AsksOnlyForRdf packet.now memory.old memory.new }
     ensures accepts { PacketFits packet.now → (result ≡ status.done) ⊎ (result ≡ status.no_memory) }
     ensures own { FormFits packet.now → (result ≡ status.done) ⊎ (result ≡ status.no_memory) }
 {
@@ -100,6 +102,7 @@ pub(crate) fn xmp_normalise_in(
     ensures fault { result ≢ status.refused → result ≢ status.rare → fault.new ≡ fault.old }
     ensures lacking { result ≡ status.no_memory → memory.new.failed_allocations ≡ memory.old.failed_allocations + 1 }
     ensures memory { result ≢ status.no_memory → memory.new.failed_allocations ≡ memory.old.failed_allocations }
+    ensures asked { AsksOnlyForRdf packet.now memory.old memory.new }
     ensures accepts { PacketFits packet.now → (result ≡ status.done) ⊎ (result ≡ status.no_memory)
         ⊎ (result ≡ status.too_little_room) }
     ensures own { FormFits packet.now → (result ≡ status.done) ⊎ (result ≡ status.no_memory) ⊎ (result ≡ status.too_little_room) }
@@ -131,6 +134,7 @@ pub(crate) fn xmp_unsorted_in(
     ensures fault { result ≢ status.refused → result ≢ status.rare → fault.new ≡ fault.old }
     ensures lacking { result ≡ status.no_memory → memory.new.failed_allocations ≡ memory.old.failed_allocations + 1 }
     ensures memory { result ≢ status.no_memory → memory.new.failed_allocations ≡ memory.old.failed_allocations }
+    ensures asked { AsksOnlyForRdf packet.now memory.old memory.new }
     ensures accepts { PacketFits packet.now → (result ≡ status.done) ⊎ (result ≡ status.no_memory)
         ⊎ (result ≡ status.too_little_room) }
     ensures own { FormFits packet.now → (result ≡ status.done) ⊎ (result ≡ status.no_memory) ⊎ (result ≡ status.too_little_room) }

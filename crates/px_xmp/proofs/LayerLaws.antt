@@ -17,9 +17,10 @@ use Rattle.px_xmp_forms.specs.Causes.{IsRare}
 use Rattle.px_xmp_forms.specs.declared.faults.Refusal.{Refusal}
 use Rattle.px_xmp_forms.specs.declared.faults.Refusal.TheVariants as refusals
 use Rattle.px_xmp_forms.specs.declared.faults.Cause.{Cause}
-use Rattle.px_xmp.specs.Packet.{is_padding, is_wide, AreAround, BeginsBare, EndsBare}
+use Rattle.px_xmp.specs.Packet.{is_padding, is_wide, AreAround, BeginsBare, EndsBare, IsPacket}
 use Rattle.px_xmp.specs.Refusals.{IfRefused, IsOfRdf, IsMarkCause, IsNestingCause, IsDocumentCause, is_declaration, IsCauseOf, HasDocument}
-use Rattle.px_xmp.specs.Refusals.{IsRefusedByFault, IsRefusedByCount, HasNoCount, IsRefusedDocument, AreSame, OneRefusal, RefusedIsNoFile}
+use Rattle.px_xmp.specs.Refusals.{IsRefusedByFault, IsRefusedByCount, HasNoCount, IsRefusedDocument, AreSame, OneRefusal}
+use Rattle.px_xmp.specs.Asking.{RdfIsLast}
 use Rattle.px_xmp.specs.Limits.{IsCrowded, NoneCrowded}
 use Rattle.px_xmp.proofs.AroundLaws.{around_once, padding_once}
 use Rattle.px_xmp.proofs.CrowdedLaws.{crowded_within}
@@ -200,7 +201,31 @@ one_refusal declarations law x c d m n (inr (inr (r, h))) (inr (inr (s, g))) =
     (subst (λ (z : List ℕ). IsRefusedByCount z (length r.before) d n ⊎ IsRefusedByFault z (length r.before) d n) (sym document)
     (subst (λ (k : ℕ). IsRefusedByCount s.document k d n ⊎ IsRefusedByFault s.document k d n) (sym (ap length before)) g))
 
-pub no_file : MarksAreRead → StartTagsAreRead → DeclarationsAreRead → OneFault → RefusedIsNoFile
+no_file : MarksAreRead → StartTagsAreRead → DeclarationsAreRead → OneFault → (x : List ℕ) (start : ℕ) (c : Cause) (n : ℕ)
+    → IsRefusedByCount x start c n ⊎ IsRefusedByFault x start c n → IsFile x → ⊥
 no_file marks starts declarations law x start c n (inr h) file = (law x h.fault h.offset h.first).0 file
 no_file marks starts declarations law x start c n (inl h) file =
     file_not_crowded marks starts declarations x h.declaration (drop h.head x) h.encoding h.head h.offset file h.parts refl h.crowded.crowded
+
+abbrev packet_document : (x : List ℕ) → is_wide x ≡ false → IsPacket x → HasDocument x
+packet_document x narrow p =
+    record {
+      before = p.before;
+      document = p.document;
+      after = p.after;
+      joined = p.joined;
+      few = p.few;
+      narrow = narrow;
+      pieces = p.pieces;
+      around = p.around;
+      padding = p.padding;
+      first = p.first;
+      last = p.last;
+    }
+
+pub rdf_last : MarksAreRead → StartTagsAreRead → DeclarationsAreRead → OneFault → RdfIsLast
+rdf_last marks starts declarations law x c n (inl (long, e, at)) (narrow, p) = absurd (omega (arith, long, p.few))
+rdf_last marks starts declarations law x c n (inr (inl (few, wide, e, at))) (narrow, p) = true_false (is_wide x) wide narrow
+rdf_last marks starts declarations law x c n (inr (inr (r, h))) (narrow, p) =
+    let (before, document) = documents_once x r (packet_document x narrow p) in
+    no_file marks starts declarations law r.document (length r.before) c n h (subst IsFile (sym document) p.file)

@@ -10,4 +10,5 @@ pub mod Limits
 pub mod Laws
 pub mod Accepted
 pub mod Refusals
+pub mod Asking
 pub mod calls

@@ -179,7 +179,3 @@ AreSame c d = (c ≡ d) ⊎ ((is_unread c ≡ true) × (is_unread d ≡ true))
 -- A packet is refused so at one place, by one cause.
 abbrev pub OneRefusal : Type 0
 OneRefusal = (x : List ℕ) (c d : Cause) (m n : ℕ) → IsRefusedFirst x c m → IsRefusedFirst x d n → (m ≡ n) × AreSame c d
-
--- What is refused before RDF is no document that RDF could refuse.
-abbrev pub RefusedIsNoFile : Type 0
-RefusedIsNoFile = (x : List ℕ) (start : ℕ) (c : Cause) (n : ℕ) → IsRefusedByCount x start c n ⊎ IsRefusedByFault x start c n → IsFile x → ⊥

@@ -1,7 +1,8 @@
 //! The laws of packets. Each is the contract of a function that computes nothing.
 ghost use Rattle.px_xmp.specs.Laws.{FormIsItsOwn, FormsDecide, KindsAreRead, MeaningsAreReadable, NodesMeanOnce, NormalIsFile};
 ghost use Rattle.px_xmp.specs.Accepted.{FormsFit};
-ghost use Rattle.px_xmp.specs.Refusals.{OneRefusal, RefusedIsNoFile};
+ghost use Rattle.px_xmp.specs.Refusals.{OneRefusal};
+ghost use Rattle.px_xmp.specs.Asking.{RdfIsLast};
 ghost use Rattle.px_xmp.specs.Laws.{NormalKeepsMeaning, NormalSays, OneMeaning, OnePacket, OneReading, ScopesAreJudged};
 
 /// Each mark of a document is read as what it is, and with its length.
@@ -120,9 +121,9 @@ pub fn one_refusal()
     px_xmp_document::laws::one_fault();
 }
 
-/// A packet whose document RDF refuses is refused by nothing before.
-pub fn refused_is_no_file()
-    ensures { RefusedIsNoFile }
+/// A packet that RDF judges is refused by nothing before.
+pub fn rdf_is_last()
+    ensures { RdfIsLast }
 {
     px_xmp_marks::laws::marks_are_read();
     px_xmp_marks::laws::start_tags_are_read();

@@ -1,5 +1,5 @@
 // A packet: its document, and what is around it.
-ghost use Rattle.std.specs.Prelude.{◌≡◌, ◌≤◌, ◌+◌, ℕ, Option, List, length, take, drop, true, IfOk, OnOk};
+ghost use Rattle.std.specs.Prelude.{◌≡◌, ◌≤◌, ◌+◌, ℕ, Option, List, length, take, drop, true, false, IfOk, OnOk};
 ghost use Rattle.px_bytes.specs.Parts.{limit};
 ghost use Rattle.px_xmp_marks.specs.Declarations.{every};
 ghost use Rattle.px_xmp_text.specs.Values.{Content};
@@ -12,6 +12,7 @@ ghost use Rattle.px_xmp.specs.Meaning.{HasMeaning};
 ghost use Rattle.px_xmp.specs.Accepted.{FormFits, DocumentFits, PacketFits};
 ghost use Rattle.px_xmp.specs.calls.Around.{BeginsAround};
 ghost use Rattle.px_xmp.specs.Refusals.{IfRefused, IsRefusedDocument, IsRefused};
+ghost use Rattle.px_xmp.specs.Asking.{AsksOnlyForRdf};
 ghost use Rattle.px_xmp.specs.Laws.{IsFormOf, IsFormOfPacket, HasNoMeaning, IsReadableForm};
 
 use crate::causes::cause_of;
@@ -137,6 +138,7 @@ fn document_form(memory: &mut Memory, document: &[u8], start: usize) -> Result<V
     ensures bound { IfOk result (λ form. length form.items ≤ limit) }
     ensures accepts { start + length document.now ≤ limit → DocumentFits document.now start → FailsByMemory result }
     ensures layer { start + length document.now ≤ limit → IfRefused result (IsRefusedDocument document.now start) }
+    ensures asked { (IsFile document.now → ⊥) → memory.new.asked ≡ memory.old.asked }
 {
     px_xmp_marks::laws::marks_are_read();
     px_xmp_marks::laws::start_tags_are_read();
@@ -167,6 +169,7 @@ fn document_form(memory: &mut Memory, document: &[u8], start: usize) -> Result<V
 // The form of a packet.
 pub(crate) fn form_in(memory: &mut Memory, packet: &[u8]) -> Result<Vec<u8>, Refusal>
     ensures packet { OnOk result (IsPacket packet.now) }
+    ensures narrow { OnOk result (is_wide packet.now ≡ false) }
     ensures form { IfOk result (λ form. IsFormOfPacket packet.now form.items) }
     ensures readable { IfOk result (λ form. FormFits form.items) }
     ensures memory { CountsAllocFailureInPacket result memory.old memory.new }
@@ -175,6 +178,7 @@ pub(crate) fn form_in(memory: &mut Memory, packet: &[u8]) -> Result<Vec<u8>, Ref
     ensures bound { IfOk result (λ form. length form.items ≤ limit) }
     ensures accepts { PacketFits packet.now → FailsByMemory result }
     ensures layer { IfRefused result (IsRefused packet.now) }
+    ensures asked { AsksOnlyForRdf packet.now memory.old memory.new }
 {
     if packet.len() > LIMIT {
         return Err(Cause::TooLong.at(LIMIT));
@@ -190,9 +194,11 @@ pub(crate) fn form_in(memory: &mut Memory, packet: &[u8]) -> Result<Vec<u8>, Ref
 /// The normal form of a packet: that of what its document means.
 ///
 /// `Content`: the first fault, of the length, the document or RDF. If `Cause::is_rare`, the packet may have a meaning, which
-/// this crate does not read; otherwise it has none. `OutOfMemory`, exactly if an allocation failed in this call.
+/// this crate does not read; otherwise it has none. `OutOfMemory`, exactly if an allocation failed in this call. Nothing is
+/// allocated for a packet that is refused before RDF.
 pub fn normal_form_in(memory: &mut Memory, packet: &[u8]) -> Result<Vec<u8>, Refusal>
     ensures packet { OnOk result (IsPacket packet.now) }
+    ensures narrow { OnOk result (is_wide packet.now ≡ false) }
     ensures form { IfOk result (λ form. IsFormOfPacket packet.now form.items) }
     ensures readable { IfOk result (λ form. FormFits form.items) }
     ensures memory { CountsAllocFailureInPacket result memory.old memory.new }
@@ -203,6 +209,7 @@ pub fn normal_form_in(memory: &mut Memory, packet: &[u8]) -> Result<Vec<u8>, Ref
     ensures own { FormFits packet.now → FailsByMemory result }
     ensures same { IsReadableForm packet.now → IfOk result (λ form. form.items ≡ packet.now) }
     ensures layer { IfRefused result (IsRefused packet.now) }
+    ensures asked { AsksOnlyForRdf packet.now memory.old memory.new }
 {
     crate::laws::forms_fit();
     crate::laws::form_is_its_own();
@@ -218,6 +225,7 @@ pub fn check_in(memory: &mut Memory, packet: &[u8]) -> Result<(), Refusal>
     ensures accepts { PacketFits packet.now → FailsByMemory result }
     ensures own { FormFits packet.now → FailsByMemory result }
     ensures layer { IfRefused result (IsRefused packet.now) }
+    ensures asked { AsksOnlyForRdf packet.now memory.old memory.new }
 {
     normal_form_in(memory, packet)?;
     Ok(())

@@ -7,6 +7,7 @@ ghost use Rattle.px_xmp_forms.specs.Causes.{IfWrong, FailsByMemory};
 ghost use Rattle.px_xmp.specs.Packet.{IsPacket};
 ghost use Rattle.px_xmp.specs.Accepted.{FormFits, PacketFits};
 ghost use Rattle.px_xmp.specs.Refusals.{IfRefused, IsRefused};
+ghost use Rattle.px_xmp.specs.Asking.{AsksOnlyForRdf};
 ghost use Rattle.px_xmp.specs.Laws.{IsFormOfPacket, HasNoMeaning, SayTheSame};
 
 use crate::packet::{around_len, form_in, head_len, normal_form_in, unpadded_len};
@@ -144,6 +145,7 @@ pub fn unsorted_form_in(memory: &mut Memory, packet: &[u8]) -> Result<Vec<u8>, R
     ensures accepts { PacketFits packet.now → FailsByMemory result }
     ensures own { FormFits packet.now → FailsByMemory result }
     ensures layer { IfRefused result (IsRefused packet.now) }
+    ensures asked { AsksOnlyForRdf packet.now memory.old memory.new }
 {
     crate::laws::form_is_its_own();
     crate::laws::forms_decide();

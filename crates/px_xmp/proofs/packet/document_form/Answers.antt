@@ -223,3 +223,24 @@ returns-clause-layer c few =
     let file : IsFile x =
     subst (λ (z : Option Fault). MatchOption z (IsFile x) (λ f. IsFileFault x f.cause f.offset)) c.in_default-first_fault.is c.first_fault.ensures in
     rare_refused _ c.whole.result x c.args.start file c.whole.ensures.rare
+
+pub returns-in_err-read_document-clause-asked : goal.returns-in_err-read_document-clause-asked
+returns-in_err-read_document-clause-asked c none =
+    let x = c.args.document.now in
+    let file : IsFile x =
+    subst (λ (z : Option Fault). MatchOption z (IsFile x) (λ f. IsFileFault x f.cause f.offset)) c.in_default-first_fault.is c.first_fault.ensures in
+    absurd (none file)
+
+pub returns-in-Some-other-clause-asked : goal.returns-in-Some-other-clause-asked
+returns-in-Some-other-clause-asked c none =
+    let x = c.args.document.now in
+    let file : IsFile x =
+    subst (λ (z : Option Fault). MatchOption z (IsFile x) (λ f. IsFileFault x f.cause f.offset)) c.in_default-first_fault.is c.first_fault.ensures in
+    absurd (none file)
+
+pub returns-clause-asked : goal.returns-clause-asked
+returns-clause-asked c none =
+    let x = c.args.document.now in
+    let file : IsFile x =
+    subst (λ (z : Option Fault). MatchOption z (IsFile x) (λ f. IsFileFault x f.cause f.offset)) c.in_default-first_fault.is c.first_fault.ensures in
+    absurd (none file)

@@ -162,3 +162,31 @@ returns-clause-layer c =
       is,
     )))
     (c.document_form.ensures.layer few)
+
+pub returns-clause-narrow : goal.returns-clause-narrow
+returns-clause-narrow c =
+    on_ok_weaker c.document_form.result (λ file. sym c.is_wide.ensures ∙ c.if-is_wide.false) c.document_form.ensures.document
+
+pub returns-clause-asked : goal.returns-clause-asked
+returns-clause-asked c none =
+    let x = c.args.packet.now in
+    let before = c.split_at.result.0.now in
+    let rest = c.split_at.result.1.now in
+    let document = c.split_at-2.result.0.now in
+    let after = c.split_at-2.result.1.now in
+    let parted : IsParted x before rest document after c.around_len.result c.unpadded_len.result =
+    record {
+      before = c.split_at.ensures.front;
+      rest = c.split_at.ensures.back;
+      document = c.split_at-2.ensures.front;
+      after = c.split_at-2.ensures.back;
+      pieces = c.around_len.ensures.around.0;
+      around = c.around_len.ensures.around.1;
+      first = c.around_len.ensures.first;
+      padding = c.unpadded_len.ensures.padding;
+      last = c.unpadded_len.ensures.last;
+    } in
+    c.document_form.ensures.asked (λ file. none (
+      sym c.is_wide.ensures ∙ c.if-is_wide.false,
+      packet_from x before rest document after c.around_len.result c.unpadded_len.result parted (omega (arith, c.if-packet-gt-LIMIT.false)) file,
+    ))

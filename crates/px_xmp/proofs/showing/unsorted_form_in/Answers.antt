@@ -32,3 +32,12 @@ pub returns-in-None-clause-means : goal.returns-in-None-clause-means
 returns-in-None-clause-means c =
     form_said c.form_is_its_own.ensures c.forms_decide.ensures c.args.packet.now c.in_ok-form.form.items c.in_ok-form.ensures.form
     c.in_ok-form.ensures.readable
+
+pub returns-in_err-other-clause-asked : goal.returns-in_err-other-clause-asked
+returns-in_err-other-clause-asked c none = absurd (none (c.in_ok-form.ensures.narrow, c.in_ok-form.ensures.packet))
+
+pub returns-in-Some-clause-asked : goal.returns-in-Some-clause-asked
+returns-in-Some-clause-asked c none = absurd (none (c.in_ok-form.ensures.narrow, c.in_ok-form.ensures.packet))
+
+pub returns-in-None-clause-asked : goal.returns-in-None-clause-asked
+returns-in-None-clause-asked c none = absurd (none (c.in_ok-form.ensures.narrow, c.in_ok-form.ensures.packet))
