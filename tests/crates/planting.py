@@ -38,7 +38,8 @@ def with_sibling(
     text: str, name: str, number: int, changes: Sequence[Sequence[str]] = (), body: str = "", clauses: Sequence[str] = ()
 ) -> str:
     """A source in which a function is followed by another one like it: with its attributes, parameters and contract, and with a number in
-    its name. The other one has a body of its own, or the changed one. If clauses are given, its contract ensures these alone.
+    its name. The other one has a body of its own, or the changed one. If clauses are given, its contract ensures these alone. It is in no
+    cycle of calls.
 
     >>> half = "pub fn half(n: u8) -> u8\\n    ensures { result ≡ n / 2 }\\n{\\n    n / 2\\n}\\n"
     >>> with_sibling(half, "half", 3, body="half(n) + 1").replace(half, "")
@@ -57,5 +58,5 @@ def with_sibling(
         contract = of_clauses(contract, clauses)
     if body:
         code = f"{it['indent']}    {body}\n{it['indent']}}}\n"
-    attributes = re.sub(r"#\[unsafe\(no_mangle\)\]\n *", "", it["attributes"])
+    attributes = re.sub(r"#\[(?:unsafe\(no_mangle\)|cycle\(\w+\))\]\n *", "", it["attributes"])
     return f"{text[: it.end()]}\n{it['indent']}{attributes}{it['head']}{name}_{number}{contract}{begin}{code}{text[it.end() :]}"
