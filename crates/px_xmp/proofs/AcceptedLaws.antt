@@ -15,12 +15,12 @@ use Rattle.px_xmp.proofs.WritableLaws.{readable_can}
 
 pub meanings_are_readable : OnlyReferencesAreRead → DeclarationsAreRead → KindsAreRead → MeaningsAreReadable
 meanings_are_readable texts declarations law x start c file meaning =
-    let same : meaning.tree ≡ file.tree =
-    tree_once declarations (drop (order_mark_len x) x) meaning.declaration file.declaration meaning.tree file.tree meaning.encoding file.encoding
-    meaning.parts file.parts in
-    let at : ℕ = start + (length x - length meaning.tree) in
+    let p = meaning.are in
+    let same : p.tree ≡ file.tree =
+    tree_once declarations (drop (order_mark_len x) x) p.declaration file.declaration p.tree file.tree p.encoding file.encoding p.parts file.parts in
+    let at : ℕ = start + (length x - length p.tree) in
     let sound : AreSound meaning.nodes = document_sound law texts x file at meaning.nodes
-    (subst (λ (z : List ℕ). AreNodes meaning.nodes [] at z []) same meaning.row) in
+    (subst (λ (z : List ℕ). AreNodes meaning.nodes [] at z []) same p.row) in
     let (ordered, readable) = means_is texts meaning.nodes c sound meaning.means in
     (readable_can Structure c readable, ordered, readable)
 

@@ -49,7 +49,7 @@ rest_fits law reads x d e start head at scope y h parts within place none same f
     let (can, ordered, readable) = reads x start h.content h.file m in
     let left : IsLeft at y =
     subst (λ (z : List ℕ). IsLeft at z) (sym same) (head_leaves law x d e head at h.file parts (omega (arith, place, few, length-drop head x, within))) in
-    let row : AreNodes m.nodes scope at y [] = rows_of law x d e start head at scope y h.content parts within place none same m in
+    let row : AreNodes m.nodes scope at y [] = rows_of law x d e start head at scope y m.nodes parts within place none same m.are in
     record {
       left = left;
       row = row;

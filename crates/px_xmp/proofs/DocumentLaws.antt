@@ -28,10 +28,12 @@ tree_once law x d c y z e f (w, inr (empty, none, no_other)) (v, inr (bare, miss
 
 pub one_meaning : DeclarationsAreRead → OneReading → NodesMeanOnce → OneMeaning
 one_meaning law reading once x start a b h k can could =
-    let tree : h.tree ≡ k.tree = tree_once law (drop (order_mark_len x) x) h.declaration k.declaration h.tree k.tree h.encoding k.encoding h.parts k.parts in
-    let moved : AreNodes k.nodes [] (start + (length x - length h.tree)) h.tree [] =
-    subst (λ (z : List ℕ). AreNodes k.nodes [] (start + (length x - length z)) z []) (sym tree) k.row in
-    let nodes : h.nodes ≡ k.nodes = reading h.tree (start + (length x - length h.tree)) h.nodes k.nodes h.row moved in
+    let p = h.are in
+    let q = k.are in
+    let tree : p.tree ≡ q.tree = tree_once law (drop (order_mark_len x) x) p.declaration q.declaration p.tree q.tree p.encoding q.encoding p.parts q.parts in
+    let moved : AreNodes k.nodes [] (start + (length x - length p.tree)) p.tree [] =
+    subst (λ (z : List ℕ). AreNodes k.nodes [] (start + (length x - length z)) z []) (sym tree) q.row in
+    let nodes : h.nodes ≡ k.nodes = reading p.tree (start + (length x - length p.tree)) h.nodes k.nodes p.row moved in
     once h.nodes a b h.means (subst (λ (z : Nodes). Means z b) (sym nodes) k.means) can could
 
 pub forms_decide : PacketIsInjective → OneMeaning → FormsDecide

@@ -13,7 +13,7 @@ use Rattle.px_xmp_forms.specs.Outputs.{Has}
 use Rattle.px_xmp_forms.specs.declared.output.Output.{Output}
 use Rattle.px_xmp.specs.Marks.{Mark, Start, End, Text, Other, IsKind, AreRow}
 use Rattle.px_xmp.specs.Nodes.{Nodes, AreNodes}
-use Rattle.px_xmp.specs.Meaning.{Means, HasMeaning}
+use Rattle.px_xmp.specs.Meaning.{Means, HasNodes, HasMeaning}
 use Rattle.px_xmp.specs.Readable.{IsShallow}
 use Rattle.px_xmp.specs.Laws.{IsFormOf, HasNoMeaning, MeaningsAreReadable}
 use Rattle.px_xmp.specs.Accepted.{FormFits}
@@ -56,13 +56,15 @@ pub meaning_of : (x d : List ℕ) (e : Option (List ℕ)) (start head at : ℕ) 
 meaning_of x d e start head at scope y nodes c parts within place none same octets means =
     let move : at ≡ start + (length x - length (drop head x)) = omega (arith, place, length-drop head x, within) in
     record {
-      declaration = d;
-      encoding = e;
-      tree = drop head x;
-      parts = parts;
       nodes = nodes;
-      row = subst (λ (q : ℕ). AreNodes nodes [] q (drop head x) []) move
-          (subst (λ (q : List ℕ). AreNodes nodes [] at q []) same (subst (λ (q : List Item). AreNodes nodes q at y []) none octets));
+      are = record {
+        declaration = d;
+        encoding = e;
+        tree = drop head x;
+        parts = parts;
+        row = subst (λ (q : ℕ). AreNodes nodes [] q (drop head x) []) move
+            (subst (λ (q : List ℕ). AreNodes nodes [] at q []) same (subst (λ (q : List Item). AreNodes nodes q at y []) none octets));
+      };
       means = means;
     }
 
@@ -145,13 +147,13 @@ none_from x b r d a n m h none p c is =
     none c (subst IsFile document p.file)
     (subst (λ (z : List ℕ). HasMeaning z (length b) c) document (subst (λ (k : ℕ). HasMeaning p.document k c) (ap length before) is))
 
--- what a document means in any way, it means by the nodes that are read
-pub rows_of : DeclarationsAreRead → (x d : List ℕ) (e : Option (List ℕ)) (start head at : ℕ) (scope : List Item) (y : List ℕ) (c : Content)
+-- the nodes of a document are the nodes that are read
+pub rows_of : DeclarationsAreRead → (x d : List ℕ) (e : Option (List ℕ)) (start head at : ℕ) (scope : List Item) (y : List ℕ) (nodes : Nodes)
     → IsSplit (drop (order_mark_len x) x) d e (drop head x) → head ≤ length x → at ≡ start + head → scope ≡ [] → y ≡ drop head x
-    → (h : HasMeaning x start c) → AreNodes h.nodes scope at y []
-rows_of law x d e start head at scope y c parts within place none same h =
+    → HasNodes x start nodes → AreNodes nodes scope at y []
+rows_of law x d e start head at scope y nodes parts within place none same h =
     let tree : h.tree ≡ drop head x = tree_once law (drop (order_mark_len x) x) h.declaration d h.tree (drop head x) h.encoding e h.parts parts in
     let move : start + (length x - length h.tree) ≡ at = omega (arith, place, ap length tree, length-drop head x, within) in
-    subst (λ (q : List Item). AreNodes h.nodes q at y []) (sym none)
-    (subst (λ (q : ℕ). AreNodes h.nodes [] q y []) move
-    (subst (λ (q : List ℕ). AreNodes h.nodes [] (start + (length x - length h.tree)) q []) (tree ∙ sym same) h.row))
+    subst (λ (q : List Item). AreNodes nodes q at y []) (sym none)
+    (subst (λ (q : ℕ). AreNodes nodes [] q y []) move
+    (subst (λ (q : List ℕ). AreNodes nodes [] (start + (length x - length h.tree)) q []) (tree ∙ sym same) h.row))

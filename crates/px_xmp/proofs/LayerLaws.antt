@@ -13,15 +13,19 @@ use Rattle.px_xmp_document.specs.Document.{IsSplit, order_mark_len, IsFile}
 use Rattle.px_xmp_document.specs.Elements.{IsElementFault}
 use Rattle.px_xmp_document.specs.Faults.{IsFault, HasElementFault, IsFileFault}
 use Rattle.px_xmp_document.specs.Laws.{OneFault}
-use Rattle.px_xmp_forms.specs.Causes.{IsRare}
+use Rattle.px_xmp_forms.specs.Causes.{is_rare_in_rdf, is_rare, IsRare, IfWrong}
 use Rattle.px_xmp_forms.specs.declared.faults.Refusal.{Refusal}
 use Rattle.px_xmp_forms.specs.declared.faults.Refusal.TheVariants as refusals
 use Rattle.px_xmp_forms.specs.declared.faults.Cause.{Cause}
+use Rattle.px_xmp_forms.specs.declared.faults.Cause.TheVariants.{NoRdf, SeveralSubjects}
+use Rattle.px_xmp.specs.Nodes.{Nodes}
+use Rattle.px_xmp.specs.Meaning.{HasRoot, HasNodes}
 use Rattle.px_xmp.specs.Packet.{is_padding, is_wide, AreAround, BeginsBare, EndsBare, IsPacket}
-use Rattle.px_xmp.specs.Refusals.{IfRefused, IsOfRdf, IsMarkCause, IsNestingCause, IsDocumentCause, is_declaration, IsCauseOf, HasDocument}
+use Rattle.px_xmp.specs.Refusals.{IfRefused, IsNamedRdf, IsCauseOfRdf, IsMarkCause, IsNestingCause, IsDocumentCause, is_declaration, IsCauseOf, HasDocument}
 use Rattle.px_xmp.specs.Refusals.{IsRefusedByFault, IsRefusedByCount, HasNoCount, IsRefusedDocument, AreSame, OneRefusal}
 use Rattle.px_xmp.specs.Asking.{RdfIsLast}
 use Rattle.px_xmp.specs.Limits.{IsCrowded, NoneCrowded}
+use Rattle.px_xmp.specs.calls.Refused.{IsCauseOfReader, IsOfReader}
 use Rattle.px_xmp.proofs.AroundLaws.{around_once, padding_once}
 use Rattle.px_xmp.proofs.CrowdedLaws.{crowded_within}
 use Rattle.px_xmp.proofs.DocumentLaws.{tree_once}
@@ -45,16 +49,27 @@ refused_weaker X (Ok x) P Q f h = tt
 refused_weaker X (Err (refusals.Content cause place)) P Q f h = f cause place h
 refused_weaker X (Err refusals.OutOfMemory) P Q f h = tt
 
--- RDF refuses only what is a document
-pub rdf_refused : (X Y : Type 0) (e : Refusal) (x : List ℕ) (start : ℕ) → IsFile x → IsOfRdf {X = X} (Err e)
-    → IfRefused {X = Y} (Err e) (IsRefusedDocument x start)
-rdf_refused X Y (refusals.Content cause place) x start file h = inr (inr (file, h))
-rdf_refused X Y refusals.OutOfMemory x start file h = tt
+-- ---- RDF refuses only what is a document
 
-pub rare_refused : (X : Type 0) (r : Result X Refusal) (x : List ℕ) (start : ℕ) → IsFile x → IsRare r → IfRefused r (IsRefusedDocument x start)
-rare_refused X (Ok v) x start file h = tt
-rare_refused X (Err (refusals.Content cause place)) x start file h = inr (inr (file, inr (inr h)))
-rare_refused X (Err refusals.OutOfMemory) x start file h = tt
+rare_cause : (cause : Cause) (nodes : Nodes) → is_rare_in_rdf cause ≡ true → IsCauseOfRdf cause nodes
+rare_cause NoRdf nodes h = absurd (cc)
+rare_cause SeveralSubjects nodes h = absurd (cc)
+rare_cause cause nodes h = h
+
+reader_cause : (cause : Cause) (nodes : Nodes) → IsCauseOfReader cause → (is_rare cause ≡ false → HasRoot IsNamedRdf nodes → ⊥) → IsCauseOfRdf cause nodes
+reader_cause cause nodes (inl e) wrong = subst (λ (z : Cause). IsCauseOfRdf z nodes) (sym e) (wrong (ap is_rare e))
+reader_cause cause nodes (inr rare) wrong = rare_cause cause nodes rare
+
+pub rdf_refused : (X Y : Type 0) (e : Refusal) (x : List ℕ) (start : ℕ) (nodes : Nodes) → IsFile x → HasNodes x start nodes → IsOfReader {X = X} (Err e)
+    → IfWrong {X = X} (Err e) (HasRoot IsNamedRdf nodes → ⊥) → IfRefused {X = Y} (Err e) (IsRefusedDocument x start)
+rdf_refused X Y (refusals.Content cause place) x start nodes file are h wrong = inr (inr (file, nodes, are, reader_cause cause nodes h wrong))
+rdf_refused X Y refusals.OutOfMemory x start nodes file are h wrong = tt
+
+pub rare_refused : (X : Type 0) (r : Result X Refusal) (x : List ℕ) (start : ℕ) (nodes : Nodes) → IsFile x → HasNodes x start nodes → IsRare r
+    → IfRefused r (IsRefusedDocument x start)
+rare_refused X (Ok v) x start nodes file are h = tt
+rare_refused X (Err (refusals.Content cause place)) x start nodes file are h = inr (inr (file, nodes, are, rare_cause cause nodes h))
+rare_refused X (Err refusals.OutOfMemory) x start nodes file are h = tt
 
 -- ---- the first fault of a document is inside it
 

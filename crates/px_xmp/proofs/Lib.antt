@@ -12,6 +12,7 @@ pub mod NodeLaws
 pub mod OrderLaws
 pub mod MeaningLaws
 pub mod DocumentLaws
+pub mod TreeLaws
 pub mod RootLaws
 pub mod FormedLaws
 pub mod AlikeLaws

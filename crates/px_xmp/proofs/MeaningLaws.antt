@@ -14,7 +14,7 @@ use Rattle.px_xmp.specs.Names.{Name, is_rdf, is_root, rdf_space}
 use Rattle.px_xmp.specs.Tags.{Field, Tag, inherited}
 use Rattle.px_xmp.specs.Nodes.{Nodes, Nothing, Words, Element}
 use Rattle.px_xmp.specs.Meaning.{IsText, literal, label_in, IsRow, AreAttributes, HasAttributes}
-use Rattle.px_xmp.specs.Meaning.{IsLiteral, IsResource, IsParsed, IsUri, IsDescribed, IsValue, AreEntries, IsNode, without_about, AreSubjects, IsRdf, HasRdf}
+use Rattle.px_xmp.specs.Meaning.{IsLiteral, IsResource, IsParsed, IsUri, IsDescribed, IsValue, AreEntries, IsNode, without_about, AreSubjects, IsRdf, IsAlone}
 use Rattle.px_xmp.specs.Laws.{NodesMeanOnce}
 use Rattle.px_xmp.proofs.OrderLaws.{sorted_once}
 
@@ -320,12 +320,12 @@ subjects_once law u w l (Element tag place inner more) all whole (declares, is, 
     e ∙ ap (λ (k : List Entry). k ++ (es ++ others)) fields ∙ ap (λ (k : List Entry). gs ++ (k ++ others)) elements
     ∙ ap (λ (k : List Entry). gs ++ (hs ++ k)) after ∙ sym f
 
-rdf_once : PacketIsInjective → (tag : Tag) (inner : Nodes) (c d : Content) → IsRdf tag inner c → IsRdf tag inner d → IsContent c → IsContent d → c ≡ d
+rdf_once : PacketIsInjective → (tag : Tag) (inner : Nodes) (c d : Content) → IsRdf c tag inner → IsRdf d tag inner → IsContent c → IsContent d → c ≡ d
 rdf_once law tag inner c d (declares, is, bare, u, es, p, r) (speaks, are, plain, w, fs, q, k) can could =
     let same : es ≡ fs = subjects_once law u w (inherited [] tag.language) inner es fs p q (row_can Structure es c r can) (row_can Structure fs d k could) in
     row_once law Structure es c d r (subst (λ (z : List Entry). IsRow Structure z d) (sym same) k) can could
 
-has_rdf_once : PacketIsInjective → (nodes : Nodes) (c d : Content) → HasRdf nodes c → HasRdf nodes d → IsContent c → IsContent d → c ≡ d
+has_rdf_once : PacketIsInjective → (nodes : Nodes) (c d : Content) → IsAlone (IsRdf c) nodes → IsAlone (IsRdf d) nodes → IsContent c → IsContent d → c ≡ d
 has_rdf_once law Nothing c d e f can could = absurd e
 has_rdf_once law (Words t more) c d e f can could = has_rdf_once law more c d e.1 f.1 can could
 has_rdf_once law (Element tag place inner more) c d e f can could = rdf_once law tag inner c d e.0 f.0 can could

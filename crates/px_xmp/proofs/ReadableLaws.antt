@@ -17,7 +17,7 @@ use Rattle.px_xmp.specs.Names.{Name, is_rdf, is_about}
 use Rattle.px_xmp.specs.Tags.{Field, Tag, inherited, DeclaresLanguage}
 use Rattle.px_xmp.specs.Nodes.{Nodes, Nothing, Words, Element}
 use Rattle.px_xmp.specs.Meaning.{IsText, literal, label_in, Joins, IsRow, AreAttributes, HasAttributes}
-use Rattle.px_xmp.specs.Meaning.{IsValue, AreEntries, IsNode, without_about, AreSubjects, IsRdf, HasRdf, Means}
+use Rattle.px_xmp.specs.Meaning.{IsValue, AreEntries, IsNode, without_about, AreSubjects, IsRdf, IsAlone, Means}
 use Rattle.px_xmp.specs.Readable.{IsReadableLabel, IsReadableSimple, IsOrdered, AreReadable}
 use Rattle.px_xmp.proofs.TextLaws.{none_are, characters_joined, text_is}
 use Rattle.px_xmp.proofs.SoundLaws.{IsSoundName, IsSoundField, AreSound}
@@ -196,11 +196,11 @@ subjects_are law u l (Element tag place inner more) all spoken sound (declared, 
     (all_append (IsReadableEntry Structure) es others (entries_are law Structure language inner es heard sound.1 q)
     (subjects_are law u l more others spoken sound.2 r)))
 
-rdf_is : OnlyReferencesAreRead → (tag : Tag) (inner : Nodes) (c : Content) → AreSound inner → IsRdf tag inner c → IsOrdered Structure c × AreReadable Structure c
+rdf_is : OnlyReferencesAreRead → (tag : Tag) (inner : Nodes) (c : Content) → AreSound inner → IsRdf c tag inner → IsOrdered Structure c × AreReadable Structure c
 rdf_is law tag inner c sound (declared, is, bare, u, es, p, r) =
     row_is Structure es c r (subjects_are law u (inherited [] tag.language) inner es (language_is [] tag.language declared (inl refl)) sound p)
 
-has_rdf_is : OnlyReferencesAreRead → (nodes : Nodes) (c : Content) → AreSound nodes → HasRdf nodes c → IsOrdered Structure c × AreReadable Structure c
+has_rdf_is : OnlyReferencesAreRead → (nodes : Nodes) (c : Content) → AreSound nodes → IsAlone (IsRdf c) nodes → IsOrdered Structure c × AreReadable Structure c
 has_rdf_is law Nothing c sound h = absurd h
 has_rdf_is law (Words t more) c sound h = has_rdf_is law more c sound.1 h.1
 has_rdf_is law (Element tag place inner more) c sound h = rdf_is law tag inner c sound.1 h.0

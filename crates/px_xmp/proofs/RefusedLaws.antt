@@ -1,6 +1,5 @@
 -- A packet that is refused as one that is wrong has no meaning.
 use Rattle.std.proofs.Common.{◌≡◌, ◌≤◌, ◌+◌, ◌-◌, ℕ, Bool, true, false, Some, None, List, [], ◌++◌, length, Result, Ok, Err, refl, sym, ap, subst, ◌∙◌, inl, inr, arith, length-append}
-use Rattle.px_xmp_text.specs.Values.{Content}
 use Rattle.px_xmp_text.specs.declared.pieces.TextKind.{TextKind}
 use Rattle.px_xmp_spaces.specs.Scopes.{Item, ended}
 use Rattle.px_xmp_forms.specs.Causes.{is_rare_in_rdf, is_rare, IsRare, IfWrong}
@@ -12,7 +11,7 @@ use Rattle.px_xmp_forms.specs.declared.faults.Refusal.TheVariants as refusals
 use Rattle.px_xmp.specs.Marks.{Mark, Start, End, Text}
 use Rattle.px_xmp.specs.Tags.{Tag, inside}
 use Rattle.px_xmp.specs.Nodes.{Nodes, Nothing, Words, Element, AreNodes}
-use Rattle.px_xmp.specs.Meaning.{AreWhite, IsRdf, HasRdf, IsRoot, Means}
+use Rattle.px_xmp.specs.Meaning.{AreWhite, IsAlone}
 use Rattle.px_xmp.specs.Reading as reading
 use Rattle.px_xmp.specs.Reading.{What, IsReadAs}
 use Rattle.px_xmp.specs.Laws.{KindsAreRead}
@@ -117,17 +116,11 @@ white_text (Words t more) (inl e) (f, r) = true_false (is_white t) f e
 white_text (Words t more) (inr h) (f, r) = white_text more h r
 white_text (Element tag place inner more) h w = h
 
-pub rdf_text : (a : Nodes) (c : Content) → HasText a → HasRdf a c → ⊥
-rdf_text Nothing c h w = h
-rdf_text (Words t more) c (inl e) (f, r) = true_false (is_white t) f e
-rdf_text (Words t more) c (inr h) (f, r) = rdf_text more c h r
-rdf_text (Element tag place inner more) c h w = h
-
-pub means_text : (a : Nodes) (c : Content) → HasText a → Means a c → ⊥
-means_text Nothing c h w = h
-means_text (Words t more) c (inl e) (f, r) = true_false (is_white t) f e
-means_text (Words t more) c (inr h) (f, r) = means_text more c h r
-means_text (Element tag place inner more) c h w = h
+pub alone_text : (P : Tag → Nodes → Type 0) (a : Nodes) → HasText a → IsAlone P a → ⊥
+alone_text P Nothing h w = h
+alone_text P (Words t more) (inl e) (f, r) = true_false (is_white t) f e
+alone_text P (Words t more) (inr h) (f, r) = alone_text P more h r
+alone_text P (Element tag place inner more) h w = h
 
 -- ---- what follows white space
 
@@ -136,15 +129,10 @@ white_front Nothing b h = h
 white_front (Words t more) b (e, r) = white_front more b r
 white_front (Element tag place inner more) b h = absurd h
 
-pub rdf_front : (a b : Nodes) (c : Content) → AreWhite a → HasRdf (joined a b) c → HasRdf b c
-rdf_front Nothing b c w h = h
-rdf_front (Words t more) b c (f, w) (e, r) = rdf_front more b c w r
-rdf_front (Element tag place inner more) b c w h = absurd w
-
-pub means_front : (a b : Nodes) (c : Content) → AreWhite a → Means (joined a b) c → Means b c
-means_front Nothing b c w h = h
-means_front (Words t more) b c (f, w) (e, r) = means_front more b c w r
-means_front (Element tag place inner more) b c w h = absurd w
+pub alone_front : (P : Tag → Nodes → Type 0) (a b : Nodes) → AreWhite a → IsAlone P (joined a b) → IsAlone P b
+alone_front P Nothing b w h = h
+alone_front P (Words t more) b (f, w) (e, r) = alone_front P more b w r
+alone_front P (Element tag place inner more) b w h = absurd w
 
 pub white_passed : KindsAreRead → (a b : Nodes) (scope : List Item) (at to : ℕ) (x y z : List ℕ) → AreWhite a → AreNodes a scope at x y
     → AreNodes b scope at x z → at + length x ≡ to + length y → IsStop z → (more : Nodes) × (b ≡ joined a more) × AreNodes more scope to y z
@@ -281,17 +269,12 @@ row_after law o white t b nodes old mid on z tag start e read scope =
     (subst (λ (q : ℕ). AreNodes e.more old.scope q on.rest.now z) place
     (subst (λ (q : List ℕ). AreNodes e.more old.scope e.to q z) tail e.row))
 
--- ---- what nodes with a meaning have after white space
+-- ---- what one element is after white space
 
-pub rdf_inside : (o : Opened) (white : Nodes) (t : Tag) (nodes : Nodes) (old mid : Source) (z : List ℕ) (c : Content)
-    → (e : EnteredAfter o white t nodes old mid z) → AreWhite white → HasRdf nodes c → IsRdf t e.entered.content c × AreWhite e.entered.more
-rdf_inside o white t nodes old mid z c e is_white h =
-    subst (λ (q : Nodes). HasRdf q c) e.entered.is (rdf_front white e.left c is_white (subst (λ (q : Nodes). HasRdf q c) e.whole h))
-
-pub means_inside : (o : Opened) (white : Nodes) (t : Tag) (nodes : Nodes) (old mid : Source) (z : List ℕ) (c : Content)
-    → (e : EnteredAfter o white t nodes old mid z) → AreWhite white → Means nodes c → IsRoot t e.entered.content c × AreWhite e.entered.more
-means_inside o white t nodes old mid z c e is_white h =
-    subst (λ (q : Nodes). Means q c) e.entered.is (means_front white e.left c is_white (subst (λ (q : Nodes). Means q c) e.whole h))
+pub alone_inside : (P : Tag → Nodes → Type 0) (o : Opened) (white : Nodes) (t : Tag) (nodes : Nodes) (old mid : Source) (z : List ℕ)
+    → (e : EnteredAfter o white t nodes old mid z) → AreWhite white → IsAlone P nodes → P t e.entered.content × AreWhite e.entered.more
+alone_inside P o white t nodes old mid z e is_white h =
+    subst (IsAlone P) e.entered.is (alone_front P white e.left is_white (subst (IsAlone P) e.whole h))
 
 -- no element is in white space
 pub white_inside : (o : Opened) (white : Nodes) (t : Tag) (nodes : Nodes) (old mid : Source) (z : List ℕ) → EnteredAfter o white t nodes old mid z

@@ -4,7 +4,8 @@ use Rattle.px_xmp_text.specs.Texts.{text_of}
 use Rattle.px_xmp_text.specs.Values.{Content, End}
 use Rattle.px_xmp_forms.specs.Entries.{Entry, row}
 use Rattle.px_xmp.specs.Nodes.{Nodes, Nothing, Words, Element, AreNodes}
-use Rattle.px_xmp.specs.Meaning.{AreWhite, AreAttributes, AreEntries, AreAbout, without_about, AreSubjects, IsRdf, HasRdf, IsRoot, Means}
+use Rattle.px_xmp.specs.Meaning.{AreWhite, AreAttributes, AreEntries, AreAbout, without_about, AreSubjects, IsAlone, IsRootOf, HasRoot, IsRdf, Means}
+use Rattle.px_xmp.specs.Refusals.{IsNamedRdf, AreAllAbout, NamesSeveral}
 use Rattle.px_xmp_text.specs.declared.pieces.TextKind.TheVariants.{AttributeValue}
 use Rattle.px_xmp_text.specs.Values.{Label, Structure}
 use Rattle.px_xmp_marks.specs.Reading.{Attr, next_view}
@@ -23,7 +24,7 @@ use Rattle.px_xmp.specs.calls.Opening.{name_of, IsOpened}
 use Rattle.px_xmp.specs.calls.Steps.{IsLeft, Moves, IsStart, TagAfter, HasInside, InsideRead, AfterRead}
 use Rattle.px_xmp.specs.Readable.{IsShallow}
 use Rattle.px_xmp.specs.calls.Contents.{with_entries, attribute, AreShallow, ItemsRead}
-use Rattle.px_xmp.specs.calls.Roots.{IsSubject, Keeps, Stays, IsNew, IsAbout, AttributeRead, AttributesRead, SubjectRead, SubjectsRead, RdfRead, AroundRead, RootRead, DocumentRead}
+use Rattle.px_xmp.specs.calls.Roots.{IsSubject, Keeps, Stays, NamesOne, IsNew, IsAbout, AttributeRead, AttributesRead, SubjectRead, SubjectsRead, RdfRead, AroundRead, RootRead, DocumentRead}
 use Rattle.px_xmp.proofs.TagLaws.{ended_inside}
 use Rattle.px_xmp.proofs.StepLaws.{joined, nodes_joined, white_joined, moves_on}
 use Rattle.px_xmp.proofs.OpeningLaws.{no_entries, entry_after, entries_after}
@@ -66,15 +67,10 @@ white_subjects u l Nothing h = refl
 white_subjects u l (Words t more) (e, r) = (e, white_subjects u l more r)
 white_subjects u l (Element tag place inner more) h = absurd h
 
-pub white_means : (a b : Nodes) (c : Content) → AreWhite a → Means b c → Means (joined a b) c
-white_means Nothing b c h m = m
-white_means (Words t more) b c (e, r) m = (e, white_means more b c r m)
-white_means (Element tag place inner more) b c h m = absurd h
-
-pub white_rdf : (a b : Nodes) (c : Content) → AreWhite a → HasRdf b c → HasRdf (joined a b) c
-white_rdf Nothing b c h m = m
-white_rdf (Words t more) b c (e, r) m = (e, white_rdf more b c r m)
-white_rdf (Element tag place inner more) b c h m = absurd h
+pub white_alone : (P : Tag → Nodes → Type 0) (a b : Nodes) → AreWhite a → IsAlone P b → IsAlone P (joined a b)
+white_alone P Nothing b h m = m
+white_alone P (Words t more) b (e, r) m = (e, white_alone P more b r m)
+white_alone P (Element tag place inner more) b h m = absurd h
 
 -- ---- the attributes of rdf:Description in rdf:RDF
 
@@ -280,17 +276,16 @@ subject_done o t outer l outside depth place fields old mid at_end new before af
 
 -- ---- subjects, one after another
 
--- some properties, of subjects
-abbrev HaveSubjects : List ℕ → Nodes → Option (List ℕ) → Type 0
-HaveSubjects l nodes u = (es : List Entry) × AreSubjects u l nodes es
+all_about_front : (u : Option (List ℕ)) (a b : Nodes) → AreAllAbout u (joined a b) → AreAllAbout u a × AreAllAbout u b
+all_about_front u Nothing b h = (tt, h)
+all_about_front u (Words t more) b h = all_about_front u more b h
+all_about_front u (Element tag place inner more) b (about, h) = let (front, last) = all_about_front u more b h in ((about, front), last)
 
-subjects_front : (u : Option (List ℕ)) (l : List ℕ) (a b : Nodes) → HaveSubjects l (joined a b) u → HaveSubjects l a u × HaveSubjects l b u
-subjects_front u l Nothing b h = (([], refl), h)
-subjects_front u l (Words t more) b (es, (e, r)) =
-    let ((fs, front), last) = subjects_front u l more b (es, r) in ((fs, (e, front)), last)
-subjects_front u l (Element tag place inner more) b (es, (says, is, about, as1, own, others, p, q, r, e)) =
-    let ((fs, front), last) = subjects_front u l more b (others, r) in
-    ((as1 ++ (own ++ fs), (says, is, about, as1, own, fs, p, q, front, refl)), last)
+-- elements that are read are about their subject
+pub are_all_about : (u : Option (List ℕ)) (l : List ℕ) (nodes : Nodes) (es : List Entry) → AreSubjects u l nodes es → AreAllAbout u nodes
+are_all_about u l Nothing es h = tt
+are_all_about u l (Words t more) es (white, h) = are_all_about u l more es h
+are_all_about u l (Element tag place inner more) es (declares, is, about, as1, own, others, p, q, r, e) = (about, are_all_about u l more others r)
 
 pub record SubjectsSoFar (l : List ℕ) (depth : ℕ) (old now : Source) (before after : Subject) (s : State) (output : Output) : Type 0 where
   pub nodes : Nodes
@@ -298,7 +293,7 @@ pub record SubjectsSoFar (l : List ℕ) (depth : ℕ) (old now : Source) (before
   pub octets : AreNodes nodes old.scope old.at old.rest.now now.rest.now
   pub are : Keeps before after (λ u. AreSubjects u l nodes entries)
   pub shallow : AreShallow depth entries
-  pub only : Stays before after (HaveSubjects l nodes)
+  pub only : Stays before after (λ u. AreAllAbout u nodes)
   pub scope : now.scope ≡ old.scope
   pub moves : Moves old.at old.rest.now now.at now.rest.now
   pub has : Has output (changed (with_entries entries) s)
@@ -354,12 +349,12 @@ subjects_next l depth old a b d subject before after s middle output o white so 
           )))
           (keeps_on subject before after (λ u. AreSubjects u l so.nodes so.entries) (λ u. AreAbout u t.fields) so.are v.about);
       shallow = shallow_append depth so.entries es so.shallow v.shallow;
-      only = stays_with subject after (λ u. HaveSubjects l so.nodes u × AreAbout u t.fields) (HaveSubjects l (joined so.nodes (joined white one)))
+      only = stays_with subject after (λ u. AreAllAbout u so.nodes × AreAbout u t.fields) (λ u. AreAllAbout u (joined so.nodes (joined white one)))
           (λ u h.
-          let (front, more) = subjects_front u l so.nodes (joined white one) h in
-          let (blank, (es, (says, named, about, as1, own, others, p, q, r, e))) = subjects_front u l white one more in
+          let (front, more) = all_about_front u so.nodes (joined white one) h in
+          let (blank, (about, none)) = all_about_front u white one more in
           (front, about))
-          (stays_on subject before after (HaveSubjects l so.nodes) (λ u. AreAbout u t.fields) so.only v.only);
+          (stays_on subject before after (λ u. AreAllAbout u so.nodes) (λ u. AreAbout u t.fields) so.only v.only);
       scope = v.scope ∙ ap ended start.inner_is ∙ ended_inside a.scope start.attributes ∙ so.scope;
       moves = moves_on old.at a.at d.at old.rest.now a.rest.now d.rest.now so.moves
           (moves_on a.at b.at d.at a.rest.now b.rest.now d.rest.now tag.moves v.inside.moves);
@@ -388,8 +383,8 @@ subjects_end l depth old a b subject after s output white so is_white tag =
           (λ u p. subst (λ (q : List Entry). AreSubjects u l (joined so.nodes white) q) (append-nil so.entries)
           (subjects_joined u l so.nodes white so.entries [] p (white_subjects u l white is_white))) so.are;
       shallow = so.shallow;
-      only = stays_with subject after (HaveSubjects l so.nodes) (HaveSubjects l (joined so.nodes white))
-          (λ u h. (subjects_front u l so.nodes white h).0) so.only;
+      only = stays_with subject after (λ u. AreAllAbout u so.nodes) (λ u. AreAllAbout u (joined so.nodes white))
+          (λ u h. (all_about_front u so.nodes white h).0) so.only;
       scope = same ∙ so.scope;
       has = so.has;
     }
@@ -463,37 +458,26 @@ rdf_done o t l depth old mid new before after s middle output c declares named n
             line,
           ));
       shallow = subst (λ (z : ℕ). IsShallow z c) three (row_shallow depth Structure r.entries c line r.shallow);
-      only = λ d is.
-          let (says, is_rdf_name, fields, u, es, are, others) = is in
-          (r.only u new_one.1 (no_subject before u new_one.0) (es, subst (λ (z : List ℕ). AreSubjects u z r.nodes es) (sym language) are)).0;
+      only = (
+        ap (λ (z : Name). is_rdf (codes "RDF") z) (sym name) ∙ named,
+        λ u about. (r.only u new_one.1 (no_subject before u new_one.0) about).0,
+      );
       scope = scope ∙ ap ended r.scope;
       has = has;
     }
 
 -- ---- the root
 
-rdf_joined : (a b : Nodes) (c : Content) → HasRdf a c → AreWhite b → HasRdf (joined a b) c
-rdf_joined Nothing b c h w = absurd h
-rdf_joined (Words t more) b c (e, h) w = (e, rdf_joined more b c h w)
-rdf_joined (Element tag place inner more) b c (is, white) w = (is, white_joined more b white w)
+alone_joined : (P : Tag → Nodes → Type 0) (a b : Nodes) → IsAlone P a → AreWhite b → IsAlone P (joined a b)
+alone_joined P Nothing b h w = absurd h
+alone_joined P (Words t more) b (e, h) w = (e, alone_joined P more b h w)
+alone_joined P (Element tag place inner more) b (is, white) w = (is, white_joined more b white w)
 
-means_joined : (a b : Nodes) (c : Content) → Means a c → AreWhite b → Means (joined a b) c
-means_joined Nothing b c h w = absurd h
-means_joined (Words t more) b c (e, h) w = (e, means_joined more b c h w)
-means_joined (Element tag place inner more) b c (is, white) w = (is, white_joined more b white w)
-
--- what is known of one element with white space around it
-rdf_element : (white blank : Nodes) (t : Tag) (place : ℕ) (inner : Nodes) (c : Content) → AreWhite white
-    → HasRdf (joined (joined white (Element t place inner Nothing)) blank) c → IsRdf t inner c
-rdf_element Nothing blank t place inner c w (is, others) = is
-rdf_element (Words u more) blank t place inner c (e, w) (f, h) = rdf_element more blank t place inner c w h
-rdf_element (Element tag site content more) blank t place inner c w h = absurd w
-
-root_element : (white blank : Nodes) (t : Tag) (place : ℕ) (inner : Nodes) (c : Content) → AreWhite white
-    → Means (joined (joined white (Element t place inner Nothing)) blank) c → IsRoot t inner c
-root_element Nothing blank t place inner c w (is, others) = is
-root_element (Words u more) blank t place inner c (e, w) (f, h) = root_element more blank t place inner c w h
-root_element (Element tag site content more) blank t place inner c w h = absurd w
+-- one element with white space around it
+alone_among : (P : Tag → Nodes → Type 0) (white blank : Nodes) (t : Tag) (place : ℕ) (inner : Nodes) → AreWhite white → AreWhite blank → P t inner
+    → IsAlone P (joined (joined white (Element t place inner Nothing)) blank)
+alone_among P white blank t place inner w v is =
+    alone_joined P (joined white (Element t place inner Nothing)) blank (white_alone P white (Element t place inner Nothing) w (is, tt)) v
 
 -- white space and an element, whose content was read
 element_after : (o : Opened) (white : Nodes) (t : Tag) (old mid on : Source) (nodes : Nodes) (tag : TagAfter (Some o) white old mid)
@@ -535,35 +519,36 @@ around_done o white blank old mid on new after output is_white tag read is_blank
         );
         moves = moves_on old.at on.at new.at old.rest.now on.rest.now new.rest.now moves last.moves;
       };
-      only = λ d h. r.only d (rdf_element white blank t o.place r.nodes d is_white h);
-      is = λ h. rdf_joined one blank r.content (white_rdf white (Element t o.place r.nodes Nothing) r.content is_white (r.is h, tt)) is_blank;
+      only = alone_among (NamesOne after) white blank t o.place r.nodes is_white is_blank r.only;
+      is = λ h. alone_among (IsRdf r.content) white blank t o.place r.nodes is_white is_blank (r.is h);
       shallow = r.shallow;
       scope = same ∙ scope;
       has = r.has;
     }
 
-pub rdf_alone : (t : Tag) (nodes : Nodes) (c : Content) → is_root t.name ≡ false → IsRoot t nodes c → IsRdf t nodes c
-rdf_alone t nodes c other (inl is) = is
-rdf_alone t nodes c other (inr (is, others)) = true_false (is_root t.name) is other
+-- an element of another name than the root around rdf:RDF
+pub rdf_alone : (P : Tag → Nodes → Type 0) (t : Tag) (nodes : Nodes) → is_root t.name ≡ false → IsRootOf P t nodes → P t nodes
+rdf_alone P t nodes other (inl is) = is
+rdf_alone P t nodes other (inr (is, others)) = true_false (is_root t.name) is other
 
-root_not_rdf : (n : Name) → is_rdf (codes "RDF") n ≡ true → is_root n ≡ true → ⊥
+pub root_not_rdf : (n : Name) → is_rdf (codes "RDF") n ≡ true → is_root n ≡ true → ⊥
 root_not_rdf n h k =
     let other : is_root n ≡ false = ap is_root (rdf_name (codes "RDF") n h) in true_false (is_root n) k other
 
-pub around_alone : (t : Tag) (nodes : Nodes) (c : Content) → is_root t.name ≡ true → IsRoot t nodes c → HasRdf nodes c
-around_alone t nodes c is (inl (says, named, fields, u, es, are, line)) = absurd (root_not_rdf t.name named is)
-around_alone t nodes c is (inr (other, has)) = has
+pub around_alone : (P : Tag → Nodes → Type 0) (t : Tag) (nodes : Nodes) → (P t nodes → is_rdf (codes "RDF") t.name ≡ true) → is_root t.name ≡ true
+    → IsRootOf P t nodes → IsAlone P nodes
+around_alone P t nodes named is (inl h) = absurd (root_not_rdf t.name (named h) is)
+around_alone P t nodes named is (inr (other, has)) = has
 
 pub root_rdf : (o : Opened) (t : Tag) (old new : Source) (after : Subject) (output : Output) → is_root (name_of o.name) ≡ false
     → name_of o.name ≡ t.name → RdfRead o t old new after output → RootRead o t old new after output
 root_rdf o t old new after output named name r =
-    let other : is_root t.name ≡ false = ap is_root (sym name) ∙ named in
     record {
       nodes = r.nodes;
       content = r.content;
       inside = r.inside;
       is = λ h. inl (r.is h);
-      only = λ d h. r.only d (rdf_alone t r.nodes d other h);
+      only = inl r.only;
       shallow = r.shallow;
       scope = r.scope;
       has = r.has;
@@ -579,7 +564,7 @@ root_around o t old mid new after output named name some rest at scope r =
       inside = subst (λ (z : Bool). InsideRead z r.nodes old new) (sym some) (inside_kept false r.nodes old mid new rest at r.inside);
       is = λ h. inr (ap is_root (sym name) ∙ named, r.is h);
       shallow = r.shallow;
-      only = λ d h. r.only d (around_alone t r.nodes d (ap is_root (sym name) ∙ named) h);
+      only = inr (ap is_root (sym name) ∙ named, r.only);
       scope = scope ∙ ap ended r.scope;
       has = r.has;
     }
@@ -597,16 +582,16 @@ document_done o white old mid on after output is_white tag read last h =
       r.content,
       nodes_joined one blank old.scope old.at on.at old.rest.now on.rest.now [] octets
           (subst (λ (q : List Item). AreNodes blank q on.at on.rest.now []) (scope_after o white t old mid on tag start r.scope) ending) moves.same,
-      means_joined one blank r.content (white_means white (Element t o.place r.nodes Nothing) r.content is_white (r.is h, tt)) is_blank,
+      alone_among (IsRootOf (IsRdf r.content)) white blank t o.place r.nodes is_white is_blank (r.is h),
       r.shallow,
       r.has,
     )
 
--- a document that means something has one subject
-pub document_subject : KindsAreRead → (o : Opened) (white : Nodes) (old mid on : Source) (after : Subject) (output : Output) (all : Nodes) (c : Content)
+-- a document that is read has rdf:RDF alone, and one subject if that names one
+pub document_subject : KindsAreRead → (o : Opened) (white : Nodes) (old mid on : Source) (after : Subject) (output : Output) (all : Nodes)
     → AreWhite white → TagAfter (Some o) white old mid → ((t : Tag) → IsOpened mid.scope o t → RootRead o t mid on after output)
-    → (IsLeft on.at on.rest.now → AfterRead on) → AreNodes all old.scope old.at old.rest.now [] → Means all c → after.other ≡ None
-document_subject law o white old mid on after output all c is_white tag read last row means =
+    → (IsLeft on.at on.rest.now → AfterRead on) → AreNodes all old.scope old.at old.rest.now [] → HasRoot (NamesOne after) all
+document_subject law o white old mid on after output all is_white tag read last row =
     let (t, start) = tag.is in
     let r = read t start.opened in
     let one : Nodes = joined white (Element t o.place r.nodes Nothing) in
@@ -616,4 +601,46 @@ document_subject law o white old mid on after output all c is_white tag read las
     nodes_joined one blank old.scope old.at on.at old.rest.now on.rest.now [] octets
     (subst (λ (q : List Item). AreNodes blank q on.at on.rest.now []) (scope_after o white t old mid on tag start r.scope) ending) moves.same in
     let (same, end) = nodes_once law all (joined one blank) old.scope old.at old.rest.now [] [] row whole (inl refl) (inl refl) in
-    r.only c (root_element white blank t o.place r.nodes c is_white (subst (λ (q : Nodes). Means q c) same means))
+    subst (HasRoot (NamesOne after)) (sym same) (alone_among (IsRootOf (NamesOne after)) white blank t o.place r.nodes is_white is_blank r.only)
+
+-- ---- two views of one root
+
+alone_both : (P Q : Tag → Nodes → Type 0) (R : Type 0) → ((t : Tag) (inner : Nodes) → P t inner → Q t inner → R) → (nodes : Nodes)
+    → IsAlone P nodes → IsAlone Q nodes → R
+alone_both P Q R f Nothing h k = absurd h
+alone_both P Q R f (Words t more) (e, h) (d, k) = alone_both P Q R f more h k
+alone_both P Q R f (Element tag place inner more) (is, white) (has, blank) = f tag inner is has
+
+alone_map : (P Q : Tag → Nodes → Type 0) → ((t : Tag) (inner : Nodes) → P t inner → Q t inner) → (nodes : Nodes) → IsAlone P nodes → IsAlone Q nodes
+alone_map P Q f Nothing h = h
+alone_map P Q f (Words t more) (e, h) = (e, alone_map P Q f more h)
+alone_map P Q f (Element tag place inner more) (is, white) = (f tag inner is, white)
+
+root_map : (P Q : Tag → Nodes → Type 0) → ((t : Tag) (inner : Nodes) → P t inner → Q t inner) → (t : Tag) (inner : Nodes) → IsRootOf P t inner
+    → IsRootOf Q t inner
+root_map P Q f t inner (inl is) = inl (f t inner is)
+root_map P Q f t inner (inr (named, has)) = inr (named, alone_map P Q f inner has)
+
+pub document_map : (P Q : Tag → Nodes → Type 0) → ((t : Tag) (inner : Nodes) → P t inner → Q t inner) → (nodes : Nodes) → HasRoot P nodes → HasRoot Q nodes
+document_map P Q f = alone_map (IsRootOf P) (IsRootOf Q) (root_map P Q f)
+
+-- a meaning is of elements about one subject
+rdf_subject : (s : Subject) (c : Content) (t : Tag) (inner : Nodes) → NamesOne s t inner → IsRdf c t inner → s.other ≡ None
+rdf_subject s c t inner (named, one) (says, is, fields, u, es, are, line) = one u (are_all_about u (inherited [] t.language) inner es are)
+
+root_subject : (s : Subject) (c : Content) (t : Tag) (inner : Nodes) → IsRootOf (NamesOne s) t inner → IsRootOf (IsRdf c) t inner → s.other ≡ None
+root_subject s c t inner (inl h) (inl k) = rdf_subject s c t inner h k
+root_subject s c t inner (inl h) (inr (is, k)) = absurd (root_not_rdf t.name h.0 is)
+root_subject s c t inner (inr (is, h)) (inl k) = absurd (root_not_rdf t.name k.1 is)
+root_subject s c t inner (inr (is, h)) (inr (also, k)) = alone_both (NamesOne s) (IsRdf c) (s.other ≡ None) (rdf_subject s c) inner h k
+
+pub one_subject : (s : Subject) (c : Content) (nodes : Nodes) → HasRoot (NamesOne s) nodes → Means nodes c → s.other ≡ None
+one_subject s c nodes h k = alone_both (IsRootOf (NamesOne s)) (IsRootOf (IsRdf c)) (s.other ≡ None) (root_subject s c) nodes h k
+
+pub means_rdf : (nodes : Nodes) (c : Content) → Means nodes c → HasRoot IsNamedRdf nodes
+means_rdf nodes c h = document_map (IsRdf c) IsNamedRdf (λ t inner is. is.1) nodes h
+
+-- another subject was named, so that there are several
+pub several_subjects : (s : Subject) (place : ℕ) (nodes : Nodes) → s.other ≡ Some place → HasRoot (NamesOne s) nodes → HasRoot NamesSeveral nodes
+several_subjects s place nodes is h =
+    document_map (NamesOne s) NamesSeveral (λ t inner one. (one.0, λ u about. let wrong : None ≡ Some place = sym (one.1 u about) ∙ is in absurd (cc))) nodes h

@@ -386,18 +386,20 @@ packet_says reads bounds faults c can (ordered, readable, shallow) =
     let (inner, es, row, mean, rows, heard) =
     content_said reads bounds faults Structure c readable can description_scope refl (d + length description_start) packet_end in (
       record {
-        declaration = [];
-        encoding = None;
-        tree = normal_packet c;
-        parts = (refl, inr (refl, refl, no_declaration c));
         nodes = Element meta_tag a (Element (bare_rdf (codes "RDF")) b (Element description_tag d inner Nothing) Nothing) Nothing;
-        row = one_element [] a meta_tag (named (codes "x") (codes "xmpmeta")) (named (codes "x") (codes "xmpmeta")) meta_attributes meta_start
-            (root_start ++ (description_start ++ written c packet_end)) (codes "</x:xmpmeta>") [] _ refl (start_meta faults)
-            (one_element meta_scope b (bare_rdf (codes "RDF")) (named (codes "rdf") (codes "RDF")) (named (codes "rdf") (codes "RDF")) root_attributes
-            root_start (description_start ++ written c packet_end) (codes "</rdf:RDF>") (codes "</x:xmpmeta>") _ refl (start_root faults)
-            (one_element root_scope d description_tag (named (codes "rdf") (codes "Description")) (named (codes "rdf") (codes "Description"))
-            description_attributes description_start (written c packet_end) (codes "</rdf:Description>") (codes "</rdf:RDF></x:xmpmeta>") inner refl
-            (start_description faults) row end_description) end_root) end_meta;
+        are = record {
+          declaration = [];
+          encoding = None;
+          tree = normal_packet c;
+          parts = (refl, inr (refl, refl, no_declaration c));
+          row = one_element [] a meta_tag (named (codes "x") (codes "xmpmeta")) (named (codes "x") (codes "xmpmeta")) meta_attributes meta_start
+              (root_start ++ (description_start ++ written c packet_end)) (codes "</x:xmpmeta>") [] _ refl (start_meta faults)
+              (one_element meta_scope b (bare_rdf (codes "RDF")) (named (codes "rdf") (codes "RDF")) (named (codes "rdf") (codes "RDF")) root_attributes
+              root_start (description_start ++ written c packet_end) (codes "</rdf:RDF>") (codes "</x:xmpmeta>") _ refl (start_root faults)
+              (one_element root_scope d description_tag (named (codes "rdf") (codes "Description")) (named (codes "rdf") (codes "Description"))
+              description_attributes description_start (written c packet_end) (codes "</rdf:Description>") (codes "</rdf:RDF></x:xmpmeta>") inner refl
+              (start_description faults) row end_description) end_root) end_meta;
+        };
         means = packet_means c inner es a b d mean (row_ordered Structure c es ordered rows);
       },
       λ u. (tt, (tt, (tt, heard u, tt), tt), tt),

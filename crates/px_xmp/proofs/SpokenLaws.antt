@@ -9,7 +9,7 @@ use Rattle.px_xmp_forms.specs.Forms.{HasShortLanguage, HaveShortLanguages}
 use Rattle.px_xmp_forms.specs.Entries.{Value, Plain, Inside, Entry, before, row}
 use Rattle.px_xmp.specs.Tags.{Field, Tag, inherited}
 use Rattle.px_xmp.specs.Nodes.{Nodes, Nothing, Words, Element}
-use Rattle.px_xmp.specs.Meaning.{literal, IsRow, AreAttributes, HasAttributes, IsValue, AreEntries, IsNode, without_about, AreSubjects, IsRdf, HasRdf, Means}
+use Rattle.px_xmp.specs.Meaning.{literal, IsRow, AreAttributes, HasAttributes, IsValue, AreEntries, IsNode, without_about, AreSubjects, IsRdf, IsAlone, Means}
 use Rattle.px_xmp.specs.Limits.{IsShortLanguage, DeclareShortLanguages}
 use Rattle.px_xmp.proofs.ReadableLaws.{all_joined, all_append}
 
@@ -110,11 +110,11 @@ subjects_are u l (Element tag place inner more) all short declares (declared, is
     (all_append IsShortEntry es others (entries_are Structure language inner es heard declares.1 q)
     (subjects_are u l more others short declares.2 r)))
 
-rdf_is : (tag : Tag) (inner : Nodes) (c : Content) → IsShortLanguage tag.language → DeclareShortLanguages inner → IsRdf tag inner c → HaveShortLanguages c
+rdf_is : (tag : Tag) (inner : Nodes) (c : Content) → IsShortLanguage tag.language → DeclareShortLanguages inner → IsRdf c tag inner → HaveShortLanguages c
 rdf_is tag inner c spoken declares (declared, is, bare, u, es, p, r) =
     row_is Structure es c r (subjects_are u (inherited [] tag.language) inner es (language_is [] tag.language spoken (omega arith)) declares p)
 
-has_rdf_is : (nodes : Nodes) (c : Content) → DeclareShortLanguages nodes → HasRdf nodes c → HaveShortLanguages c
+has_rdf_is : (nodes : Nodes) (c : Content) → DeclareShortLanguages nodes → IsAlone (IsRdf c) nodes → HaveShortLanguages c
 has_rdf_is Nothing c declares h = absurd h
 has_rdf_is (Words t more) c declares h = has_rdf_is more c declares h.1
 has_rdf_is (Element tag place inner more) c declares h = rdf_is tag inner c declares.0 declares.1 h.0

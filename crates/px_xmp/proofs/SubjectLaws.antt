@@ -1,6 +1,6 @@
 -- What is left of rdf:RDF and of the root is read.
 use Rattle.std.proofs.Common.{◌≡◌, ◌++◌, ◌∙◌, inr, refl, ℕ, Bool, false, Option, Some, option_map, List, sym, ap, subst, append_assoc}
-use Rattle.px_xmp_text.specs.Values.{Content, PacketIsInjective}
+use Rattle.px_xmp_text.specs.Values.{PacketIsInjective}
 use Rattle.px_xmp_spaces.specs.Scopes.{ended}
 use Rattle.px_xmp_forms.specs.Entries.{Entry}
 use Rattle.px_xmp_forms.specs.Outputs.{State}
@@ -8,7 +8,7 @@ use Rattle.px_xmp_forms.specs.declared.output.Output.{Output}
 use Rattle.px_xmp.specs.Marks.{End, IsKind}
 use Rattle.px_xmp.specs.Tags.{Tag}
 use Rattle.px_xmp.specs.Nodes.{Nodes, Nothing, Words, Element}
-use Rattle.px_xmp.specs.Meaning.{AreWhite, AreSubjects, HasRdf, Means}
+use Rattle.px_xmp.specs.Meaning.{AreWhite, AreSubjects, IsAlone}
 use Rattle.px_xmp.specs.Laws.{KindsAreRead}
 use Rattle.px_xmp.specs.declared.elements.Opened.{Opened}
 use Rattle.px_xmp.specs.declared.source.Source.{Source}
@@ -19,7 +19,7 @@ use Rattle.px_xmp.specs.calls.Fits.{TagFits, HasTag, IsAhead, IsSubjectNode, Sub
 use Rattle.px_xmp.proofs.StepLaws.{joined}
 use Rattle.px_xmp.proofs.MeaningLaws.{CanAll, subjects_once}
 use Rattle.px_xmp.proofs.RefusedLaws.{inside_once, row_after}
-use Rattle.px_xmp.proofs.RootLaws.{no_subject}
+use Rattle.px_xmp.proofs.RootLaws.{no_subject, are_all_about}
 use Rattle.px_xmp.proofs.AheadLaws.{AtElement, element_entered, inside_ahead}
 use Rattle.px_xmp.proofs.FitLaws.{fit_can, fit_front, fit_back}
 
@@ -31,15 +31,10 @@ subjects_tag u l Nothing es e y h ends = (y, (e, ends, refl))
 subjects_tag u l (Words t more) es e y (white, h) ends = (white, subjects_tag u l more es e y h ends)
 subjects_tag u l (Element tag place inner more) es e y h ends = tt
 
-pub rdf_tag : (nodes : Nodes) (c : Content) (y : List ℕ) → HasRdf nodes c → HasTag nodes y
-rdf_tag Nothing c y h = absurd h
-rdf_tag (Words t more) c y (white, h) = (white, rdf_tag more c y h)
-rdf_tag (Element tag place inner more) c y h = tt
-
-pub means_tag : (nodes : Nodes) (c : Content) (y : List ℕ) → Means nodes c → HasTag nodes y
-means_tag Nothing c y h = absurd h
-means_tag (Words t more) c y (white, h) = (white, means_tag more c y h)
-means_tag (Element tag place inner more) c y h = tt
+pub alone_tag : (P : Tag → Nodes → Type 0) (nodes : Nodes) (y : List ℕ) → IsAlone P nodes → HasTag nodes y
+alone_tag P Nothing y h = absurd h
+alone_tag P (Words t more) y (white, h) = (white, alone_tag P more y h)
+alone_tag P (Element tag place inner more) y h = tt
 
 -- ---- subjects, one after another
 
@@ -125,7 +120,7 @@ pub subjects_same : KindsAreRead → PacketIsInjective → (b : Bool) (u : Optio
 subjects_same law once b u l d depth old new before after s output nodes es y ahead are fit fresh r can =
     let (same, tail) = inside_once law b r.nodes nodes old.scope old.at old.rest.now new.rest.now y r.inside.row ahead.row in
     let moved = subst (λ (q : Nodes). AreSubjects u l q es) (sym same) are in
-    let (none, is) = r.only u fresh.1 (no_subject before u fresh.0) (es, moved) in
+    let (none, is) = r.only u fresh.1 (no_subject before u fresh.0) (are_all_about u l r.nodes es moved) in
     let (before_none, each) = r.are none in
     let (kept, read) = each u is in
     subjects_once once u u l r.nodes r.entries es read moved can (fit_can d es fit)

@@ -10,7 +10,7 @@ use Rattle.px_xmp.specs.Tags.{inside}
 use Rattle.px_xmp.specs.Reading.{Read, IsReadAs, read}
 use Rattle.px_xmp.specs.Nodes.{Nodes, AreNodes}
 use Rattle.px_xmp.specs.Packet.{IsPacket}
-use Rattle.px_xmp.specs.Meaning.{Means, HasMeaning}
+use Rattle.px_xmp.specs.Meaning.{Means, HasNodes, HasMeaning}
 use Rattle.px_xmp.specs.Readable.{IsOrdered, AreReadable, IsShallow, IsReadable}
 
 -- Each mark is read, whatever follows it.
@@ -26,6 +26,10 @@ ScopesAreJudged = (n : Named) (attributes : List Attr) (scope inner : List Item)
 -- Octets at an offset are one row of nodes.
 abbrev pub OneReading : Type 0
 OneReading = (x : List ℕ) (at : ℕ) (a b : Nodes) → AreNodes a [] at x [] → AreNodes b [] at x [] → a ≡ b
+
+-- A document is a row of nodes.
+abbrev pub FilesHaveNodes : Type 0
+FilesHaveNodes = (x : List ℕ) (start : ℕ) → IsFile x → (nodes : Nodes) × HasNodes x start nodes
 
 -- Nodes mean one thing that a normal form can have.
 abbrev pub NodesMeanOnce : Type 0

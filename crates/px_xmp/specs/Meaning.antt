@@ -145,33 +145,39 @@ AreSubjects u l (Element tag place inner more) all =
     × AreEntries Structure (inherited l tag.language) inner es × AreSubjects u l more others × (all ≡ fs ++ (es ++ others))
 
 -- rdf:RDF (RDF, 7.2.9), which has all properties
-abbrev pub IsRdf : Tag → Nodes → Content → Type 0
-IsRdf tag inner c =
+abbrev pub IsRdf : Content → Tag → Nodes → Type 0
+IsRdf c tag inner =
     DeclaresLanguage tag.language × (is_rdf (codes "RDF") tag.name ≡ true) × (tag.fields ≡ []) × (u : Option (List ℕ)) × (es : List Entry)
     × AreSubjects u (inherited [] tag.language) inner es × IsRow Structure es c
 
--- one rdf:RDF, with white space around it
-abbrev pub HasRdf : Nodes → Content → Type 0
-HasRdf Nothing c = ⊥
-HasRdf (Words t more) c = (is_white t ≡ true) × HasRdf more c
-HasRdf (Element tag place inner more) c = IsRdf tag inner c × AreWhite more
+-- one element of which P holds, with white space around it
+abbrev pub IsAlone : (Tag → Nodes → Type 0) → Nodes → Type 0
+IsAlone P Nothing = ⊥
+IsAlone P (Words t more) = (is_white t ≡ true) × IsAlone P more
+IsAlone P (Element tag place inner more) = P tag inner × AreWhite more
 
--- rdf:RDF, or x:xmpmeta around it (XMP part 1, 7.3.3): its attributes mean nothing
-abbrev pub IsRoot : Tag → Nodes → Content → Type 0
-IsRoot tag inner c = IsRdf tag inner c ⊎ ((is_root tag.name ≡ true) × HasRdf inner c)
+-- an element of which P holds, or x:xmpmeta around one (XMP part 1, 7.3.3): its attributes mean nothing
+abbrev pub IsRootOf : (Tag → Nodes → Type 0) → Tag → Nodes → Type 0
+IsRootOf P tag inner = P tag inner ⊎ ((is_root tag.name ≡ true) × IsAlone P inner)
 
--- one root, with white space around it
+-- one such root, with white space around it
+abbrev pub HasRoot : (Tag → Nodes → Type 0) → Nodes → Type 0
+HasRoot P nodes = IsAlone (IsRootOf P) nodes
+
+-- nodes mean what is in rdf:RDF
 abbrev pub Means : Nodes → Content → Type 0
-Means Nothing c = ⊥
-Means (Words t more) c = (is_white t ≡ true) × Means more c
-Means (Element tag place inner more) c = IsRoot tag inner c × AreWhite more
+Means nodes c = HasRoot (IsRdf c) nodes
 
--- a document at an offset of its packet has nodes that mean this
-pub record HasMeaning (x : List ℕ) (start : ℕ) (c : Content) : Type 0 where
+-- a document at an offset of its packet has these nodes
+pub record HasNodes (x : List ℕ) (start : ℕ) (nodes : Nodes) : Type 0 where
   pub declaration : List ℕ
   pub encoding : Option (List ℕ)
   pub tree : List ℕ
   pub parts : IsSplit (drop (order_mark_len x) x) declaration encoding tree
-  pub nodes : Nodes
   pub row : AreNodes nodes [] (start + (length x - length tree)) tree []
+
+-- its nodes mean this
+pub record HasMeaning (x : List ℕ) (start : ℕ) (c : Content) : Type 0 where
+  pub nodes : Nodes
+  pub are : HasNodes x start nodes
   pub means : Means nodes c

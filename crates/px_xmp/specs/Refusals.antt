@@ -24,6 +24,10 @@ use Rattle.px_xmp_forms.specs.declared.faults.Cause.TheVariants.{AttributeTwice,
 use Rattle.px_xmp_forms.specs.declared.faults.Cause.TheVariants.{RareNamespace, RareCount, NoRdf, SeveralSubjects}
 use Rattle.px_xmp.specs.Packet.{is_padding, is_wide, AreAround, BeginsBare, EndsBare}
 use Rattle.px_xmp.specs.Limits.{NoneCrowded, IsFirstCrowded}
+use Rattle.px_xmp.specs.Names.{is_rdf}
+use Rattle.px_xmp.specs.Tags.{Tag}
+use Rattle.px_xmp.specs.Nodes.{Nodes, Nothing, Words, Element}
+use Rattle.px_xmp.specs.Meaning.{AreAbout, HasRoot, HasNodes}
 
 -- if a call refuses a packet by a cause at a place, this is so
 abbrev pub IfRefused : {X : Type 0} → Result X Refusal → (Cause → ℕ → Type 0) → Type 0
@@ -89,15 +93,26 @@ IsCauseOf x fault n cause =
 
 -- ---- the causes of RDF
 
--- there is no rdf:RDF, or more beside it; there are several subjects; or the packet is left to another reader
-abbrev pub IsCauseOfRdf : Cause → Type 0
-IsCauseOfRdf cause = (cause ≡ NoRdf) ⊎ (cause ≡ SeveralSubjects) ⊎ (is_rare_in_rdf cause ≡ true)
+-- an element is rdf:RDF
+abbrev pub IsNamedRdf : Tag → Nodes → Type 0
+IsNamedRdf tag inner = is_rdf (codes "RDF") tag.name ≡ true
 
--- a call refuses a packet only by one of them
-abbrev pub IsOfRdf : {X : Type 0} → Result X Refusal → Type 0
-IsOfRdf (Ok x) = ⊤
-IsOfRdf (Err (Content cause place)) = IsCauseOfRdf cause
-IsOfRdf (Err OutOfMemory) = ⊤
+-- the elements of nodes are about the subject u, or name none
+abbrev pub AreAllAbout : Option (List ℕ) → Nodes → Type 0
+AreAllAbout u Nothing = ⊤
+AreAllAbout u (Words t more) = AreAllAbout u more
+AreAllAbout u (Element tag place inner more) = AreAbout u tag.fields × AreAllAbout u more
+
+-- an element is rdf:RDF, and those in it are not about one subject
+abbrev pub NamesSeveral : Tag → Nodes → Type 0
+NamesSeveral tag inner = IsNamedRdf tag inner × ((u : Option (List ℕ)) → AreAllAbout u inner → ⊥)
+
+-- why RDF refuses nodes: they are not rdf:RDF, or the root around it; they are, and it names several subjects; or they are left to
+-- another reader
+abbrev pub IsCauseOfRdf : Cause → Nodes → Type 0
+IsCauseOfRdf NoRdf nodes = HasRoot IsNamedRdf nodes → ⊥
+IsCauseOfRdf SeveralSubjects nodes = HasRoot NamesSeveral nodes
+IsCauseOfRdf cause nodes = is_rare_in_rdf cause ≡ true
 
 -- ---- the layers
 
@@ -150,12 +165,13 @@ pub record IsRefusedByFault (x : List ℕ) (start : ℕ) (cause : Cause) (place 
   pub is : IsCauseOf x fault offset cause
   pub at : place ≡ start + offset
 
--- a document is refused by RDF
-abbrev pub IsRefusedByRdf : List ℕ → Cause → Type 0
-IsRefusedByRdf x cause = IsFile x × IsCauseOfRdf cause
+-- a document at an offset of its packet is refused by RDF
+abbrev pub IsRefusedByRdf : List ℕ → ℕ → Cause → Type 0
+IsRefusedByRdf x start cause = IsFile x × (nodes : Nodes) × HasNodes x start nodes × IsCauseOfRdf cause nodes
 
 abbrev pub IsRefusedDocument : List ℕ → ℕ → Cause → ℕ → Type 0
-IsRefusedDocument x start cause place = IsRefusedByCount x start cause place ⊎ IsRefusedByFault x start cause place ⊎ IsRefusedByRdf x cause
+IsRefusedDocument x start cause place =
+    IsRefusedByCount x start cause place ⊎ IsRefusedByFault x start cause place ⊎ IsRefusedByRdf x start cause
 
 -- a packet is refused by this cause, at this place
 abbrev pub IsRefused : List ℕ → Cause → ℕ → Type 0

@@ -3,7 +3,7 @@ ghost use Rattle.px_xmp.specs.Laws.{FormIsItsOwn, FormsDecide, KindsAreRead, Mea
 ghost use Rattle.px_xmp.specs.Accepted.{FormsFit};
 ghost use Rattle.px_xmp.specs.Refusals.{OneRefusal};
 ghost use Rattle.px_xmp.specs.Asking.{RdfIsLast};
-ghost use Rattle.px_xmp.specs.Laws.{NormalKeepsMeaning, NormalSays, OneMeaning, OnePacket, OneReading, ScopesAreJudged};
+ghost use Rattle.px_xmp.specs.Laws.{FilesHaveNodes, NormalKeepsMeaning, NormalSays, OneMeaning, OnePacket, OneReading, ScopesAreJudged};
 
 /// Each mark of a document is read as what it is, and with its length.
 pub fn kinds_are_read()
@@ -32,6 +32,13 @@ pub fn one_reading()
     ensures { OneReading }
 {
     kinds_are_read();
+}
+
+/// A document is a row of nodes.
+pub fn files_have_nodes()
+    ensures { FilesHaveNodes }
+{
+    px_xmp_text::laws::fault_or_text();
 }
 
 /// The nodes of a document mean one thing that a normal form can have.

@@ -153,6 +153,7 @@ fn document_form(memory: &mut Memory, document: &[u8], start: usize) -> Result<V
     }
     crate::laws::meanings_are_readable();
     crate::laws::one_meaning();
+    crate::laws::files_have_nodes();
     let octets = document.split_at(head).1;
     let mut reader = Reader::new(memory, octets, start.saturating_add(head), BagOrder::Sorted);
     let mut subject = Subject {

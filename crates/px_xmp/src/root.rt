@@ -4,17 +4,18 @@ ghost use Rattle.px_xmp_text.specs.Values.{Content, End};
 ghost use Rattle.px_xmp_marks.specs.Reading.{Attr, next_view};
 ghost use Rattle.px_xmp_forms.specs.Allocations.{CountsAllocFailureInPacket};
 ghost use Rattle.px_xmp_forms.specs.Causes.{IsRare, IfWrong, FailsByMemory};
-ghost use Rattle.px_xmp.specs.Refusals.{IsOfRdf};
+ghost use Rattle.px_xmp.specs.Refusals.{IsNamedRdf};
 ghost use Rattle.px_xmp_forms.specs.Entries.{Entry};
 ghost use Rattle.px_xmp_forms.specs.Outputs.{State, Has};
 ghost use Rattle.px_xmp.specs.Tags.{Tag, field_of, fields_in};
 ghost use Rattle.px_xmp.specs.Names.{is_rdf};
 ghost use Rattle.px_xmp.specs.Nodes.{Nodes, AreNodes};
-ghost use Rattle.px_xmp.specs.Meaning.{AreAttributes, without_about, AreSubjects, IsRdf, IsRoot, HasRdf, Means};
+ghost use Rattle.px_xmp.specs.Meaning.{AreAttributes, without_about, AreSubjects, IsAlone, IsRootOf, HasRoot, IsRdf, Means};
 ghost use Rattle.px_xmp.specs.calls.Listed.{AreListed};
 ghost use Rattle.px_xmp.specs.calls.Opening.{IsOpened};
 ghost use Rattle.px_xmp.specs.calls.Steps.{IsLeft, HasInside};
-ghost use Rattle.px_xmp.specs.calls.Roots.{IsNew, AttributeRead, AttributesRead, SubjectRead, SubjectsRead};
+ghost use Rattle.px_xmp.specs.calls.Refused.{IsOfReader};
+ghost use Rattle.px_xmp.specs.calls.Roots.{IsNew, NamesOne, AttributeRead, AttributesRead, SubjectRead, SubjectsRead};
 ghost use Rattle.px_xmp.specs.calls.Roots.{RdfRead, AroundRead, RootRead, DocumentRead};
 ghost use Rattle.px_xmp.specs.calls.Fits.{FieldFits, FieldsFit, TagFits, NodesFit, SubjectFits, IsAhead, IsSubjectNode};
 ghost use Rattle.px_xmp.specs.calls.Fits.{ContentFits, AreFit};
@@ -161,13 +162,13 @@ impl<'a> Reader<'a> {
             → IsLeft self.old.source.at self.old.source.rest.now → IsNew subject.old → IsOpened self.old.source.scope opened.entry t
             → OnOk result (RdfRead opened.entry t self.old.source self.new.source subject.new self.new.output) }
         ensures memory { CountsAllocFailureInPacket result memory.old memory.new }
-        ensures rdf { IsOfRdf result }
+        ensures rdf { IsOfReader result }
         ensures refused { (t : Tag) → IsOpened self.old.source.scope opened.entry t
             → IfWrong result (is_rdf (codes "RDF") t.name ≡ false) }
         ensures accepts { (t : Tag) (nodes : Nodes) (c : Content) (y : List ℕ)
             → Has self.old.output (record { opened = []; properties = End }) → IsNew subject.old
             → IsOpened self.old.source.scope opened.entry t → IsAhead opened.entry.is_empty nodes self.old.source y
-            → TagFits t → IsRdf t nodes c → ContentFits 3 c → FailsByMemory result }
+            → TagFits t → IsRdf c t nodes → ContentFits 3 c → FailsByMemory result }
     {
         crate::laws::kinds_are_read();
         px_xmp_text::laws::packet_is_injective();
@@ -204,13 +205,14 @@ impl<'a> Reader<'a> {
             → IsLeft self.old.source.at self.old.source.rest.now → IsNew subject.old → OnOk result
             (AroundRead self.old.source self.new.source subject.new self.new.output) }
         ensures memory { CountsAllocFailureInPacket result memory.old memory.new }
-        ensures rdf { IsOfRdf result }
-        ensures refused { (nodes : Nodes) (c : Content) (y : List ℕ) → Has self.old.output (record { opened = []; properties = End })
+        ensures rdf { IsOfReader result }
+        ensures refused { (nodes : Nodes) (y : List ℕ) → Has self.old.output (record { opened = []; properties = End })
             → IsLeft self.old.source.at self.old.source.rest.now → IsNew subject.old
             → HasInside false nodes self.old.source.scope self.old.source.at self.old.source.rest.now y
-            → IfWrong result (HasRdf nodes c → ⊥) }
+            → IfWrong result (IsAlone IsNamedRdf nodes → ⊥) }
         ensures accepts { (nodes : Nodes) (c : Content) (y : List ℕ) → Has self.old.output (record { opened = []; properties = End })
-            → IsNew subject.old → IsAhead false nodes self.old.source y → HasRdf nodes c → ContentFits 3 c → FailsByMemory result }
+            → IsNew subject.old → IsAhead false nodes self.old.source y → IsAlone (IsRdf c) nodes → ContentFits 3 c
+            → FailsByMemory result }
     {
         crate::laws::kinds_are_read();
         let Some(inner) = self.source.next_tag(memory, Cause::NoRdf)? else {
@@ -234,16 +236,16 @@ impl<'a> Reader<'a> {
             → IsLeft self.old.source.at self.old.source.rest.now → IsNew subject.old → IsOpened self.old.source.scope opened.entry t
             → OnOk result (RootRead opened.entry t self.old.source self.new.source subject.new self.new.output) }
         ensures memory { CountsAllocFailureInPacket result memory.old memory.new }
-        ensures rdf { IsOfRdf result }
-        ensures refused { (t : Tag) (nodes : Nodes) (c : Content) (y : List ℕ)
+        ensures rdf { IsOfReader result }
+        ensures refused { (t : Tag) (nodes : Nodes) (y : List ℕ)
             → Has self.old.output (record { opened = []; properties = End })
             → IsLeft self.old.source.at self.old.source.rest.now → IsNew subject.old → IsOpened self.old.source.scope opened.entry t
             → HasInside opened.entry.is_empty nodes self.old.source.scope self.old.source.at self.old.source.rest.now y
-            → IfWrong result (IsRoot t nodes c → ⊥) }
+            → IfWrong result (IsRootOf IsNamedRdf t nodes → ⊥) }
         ensures accepts { (t : Tag) (nodes : Nodes) (c : Content) (y : List ℕ)
             → Has self.old.output (record { opened = []; properties = End }) → IsNew subject.old
             → IsOpened self.old.source.scope opened.entry t → IsAhead opened.entry.is_empty nodes self.old.source y
-            → TagFits t → IsRoot t nodes c → ContentFits 3 c → FailsByMemory result }
+            → TagFits t → IsRootOf (IsRdf c) t nodes → ContentFits 3 c → FailsByMemory result }
     {
         if !opened.name.is_root() {
             return self.read_rdf(memory, subject, opened);
@@ -266,15 +268,15 @@ impl<'a> Reader<'a> {
             → IsLeft self.old.source.at self.old.source.rest.now → IsNew subject.old
             → OnOk result (subject.new.other ≡ None → DocumentRead self.old.source self.new.output) }
         ensures memory { CountsAllocFailureInPacket result memory.old memory.new }
-        ensures rdf { IsOfRdf result }
-        ensures refused { (nodes : Nodes) (c : Content) → Has self.old.output (record { opened = []; properties = End })
+        ensures rdf { IsOfReader result }
+        ensures refused { (nodes : Nodes) → Has self.old.output (record { opened = []; properties = End })
             → IsLeft self.old.source.at self.old.source.rest.now → IsNew subject.old
             → AreNodes nodes self.old.source.scope self.old.source.at self.old.source.rest.now []
-            → IfWrong result (Means nodes c → ⊥) }
-        ensures subject { (nodes : Nodes) (c : Content) → Has self.old.output (record { opened = []; properties = End })
+            → IfWrong result (HasRoot IsNamedRdf nodes → ⊥) }
+        ensures subject { (nodes : Nodes) → Has self.old.output (record { opened = []; properties = End })
             → IsLeft self.old.source.at self.old.source.rest.now → IsNew subject.old
             → AreNodes nodes self.old.source.scope self.old.source.at self.old.source.rest.now []
-            → OnOk result (Means nodes c → subject.new.other ≡ None) }
+            → OnOk result (HasRoot (NamesOne subject.new) nodes) }
         ensures accepts { (nodes : Nodes) (c : Content) → Has self.old.output (record { opened = []; properties = End })
             → IsLeft self.old.source.at self.old.source.rest.now → IsNew subject.old
             → AreNodes nodes self.old.source.scope self.old.source.at self.old.source.rest.now []

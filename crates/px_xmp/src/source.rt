@@ -3,14 +3,13 @@ ghost use Rattle.std.specs.Prelude.{◌≡◌, ◌≤◌, ◌<◌, ℕ, List, []
 ghost use Rattle.px_xmp_marks.specs.Declarations.{every};
 ghost use Rattle.px_xmp_forms.specs.Allocations.{CountsAllocFailureInPacket};
 ghost use Rattle.px_xmp_forms.specs.Causes.{is_rare_in_rdf, IsRare, IfWrong, FailsByMemory};
-ghost use Rattle.px_xmp.specs.Refusals.{IsCauseOfRdf, IsOfRdf};
 ghost use Rattle.px_xmp_forms.specs.Forms.{is_white};
 ghost use Rattle.px_xmp.specs.Nodes.{Nodes, AreNodes};
 ghost use Rattle.px_xmp.specs.Meaning.{AreWhite};
 ghost use Rattle.px_xmp.specs.Reading.{Words, kind_view};
 ghost use Rattle.px_xmp.specs.Marks.{Mark};
 ghost use Rattle.px_xmp.specs.calls.Steps.{IsLeft, IsFirst, HasInside, Says, Next, TagAfter, EndRead, AfterRead, is_plain_space};
-ghost use Rattle.px_xmp.specs.calls.Refused.{IsOther, BeginsWithText};
+ghost use Rattle.px_xmp.specs.calls.Refused.{IsCauseOfReader, IsOfReader, IsOther, BeginsWithText};
 ghost use Rattle.px_xmp.specs.calls.Fits.{HasTag, SaysWhite};
 
 use crate::elements::Opened;
@@ -63,7 +62,7 @@ impl<'a> Source<'a> {
             → IfOk result (λ o. (white : Nodes) × AreWhite white × TagAfter o white self.old self.new) }
         ensures memory { CountsAllocFailureInPacket result memory.old memory.new }
         ensures rare { is_rare_in_rdf other ≡ true → IsRare result }
-        ensures rdf { IsCauseOfRdf other → IsOfRdf result }
+        ensures rdf { IsCauseOfReader other → IsOfReader result }
         ensures refused { IsLeft self.old.at self.old.rest.now
             → IfWrong result (BeginsWithText self.old.scope self.old.at self.old.rest.now) }
         ensures accepts { (nodes : Nodes) (y : List ℕ) → IsLeft self.old.at self.old.rest.now
@@ -125,7 +124,7 @@ impl<'a> Source<'a> {
     pub(crate) fn read_after(&mut self, memory: &mut Memory) -> Result<(), Refusal>
         ensures read { IsLeft self.old.at self.old.rest.now → OnOk result (AfterRead self.old) }
         ensures memory { CountsAllocFailureInPacket result memory.old memory.new }
-        ensures rdf { IsOfRdf result }
+        ensures rdf { IsOfReader result }
         ensures refused { (nodes : Nodes) → IsLeft self.old.at self.old.rest.now
             → AreNodes nodes self.old.scope self.old.at self.old.rest.now [] → IfWrong result (AreWhite nodes → ⊥) }
         ensures accepts { (nodes : Nodes) → IsLeft self.old.at self.old.rest.now
@@ -167,7 +166,7 @@ fn judge_blank(memory: &mut Memory, text: Text, other: Cause, place: usize) -> R
     ensures says { OnOk result ((t : List ℕ) × Says (Words text.entry.kind text.entry.octets.now) t × (is_white t ≡ true)) }
     ensures memory { CountsAllocFailureInPacket result memory.old memory.new }
     ensures rare { is_rare_in_rdf other ≡ true → IsRare result }
-    ensures rdf { IsCauseOfRdf other → IsOfRdf result }
+    ensures rdf { IsCauseOfReader other → IsOfReader result }
     ensures refused { IfWrong result (IsOther (Words text.entry.kind text.entry.octets.now)) }
     ensures accepts { SaysWhite (Words text.entry.kind text.entry.octets.now) → FailsByMemory result }
 {
@@ -192,7 +191,7 @@ fn judge_white(
 ) -> Result<(), Refusal>
     ensures says { OnOk result ((t : List ℕ) × Says (kind_view kind.entry) t × (is_white t ≡ true)) }
     ensures memory { CountsAllocFailureInPacket result memory.old memory.new }
-    ensures rdf { IsCauseOfRdf other → IsOfRdf result }
+    ensures rdf { IsCauseOfReader other → IsOfReader result }
     ensures refused { IfWrong result (IsOther (kind_view kind.entry)) }
     ensures accepts { SaysWhite (kind_view kind.entry) → FailsByMemory result }
 {

@@ -10,7 +10,8 @@ use Rattle.px_xmp_forms.specs.declared.output.Output.{Output}
 use Rattle.px_xmp.specs.Names.{is_rdf, is_about}
 use Rattle.px_xmp.specs.Tags.{Field, Tag, DeclaresLanguage, inherited}
 use Rattle.px_xmp.specs.Nodes.{Nodes, AreNodes}
-use Rattle.px_xmp.specs.Meaning.{AreAttributes, AreEntries, AreAbout, without_about, AreSubjects, IsRdf, HasRdf, IsRoot, Means}
+use Rattle.px_xmp.specs.Meaning.{AreAttributes, AreEntries, AreAbout, without_about, AreSubjects, IsAlone, IsRootOf, IsRdf, Means}
+use Rattle.px_xmp.specs.Refusals.{IsNamedRdf, AreAllAbout}
 use Rattle.px_xmp.specs.declared.elements.Opened.{Opened}
 use Rattle.px_xmp.specs.declared.source.Source.{Source}
 use Rattle.px_xmp.specs.declared.subject.Subject.{Subject}
@@ -29,6 +30,10 @@ Keeps old new P = new.other ≡ None → (old.other ≡ None) × ((u : Option (L
 -- if a subject is the one that was named, if one was, and no other was named, so it stays where P holds of it
 abbrev pub Stays : Subject → Subject → (Option (List ℕ) → Type 0) → Type 0
 Stays old new P = (u : Option (List ℕ)) → old.other ≡ None → IsSubject old u → P u → (new.other ≡ None) × IsSubject new u
+
+-- an element is rdf:RDF, and no other subject was named if those in it are about one
+abbrev pub NamesOne : Subject → Tag → Nodes → Type 0
+NamesOne s tag inner = IsNamedRdf tag inner × ((u : Option (List ℕ)) → AreAllAbout u inner → s.other ≡ None)
 
 -- none was named
 abbrev pub IsNew : Subject → Type 0
@@ -79,7 +84,7 @@ pub record SubjectsRead (empty : Bool) (l : List ℕ) (depth : ℕ) (old new : S
   pub inside : InsideRead empty nodes old new
   pub are : Keeps before after (λ u. AreSubjects u l nodes entries)
   pub shallow : AreShallow depth entries
-  pub only : Stays before after (λ u. (es : List Entry) × AreSubjects u l nodes es)
+  pub only : Stays before after (λ u. AreAllAbout u nodes)
   pub scope : new.scope ≡ old.scope
   pub has : Has output (changed (with_entries entries) s)
 
@@ -88,9 +93,9 @@ pub record RdfRead (o : Opened) (t : Tag) (old new : Source) (after : Subject) (
   pub nodes : Nodes
   pub content : Content
   pub inside : InsideRead o.is_empty nodes old new
-  pub is : after.other ≡ None → IsRdf t nodes content
+  pub is : after.other ≡ None → IsRdf content t nodes
   pub shallow : IsShallow 3 content
-  pub only : (c : Content) → IsRdf t nodes c → after.other ≡ None
+  pub only : NamesOne after t nodes
   pub scope : new.scope ≡ ended old.scope
   pub has : Has output (record { opened = []; properties = content })
 
@@ -99,9 +104,9 @@ pub record AroundRead (old new : Source) (after : Subject) (output : Output) : T
   pub nodes : Nodes
   pub content : Content
   pub inside : InsideRead false nodes old new
-  pub is : after.other ≡ None → HasRdf nodes content
+  pub is : after.other ≡ None → IsAlone (IsRdf content) nodes
   pub shallow : IsShallow 3 content
-  pub only : (c : Content) → HasRdf nodes c → after.other ≡ None
+  pub only : IsAlone (NamesOne after) nodes
   pub scope : new.scope ≡ old.scope
   pub has : Has output (record { opened = []; properties = content })
 
@@ -110,8 +115,8 @@ pub record RootRead (o : Opened) (t : Tag) (old new : Source) (after : Subject) 
   pub nodes : Nodes
   pub content : Content
   pub inside : InsideRead o.is_empty nodes old new
-  pub is : after.other ≡ None → IsRoot t nodes content
-  pub only : (c : Content) → IsRoot t nodes c → after.other ≡ None
+  pub is : after.other ≡ None → IsRootOf (IsRdf content) t nodes
+  pub only : IsRootOf (NamesOne after) t nodes
   pub shallow : IsShallow 3 content
   pub scope : new.scope ≡ ended old.scope
   pub has : Has output (record { opened = []; properties = content })

@@ -1,8 +1,9 @@
 use Rattle.std.specs.Bool.{⊤}
 use Rattle.std.proofs.Common.{Option, ◌++◌, codes, inr, refl, subst}
 use Rattle.px_xmp.specs.Names.{is_rdf}
-use Rattle.px_xmp.specs.Nodes.{Nodes, Nothing, Element}
-use Rattle.px_xmp.specs.Meaning.{HasRdf}
+use Rattle.px_xmp.specs.Nodes.{Nothing, Element}
+use Rattle.px_xmp.specs.Meaning.{IsAlone, IsRdf}
+use Rattle.px_xmp.specs.Refusals.{IsNamedRdf}
 use Rattle.px_xmp.proofs.NodeLaws.{IsStop}
 use Rattle.px_xmp.proofs.RootLaws.{true_false}
 use Rattle.px_xmp.specs.declared.elements.Opened.{Opened}
@@ -11,9 +12,9 @@ use Rattle.px_xmp.proofs.RootLaws.{around_done}
 use Rattle.px_xmp.proofs.reader.Reader.read_around.Goals as goal
 use Rattle.std.proofs.lemmas.Result.{err_from_is_err_and}
 use Rattle.px_xmp.proofs.AheadLaws.{memory_says, element_entered, inside_ahead}
-use Rattle.px_xmp.proofs.SubjectLaws.{rdf_tag}
+use Rattle.px_xmp.proofs.SubjectLaws.{alone_tag}
 use Rattle.px_xmp.proofs.TagAheadLaws.{white_tag}
-use Rattle.px_xmp.proofs.RefusedLaws.{text_found, rdf_text, white_text, rdf_front, white_at_end, enter_after, row_after, rdf_inside, white_inside, wrong_says, wrong_at}
+use Rattle.px_xmp.proofs.RefusedLaws.{text_found, alone_text, white_text, alone_front, white_at_end, enter_after, row_after, alone_inside, white_inside, wrong_says, wrong_at}
 
 pub returns-in-None-clause-read : goal.returns-in-None-clause-read
 returns-in-None-clause-read c has left fresh =
@@ -28,23 +29,23 @@ returns-in-None-clause-read c has left fresh =
     (subst (λ (z : Option Opened). TagAfter z blank c.read_rdf.new.self.source c.next_tag-2.new.self) c.in-None.is last)
 
 pub returns-in_err-inner-clause-refused : goal.returns-in_err-inner-clause-refused
-returns-in_err-inner-clause-refused c nodes d y has left fresh (e, row, ends) =
+returns-in_err-inner-clause-refused c nodes y has left fresh (e, row, ends) =
     let old = c.args.self.now.source in
     let p = err_from_is_err_and c.from_residual.result c.from_residual.ensures.1 in
     rw (p.1, p.2) (wrong_says (Option Opened) ⊤ c.in_err-inner.field-0.0 _ _ (λ begins h.
     let (bad, z, text, octets) = begins in
-    rdf_text nodes d (text_found c.kinds_are_read.ensures bad nodes old.scope old.at old.at old.rest.now z (e ++ y) text octets row
+    alone_text IsNamedRdf nodes (text_found c.kinds_are_read.ensures bad nodes old.scope old.at old.at old.rest.now z (e ++ y) text octets row
     (inr (e, y, ends, refl))) h) (c.in_err-inner.ensures.refused left))
 
 pub returns-in_default-clause-refused : goal.returns-in_default-clause-refused
-returns-in_default-clause-refused c nodes d y has left fresh (e, row, ends) =
+returns-in_default-clause-refused c nodes y has left fresh (e, row, ends) =
     let (white, is_white, first) = c.in_ok-inner.ensures.read left in
     let tag = subst (λ (z : Option Opened). TagAfter z white c.args.self.now.source c.next_tag.new.self) c.in_default.is first in
     let whole = white_at_end c.kinds_are_read.ensures white nodes c.args.self.now.source c.next_tag.new.self (e ++ y) is_white tag row (inr (e, y, ends, refl)) in
-    wrong_at ⊤ _ _ _ _ c.at.ensures (λ h. rdf_front white Nothing d is_white (subst (λ (q : Nodes). HasRdf q d) whole h))
+    wrong_at ⊤ _ _ _ _ c.at.ensures (λ h. alone_front IsNamedRdf white Nothing is_white (subst (IsAlone IsNamedRdf) whole h))
 
 pub returns-in_err-read_rdf-clause-refused : goal.returns-in_err-read_rdf-clause-refused
-returns-in_err-read_rdf-clause-refused c nodes d y has left fresh (e, row, ends) =
+returns-in_err-read_rdf-clause-refused c nodes y has left fresh (e, row, ends) =
     let old = c.args.self.now.source in
     let mid = c.next_tag.new.self in
     let (white, is_white, first) = c.in_ok-inner.ensures.read left in
@@ -53,10 +54,10 @@ returns-in_err-read_rdf-clause-refused c nodes d y has left fresh (e, row, ends)
     let entered = enter_after c.kinds_are_read.ensures c.in-Some.inner white t nodes old mid (e ++ y) is_white tag start row (inr (e, y, ends, refl)) in
     let p = err_from_is_err_and c.from_residual-in_err-read_rdf.result c.from_residual-in_err-read_rdf.ensures.1 in
     rw (p.1, p.2) (wrong_says ⊤ ⊤ c.in_err-read_rdf.field-0.0 _ _ (λ wrong h. true_false (is_rdf (codes "RDF") t.name)
-    (rdf_inside c.in-Some.inner white t nodes old mid (e ++ y) d entered is_white h).0.1 wrong) (c.in_err-read_rdf.ensures.refused t start.opened))
+    (alone_inside IsNamedRdf c.in-Some.inner white t nodes old mid (e ++ y) entered is_white h).0 wrong) (c.in_err-read_rdf.ensures.refused t start.opened))
 
 pub returns-in_err-second-clause-refused : goal.returns-in_err-second-clause-refused
-returns-in_err-second-clause-refused c nodes d y has left fresh (e, row, ends) =
+returns-in_err-second-clause-refused c nodes y has left fresh (e, row, ends) =
     let old = c.args.self.now.source in
     let mid = c.next_tag.new.self in
     let on = c.read_rdf.new.self.source in
@@ -71,11 +72,11 @@ returns-in_err-second-clause-refused c nodes d y has left fresh (e, row, ends) =
     rw (p.1, p.2) (wrong_says (Option Opened) ⊤ c.in_err-second.field-0.0 _ _ (λ begins h.
     let (bad, z, text, octets) = begins in
     white_text entered.entered.more (text_found c.kinds_are_read.ensures bad entered.entered.more on.scope on.at on.at on.rest.now z (e ++ y) text octets
-    others stop) (rdf_inside c.in-Some.inner white t nodes old mid (e ++ y) d entered is_white h).1)
+    others stop) (alone_inside IsNamedRdf c.in-Some.inner white t nodes old mid (e ++ y) entered is_white h).1)
     (c.in_err-second.ensures.refused rdf.inside.moves.left))
 
 pub returns-in-Some-2-clause-refused : goal.returns-in-Some-2-clause-refused
-returns-in-Some-2-clause-refused c nodes d y has left fresh (e, row, ends) =
+returns-in-Some-2-clause-refused c nodes y has left fresh (e, row, ends) =
     let old = c.args.self.now.source in
     let mid = c.next_tag.new.self in
     let on = c.read_rdf.new.self.source in
@@ -92,14 +93,14 @@ returns-in-Some-2-clause-refused c nodes d y has left fresh (e, row, ends) =
     let (u, begin) = again.is in
     let second = enter_after c.kinds_are_read.ensures c.in-Some-2.second blank u entered.entered.more on new (e ++ y) is_blank again begin others stop in
     wrong_at ⊤ _ _ _ _ c.at-in-Some-2.ensures (λ h. white_inside c.in-Some-2.second blank u entered.entered.more on new (e ++ y) second
-    (rdf_inside c.in-Some.inner white t nodes old mid (e ++ y) d entered is_white h).1)
+    (alone_inside IsNamedRdf c.in-Some.inner white t nodes old mid (e ++ y) entered is_white h).1)
 
 pub returns-in_err-inner-clause-accepts : goal.returns-in_err-inner-clause-accepts
 returns-in_err-inner-clause-accepts c nodes d y has fresh ahead is fits =
     let (e, row, ends) = ahead.row in
     let p = err_from_is_err_and c.from_residual.result c.from_residual.ensures.1 in
     rw (p.1, p.2) (memory_says (Option Opened) ⊤ c.in_err-inner.field-0.0
-    (c.in_err-inner.ensures.accepts nodes (e ++ y) ahead.left row (rdf_tag nodes d (e ++ y) is)))
+    (c.in_err-inner.ensures.accepts nodes (e ++ y) ahead.left row (alone_tag (IsRdf d) nodes (e ++ y) is)))
 
 pub returns-in_default-clause-accepts : goal.returns-in_default-clause-accepts
 returns-in_default-clause-accepts c nodes d y has fresh ahead is fits =
@@ -107,7 +108,7 @@ returns-in_default-clause-accepts c nodes d y has fresh ahead is fits =
     let (white, is_white, first) = c.in_ok-inner.ensures.read ahead.left in
     let tag = subst (λ (z : Option Opened). TagAfter z white c.args.self.now.source c.next_tag.new.self) c.in_default.is first in
     let whole = white_at_end c.kinds_are_read.ensures white nodes c.args.self.now.source c.next_tag.new.self (e ++ y) is_white tag row (inr (e, y, ends, refl)) in
-    absurd (rdf_front white Nothing d is_white (subst (λ (q : Nodes). HasRdf q d) whole is))
+    absurd (alone_front (IsRdf d) white Nothing is_white (subst (IsAlone (IsRdf d)) whole is))
 
 pub returns-in_err-read_rdf-clause-accepts : goal.returns-in_err-read_rdf-clause-accepts
 returns-in_err-read_rdf-clause-accepts c nodes d y has fresh ahead is fits =
@@ -119,8 +120,8 @@ returns-in_err-read_rdf-clause-accepts c nodes d y has fresh ahead is fits =
     let (t, start) = tag.is in
     let stop : IsStop (e ++ y) = inr (e, y, ends, refl) in
     let at = element_entered c.kinds_are_read.ensures c.in-Some.inner white t nodes old mid (e ++ y) ahead.fit is_white tag start row stop in
-    let (rdf, blank) = rdf_front white (Element t c.in-Some.inner.place at.entered.content at.entered.more) d is_white
-    (subst (λ (q : Nodes). HasRdf q d) at.is is) in
+    let (rdf, blank) = alone_front (IsRdf d) white (Element t c.in-Some.inner.place at.entered.content at.entered.more) is_white
+    (subst (IsAlone (IsRdf d)) at.is is) in
     let p = err_from_is_err_and c.from_residual-in_err-read_rdf.result c.from_residual-in_err-read_rdf.ensures.1 in
     rw (p.1, p.2) (memory_says ⊤ ⊤ c.in_err-read_rdf.field-0.0
     (c.in_err-read_rdf.ensures.accepts t at.entered.content d at.entered.tail has fresh start.opened
@@ -136,8 +137,8 @@ returns-in_err-second-clause-accepts c nodes d y has fresh ahead is fits =
     let (t, start) = tag.is in
     let stop : IsStop (e ++ y) = inr (e, y, ends, refl) in
     let at = element_entered c.kinds_are_read.ensures c.in-Some.inner white t nodes old mid (e ++ y) ahead.fit is_white tag start row stop in
-    let (rdf, blank) = rdf_front white (Element t c.in-Some.inner.place at.entered.content at.entered.more) d is_white
-    (subst (λ (q : Nodes). HasRdf q d) at.is is) in
+    let (rdf, blank) = alone_front (IsRdf d) white (Element t c.in-Some.inner.place at.entered.content at.entered.more) is_white
+    (subst (IsAlone (IsRdf d)) at.is is) in
     let read = c.in_ok-read_rdf.ensures.read t has tag.moves.left fresh start.opened in
     let others = row_after c.kinds_are_read.ensures c.in-Some.inner white t at.left read.nodes old mid c.read_rdf.new.self.source (e ++ y) tag start
     at.entered read.inside read.scope in
@@ -155,8 +156,8 @@ returns-in-Some-2-clause-accepts c nodes d y has fresh ahead is fits =
     let (t, start) = tag.is in
     let stop : IsStop (e ++ y) = inr (e, y, ends, refl) in
     let at = element_entered c.kinds_are_read.ensures c.in-Some.inner white t nodes old mid (e ++ y) ahead.fit is_white tag start row stop in
-    let (rdf, blank) = rdf_front white (Element t c.in-Some.inner.place at.entered.content at.entered.more) d is_white
-    (subst (λ (q : Nodes). HasRdf q d) at.is is) in
+    let (rdf, blank) = alone_front (IsRdf d) white (Element t c.in-Some.inner.place at.entered.content at.entered.more) is_white
+    (subst (IsAlone (IsRdf d)) at.is is) in
     let read = c.in_ok-read_rdf.ensures.read t has tag.moves.left fresh start.opened in
     let others = row_after c.kinds_are_read.ensures c.in-Some.inner white t at.left read.nodes old mid c.read_rdf.new.self.source (e ++ y) tag start
     at.entered read.inside read.scope in

@@ -1,7 +1,8 @@
 use Rattle.std.specs.Bool.{⊤}
 use Rattle.std.proofs.Common.{Option, [], inl, refl, subst}
-use Rattle.px_xmp.specs.Nodes.{Nodes, Nothing, Element}
-use Rattle.px_xmp.specs.Meaning.{Means}
+use Rattle.px_xmp.specs.Nodes.{Nothing, Element}
+use Rattle.px_xmp.specs.Meaning.{IsRootOf, HasRoot, IsRdf}
+use Rattle.px_xmp.specs.Refusals.{IsNamedRdf}
 use Rattle.std.proofs.lemmas.Result.{on_ok_weaker}
 use Rattle.px_xmp.specs.declared.elements.Opened.{Opened}
 use Rattle.px_xmp.specs.calls.Steps.{TagAfter}
@@ -9,8 +10,8 @@ use Rattle.px_xmp.proofs.RootLaws.{document_done, document_subject}
 use Rattle.px_xmp.proofs.reader.Reader.read_document.Goals as goal
 use Rattle.std.proofs.lemmas.Result.{err_from_is_err_and}
 use Rattle.px_xmp.proofs.AheadLaws.{memory_says, element_entered, inside_ahead}
-use Rattle.px_xmp.proofs.SubjectLaws.{means_tag}
-use Rattle.px_xmp.proofs.RefusedLaws.{text_found, means_text, means_front, white_at_end, enter_after, row_after, means_inside, wrong_says, wrong_weaker, wrong_at}
+use Rattle.px_xmp.proofs.SubjectLaws.{alone_tag}
+use Rattle.px_xmp.proofs.RefusedLaws.{text_found, alone_text, alone_front, white_at_end, enter_after, row_after, alone_inside, wrong_says, wrong_weaker, wrong_at}
 
 pub returns-clause-read : goal.returns-clause-read
 returns-clause-read c has left fresh =
@@ -25,23 +26,23 @@ returns-clause-read c has left fresh =
     (c.read_after.ensures.read root.inside.moves.left)
 
 pub returns-in_err-opened-clause-refused : goal.returns-in_err-opened-clause-refused
-returns-in_err-opened-clause-refused c nodes d has left fresh row =
+returns-in_err-opened-clause-refused c nodes has left fresh row =
     let old = c.args.self.now.source in
     let p = err_from_is_err_and c.from_residual.result c.from_residual.ensures.1 in
     rw (p.1, p.2) (wrong_says (Option Opened) ⊤ c.in_err-opened.field-0.0 _ _ (λ begins h.
     let (bad, z, text, octets) = begins in
-    means_text nodes d (text_found c.kinds_are_read.ensures bad nodes old.scope old.at old.at old.rest.now z [] text octets row (inl refl)) h)
+    alone_text (IsRootOf IsNamedRdf) nodes (text_found c.kinds_are_read.ensures bad nodes old.scope old.at old.at old.rest.now z [] text octets row (inl refl)) h)
     (c.in_err-opened.ensures.refused left))
 
 pub returns-in_default-clause-refused : goal.returns-in_default-clause-refused
-returns-in_default-clause-refused c nodes d has left fresh row =
+returns-in_default-clause-refused c nodes has left fresh row =
     let (white, is_white, first) = c.in_ok-opened.ensures.read left in
     let tag = subst (λ (z : Option Opened). TagAfter z white c.args.self.now.source c.next_tag.new.self) c.in_default.is first in
     let whole = white_at_end c.kinds_are_read.ensures white nodes c.args.self.now.source c.next_tag.new.self [] is_white tag row (inl refl) in
-    wrong_at ⊤ _ _ _ _ c.at.ensures (λ h. means_front white Nothing d is_white (subst (λ (q : Nodes). Means q d) whole h))
+    wrong_at ⊤ _ _ _ _ c.at.ensures (λ h. alone_front (IsRootOf IsNamedRdf) white Nothing is_white (subst (HasRoot IsNamedRdf) whole h))
 
 pub returns-in_err-read_root-clause-refused : goal.returns-in_err-read_root-clause-refused
-returns-in_err-read_root-clause-refused c nodes d has left fresh row =
+returns-in_err-read_root-clause-refused c nodes has left fresh row =
     let old = c.args.self.now.source in
     let mid = c.next_tag.new.self in
     let (white, is_white, first) = c.in_ok-opened.ensures.read left in
@@ -49,11 +50,11 @@ returns-in_err-read_root-clause-refused c nodes d has left fresh row =
     let (t, start) = tag.is in
     let entered = enter_after c.kinds_are_read.ensures c.in-Some.opened white t nodes old mid [] is_white tag start row (inl refl) in
     let p = err_from_is_err_and c.from_residual-in_err-read_root.result c.from_residual-in_err-read_root.ensures.1 in
-    rw (p.1, p.2) (wrong_says ⊤ ⊤ c.in_err-read_root.field-0.0 _ _ (λ wrong h. wrong (means_inside c.in-Some.opened white t nodes old mid [] d entered is_white h).0)
-    (c.in_err-read_root.ensures.refused t entered.entered.content d entered.entered.tail has first.moves.left fresh start.opened entered.entered.within))
+    rw (p.1, p.2) (wrong_says ⊤ ⊤ c.in_err-read_root.field-0.0 _ _ (λ wrong h. wrong (alone_inside (IsRootOf IsNamedRdf) c.in-Some.opened white t nodes old mid [] entered is_white h).0)
+    (c.in_err-read_root.ensures.refused t entered.entered.content entered.entered.tail has first.moves.left fresh start.opened entered.entered.within))
 
 pub returns-clause-refused : goal.returns-clause-refused
-returns-clause-refused c nodes d has left fresh row =
+returns-clause-refused c nodes has left fresh row =
     let old = c.args.self.now.source in
     let mid = c.next_tag.new.self in
     let on = c.read_root.new.self.source in
@@ -63,33 +64,33 @@ returns-clause-refused c nodes d has left fresh row =
     let entered = enter_after c.kinds_are_read.ensures c.in-Some.opened white t nodes old mid [] is_white tag start row (inl refl) in
     let root = c.in_ok-read_root.ensures.read t has first.moves.left fresh start.opened in
     let others = row_after c.kinds_are_read.ensures c.in-Some.opened white t entered.left root.nodes old mid on [] tag start entered.entered root.inside root.scope in
-    wrong_weaker _ c.read_after.result _ _ (λ wrong h. wrong (means_inside c.in-Some.opened white t nodes old mid [] d entered is_white h).1)
+    wrong_weaker _ c.read_after.result _ _ (λ wrong h. wrong (alone_inside (IsRootOf IsNamedRdf) c.in-Some.opened white t nodes old mid [] entered is_white h).1)
     (c.read_after.ensures.refused entered.entered.more root.inside.moves.left others)
 
 pub returns-clause-subject : goal.returns-clause-subject
-returns-clause-subject c nodes d has left fresh row =
+returns-clause-subject c nodes has left fresh row =
     let (white, is_white, first) = c.in_ok-opened.ensures.read left in
     let tag = subst (λ (z : Option Opened). TagAfter z white c.args.self.now.source c.next_tag.new.self) c.in-Some.is first in
     let (t, start) = tag.is in
     let root = c.in_ok-read_root.ensures.read t has first.moves.left fresh start.opened in
     on_ok_weaker c.read_after.result
-    (λ last means. document_subject c.kinds_are_read.ensures c.in-Some.opened white c.args.self.now.source c.next_tag.new.self c.read_root.new.self.source
-    c.read_root.new.subject c.read_root.new.self.output nodes d is_white tag
-    (λ u opened. c.in_ok-read_root.ensures.read u has first.moves.left fresh opened) (λ e. last) row means)
+    (λ last. document_subject c.kinds_are_read.ensures c.in-Some.opened white c.args.self.now.source c.next_tag.new.self c.read_root.new.self.source
+    c.read_root.new.subject c.read_root.new.self.output nodes is_white tag
+    (λ u opened. c.in_ok-read_root.ensures.read u has first.moves.left fresh opened) (λ e. last) row)
     (c.read_after.ensures.read root.inside.moves.left)
 
 pub returns-in_err-opened-clause-accepts : goal.returns-in_err-opened-clause-accepts
 returns-in_err-opened-clause-accepts c nodes d has left fresh row fit is fits =
     let p = err_from_is_err_and c.from_residual.result c.from_residual.ensures.1 in
     rw (p.1, p.2) (memory_says (Option Opened) ⊤ c.in_err-opened.field-0.0
-    (c.in_err-opened.ensures.accepts nodes [] left row (means_tag nodes d [] is)))
+    (c.in_err-opened.ensures.accepts nodes [] left row (alone_tag (IsRootOf (IsRdf d)) nodes [] is)))
 
 pub returns-in_default-clause-accepts : goal.returns-in_default-clause-accepts
 returns-in_default-clause-accepts c nodes d has left fresh row fit is fits =
     let (white, is_white, first) = c.in_ok-opened.ensures.read left in
     let tag = subst (λ (z : Option Opened). TagAfter z white c.args.self.now.source c.next_tag.new.self) c.in_default.is first in
     let whole = white_at_end c.kinds_are_read.ensures white nodes c.args.self.now.source c.next_tag.new.self [] is_white tag row (inl refl) in
-    absurd (means_front white Nothing d is_white (subst (λ (q : Nodes). Means q d) whole is))
+    absurd (alone_front (IsRootOf (IsRdf d)) white Nothing is_white (subst (HasRoot (IsRdf d)) whole is))
 
 pub returns-in_err-read_root-clause-accepts : goal.returns-in_err-read_root-clause-accepts
 returns-in_err-read_root-clause-accepts c nodes d has left fresh row fit is fits =
@@ -99,8 +100,8 @@ returns-in_err-read_root-clause-accepts c nodes d has left fresh row fit is fits
     let tag = subst (λ (z : Option Opened). TagAfter z white old mid) c.in-Some.is first in
     let (t, start) = tag.is in
     let at = element_entered c.kinds_are_read.ensures c.in-Some.opened white t nodes old mid [] fit is_white tag start row (inl refl) in
-    let (root, blank) = means_front white (Element t c.in-Some.opened.place at.entered.content at.entered.more) d is_white
-    (subst (λ (q : Nodes). Means q d) at.is is) in
+    let (root, blank) = alone_front (IsRootOf (IsRdf d)) white (Element t c.in-Some.opened.place at.entered.content at.entered.more) is_white
+    (subst (HasRoot (IsRdf d)) at.is is) in
     let p = err_from_is_err_and c.from_residual-in_err-read_root.result c.from_residual-in_err-read_root.ensures.1 in
     rw (p.1, p.2) (memory_says ⊤ ⊤ c.in_err-read_root.field-0.0
     (c.in_err-read_root.ensures.accepts t at.entered.content d at.entered.tail has fresh start.opened
@@ -114,8 +115,8 @@ returns-clause-accepts c nodes d has left fresh row fit is fits =
     let tag = subst (λ (z : Option Opened). TagAfter z white old mid) c.in-Some.is first in
     let (t, start) = tag.is in
     let at = element_entered c.kinds_are_read.ensures c.in-Some.opened white t nodes old mid [] fit is_white tag start row (inl refl) in
-    let (root, blank) = means_front white (Element t c.in-Some.opened.place at.entered.content at.entered.more) d is_white
-    (subst (λ (q : Nodes). Means q d) at.is is) in
+    let (root, blank) = alone_front (IsRootOf (IsRdf d)) white (Element t c.in-Some.opened.place at.entered.content at.entered.more) is_white
+    (subst (HasRoot (IsRdf d)) at.is is) in
     let read = c.in_ok-read_root.ensures.read t has tag.moves.left fresh start.opened in
     let others = row_after c.kinds_are_read.ensures c.in-Some.opened white t at.left read.nodes old mid c.read_root.new.self.source [] tag start at.entered
     read.inside read.scope in
