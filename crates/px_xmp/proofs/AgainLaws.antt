@@ -1,13 +1,13 @@
 -- The name of a property, a language and a URI, as a normal form has them, are again a name of a property, a language and a URI.
-use Rattle.std.proofs.Common.{◌≡◌, ◌≤◌, ◌⊎◌, ◌∙◌, ◌+◌, ◌==◌, ◌&&◌, ◌||◌, ◌++◌, refl, ℕ, Bool, true, false, not, nat_le, nat_lt, nat_eq, cond}
+use Rattle.std.proofs.Common.{◌≡◌, ◌≤◌, ◌∙◌, ◌+◌, ◌==◌, ◌&&◌, ◌||◌, ◌++◌, refl, ℕ, Bool, true, false, not, nat_le, nat_lt, nat_eq, cond}
 use Rattle.std.proofs.Common.{Option, Some, None, option_map, option_and_then, if◌then◌else◌}
 use Rattle.std.proofs.Common.{List, [], ◌∷◌, codes, sym, ap, subst, take, drop, zero, suc, length, map, inl, inr, arith, eqb-true}
 use Rattle.std.specs.List.{list_all, starts_with}
-use Rattle.std.specs.Char.{to_ascii_lowercase, encode_utf8}
+use Rattle.std.specs.Char.{to_ascii_lowercase}
 use Rattle.std.specs.Str.{str_to_ascii_lowercase}
-use Rattle.std.proofs.lemmas.Bool.{cases_Bool, and_parts, and_from, leb-true, le-leb, ltb-true, ltb-false, lt-ltb, le-ltb, cond-true, cond-false}
+use Rattle.std.proofs.lemmas.Bool.{cases_Bool, and_parts, and_from, leb-true, le-leb, ltb-true, ltb-false, lt-ltb, le-ltb, cond-true, cond-false, not-true, or_cases, or_left, or_right, or_from}
 use Rattle.std.proofs.lemmas.List.{map-append, length-map, take-append-drop}
-use Rattle.px_xmp_text.specs.References.{reference, entity_reference}
+use Rattle.std.proofs.lemmas.Option.{cond_some}
 use Rattle.px_xmp_text.specs.Texts.{piece, text_in, text_of, normal_octet, normal_text}
 use Rattle.px_xmp_text.specs.declared.pieces.TextKind.TheVariants.{AttributeValue}
 use Rattle.px_xmp_text.specs.Values.{Property, Structure}
@@ -18,20 +18,10 @@ use Rattle.px_xmp_forms.specs.Languages.{is_letter, is_digit, is_part_octet, IsP
 use Rattle.px_xmp_forms.specs.Uris.{is_excluded, is_uri_octet, are_uri_octets, IsAbsolute}
 use Rattle.px_xmp.specs.Names.{Name, is_free, is_property, rdf_space}
 use Rattle.px_xmp.specs.Meaning.{label_in}
-use Rattle.px_xmp.proofs.MeaningLaws.{same_octets}
+use Rattle.px_xmp.proofs.MeaningLaws.{same_octets, name_in}
+use Rattle.px_xmp.proofs.SimpleLaws.{plain_piece, and_piece, unchanged_octet}
 
 -- ---- languages
-
-either : (a b : Bool) → (a || b) ≡ true → (a ≡ true) ⊎ (b ≡ true)
-either true b h = inl refl
-either false b h = inr h
-
-or_left : (a b : Bool) → a ≡ true → (a || b) ≡ true
-or_left a b h = ap (λ (z : Bool). z || b) h
-
-or_right : (a b : Bool) → b ≡ true → (a || b) ≡ true
-or_right true b h = refl
-or_right false b h = h
 
 in_range : (a o b : ℕ) → a ≤ o → o ≤ b → (nat_le a o && nat_le o b) ≡ true
 in_range a o b p q = and_from (nat_le a o) (nat_le o b) (le-leb a o p) (le-leb o b q)
@@ -51,7 +41,7 @@ lower_high o h =
     cond-false (nat_lt o 65) o (cond (nat_lt o 91) (o + 32) o) (le-ltb o 65 (omega (arith, h))) ∙ cond-false (nat_lt o 91) (o + 32) o (le-ltb o 91 h)
 
 lower_letter : (o : ℕ) → is_letter o ≡ true → is_letter (to_ascii_lowercase o) ≡ true
-lower_letter o h = elim (either (nat_le 97 o && nat_le o 122) (nat_le 65 o && nat_le o 90) h) [
+lower_letter o h = elim (or_cases (nat_le 97 o && nat_le o 122) (nat_le 65 o && nat_le o 90) h) [
   | inl p ↦
       let r = range_of 97 o 122 p in subst (λ (z : ℕ). is_letter z ≡ true) (sym (lower_high o (omega (arith, r.0)))) h
   | inr p ↦
@@ -66,7 +56,7 @@ lower_digit o h =
     let r = range_of 48 o 57 h in subst (λ (z : ℕ). is_digit z ≡ true) (sym (lower_low o (omega (arith, r.1)))) h
 
 lower_part_octet : (first : Bool) (o : ℕ) → is_part_octet first o ≡ true → is_part_octet first (to_ascii_lowercase o) ≡ true
-lower_part_octet first o h = elim (either (is_letter o) (not first && is_digit o) h) [
+lower_part_octet first o h = elim (or_cases (is_letter o) (not first && is_digit o) h) [
   | inl p ↦ or_left (is_letter (to_ascii_lowercase o)) (not first && is_digit (to_ascii_lowercase o)) (lower_letter o p)
   | inr p ↦
       let q = and_parts (not first) (is_digit o) p in
@@ -131,23 +121,6 @@ map_some : {A B : Type 0} (f : A → B) (m : Option A) (t : B) → option_map f 
 map_some f None t e = absurd (cc)
 map_some f (Some s) t e = (s, refl, cc)
 
-plain_if : (p q r s : Bool) (u v w z : Option (List ℕ × ℕ)) → p ≡ false → q ≡ false → r ≡ false → s ≡ false
-    → cond (p && true) u (cond q v (cond (r || s) w z)) ≡ z
-plain_if false false false false u v w z a b c d = refl
-plain_if true q r s u v w z a b c d = absurd (cc)
-plain_if false true r s u v w z a b c d = absurd (cc)
-plain_if false false true s u v w z a b c d = absurd (cc)
-plain_if false false false true u v w z a b c d = absurd (cc)
-
-plain_piece : (o : ℕ) (x : List ℕ) → (o == 38) ≡ false → (o == 13) ≡ false → (o == 9) ≡ false → (o == 10) ≡ false
-    → piece AttributeValue (o ∷ x) ≡ Some (o ∷ [], 1)
-unfolding piece
-plain_piece o x a b c d = plain_if (o == 38) (o == 13) (o == 9) (o == 10) _ _ _ _ a b c d
-
-amp_piece : (y : List ℕ) → piece AttributeValue (codes "&amp;" ++ y) ≡ Some (38 ∷ [], 5)
-unfolding piece reference entity_reference encode_utf8
-amp_piece y = refl
-
 plain_step : (n o : ℕ) (x t : List ℕ) → piece AttributeValue (o ∷ x) ≡ Some (o ∷ [], 1) → text_in (suc n) AttributeValue (o ∷ x) ≡ Some t
     → (s : List ℕ) × (text_in n AttributeValue x ≡ Some s) × (o ∷ s ≡ t)
 unfolding text_in
@@ -161,7 +134,7 @@ unfolding text_in
 amp_step n y t e =
     map_some (λ (z : List ℕ). 38 ∷ z) (text_in n AttributeValue y) t
     (sym (ap (λ (r : Option (List ℕ × ℕ)). option_and_then (λ q. option_map (λ z. q.0 ++ z) (text_in n AttributeValue
-    (drop q.1 (codes "&amp;" ++ y)))) r) (amp_piece y)) ∙ e)
+    (drop q.1 (codes "&amp;" ++ y)))) r) (and_piece y)) ∙ e)
 
 no_text : (n : ℕ) (t : List ℕ) → text_in n AttributeValue [] ≡ Some t → [] ≡ t
 unfolding text_in
@@ -175,22 +148,10 @@ no_pieces o x t e = absurd (cc)
 abbrev IsPlain : ℕ → Type 0
 IsPlain o = ((x : List ℕ) → piece AttributeValue (o ∷ x) ≡ Some (o ∷ [], 1)) × (normal_octet o ≡ o ∷ [])
 
-not_true : (b : Bool) → not b ≡ true → b ≡ false
-not_true false h = refl
-not_true true h = absurd (cc)
-
 no_signs : (a b c d e f g h i : Bool) → (a || b || c || d || e || f || g || h || i) ≡ false → (a ≡ false) × (b ≡ false)
 no_signs true b c d e f g h i k = absurd (cc)
 no_signs false true c d e f g h i k = absurd (cc)
 no_signs false false c d e f g h i k = (refl, refl)
-
-plain_form : (a b c d : Bool) (x y z w v : List ℕ) → a ≡ false → b ≡ false → c ≡ false → d ≡ false
-    → cond a x (cond b y (cond c z (cond d w v))) ≡ v
-plain_form true b c d x y z w v e f g h = absurd (cc)
-plain_form false true c d x y z w v e f g h = absurd (cc)
-plain_form false false true d x y z w v e f g h = absurd (cc)
-plain_form false false false true x y z w v e f g h = absurd (cc)
-plain_form false false false false x y z w v e f g h = refl
 
 past : (o a : ℕ) → 33 ≤ o → a ≤ 32 → (o == a) ≡ false
 past o a h k = elim (cases_Bool (o == a)) [
@@ -202,10 +163,10 @@ uri_octet_plain : (o : ℕ) → is_uri_octet o ≡ true → (o == 38) ≡ false 
 uri_octet_plain o h amp =
     let p = and_parts (nat_le 33 o && nat_le o 126) (not (is_excluded o)) h in
     let low : 33 ≤ o = (range_of 33 o 126 p.0).0 in
-    let signs = no_signs (o == 60) (o == 62) (o == 34) (o == 123) (o == 125) (o == 124) (o == 92) (o == 94) (o == 96) (not_true (is_excluded o) p.1) in
+    let signs = no_signs (o == 60) (o == 62) (o == 34) (o == 123) (o == 125) (o == 124) (o == 92) (o == 94) (o == 96) (not-true (is_excluded o) p.1) in
     let cr : (o == 13) ≡ false = past o 13 low (omega arith) in (
-      λ x. plain_piece o x amp cr (past o 9 low (omega arith)) (past o 10 low (omega arith)),
-      plain_form (o == 38) (o == 60) (o == 62) (o == 13) (codes "&amp;") (codes "&lt;") (codes "&gt;") (codes "&#13;") (o ∷ []) amp signs.0 signs.1 cr,
+      λ x. plain_piece o x amp cr (or_from (o == 9) (o == 10) (past o 9 low (omega arith)) (past o 10 low (omega arith))),
+      unchanged_octet (o == 38) (o == 60) (o == 62) (o == 13) (codes "&amp;") (codes "&lt;") (codes "&gt;") (codes "&#13;") (o ∷ []) amp signs.0 signs.1 cr,
     )
 
 uri_text : (n : ℕ) (x t : List ℕ) → are_uri_octets x ≡ true → text_in n AttributeValue x ≡ Some t → normal_text t ≡ x
@@ -237,16 +198,6 @@ uri_again v t h e = uri_text (length v) v t h.0 e
 
 -- ---- names
 
-some_same : {A : Type 0} (p q : A) → Some p ≡ Some q → p ≡ q
-some_same p q h = cc
-
-if_some : {A : Type 0} (b : Bool) (p q : A) → (if b then Some p else None) ≡ Some q → (b ≡ true) × (p ≡ q)
-if_some true p q h = (refl, some_same p q h)
-if_some false p q h = absurd (cc)
-
-abbrev name_in : List ℕ → List ℕ → Name
-name_in u m = record { space = u; local = m }
-
 -- a label of a property is that of the name which it has
 abbrev IsAgain : List ℕ → List ℕ → Type 0
 IsAgain u m = (label_in Structure (name_in u m) ≡ Some (Property u m)) × (is_reserved (codes "p") u ≡ false) × (is_same u [] ≡ false)
@@ -255,9 +206,9 @@ free_again : (u m : List ℕ) → before_name u ≡ u → name_at_end u ≡ [] �
 free_again u m before none free =
     let p = and_parts (not (is_same u []) && not (is_same u rdf_space)) (not (is_same u xmlns_space)) free in
     let q = and_parts (not (is_same u [])) (not (is_same u rdf_space)) p.0 in
-    let some : is_same u [] ≡ false = not_true (is_same u []) q.0 in
-    let rdf : is_same u rdf_space ≡ false = not_true (is_same u rdf_space) q.1 in
-    let xmlns : is_same u xmlns_space ≡ false = not_true (is_same u xmlns_space) p.1 in
+    let some : is_same u [] ≡ false = not-true (is_same u []) q.0 in
+    let rdf : is_same u rdf_space ≡ false = not-true (is_same u rdf_space) q.1 in
+    let xmlns : is_same u xmlns_space ≡ false = not-true (is_same u xmlns_space) p.1 in
     let xml : is_same u xml_space ≡ false = no_xml in (
       ap (λ (b : Bool). if b then Some (label_of u m) else None)
           (ap (λ (b : Bool). if b then is_same m (codes "value") else (not (is_same u xml_space) && is_free (before_name u))) rdf
@@ -291,7 +242,7 @@ local_same a b c d h = cc
 pub label_again : (n : Name) (u m : List ℕ) → before_name (before_name n.space) ≡ before_name n.space → name_at_end (before_name n.space) ≡ []
     → label_in Structure n ≡ Some (Property u m) → IsAgain u m
 label_again n u m before none h =
-    let (is, label) = if_some (is_property n) (label_of n.space n.local) (Property u m) h in
+    let (is, label) = cond_some (is_property n) (label_of n.space n.local) (Property u m) h in
     by_space (is_same n.space rdf_space) refl is label
   where
     by_space : (b : Bool) → is_same n.space rdf_space ≡ b

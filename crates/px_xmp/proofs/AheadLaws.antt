@@ -44,10 +44,6 @@ IsTagRead reading.End = ⊤
 IsTagRead (reading.Words kind octets) = ⊥
 IsTagRead reading.Other = ⊥
 
-pub true_false : {P : Type 0} (b : Bool) → b ≡ true → b ≡ false → P
-true_false true e f = absurd (cc)
-true_false false e f = absurd (cc)
-
 -- ---- an element that is entered, after white space
 
 pub fit_after : (white left : Nodes) → AreWhite white → NodesFit (joined white left) → NodesFit left

@@ -1,6 +1,7 @@
 -- What is around the document of a packet is given by its octets.
-use Rattle.std.proofs.Common.{◌≡◌, ◌+◌, ◌&&◌, ◌++◌, ◌∙◌, inl, inr, refl, ℕ, Bool, true, false, List, [], ◌∷◌, take, drop, sym, ap, subst, append_assoc, append-nil}
+use Rattle.std.proofs.Common.{◌≡◌, ◌+◌, ◌++◌, ◌∙◌, inl, inr, refl, ℕ, true, List, [], ◌∷◌, take, drop, sym, ap, subst, append_assoc, append-nil}
 use Rattle.std.proofs.Math.Seq.{take-add}
+use Rattle.std.proofs.lemmas.Bool.{both_ways, and_parts}
 use Rattle.px_xmp_marks.specs.Declarations.{every}
 use Rattle.px_xmp.specs.Packet.{is_padding, IsAround, AreAround, BeginsBare, EndsBare, IsPacket}
 use Rattle.px_xmp.specs.Laws.{OnePacket}
@@ -8,14 +9,6 @@ use Rattle.px_xmp.specs.calls.Around.{BeginsAround}
 
 cons_same : (o v : ℕ) (x y : List ℕ) → o ∷ x ≡ v ∷ y → (o ≡ v) × (x ≡ y)
 cons_same o v x y h = (cc, cc)
-
-true_false : {P : Type 0} (b : Bool) → b ≡ true → b ≡ false → P
-true_false true e f = absurd (cc)
-true_false false e f = absurd (cc)
-
-both : (a b : Bool) → (a && b) ≡ true → (a ≡ true) × (b ≡ true)
-both true b h = (refl, h)
-both false b h = absurd (cc)
 
 -- ---- pieces, one after another
 
@@ -45,10 +38,10 @@ piece_once p q x y (inl (o, f, e)) (inl (v, g, h)) w =
     (e ∙ ap (λ (k : ℕ). k ∷ []) same ∙ sym h, rest)
 piece_once p q x y (inl (o, f, e)) (inr h) w =
     let (same, rest) = cons_same o 239 x (187 ∷ 191 ∷ y) (ap (λ (z : List ℕ). z ++ x) (sym e) ∙ w ∙ ap (λ (z : List ℕ). z ++ y) h) in
-    true_false (is_padding o) f (ap is_padding same)
+    absurd (both_ways (is_padding o) (ap is_padding same) f)
 piece_once p q x y (inr e) (inl (v, g, h)) w =
     let (same, rest) = cons_same 239 v (187 ∷ 191 ∷ x) y (ap (λ (z : List ℕ). z ++ x) (sym e) ∙ w ∙ ap (λ (z : List ℕ). z ++ y) h) in
-    true_false (is_padding v) g (ap is_padding (sym same))
+    absurd (both_ways (is_padding v) (ap is_padding (sym same)) g)
 piece_once p q x y (inr e) (inr h) w =
     let whole : mark ++ x ≡ mark ++ y = ap (λ (z : List ℕ). z ++ x) (sym e) ∙ w ∙ ap (λ (z : List ℕ). z ++ y) h in
     (e ∙ sym h, ap (drop 3) whole)
@@ -72,8 +65,8 @@ tail_bare : (o : ℕ) (x : List ℕ) → EndsBare (o ∷ x) → EndsBare x
 tail_bare o x h p y pad w = h p (o ∷ y) pad (ap (λ (z : List ℕ). o ∷ z) w)
 
 padded_end : (o : ℕ) (b d : List ℕ) → every is_padding ((o ∷ b) ++ d) ≡ true → EndsBare (o ∷ b) → ⊥
-padded_end o [] d h s = s o [] (both (is_padding o) (every is_padding d) h).0 refl
-padded_end o (v ∷ b) d h s = padded_end v b d (both (is_padding o) (every is_padding ((v ∷ b) ++ d)) h).1 (tail_bare o (v ∷ b) s)
+padded_end o [] d h s = s o [] (and_parts (is_padding o) (every is_padding d) h).0 refl
+padded_end o (v ∷ b) d h s = padded_end v b d (and_parts (is_padding o) (every is_padding ((v ∷ b) ++ d)) h).1 (tail_bare o (v ∷ b) s)
 
 pub padding_once : (a b c d : List ℕ) → a ++ c ≡ b ++ d → every is_padding c ≡ true → every is_padding d ≡ true → EndsBare a → EndsBare b
     → (a ≡ b) × (c ≡ d)

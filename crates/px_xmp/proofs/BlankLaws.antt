@@ -4,6 +4,7 @@ use Rattle.std.proofs.Common.{Option, Some, None, option_map, option_and_then}
 use Rattle.std.proofs.lemmas.Bool.{cases_Bool, cond-true, cond-false}
 use Rattle.std.proofs.lemmas.Str.{char_from_byte, encode_ascii}
 use Rattle.std.specs.Char.{encode_utf8}
+use Rattle.std.proofs.lemmas.Option.{same_Some}
 use Rattle.px_xmp_text.specs.References.{Counted, reference}
 use Rattle.px_xmp_text.specs.Grammar.{IsReference, OnlyReferencesAreRead}
 use Rattle.px_xmp_text.specs.Texts.{has_references, white_space, begins_with_feed, piece, text_in, text_of, normal_text}
@@ -12,9 +13,6 @@ use Rattle.px_xmp_text.specs.declared.pieces.TextKind.TheVariants.{CharacterData
 use Rattle.px_xmp_forms.specs.Forms.{is_space, is_white}
 use Rattle.px_xmp.proofs.WhiteLaws.{first_of, rest_of}
 use Rattle.px_xmp.proofs.CharacterLaws.{normal_append}
-
-pub some_same : {A : Type 0} (p q : A) → Some p ≡ Some q → p ≡ q
-some_same p q h = cc
 
 -- ---- white space
 
@@ -92,7 +90,7 @@ reference_short : OnlyReferencesAreRead → (x : List ℕ) (q : List ℕ × ℕ)
 reference_short law x q None e h = absurd (cc)
 reference_short law x q (Some r) e h =
     let (spelled, rest, whole, size, is) = law x r.0 r.1 e in
-    subst (IsShort x) (some_same (encode_utf8 r.0, r.1) q h) (record {
+    subst (IsShort x) (same_Some (encode_utf8 r.0, r.1) q h) (record {
       within = omega (arith, ap length whole, length-append spelled rest, size);
       short = λ white. omega (arith, white_character r.0 white, size, reference_size spelled r.0 is);
     })
@@ -127,7 +125,7 @@ piece_short law k o x q h = elim (cases_Bool ((o == 38) && has_references k)) [
   | inr f ↦
       let h1 = sym (cond-false ((o == 38) && has_references k) _ _ f) ∙ h in elim (cases_Bool (o == 13)) [
         | inl t ↦
-            let e = some_same _ q (sym (cond-true (o == 13) _ _ t) ∙ h1) in
+            let e = same_Some _ q (sym (cond-true (o == 13) _ _ t) ∙ h1) in
             subst (IsShort (o ∷ x)) e (record {
               within = feed_size o x;
               short = λ white. omega (arith, white_size k, some_size (begins_with_feed x));
@@ -135,10 +133,10 @@ piece_short law k o x q h = elim (cases_Bool ((o == 38) && has_references k)) [
         | inr g ↦
             let h2 = sym (cond-false (o == 13) _ _ g) ∙ h1 in elim (cases_Bool ((o == 9) || (o == 10))) [
               | inl t ↦
-                  let e = some_same _ q (sym (cond-true ((o == 9) || (o == 10)) _ _ t) ∙ h2) in
+                  let e = same_Some _ q (sym (cond-true ((o == 9) || (o == 10)) _ _ t) ∙ h2) in
                   subst (IsShort (o ∷ x)) e (record { within = omega arith; short = λ white. omega (arith, gap_size k o g white) })
               | inr d ↦
-                  let e = some_same _ q (sym (cond-false ((o == 9) || (o == 10)) _ _ d) ∙ h2) in
+                  let e = same_Some _ q (sym (cond-false ((o == 9) || (o == 10)) _ _ d) ∙ h2) in
                   subst (IsShort (o ∷ x)) e (record {
                     within = omega arith;
                     short = λ white. omega (arith, plain_octet o (first_of (is_space o) true white) g);
@@ -156,7 +154,7 @@ after_piece : (k : TextKind) (x t : List ℕ) (q : List ℕ × ℕ) (r : Option 
     → IsShort x q → option_map (λ s. q.0 ++ s) r ≡ Some t → IsShortText x t
 after_piece k x t q None ih short f white = absurd (cc)
 after_piece k x t q (Some s) ih short f white =
-    let same : q.0 ++ s ≡ t = some_same (q.0 ++ s) t f in
+    let same : q.0 ++ s ≡ t = same_Some (q.0 ++ s) t f in
     let (first, rest) = white_parts q.0 s (ap is_white same ∙ white) in
     omega (
       arith,
@@ -178,7 +176,7 @@ by_piece n k x t (Some q) ih short e = after_piece k x t q (text_in n k (drop q.
 
 text_in_short : OnlyReferencesAreRead → (n : ℕ) (k : TextKind) (x t : List ℕ) → text_in n k x ≡ Some t → IsShortText x t
 unfolding text_in
-text_in_short law n k [] t e white = omega (arith, ap (λ (z : List ℕ). length (normal_text z)) (some_same [] t e))
+text_in_short law n k [] t e white = omega (arith, ap (λ (z : List ℕ). length (normal_text z)) (same_Some [] t e))
 text_in_short law zero k (o ∷ x) t e white = absurd (cc)
 text_in_short law (suc n) k (o ∷ x) t e white =
     by_piece n k (o ∷ x) t (piece k (o ∷ x)) (λ q s f. text_in_short law n k (drop q.1 (o ∷ x)) s f) (piece_short law k o x) e white

@@ -1,7 +1,7 @@
 -- The octets of a normal packet are characters that XML allows.
 use Rattle.std.proofs.Common.{◌≡◌, ◌⊎◌, ◌≤◌, ◌<◌, ◌+◌, ◌/◌, ◌%◌, ◌==◌, ◌&&◌, ◌++◌, ◌∙◌, inl, inr, refl, ℕ, Bool, true, false, nat_le, nat_lt, cond, List, [], ◌∷◌, codes, sym, ap, subst, arith, append-nil, append_assoc, eqb-true, ne_eqb}
 use Rattle.std.proofs.lemmas.Bool.{cases_Bool, ltb-true, and_from}
-use Rattle.std.proofs.lemmas.Str.{encodes-append, encode_ascii}
+use Rattle.std.proofs.lemmas.Str.{encode_ascii}
 use Rattle.std.specs.List.{AllByRecursion}
 use Rattle.std.specs.Char.{encode_utf8}
 use Rattle.std.specs.Str.{encode_utf8_all}
@@ -19,6 +19,7 @@ use Rattle.px_xmp.specs.Readable.{IsReadableSimple, AreReadable}
 use Rattle.px_xmp.proofs.WhiteLaws.{first_of, rest_of}
 use Rattle.px_xmp.proofs.SimpleLaws.{unchanged_octet, uri_octets}
 use Rattle.px_xmp.proofs.StartLaws.{usual_plain, language_value, CanBeNamed, label_named_by, meta_start, root_start, description_start}
+use Rattle.px_xmp.proofs.TextLaws.{characters_joined}
 
 -- ---- octets of ASCII
 
@@ -61,14 +62,6 @@ ncname_ascii x h =
 abbrev Allowed : List ℕ → Type 0
 Allowed cs = AllByRecursion (λ c. is_char c ≡ true) cs
 
-allowed_append : (cs ds : List ℕ) → Allowed cs → Allowed ds → Allowed (cs ++ ds)
-allowed_append [] ds h k = k
-allowed_append (c ∷ cs) ds h k = (h.0, allowed_append cs ds h.1 k)
-
-characters_append : (x y : List ℕ) → AreCharacters x → AreCharacters y → AreCharacters (x ++ y)
-characters_append x y (cs, h, e) (ds, k, f) =
-    (cs ++ ds, allowed_append cs ds h k, ap (λ (z : List ℕ). z ++ y) e ∙ ap (λ (z : List ℕ). encode_utf8_all cs ++ z) f ∙ sym (encodes-append cs ds))
-
 ascii_allowed : (x : List ℕ) → every is_ascii x ≡ true → Allowed x × (x ≡ encode_utf8_all x)
 ascii_allowed [] h = (tt, refl)
 ascii_allowed (o ∷ x) h =
@@ -83,7 +76,7 @@ ascii_characters x h = let (all, e) = ascii_allowed x h in (x, all, e)
 
 -- octets of ASCII before characters
 after_ascii : (x k : List ℕ) → every is_ascii x ≡ true → AreCharacters k → AreCharacters (x ++ k)
-after_ascii x k h c = characters_append x k (ascii_characters x h) c
+after_ascii x k h c = characters_joined x k (ascii_characters x h) c
 
 -- ---- normal forms of texts
 
@@ -158,7 +151,7 @@ one_character : (c : ℕ) → is_char c ≡ true → AreCharacters (normal_text 
 one_character c h = elim (encoded c) [
   | inl a ↦
       subst (λ (z : List ℕ). AreCharacters (normal_text z)) (sym a.1)
-      (characters_append (normal_octet c) [] (low_characters c h a.0) ([], tt, refl))
+      (characters_joined (normal_octet c) [] (low_characters c h a.0) ([], tt, refl))
   | inr b ↦ subst AreCharacters (sym (high_text (encode_utf8 c) b)) (c ∷ [], (h, tt), sym (append-nil (encode_utf8 c)))
 ]
 
@@ -166,7 +159,7 @@ normal_all : (cs : List ℕ) → Allowed cs → AreCharacters (normal_text (enco
 normal_all [] h = ([], tt, refl)
 normal_all (c ∷ cs) h =
     subst AreCharacters (sym (normal_append (encode_utf8 c) (encode_utf8_all cs)))
-    (characters_append (normal_text (encode_utf8 c)) (normal_text (encode_utf8_all cs)) (one_character c h.0) (normal_all cs h.1))
+    (characters_joined (normal_text (encode_utf8 c)) (normal_text (encode_utf8_all cs)) (one_character c h.0) (normal_all cs h.1))
 
 normal_characters : (t : List ℕ) → AreCharacters t → AreCharacters (normal_text t)
 normal_characters t (cs, h, e) = subst (λ (z : List ℕ). AreCharacters (normal_text z)) (sym e) (normal_all cs h)
@@ -188,14 +181,14 @@ opening_characters Item can k c = after_ascii (codes "<rdf:li") k refl c
 simple_characters : (l : Label) (p : Simple) → CanBeNamed l → IsReadableSimple p → (k : List ℕ) → AreCharacters k
     → AreCharacters (simple l p k)
 simple_characters l (Literal [] t) can h k c =
-    after_ascii (codes ">") _ refl (characters_append (normal_text t) _ (normal_characters t h.2) (end_characters l can k c))
+    after_ascii (codes ">") _ refl (characters_joined (normal_text t) _ (normal_characters t h.2) (end_characters l can k c))
 simple_characters l (Literal (o ∷ g) t) can h k c =
     after_ascii (codes " xml:lang=\"") _ refl
     (after_ascii (o ∷ g) _ (every_from is_plain is_ascii space_ascii (o ∷ g) (language_value (o ∷ g) h.0).0)
-    (after_ascii (codes "\">") _ refl (characters_append (normal_text t) _ (normal_characters t h.2) (end_characters l can k c))))
+    (after_ascii (codes "\">") _ refl (characters_joined (normal_text t) _ (normal_characters t h.2) (end_characters l can k c))))
 simple_characters l (Uri u) can h k c =
     after_ascii (codes " rdf:resource=\"") _ refl
-    (characters_append (normal_text u) _ (ascii_characters (normal_text u) (every_from is_uri_octet is_ascii uri_ascii (normal_text u) (uri_octets (normal_text u) h.0)))
+    (characters_joined (normal_text u) _ (ascii_characters (normal_text u) (every_from is_uri_octet is_ascii uri_ascii (normal_text u) (uri_octets (normal_text u) h.0)))
     (after_ascii (codes "\"/>") k refl c))
 
 start_characters : (s : Compound) (k : List ℕ) → AreCharacters k → AreCharacters (compound_start s k)

@@ -1,5 +1,6 @@
 -- What is left of the properties or items of an element is read.
 use Rattle.std.proofs.Common.{◌≡◌, ◌++◌, ◌⊎◌, ◌∙◌, inl, inr, refl, ℕ, Bool, false, Some, None, List, [], sym, ap, subst, arith}
+use Rattle.std.proofs.lemmas.Option.{same_Some}
 use Rattle.px_xmp_text.specs.Values.{Label, Compound, Structure, Content, PacketIsInjective}
 use Rattle.px_xmp_spaces.specs.Scopes.{ended}
 use Rattle.px_xmp_forms.specs.Entries.{Value, Inside, Entry, ValueFits}
@@ -23,9 +24,6 @@ use Rattle.px_xmp.proofs.RefusedLaws.{inside_once, row_after}
 use Rattle.px_xmp.proofs.AheadLaws.{AtElement, element_entered, inside_ahead}
 use Rattle.px_xmp.proofs.FitLaws.{fit_can, bare_only}
 use Rattle.px_xmp.proofs.LiteralLaws.{text_no_tag}
-
-some_same : {A : Type 0} (p q : A) → Some p ≡ Some q → p ≡ q
-some_same p q h = cc
 
 -- ---- what follows white space
 
@@ -104,7 +102,7 @@ module _ (law : KindsAreRead) (c : Compound) (l : List ℕ) (depth : ℕ) (o : O
       let (e, row, ends) = a.ahead.row in
       let (declares, other, v, rest, named, same, are, is) = are_left in
       let one : other ≡ label =
-      some_same other label (sym named ∙ ap (λ (z : Name). label_in c z) (sym start.opened.0) ∙ called) in
+      same_Some other label (sym named ∙ ap (λ (z : Name). label_in c z) (sym start.opened.0) ∙ called) in
       record {
         nodes = entered.entered.content;
         value = v;

@@ -1,6 +1,7 @@
 -- Which layer refuses a packet, and where.
 use Rattle.std.proofs.Common.{◌≡◌, ◌≤◌, ◌⊎◌, ◌++◌, ◌&&◌, if◌then◌else◌, ◌∙◌, inl, inr, ℕ, Bool, true, false, nat_eq, codes, Option, List, [], ◌∷◌, length, drop, Result, Ok, Err, refl, sym, ap, subst, arith, length-drop, length-append, append_assoc}
 use Rattle.std.specs.List.{starts_with}
+use Rattle.std.proofs.lemmas.Bool.{both_ways}
 use Rattle.px_bytes.specs.Parts.{limit}
 use Rattle.px_xmp_marks.specs.Declarations.{every, DeclarationsAreRead}
 use Rattle.px_xmp_marks.specs.Laws.{StartTagsAreRead}
@@ -32,10 +33,6 @@ use Rattle.px_xmp.proofs.DocumentLaws.{tree_once}
 use Rattle.px_xmp.proofs.FormedLaws.{IsParted}
 use Rattle.px_xmp.proofs.PacketLaws.{parts_joined, rest_joined}
 use Rattle.px_xmp.proofs.DocumentFitLaws.{file_not_crowded}
-
-true_false : {P : Type 0} (b : Bool) → b ≡ true → b ≡ false → P
-true_false true e f = absurd (cc)
-true_false false e f = absurd (cc)
 
 -- ---- results
 
@@ -139,8 +136,8 @@ documents_once x p q =
 
 mark_same : (x : List ℕ) (c d : Cause) → IsMarkCause x c → IsMarkCause x d → AreSame c d
 mark_same x c d (inl (e, h)) (inl (f, g)) = inl (h ∙ sym g)
-mark_same x c d (inl (e, h)) (inr (f, g)) = true_false (starts_with nat_eq x (codes "<!DOCTYPE")) e f
-mark_same x c d (inr (e, h)) (inl (f, g)) = true_false (starts_with nat_eq x (codes "<!DOCTYPE")) f e
+mark_same x c d (inl (e, h)) (inr (f, g)) = absurd (both_ways (starts_with nat_eq x (codes "<!DOCTYPE")) f e)
+mark_same x c d (inr (e, h)) (inl (f, g)) = absurd (both_ways (starts_with nat_eq x (codes "<!DOCTYPE")) e f)
 mark_same x c d (inr (e, h)) (inr (f, g)) = inr (h, g)
 
 nesting_same : (k : NestingCause) (x : List ℕ) (c d : Cause) → IsNestingCause k x c → IsNestingCause k x d → AreSame c d
@@ -162,8 +159,8 @@ document_same (documents.Spaces k) x c d h g = inl (h ∙ sym g)
 
 cause_same : (x : List ℕ) (k : DocumentCause) (n : ℕ) (c d : Cause) → IsCauseOf x k n c → IsCauseOf x k n d → AreSame c d
 cause_same x k n c d (inl (e, h)) (inl (f, g)) = inl (h ∙ sym g)
-cause_same x k n c d (inl (e, h)) (inr (f, g)) = true_false (is_declaration x n) e f
-cause_same x k n c d (inr (e, h)) (inl (f, g)) = true_false (is_declaration x n) f e
+cause_same x k n c d (inl (e, h)) (inr (f, g)) = absurd (both_ways (is_declaration x n) f e)
+cause_same x k n c d (inr (e, h)) (inl (f, g)) = absurd (both_ways (is_declaration x n) e f)
 cause_same x k n c d (inr (e, h)) (inr (f, g)) = document_same k (drop n x) c d h g
 
 fault_same : OneFault → (x : List ℕ) (start : ℕ) (c d : Cause) (m n : ℕ) → IsRefusedByFault x start c m → IsRefusedByFault x start d n
@@ -207,9 +204,9 @@ one_refusal declarations law x c d m n (inl (long, e, p)) (inr (inl (few, v, f, 
 one_refusal declarations law x c d m n (inl (long, e, p)) (inr (inr (s, g))) = absurd (omega (arith, long, s.few))
 one_refusal declarations law x c d m n (inr (inl (few, w, e, p))) (inl (long, f, q)) = absurd (omega (arith, long, few))
 one_refusal declarations law x c d m n (inr (inl (few, w, e, p))) (inr (inl (less, v, f, q))) = (p ∙ sym q, inl (e ∙ sym f))
-one_refusal declarations law x c d m n (inr (inl (few, w, e, p))) (inr (inr (s, g))) = true_false (is_wide x) w s.narrow
+one_refusal declarations law x c d m n (inr (inl (few, w, e, p))) (inr (inr (s, g))) = absurd (both_ways (is_wide x) s.narrow w)
 one_refusal declarations law x c d m n (inr (inr (r, h))) (inl (long, f, q)) = absurd (omega (arith, long, r.few))
-one_refusal declarations law x c d m n (inr (inr (r, h))) (inr (inl (less, v, f, q))) = true_false (is_wide x) v r.narrow
+one_refusal declarations law x c d m n (inr (inr (r, h))) (inr (inl (less, v, f, q))) = absurd (both_ways (is_wide x) r.narrow v)
 one_refusal declarations law x c d m n (inr (inr (r, h))) (inr (inr (s, g))) =
     let (before, document) = documents_once x r s in
     inside_same declarations law r.document (length r.before) c d m n h
@@ -240,7 +237,7 @@ packet_document x narrow p =
 
 pub rdf_last : MarksAreRead → StartTagsAreRead → DeclarationsAreRead → OneFault → RdfIsLast
 rdf_last marks starts declarations law x c n (inl (long, e, at)) (narrow, p) = absurd (omega (arith, long, p.few))
-rdf_last marks starts declarations law x c n (inr (inl (few, wide, e, at))) (narrow, p) = true_false (is_wide x) wide narrow
+rdf_last marks starts declarations law x c n (inr (inl (few, wide, e, at))) (narrow, p) = absurd (both_ways (is_wide x) narrow wide)
 rdf_last marks starts declarations law x c n (inr (inr (r, h))) (narrow, p) =
     let (before, document) = documents_once x r (packet_document x narrow p) in
     no_file marks starts declarations law r.document (length r.before) c n h (subst IsFile (sym document) p.file)

@@ -1,5 +1,6 @@
 -- The text of a property or an item is read, and there is room for it.
 use Rattle.std.proofs.Common.{◌≡◌, ◌≤◌, ◌+◌, ℕ, true, false, Some, List, [], ◌++◌, length, codes, refl, sym, ap, subst, ◌∙◌, inl, inr, arith, length-append, append_assoc}
+use Rattle.std.proofs.lemmas.Bool.{both_ways}
 use Rattle.px_bytes.specs.Parts.{limit}
 use Rattle.px_xmp_text.specs.Texts.{normal_text}
 use Rattle.px_xmp_text.specs.declared.pieces.TextKind.{TextKind}
@@ -26,7 +27,7 @@ use Rattle.px_xmp.specs.calls.Fits.{HasElement, WordsFit}
 use Rattle.px_xmp.proofs.StepLaws.{joined}
 use Rattle.px_xmp.proofs.NodeLaws.{mark_once, IsWords, words_mark, words_same, IsStop, at_stop, words_stop, words_start, no_tag}
 use Rattle.px_xmp.proofs.CharacterLaws.{normal_append}
-use Rattle.px_xmp.proofs.AheadLaws.{IsTagRead, is_tag, true_false}
+use Rattle.px_xmp.proofs.AheadLaws.{IsTagRead, is_tag}
 
 -- what follows a text in a row of nodes
 pub text_passed : KindsAreRead → (a b : Nodes) (s : List ℕ) (scope : List Item) (at to : ℕ) (x y z : List ℕ) → IsText a s → AreNodes a scope at x y
@@ -96,8 +97,8 @@ text_goes_on law a nodes s t scope at to x y e tail is octets row ends same text
 pub tag_of_mark : (w : What) (k : Mark) → IsReadAs w k → is_tag k ≡ true → IsTagRead w
 tag_of_mark (reading.Tag t) k is h = tt
 tag_of_mark reading.End k is h = tt
-tag_of_mark (reading.Words kind octets) k is h = true_false (is_tag k) h (ap is_tag is)
-tag_of_mark reading.Other k is h = true_false (is_tag k) h (ap is_tag is)
+tag_of_mark (reading.Words kind octets) k is h = absurd (both_ways (is_tag k) (ap is_tag is) h)
+tag_of_mark reading.Other k is h = absurd (both_ways (is_tag k) (ap is_tag is) h)
 
 pub kind_short : (kind : TextKind) (octets m y : List ℕ) → IsKind (Text kind octets) m y → length octets ≤ length m
 kind_short CharacterData octets m y h = omega (arith, ap length h.2)

@@ -2,14 +2,11 @@
 use Rattle.std.proofs.Common.{◌≡◌, ◌≢◌, ◌≤◌, ◌<◌, ◌⊎◌, ◌+◌, ◌-◌, ◌*◌, ◌==◌, ◌||◌, ◌++◌, ◌∙◌, inl, inr, refl, ℕ, zero, suc, Bool, true, false, not, if◌then◌else◌, List, [], ◌∷◌, length, take, drop, sym, ap, subst, arith, append_assoc, length-append, length-drop, length-take-le, drop-drop, take-add, take-take, ne_eqb}
 use Rattle.std.specs.List.{AllByRecursion}
 use Rattle.std.proofs.lemmas.List.{drop_at, take_at, take-append-le}
+use Rattle.std.proofs.lemmas.Bool.{both_ways, or_right}
 use Rattle.px_xmp_marks.specs.Reading.{is_space, is_name_start, is_name_char, run, Named, Attr}
 use Rattle.px_xmp_marks.specs.Grammar.{IsNcName, IsName, IsAttValue, IsAttribute, AreAttributes, closing}
 use Rattle.px_xmp.specs.Limits.{IsCrowded}
 use Rattle.px_xmp.specs.calls.Crowded.{has, equals_signs, IsInRun}
-
-true_false : {P : Type 0} (b : Bool) → b ≡ true → b ≡ false → P
-true_false true e f = absurd (cc)
-true_false false e f = absurd (cc)
 
 neither : (a b : Bool) → (a || b) ≡ false → (a ≡ false) × (b ≡ false)
 neither true b h = absurd (cc)
@@ -18,10 +15,6 @@ neither false b h = (refl, h)
 none_of : (a b : Bool) → a ≡ false → b ≡ false → (a || b) ≡ false
 none_of true b e f = absurd (cc)
 none_of false b e f = f
-
-one_of : (a b : Bool) → b ≡ true → (a || b) ≡ true
-one_of true b h = refl
-one_of false b h = h
 
 side : (n m : ℕ) → (n < m) ⊎ (m ≤ n)
 side n zero = inr (omega arith)
@@ -57,7 +50,7 @@ has_back c (o ∷ x) y h = has_back c x y (neither (o == c) (has c (x ++ y)) h).
 
 has_later : (c : ℕ) (x y : List ℕ) → has c y ≡ true → has c (x ++ y) ≡ true
 has_later c [] y h = h
-has_later c (o ∷ x) y h = one_of (o == c) (has c (x ++ y)) (has_later c x y h)
+has_later c (o ∷ x) y h = or_right (o == c) (has c (x ++ y)) (has_later c x y h)
 
 has_first : (y : List ℕ) (n : ℕ) → take 1 y ≡ 61 ∷ [] → has 61 (take (suc n) y) ≡ true
 has_first [] n e = absurd (cc)
@@ -156,14 +149,14 @@ run_covers (o ∷ x) y h =
 none_where : (f : ℕ → Bool) → f 60 ≡ false → (x : List ℕ) → AllByRecursion (λ o. f o ≡ true) x → has 60 x ≡ false
 none_where f other [] h = refl
 none_where f other (o ∷ x) h =
-    none_of (o == 60) (has 60 x) (ne_eqb o 60 (λ e. true_false (f 60) (subst (λ (k : ℕ). f k ≡ true) e h.0) other)) (none_where f other x h.1)
+    none_of (o == 60) (has 60 x) (ne_eqb o 60 (λ e. absurd (both_ways (f 60) other (subst (λ (k : ℕ). f k ≡ true) e h.0)))) (none_where f other x h.1)
 
 ncname_bare : (x : List ℕ) → IsNcName x → (1 ≤ length x) × (has 60 x ≡ false)
 ncname_bare x h = (
   omega (arith, ap length h.whole),
   subst (λ (z : List ℕ). has 60 z ≡ false) (sym h.whole)
       (none_of (h.first == 60) (has 60 h.others)
-      (ne_eqb h.first 60 (λ e. true_false (is_name_start 60) (subst (λ (k : ℕ). is_name_start k ≡ true) e h.begins) refl))
+      (ne_eqb h.first 60 (λ e. absurd (both_ways (is_name_start 60) refl (subst (λ (k : ℕ). is_name_start k ≡ true) e h.begins))))
       (none_where is_name_char refl h.others h.contains)),
 )
 

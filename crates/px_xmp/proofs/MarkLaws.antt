@@ -3,6 +3,7 @@ use Rattle.std.proofs.Common.{◌≡◌, ◌+◌, ◌==◌, ◌&&◌, ℕ, Bool,
 use Rattle.std.proofs.Common.{Option, Some, None, option_map, List, [], ◌∷◌, ◌++◌, length, take, refl, sym, ap, ◌∙◌, inl, inr, arith}
 use Rattle.std.proofs.lemmas.List.{take_at, length-append}
 use Rattle.std.proofs.lemmas.Bool.{ne_eqb}
+use Rattle.std.proofs.lemmas.Option.{same_Some}
 use Rattle.px_xmp_text.specs.Texts.{first_fault}
 use Rattle.px_xmp_text.specs.declared.pieces.TextKind.TheVariants.{CharacterData, CdataSection, AttributeValue}
 use Rattle.px_xmp_marks.specs.Reading.{Named, ncname, name, Start, start_tag, End, end_tag}
@@ -15,9 +16,6 @@ use Rattle.px_xmp_marks.specs.Marks.{data_len, text_len, or_else, tag_len, other
 use Rattle.px_xmp.specs.Marks as marks
 use Rattle.px_xmp.specs.Laws.{KindsAreRead}
 use Rattle.px_xmp.specs.Reading.{Tag, End as Ended, Words, Other, Read, or_read, data_read, section_read, comment_read, instruction_read, other_read, tag_read, read}
-
-some_same : {A : Type 0} (p q : A) → Some p ≡ Some q → p ≡ q
-some_same p q h = cc
 
 -- ---- tags
 
@@ -70,7 +68,7 @@ instruction_first z n e = ap (λ (q : Option ℕ). option_map (λ (m : ℕ). rec
 
 text_is : (a b : Bool) (d n : ℕ) → (if a then None else if b then Some d else None) ≡ Some n → d ≡ n
 text_is true b d n h = absurd (cc)
-text_is false true d n h = some_same d n h
+text_is false true d n h = same_Some d n h
 text_is false false d n h = absurd (cc)
 
 data_is : (x : List ℕ) (n : ℕ) → text_len x ≡ Some n → data_len x ≡ n

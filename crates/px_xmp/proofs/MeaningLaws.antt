@@ -1,5 +1,5 @@
 -- Nodes mean one thing.
-use Rattle.std.proofs.Common.{◌≡◌, ◌≢◌, ◌++◌, ◌&&◌, ◌==◌, ◌∙◌, inl, inr, refl, ℕ, Bool, true, false, Option, Some, None, List, [], ◌∷◌, codes, sym, ap, subst, eq-eqb, eqb-true}
+use Rattle.std.proofs.Common.{◌≡◌, ◌≢◌, ◌++◌, ◌==◌, ◌∙◌, inl, inr, refl, ℕ, Bool, true, false, Option, Some, None, List, [], ◌∷◌, codes, sym, ap, subst, eq-eqb, eqb-true}
 use Rattle.std.specs.List.{AllByRecursion}
 use Rattle.std.specs.List.Sorted.{IsPermutation}
 use Rattle.std.proofs.lemmas.List.Sorted.{IsPermutation-sym, All-permutation}
@@ -7,6 +7,8 @@ use Rattle.std.proofs.lemmas.List.Elements.{All-from_recursion, recursion_from_A
 use Rattle.px_xmp_text.specs.Texts.{text_of}
 use Rattle.px_xmp_text.specs.declared.pieces.TextKind.TheVariants.{AttributeValue}
 use Rattle.std.specs.Bool.{⊤}
+use Rattle.std.proofs.lemmas.Option.{same_Some}
+use Rattle.std.proofs.lemmas.Bool.{and_parts}
 use Rattle.px_xmp_text.specs.Values.{Label, Uri, Compound, Structure, Bag, Seq, Alt, Content, End, IsContent, PacketIsInjective}
 use Rattle.px_xmp_spaces.specs.Scopes.{is_same}
 use Rattle.px_xmp_forms.specs.Entries.{Value, Plain, Inside, Entry, before, row}
@@ -17,9 +19,6 @@ use Rattle.px_xmp.specs.Meaning.{IsText, literal, label_in, IsRow, AreAttributes
 use Rattle.px_xmp.specs.Meaning.{IsLiteral, IsResource, IsParsed, IsUri, IsDescribed, IsValue, AreEntries, IsNode, without_about, AreSubjects, IsRdf, IsAlone}
 use Rattle.px_xmp.specs.Laws.{NodesMeanOnce}
 use Rattle.px_xmp.proofs.OrderLaws.{sorted_once}
-
-some_same : {A : Type 0} (p q : A) → Some p ≡ Some q → p ≡ q
-some_same p q h = cc
 
 -- ---- what can be written
 
@@ -95,8 +94,8 @@ pub attributes_once : (l : List ℕ) (place : ℕ) (fields : List Field) (es fs 
     → AreAttributes l place fields fs → es ≡ fs
 attributes_once l place [] es fs e f = e ∙ sym f
 attributes_once l place (x ∷ fields) es fs (a, t, more, named, text, e, rest) (b, u, others, called, word, f, after) =
-    e ∙ entry_once a b (literal l t) (literal l u) place more others (some_same a b (sym named ∙ called))
-    (ap (literal l) (some_same t u (sym text ∙ word))) (attributes_once l place fields more others rest after) ∙ sym f
+    e ∙ entry_once a b (literal l t) (literal l u) place more others (same_Some a b (sym named ∙ called))
+    (ap (literal l) (same_Some t u (sym text ∙ word))) (attributes_once l place fields more others rest after) ∙ sym f
 
 pub has_once : (s : Compound) (l : List ℕ) (place : ℕ) (fields : List Field) (es fs : List Entry) → HasAttributes s l place fields es
     → HasAttributes s l place fields fs → es ≡ fs
@@ -110,21 +109,17 @@ has_once Alt l place fields es fs h k = h.1 ∙ sym k.1
 abbrev pub name_in : List ℕ → List ℕ → Name
 name_in space local = record { space = space; local = local }
 
-both : (a b : Bool) → (a && b) ≡ true → (a ≡ true) × (b ≡ true)
-both true b h = (refl, h)
-both false b h = absurd (cc)
-
 pub same_octets : (x y : List ℕ) → is_same x y ≡ true → x ≡ y
 same_octets [] [] h = refl
 same_octets [] (o ∷ y) h = absurd (cc)
 same_octets (o ∷ x) [] h = absurd (cc)
 same_octets (o ∷ x) (p ∷ y) h =
-    let parts = both (o == p) (is_same x y) h in
+    let parts = and_parts (o == p) (is_same x y) h in
     ap (λ (n : ℕ). n ∷ x) (eqb-true o p parts.0) ∙ ap (λ (z : List ℕ). p ∷ z) (same_octets x y parts.1)
 
 pub rdf_name : (local : List ℕ) (n : Name) → is_rdf local n ≡ true → n ≡ name_in rdf_space local
 rdf_name local n h =
-    let parts = both (is_same n.local local) (is_same n.space rdf_space) h in
+    let parts = and_parts (is_same n.local local) (is_same n.space rdf_space) h in
     ap (λ (z : List ℕ). name_in n.space z) (same_octets n.local local parts.0)
     ∙ ap (λ (z : List ℕ). name_in z local) (same_octets n.space rdf_space parts.1)
 
@@ -225,7 +220,7 @@ module _ (law : PacketIsInjective) (l : List ℕ) (place : ℕ) (fields : List F
   uri_once v w (f, one, named, whole, white, t, text, e) (g, other, called, all, blank, u, word, h) =
       let same : f ∷ [] ≡ g ∷ [] = sym one ∙ other in
       let values : f.value ≡ g.value = ap (λ (z : List Field). first_value z) same in
-      e ∙ ap (λ (z : List ℕ). Plain (Uri z)) (some_same t u (sym text ∙ ap (text_of AttributeValue) values ∙ word)) ∙ sym h
+      e ∙ ap (λ (z : List ℕ). Plain (Uri z)) (same_Some t u (sym text ∙ ap (text_of AttributeValue) values ∙ word)) ∙ sym h
     where
       first_value : List Field → List ℕ
       first_value [] = []
@@ -285,7 +280,7 @@ mutual
       let values : v ≡ w = value_once law language place tag.fields inner (IsNode language inner) (AreEntries Structure language inner)
       (λ s t c d p q x y. node_once law language inner s t c d p q x y) (λ es fs p q x y. entries_once law Structure language inner es fs p q x y)
       (λ t s c p q. no_node language inner t s c p q) v w is are (value_can a v i.0) (value_can b w j.0) in
-      e ∙ entry_once a b v w place others more_others (some_same a b (sym named ∙ called)) values
+      e ∙ entry_once a b v w place others more_others (same_Some a b (sym named ∙ called)) values
       (entries_once law s l more others more_others rest after i.1 j.1) ∙ sym f
 
   pub node_once : PacketIsInjective → (l : List ℕ) (nodes : Nodes) (s t : Compound) (c d : Content) → IsNode l nodes s c → IsNode l nodes t d
@@ -294,7 +289,7 @@ mutual
   node_once law l (Words u more) s t c d e f can could = node_once law l more s t c d e.1 f.1 can could
   node_once law l (Element tag place inner more) s t c d (declares, named, white, fs, es, p, q, r) (speaks, called, blank, gs, hs, x, y, z) can could =
       let language : List ℕ = inherited l tag.language in
-      let same : s ≡ t = some_same s t (sym named ∙ called) in
+      let same : s ≡ t = same_Some s t (sym named ∙ called) in
       let fields : fs ≡ gs = has_once s language place tag.fields fs gs p
       (subst (λ (k : Compound). HasAttributes k language place tag.fields gs) (sym same) x) in
       let elements : es ≡ hs = entries_once law s language inner es hs q (subst (λ (k : Compound). AreEntries k language inner hs) (sym same) y)
@@ -330,7 +325,7 @@ has_rdf_once law Nothing c d e f can could = absurd e
 has_rdf_once law (Words t more) c d e f can could = has_rdf_once law more c d e.1 f.1 can could
 has_rdf_once law (Element tag place inner more) c d e f can could = rdf_once law tag inner c d e.0 f.0 can could
 
-no_root : (n : Name) → is_rdf (codes "RDF") n ≡ true → is_root n ≡ true → ⊥
+pub no_root : (n : Name) → is_rdf (codes "RDF") n ≡ true → is_root n ≡ true → ⊥
 no_root n h k = let wrong : false ≡ true = sym (ap is_root (rdf_name (codes "RDF") n h)) ∙ k in absurd (cc)
 
 pub nodes_mean_once : PacketIsInjective → NodesMeanOnce

@@ -1,7 +1,8 @@
 -- The elements of a normal packet are nested, and each has each attribute once.
-use Rattle.std.proofs.Common.{◌≡◌, ◌≢◌, ◌==◌, ◌≤◌, ◌<◌, ◌&&◌, ◌++◌, ◌∙◌, inl, inr, refl, ℕ, suc, Bool, true, false, not, Some, None, option_map, List, [], ◌∷◌, map, sym, ap, subst, arith, append_assoc}
+use Rattle.std.proofs.Common.{◌≡◌, ◌≢◌, ◌==◌, ◌≤◌, ◌<◌, ◌&&◌, ◌++◌, ◌∙◌, inl, inr, refl, ℕ, suc, Bool, true, false, not, None, option_map, List, [], ◌∷◌, map, sym, ap, subst, arith, append_assoc}
 use Rattle.std.proofs.lemmas.Bool.{and_parts}
 use Rattle.std.specs.List.{AllByRecursion}
+use Rattle.std.proofs.lemmas.Option.{same_Some}
 use Rattle.px_xmp_text.specs.Texts.{normal_text}
 use Rattle.px_xmp_text.specs.Values.{Label, Simple, Literal, Uri, Compound, Structure, Bag, Seq, Alt, Content, End, Flat, Nested}
 use Rattle.px_xmp_marks.specs.Reading.{Named, Attr, is_space, ncname, name, attributes_of, Start, start_tag}
@@ -13,7 +14,7 @@ use Rattle.px_xmp_attributes.specs.Distinct.{AreDistinct, HasDistinct, IsDistinc
 use Rattle.px_xmp_tree.specs.Kinds as kinds
 use Rattle.px_xmp_tree.specs.Kinds.{Kind, AreKinds}
 use Rattle.px_xmp_tree.specs.Nesting as nesting
-use Rattle.px_xmp_tree.specs.Nesting.{IsTree, IsRoot, AreRooted, limit, marks}
+use Rattle.px_xmp_tree.specs.Nesting.{IsTree, IsRoot, limit, marks}
 use Rattle.px_xmp.specs.Readable.{IsShallow, inner_depth}
 use Rattle.px_xmp.proofs.StartLaws.{label_named}
 use Rattle.px_xmp.proofs.PartLaws.{Part, Begin, Whole, Finish, Words, octets_of, IsPart, AreParts, text_parts, simple_parts, bag_named, seq_named, alt_named, begin_parts, finish_parts, parts_of, meta_named, root_named, description_named, end_parts, packet_parts}
@@ -189,15 +190,12 @@ packet_tree c x h are =
 
 -- ---- attributes
 
-some_same : {A : Type 0} (p q : A) → Some p ≡ Some q → p ≡ q
-some_same p q h = cc
-
 pub same_attributes : StartTagsAreRead → (x : List ℕ) (n k : Named) (xs ys : List Attr) (a b : Bool) → IsStartTag x n xs a → IsStartTag x k ys b → xs ≡ ys
 same_attributes law x n k xs ys a b i j =
     let (t, e, named, has, empty, size) = law x [] n xs a i in
     let (u, f, called, holds, alone, long) = law x [] k ys b j in
-    let same : t ≡ u = some_same t u (sym e ∙ f) in
-    some_same xs ys (sym has ∙ ap (λ (z : Start). option_map (λ (r : List Attr × ℕ). r.0) (attributes_of z.rest)) same ∙ holds)
+    let same : t ≡ u = same_Some t u (sym e ∙ f) in
+    same_Some xs ys (sym has ∙ ap (λ (z : Start). option_map (λ (r : List Attr × ℕ). r.0) (attributes_of z.rest)) same ∙ holds)
 
 no_start_47 : (z : List ℕ) → start_tag (60 ∷ 47 ∷ z) ≡ None
 unfolding start_tag name ncname

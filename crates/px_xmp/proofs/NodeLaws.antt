@@ -1,26 +1,21 @@
 -- Octets are one row of nodes.
 use Rattle.std.proofs.Common.{◌≡◌, ◌+◌, ◌-◌, ℕ, Bool, true, false, Option, Some, None, List, [], ◌++◌, length, take, drop, refl, sym, ap, subst, ◌∙◌, inl, inr, ◌⊎◌}
 use Rattle.std.proofs.lemmas.List.{drop_at, take_at}
+use Rattle.std.proofs.lemmas.Option.{same_Some}
 use Rattle.px_xmp_text.specs.Texts.{text_of}
 use Rattle.px_xmp_marks.specs.Reading.{Named, Attr}
 use Rattle.px_xmp_spaces.specs.Scopes.{Item}
 use Rattle.px_xmp.specs.Marks.{Mark, Start, End, Text, Other, IsKind}
 use Rattle.px_xmp.specs.Tags.{Tag, tag_of, inside}
 use Rattle.px_xmp.specs.Reading as reading
-use Rattle.px_xmp.specs.Reading.{Read, data_read, read, IsReadAs}
+use Rattle.px_xmp.specs.Reading.{Read, read, IsReadAs}
 use Rattle.px_xmp.specs.Nodes.{Nodes, Nothing, Words, Element, AreWords, AreNodes}
 use Rattle.px_xmp.specs.Laws.{KindsAreRead, OneReading}
-
-some_same : {A : Type 0} (p q : A) → Some p ≡ Some q → p ≡ q
-some_same p q h = cc
-
-nothing_read : read [] ≡ None
-unfolding read data_read
-nothing_read = refl
+use Rattle.px_xmp.proofs.StepLaws.{nothing_read}
 
 read_once : (w : reading.What) (k l : Mark) → IsReadAs w k → IsReadAs w l → k ≡ l
 read_once (reading.Tag t) k l (xs, e, f) (ys, g, h) =
-    f ∙ ap (λ (z : List Attr). Start t.name z t.is_empty) (some_same xs ys (sym e ∙ g)) ∙ sym h
+    f ∙ ap (λ (z : List Attr). Start t.name z t.is_empty) (same_Some xs ys (sym e ∙ g)) ∙ sym h
 read_once reading.End k l e f = e ∙ sym f
 read_once (reading.Words kind octets) k l e f = e ∙ sym f
 read_once reading.Other k l e f = e ∙ sym f
@@ -29,7 +24,7 @@ pub mark_once : KindsAreRead → (k l : Mark) (m n x y : List ℕ) → IsKind k 
 mark_once law k l m n x y i j e =
     let (q, f, size, is) = law k m x i in
     let (r, g, long, are) = law l n y j in
-    let same : q ≡ r = some_same q r (sym f ∙ ap read e ∙ g) in
+    let same : q ≡ r = same_Some q r (sym f ∙ ap read e ∙ g) in
     let len : length m ≡ length n = sym size ∙ ap (λ (z : Read). z.size) same ∙ long in (
       read_once r.what k l (subst (λ (z : Read). IsReadAs z.what k) same is) are,
       sym (take_at m x (length m) refl) ∙ ap (take (length m)) e ∙ take_at n y (length m) (sym len),
@@ -51,7 +46,7 @@ IsWords Other t = t ≡ []
 pub words_same : (k : Mark) (t u : List ℕ) → IsWords k t → IsWords k u → t ≡ u
 words_same (Start n attributes empty) t u e f = absurd e
 words_same End t u e f = absurd e
-words_same (Text kind octets) t u e f = some_same t u (sym e ∙ f)
+words_same (Text kind octets) t u e f = same_Some t u (sym e ∙ f)
 words_same Other t u e f = e ∙ sym f
 
 abbrev pub WordsMark : List ℕ → List ℕ → List ℕ → Type 0
@@ -115,7 +110,7 @@ pub tag_once : KindsAreRead → (scope : List Item) (s t : Tag) (n k : Named) (x
     → (s ≡ t) × (m ≡ l) × (rest ≡ tail) × (b ≡ c) × (inside scope xs ≡ inside scope ys)
 tag_once law scope s t n k xs ys b c m rest l tail x (e, w, i) (f, v, j) =
     let (same, octets, follow) = mark_once law (Start n xs b) (Start k ys c) m l rest tail i j (sym w ∙ v) in (
-      e ∙ some_same (tag_of scope n xs) (tag_of scope k ys) (ap (tag_in scope) same) ∙ sym f,
+      e ∙ same_Some (tag_of scope n xs) (tag_of scope k ys) (ap (tag_in scope) same) ∙ sym f,
       octets,
       follow,
       ap is_alone same,

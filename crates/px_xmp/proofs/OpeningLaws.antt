@@ -61,7 +61,7 @@ entries_after s es fs = ap (λ (z : List Open). record { opened = z; properties 
 
 -- ---- attributes, one after another
 
-attribute_after : (l : List ℕ) (place : ℕ) (fs : List Field) (es : List Entry) (f : Field) (label : Label) (t : List ℕ) → AreAttributes l place fs es
+pub attribute_after : (l : List ℕ) (place : ℕ) (fs : List Field) (es : List Entry) (f : Field) (label : Label) (t : List ℕ) → AreAttributes l place fs es
     → label_in Structure f.name ≡ Some label → text_of AttributeValue f.value ≡ Some t
     → AreAttributes l place (fs ++ f ∷ []) (es ++ attribute label place l t ∷ [])
 attribute_after l place [] es f label t e named says =

@@ -139,7 +139,7 @@ label_and (Property space local) q y v h =
     (other_prefix (codes "xmlns") q (codes "p") y (λ e. omega (arith, h, e)))
 label_and Item q y v h = one_distinct (attribute q y v)
 
-end_ends : (l : Label) (k : List ℕ) → EndsText (end_tag l k)
+pub end_ends : (l : Label) (k : List ℕ) → EndsText (end_tag l k)
 end_ends (Property space local) k = inr refl
 end_ends Item k = inr refl
 

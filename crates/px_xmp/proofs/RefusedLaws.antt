@@ -1,5 +1,6 @@
 -- A packet that is refused as one that is wrong has no meaning.
 use Rattle.std.proofs.Common.{◌≡◌, ◌≤◌, ◌+◌, ◌-◌, ℕ, Bool, true, false, Some, None, List, [], ◌++◌, length, Result, Ok, Err, refl, sym, ap, subst, ◌∙◌, inl, inr, arith, length-append}
+use Rattle.std.proofs.lemmas.Bool.{both_ways}
 use Rattle.px_xmp_text.specs.declared.pieces.TextKind.{TextKind}
 use Rattle.px_xmp_spaces.specs.Scopes.{Item, ended}
 use Rattle.px_xmp_forms.specs.Causes.{is_rare_in_rdf, is_rare, IsRare, IfWrong}
@@ -23,10 +24,6 @@ use Rattle.px_xmp.proofs.StepLaws.{joined, nodes_shorter, nodes_joined, words_re
 use Rattle.px_xmp.proofs.NodeLaws.{mark_once, some_mark, IsWords, words_mark, words_same, IsStop, at_stop, words_stop, no_tag, words_start, Same, tag_once, nodes_once}
 use Rattle.px_xmp.proofs.RootLaws.{scope_after}
 
-true_false : {P : Type 0} (b : Bool) → b ≡ true → b ≡ false → P
-true_false true e f = absurd (cc)
-true_false false e f = absurd (cc)
-
 -- a cause by which RDF leaves a packet is rare
 rare_in : (c : Cause) → is_rare_in_rdf c ≡ true → is_rare c ≡ true
 rare_in RareEncoding h = refl
@@ -37,12 +34,12 @@ rare_in cause h = h
 -- ---- results
 
 pub rare_says : (X Y : Type 0) (e : Refusal) (P : Type 0) → IsRare {X = X} (Err e) → IfWrong {X = Y} (Err e) P
-rare_says X Y (refusals.Content cause place) P h = λ wrong. true_false (is_rare cause) (rare_in cause h) wrong
+rare_says X Y (refusals.Content cause place) P h = λ wrong. absurd (both_ways (is_rare cause) wrong (rare_in cause h))
 rare_says X Y refusals.OutOfMemory P h = tt
 
 pub rare_wrong : (X : Type 0) (r : Result X Refusal) (P : Type 0) → IsRare r → IfWrong r P
 rare_wrong X (Ok x) P h = tt
-rare_wrong X (Err (refusals.Content cause place)) P h = λ wrong. true_false (is_rare cause) (rare_in cause h) wrong
+rare_wrong X (Err (refusals.Content cause place)) P h = λ wrong. absurd (both_ways (is_rare cause) wrong (rare_in cause h))
 rare_wrong X (Err refusals.OutOfMemory) P h = tt
 
 pub wrong_says : (X Y : Type 0) (e : Refusal) (P Q : Type 0) → (P → Q) → IfWrong {X = X} (Err e) P → IfWrong {X = Y} (Err e) Q
@@ -59,7 +56,7 @@ wrong_at X e cause place P h p = subst (λ (z : Refusal). IfWrong {X = X} (Err z
 
 pub rare_at : (X : Type 0) (e : Refusal) (cause : Cause) (place : ℕ) (P : Type 0) → e ≡ refusals.Content cause place → is_rare cause ≡ true
     → IfWrong {X = X} (Err e) P
-rare_at X e cause place P h is = subst (λ (z : Refusal). IfWrong {X = X} (Err z) P) (sym h) (λ wrong. true_false (is_rare cause) is wrong)
+rare_at X e cause place P h is = subst (λ (z : Refusal). IfWrong {X = X} (Err z) P) (sym h) (λ wrong. absurd (both_ways (is_rare cause) wrong is))
 
 pub wrong_all : (X Y : Type 0) (e : Refusal) (A : Type 0) (Q : A → Type 0) → ((a : A) → IfWrong {X = X} (Err e) (Q a))
     → IfWrong {X = Y} (Err e) ((a : A) → Q a)
@@ -112,13 +109,13 @@ text_begins white scope at to on x y z kind octets is_white row same next (t, sa
 
 pub white_text : (a : Nodes) → HasText a → AreWhite a → ⊥
 white_text Nothing h w = h
-white_text (Words t more) (inl e) (f, r) = true_false (is_white t) f e
+white_text (Words t more) (inl e) (f, r) = absurd (both_ways (is_white t) e f)
 white_text (Words t more) (inr h) (f, r) = white_text more h r
 white_text (Element tag place inner more) h w = h
 
 pub alone_text : (P : Tag → Nodes → Type 0) (a : Nodes) → HasText a → IsAlone P a → ⊥
 alone_text P Nothing h w = h
-alone_text P (Words t more) (inl e) (f, r) = true_false (is_white t) f e
+alone_text P (Words t more) (inl e) (f, r) = absurd (both_ways (is_white t) e f)
 alone_text P (Words t more) (inr h) (f, r) = alone_text P more h r
 alone_text P (Element tag place inner more) h w = h
 
@@ -297,7 +294,7 @@ other_first law w (Words u more) scope at on x y next other (n, rest, j, v, r) (
     by reading.End f o words = subst (λ (q : Mark). IsWords q u) f words
     by (reading.Words kind octets) f (t, says, rest) words =
         let text : t ≡ u = words_same (Text kind octets) t u says (subst (λ (q : Mark). IsWords q u) f words) in
-        true_false (is_white u) white (ap is_white (sym text) ∙ rest)
+        absurd (both_ways (is_white u) (ap is_white (sym text) ∙ rest) white)
     by reading.Other f o words = o
 other_first law w (Element tag place inner more) scope at on x y next other e white = white
 

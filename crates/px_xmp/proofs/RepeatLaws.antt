@@ -1,6 +1,6 @@
 -- Entries in another order have the same labels twice.
-use Rattle.std.proofs.Common.{◌≡◌, ◌≢◌, ◌<◌, ◌∙◌, ◌==◌, ◌⊎◌, inl, inr, refl, ℕ, List, sym, ap, length, get_or, arith, max, eqb-true}
-use Rattle.std.proofs.lemmas.Bool.{cases_Bool, eqb-false}
+use Rattle.std.proofs.Common.{◌≡◌, ◌≢◌, ◌<◌, ◌∙◌, ◌⊎◌, inl, inr, refl, ℕ, List, sym, ap, length, get_or, arith, max}
+use Rattle.std.proofs.lemmas.Bool.{cases_eq}
 use Rattle.std.proofs.lemmas.List.Sorted.{IsPermutation-keeps}
 use Rattle.std.proofs.lemmas.List.Edits.{Swapped, swapped_from_swap, length-swap}
 use Rattle.std.specs.List.{swap}
@@ -8,9 +8,6 @@ use Rattle.std.specs.List.Sorted.{IsPermutation}
 use Rattle.px_xmp_forms.specs.Entries.{Entry, IsRepeated, AreDistinct}
 
 -- ---- a place after a swap
-
-equal_or_not : (i j : ℕ) → (i ≡ j) ⊎ (i ≢ j)
-equal_or_not i j = elim (cases_Bool (i == j)) [ inl a ↦ inl (eqb-true i j a) | inr b ↦ inr (eqb-false i j b) ]
 
 -- a swap of a and b exchanges the places k and m
 abbrev Exchanged : ℕ → ℕ → ℕ → ℕ → Type 0
@@ -23,7 +20,7 @@ record Moved (a b k n m : ℕ) : Type 1 where
   pub back : (X : Type 0) (xs : List X) (d : X) → length xs ≡ n → get_or (swap xs a b) m d ≡ get_or xs k d
 
 moved : (a b k n : ℕ) → a < n → b < n → k < n → (m : ℕ) × Moved a b k n m
-moved a b k n p q l = by_cases (equal_or_not k a) (equal_or_not k b)
+moved a b k n p q l = by_cases (cases_eq k a) (cases_eq k b)
   where
     swapped : (X : Type 0) (xs : List X) (d : X) → length xs ≡ n → Swapped (λ i. get_or xs i d) (λ i. get_or (swap xs a b) i d) a b
     swapped X xs d e = swapped_from_swap xs (swap xs a b) a b d (omega arith) (omega arith) refl

@@ -1,5 +1,7 @@
 -- What is read of rdf:RDF and of the root.
 use Rattle.std.proofs.Common.{◌≡◌, ℕ, Bool, true, false, Option, Some, None, option_map, List, [], ◌∷◌, ◌++◌, refl, sym, ap, subst, ◌∙◌, inl, inr, append_assoc, append-nil, map, if◌then◌else◌, codes}
+use Rattle.std.proofs.lemmas.Option.{same_Some}
+use Rattle.std.proofs.lemmas.Bool.{both_ways}
 use Rattle.px_xmp_text.specs.Texts.{text_of}
 use Rattle.px_xmp_text.specs.Values.{Content, End}
 use Rattle.px_xmp_forms.specs.Entries.{Entry, row}
@@ -7,7 +9,7 @@ use Rattle.px_xmp.specs.Nodes.{Nodes, Nothing, Words, Element, AreNodes}
 use Rattle.px_xmp.specs.Meaning.{AreWhite, AreAttributes, AreEntries, AreAbout, without_about, AreSubjects, IsAlone, IsRootOf, HasRoot, IsRdf, Means}
 use Rattle.px_xmp.specs.Refusals.{IsNamedRdf, AreAllAbout, NamesSeveral}
 use Rattle.px_xmp_text.specs.declared.pieces.TextKind.TheVariants.{AttributeValue}
-use Rattle.px_xmp_text.specs.Values.{Label, Structure}
+use Rattle.px_xmp_text.specs.Values.{Structure}
 use Rattle.px_xmp_marks.specs.Reading.{Attr, next_view}
 use Rattle.px_xmp_marks.specs.declared.listing.NextAttribute.{NextAttribute}
 use Rattle.px_xmp_spaces.specs.Scopes.{Item, ended}
@@ -15,7 +17,7 @@ use Rattle.px_xmp_forms.specs.Outputs.{State, Has, nothing, begun, changed, prop
 use Rattle.px_xmp_forms.specs.declared.output.Output.{Output}
 use Rattle.px_xmp.specs.Names.{Name, is_rdf, is_root, is_about}
 use Rattle.px_xmp.specs.Tags.{Tag, Field, DeclaresLanguage, field_of, fields_in, plain, inherited}
-use Rattle.px_xmp.specs.Meaning.{label_in, IsRow}
+use Rattle.px_xmp.specs.Meaning.{IsRow}
 use Rattle.px_xmp.specs.declared.elements.Opened.{Opened}
 use Rattle.px_xmp.specs.declared.source.Source.{Source}
 use Rattle.px_xmp.specs.declared.subject.Subject.{Subject}
@@ -27,10 +29,10 @@ use Rattle.px_xmp.specs.calls.Contents.{with_entries, attribute, AreShallow, Ite
 use Rattle.px_xmp.specs.calls.Roots.{IsSubject, Keeps, Stays, NamesOne, IsNew, IsAbout, AttributeRead, AttributesRead, SubjectRead, SubjectsRead, RdfRead, AroundRead, RootRead, DocumentRead}
 use Rattle.px_xmp.proofs.TagLaws.{ended_inside}
 use Rattle.px_xmp.proofs.StepLaws.{joined, nodes_joined, white_joined, moves_on}
-use Rattle.px_xmp.proofs.OpeningLaws.{no_entries, entry_after, entries_after}
+use Rattle.px_xmp.proofs.OpeningLaws.{no_entries, entry_after, entries_after, attribute_after}
 use Rattle.px_xmp.proofs.ContentLaws.{element_read, structure_row}
 use Rattle.px_xmp.proofs.DepthLaws.{shallow_append, row_shallow}
-use Rattle.px_xmp.proofs.MeaningLaws.{rdf_name}
+use Rattle.px_xmp.proofs.MeaningLaws.{no_root}
 use Rattle.px_xmp.proofs.NodeLaws.{nodes_once}
 use Rattle.px_xmp.specs.Laws.{KindsAreRead}
 
@@ -90,9 +92,6 @@ stays_on a b c P Q k l u none is both = let (other, now) = k u none is both.0 in
 pub stays_with : (a b : Subject) (P Q : Option (List ℕ) → Type 0) → ((u : Option (List ℕ)) → Q u → P u) → Stays a b P → Stays a b Q
 stays_with a b P Q f k u none is q = k u none is (f u q)
 
-some_same : {A : Type 0} (p q : A) → Some p ≡ Some q → p ≡ q
-some_same p q h = cc
-
 about_front : (u : Option (List ℕ)) (fs : List Field) (f : Field) → AreAbout u (fs ++ f ∷ [])
     → AreAbout u fs × (is_about f.name ≡ true → IsAbout f.value u)
 about_front u [] f (h, k) = (tt, h)
@@ -123,21 +122,6 @@ without_after (g ∷ fs) f =
     without_is g (fs ++ f ∷ []) ∙ ap (λ (z : List Field). or_field (is_about g.name) g z) (without_after fs f)
     ∙ or_after (is_about g.name) g (without_about fs) (without_about (f ∷ [])) ∙ ap (λ (z : List Field). z ++ without_about (f ∷ [])) (sym (without_is g fs))
 
-attribute_after : (l : List ℕ) (place : ℕ) (fs : List Field) (es : List Entry) (f : Field) (label : Label) (t : List ℕ) → AreAttributes l place fs es
-    → label_in Structure f.name ≡ Some label → text_of AttributeValue f.value ≡ Some t
-    → AreAttributes l place (fs ++ f ∷ []) (es ++ attribute label place l t ∷ [])
-attribute_after l place [] es f label t e named says =
-    (label, t, [], named, says, ap (λ (z : List Entry). z ++ attribute label place l t ∷ []) e, refl)
-attribute_after l place (g ∷ fs) es f label t (other, u, more, h, i, e, r) named says = (
-  other,
-  u,
-  more ++ attribute label place l t ∷ [],
-  h,
-  i,
-  ap (λ (z : List Entry). z ++ attribute label place l t ∷ []) e,
-  attribute_after l place fs more f label t r named says,
-)
-
 -- entries were put of the first fields, and the attributes that are left have the others
 pub record AttributesLeft (n : Option NextAttribute) (scope : List Item) (all : List Attr) (l : List ℕ) (depth place : ℕ) (s : State) (old new : Subject)
     (output : Output) : Type 0 where
@@ -167,10 +151,6 @@ attributes_begin n scope all l depth place s subject output found has =
       only = λ u none is h. (none, is);
       has = subst (λ (z : State). Has output z) (sym (no_entries s)) has;
     }
-
-pub true_false : {P : Type 0} (b : Bool) → b ≡ true → b ≡ false → P
-true_false true e f = absurd (cc)
-true_false false e f = absurd (cc)
 
 attributes_step : (n : Option NextAttribute) (scope : List Item) (all more : List Attr) (l : List ℕ) (depth place : ℕ) (s : State)
     (old now new : Subject) (before after : Output) (fields : List Field) (entries : List Entry) (f : Field) → IsNextPlain (option_map next_view n) more
@@ -207,7 +187,7 @@ attributes_step n scope all more l depth place s old now new before after fields
       shallow = shallow_append depth entries (attribute put.label place l put.text ∷ []) shallow ((put.shallow, tt), tt);
       about = subst (λ (z : Subject). Keeps old z (λ u. AreAbout u (fields ++ f ∷ []))) (sym same)
           (keeps_with old now (λ u. AreAbout u fields) (λ u. AreAbout u (fields ++ f ∷ []))
-          (λ u p. about_after u fields f p (λ e. true_false (is_about f.name) e is)) about);
+          (λ u p. about_after u fields f p (λ e. absurd (both_ways (is_about f.name) is e))) about);
       only = subst (λ (z : Subject). Stays old z (λ u. AreAbout u (fields ++ f ∷ []))) (sym same)
           (stays_with old now (λ u. AreAbout u fields) (λ u. AreAbout u (fields ++ f ∷ [])) (λ u p. (about_front u fields f p).0) only);
       has = subst (λ (z : State). Has after z) (entry_after s entries (attribute put.label place l put.text)) put.has;
@@ -414,7 +394,7 @@ has_subject s = by (option_map (λ x. x.now) s.value)
   where
     by : (m : Option (List ℕ)) → (u : Option (List ℕ)) × ((v : List ℕ) → m ≡ Some v → text_of AttributeValue v ≡ u)
     by None = (None, λ v e. absurd (cc))
-    by (Some x) = (text_of AttributeValue x, λ v e. ap (text_of AttributeValue) (sym (some_same x v e)))
+    by (Some x) = (text_of AttributeValue x, λ v e. ap (text_of AttributeValue) (sym (same_Some x v e)))
 
 -- none was named, so that it is any
 pub no_subject : (s : Subject) (u : Option (List ℕ)) → s.value ≡ None → IsSubject s u
@@ -529,15 +509,11 @@ around_done o white blank old mid on new after output is_white tag read is_blank
 -- an element of another name than the root around rdf:RDF
 pub rdf_alone : (P : Tag → Nodes → Type 0) (t : Tag) (nodes : Nodes) → is_root t.name ≡ false → IsRootOf P t nodes → P t nodes
 rdf_alone P t nodes other (inl is) = is
-rdf_alone P t nodes other (inr (is, others)) = true_false (is_root t.name) is other
-
-pub root_not_rdf : (n : Name) → is_rdf (codes "RDF") n ≡ true → is_root n ≡ true → ⊥
-root_not_rdf n h k =
-    let other : is_root n ≡ false = ap is_root (rdf_name (codes "RDF") n h) in true_false (is_root n) k other
+rdf_alone P t nodes other (inr (is, others)) = absurd (both_ways (is_root t.name) other is)
 
 pub around_alone : (P : Tag → Nodes → Type 0) (t : Tag) (nodes : Nodes) → (P t nodes → is_rdf (codes "RDF") t.name ≡ true) → is_root t.name ≡ true
     → IsRootOf P t nodes → IsAlone P nodes
-around_alone P t nodes named is (inl h) = absurd (root_not_rdf t.name (named h) is)
+around_alone P t nodes named is (inl h) = absurd (no_root t.name (named h) is)
 around_alone P t nodes named is (inr (other, has)) = has
 
 pub root_rdf : (o : Opened) (t : Tag) (old new : Source) (after : Subject) (output : Output) → is_root (name_of o.name) ≡ false
@@ -630,8 +606,8 @@ rdf_subject s c t inner (named, one) (says, is, fields, u, es, are, line) = one 
 
 root_subject : (s : Subject) (c : Content) (t : Tag) (inner : Nodes) → IsRootOf (NamesOne s) t inner → IsRootOf (IsRdf c) t inner → s.other ≡ None
 root_subject s c t inner (inl h) (inl k) = rdf_subject s c t inner h k
-root_subject s c t inner (inl h) (inr (is, k)) = absurd (root_not_rdf t.name h.0 is)
-root_subject s c t inner (inr (is, h)) (inl k) = absurd (root_not_rdf t.name k.1 is)
+root_subject s c t inner (inl h) (inr (is, k)) = absurd (no_root t.name h.0 is)
+root_subject s c t inner (inr (is, h)) (inl k) = absurd (no_root t.name k.1 is)
 root_subject s c t inner (inr (is, h)) (inr (also, k)) = alone_both (NamesOne s) (IsRdf c) (s.other ≡ None) (rdf_subject s c) inner h k
 
 pub one_subject : (s : Subject) (c : Content) (nodes : Nodes) → HasRoot (NamesOne s) nodes → Means nodes c → s.other ≡ None

@@ -31,6 +31,7 @@ use Rattle.px_xmp.proofs.StartLaws.{text_mark, start_bare, start_spoken, start_r
 use Rattle.px_xmp.proofs.StartLaws.{start_bag, start_seq, start_alt, end_bag, end_seq, end_alt}
 use Rattle.px_xmp.proofs.StartLaws.{meta_start, root_start, description_start, meta_attributes, root_attributes, description_attributes}
 use Rattle.px_xmp.proofs.StartLaws.{start_meta, start_root, start_description, end_meta, end_root, end_description}
+use Rattle.px_xmp.proofs.PartLaws.{end_ends}
 
 -- ---- names
 
@@ -203,10 +204,6 @@ text_said reads bound faults (o ∷ t) scope at y ends = (
   refl,
 )
 
-ends_label : (l : Label) (k : List ℕ) → EndsText (end_tag l k)
-ends_label (Property space local) k = inr refl
-ends_label Item k = inr refl
-
 -- ---- values
 
 -- an element with a label is a value before others
@@ -255,7 +252,7 @@ module _ (reads : NormalReadsBack) (bounds : NormalBound) (faults : FaultOrText)
       (normal_text t ++ end_tag l (written rest k)) (written rest k) (written (Flat l (Literal [] t) rest) k) k (text_nodes t) (label_read s l label)
       (tt, tag_bare scope l bound, start_bare faults l (label_named_by s l label) can)
       (text_said reads bounds faults t (inside scope (label_attributes l [])) (at + length (opening_tag l (62 ∷ []))) (end_tag l (written rest k))
-      (ends_label l (written rest k))) (end_label l (label_named_by s l label)) (inl (refl, t, text_is t, refl))
+      (end_ends l (written rest k))) (end_label l (label_named_by s l label)) (inl (refl, t, text_is t, refl))
       (λ u. ((tt, text_short t), u.1))
       (λ place. content_said s rest readable others scope bound place k)
       (opening_shift l (62 ∷ []) (normal_text t ++ end_tag l (written rest k)))
@@ -266,7 +263,7 @@ module _ (reads : NormalReadsBack) (bounds : NormalBound) (faults : FaultOrText)
       (record { name = label_name l; fields = []; language = Some (o ∷ language) }) m
       (normal_text t ++ end_tag l (written rest k)) (written rest k) (written (Flat l (Literal (o ∷ language) t) rest) k) k (text_nodes t)
       (label_read s l label) (language_is, tag_spoken scope l (o ∷ language) bound, start_spoken faults l (o ∷ language) (label_named_by s l label) can language_is)
-      (text_said reads bounds faults t (inside scope attributes) (at + length m) (end_tag l (written rest k)) (ends_label l (written rest k)))
+      (text_said reads bounds faults t (inside scope attributes) (at + length m) (end_tag l (written rest k)) (end_ends l (written rest k)))
       (end_label l (label_named_by s l label))
       (inl (refl, t, text_is t, ap (λ (z : List ℕ). Plain (Literal z t)) (sym lower)))
       (λ u. ((u.0, text_short t), u.1))

@@ -20,7 +20,7 @@ with_piece n o size x text t e f =
     ap (option_and_then (λ (p : List ℕ × ℕ). option_map (λ (s : List ℕ). p.0 ++ s) (text_in n AttributeValue (drop p.1 (o ∷ x))))) e
     ∙ ap (option_map (λ (s : List ℕ). text ++ s)) f
 
-and_piece : (x : List ℕ) → piece AttributeValue (codes "&amp;" ++ x) ≡ Some (38 ∷ [], 5)
+pub and_piece : (x : List ℕ) → piece AttributeValue (codes "&amp;" ++ x) ≡ Some (38 ∷ [], 5)
 unfolding piece reference entity_reference encode_utf8
 and_piece x = refl
 

@@ -1,6 +1,6 @@
 -- The tags and the texts of a normal packet are marks.
 use Rattle.std.proofs.Common.{◌≡◌, ◌≢◌, ◌⊎◌, ◌==◌, ◌&&◌, ◌||◌, ◌++◌, ◌∙◌, inl, inr, refl, ℕ, Bool, true, false, not, nat_le, Some, None, List, [], ◌∷◌, codes, length, sym, ap, subst, arith, append_assoc, eq-eqb, eqb-true}
-use Rattle.std.proofs.lemmas.Bool.{cases_Bool, and_from}
+use Rattle.std.proofs.lemmas.Bool.{cases_Bool, and_from, not-true}
 use Rattle.std.specs.Bool.{⊤}
 use Rattle.std.specs.List.{AllByRecursion, list_all}
 use Rattle.px_xmp_text.specs.Texts.{text_in, text_of, normal_text, normal_octet, first_fault}
@@ -91,15 +91,11 @@ quotable (o ∷ v) h = ((differs o 34 h.0.0, differs o 60 h.0.1), quotable v h.1
 abbrev is_quotable : ℕ → Bool
 is_quotable o = not (o == 34) && not (o == 60)
 
-not_true : (b : Bool) → not b ≡ true → b ≡ false
-not_true true h = absurd (cc)
-not_true false h = refl
-
 tested_quotable : (v : List ℕ) → every is_quotable v ≡ true → IsQuotable v
 tested_quotable [] h = tt
 tested_quotable (o ∷ v) h =
     let first = first_of (is_quotable o) (every is_quotable v) h in (
-      (not_true (o == 34) (first_of (not (o == 34)) (not (o == 60)) first), not_true (o == 60) (rest_of (not (o == 34)) (not (o == 60)) first)),
+      (not-true (o == 34) (first_of (not (o == 34)) (not (o == 60)) first), not-true (o == 60) (rest_of (not (o == 34)) (not (o == 60)) first)),
       tested_quotable v (rest_of (is_quotable o) (every is_quotable v) h),
     )
 
@@ -223,7 +219,7 @@ tested_normal [] h = tt
 tested_normal (o ∷ v) h =
     let f : ℕ → Bool = λ p. not (p == 60) && not (p == 62) in
     let first = first_of (f o) (every f v) h in (
-      (not_true (o == 60) (first_of (not (o == 60)) (not (o == 62)) first), not_true (o == 62) (rest_of (not (o == 60)) (not (o == 62)) first)),
+      (not-true (o == 60) (first_of (not (o == 60)) (not (o == 62)) first), not-true (o == 62) (rest_of (not (o == 60)) (not (o == 62)) first)),
       tested_normal v (rest_of (f o) (every f v) h),
     )
 

@@ -1,6 +1,7 @@
 -- What is read of a document, step by step.
 use Rattle.std.proofs.Common.{◌≡◌, ◌≤◌, ◌+◌, ◌-◌, ℕ, Bool, true, Some, None, List, [], ◌∷◌, ◌++◌, length, drop, refl, sym, ap, subst, ◌∙◌, inl, inr, arith, length-append, append_assoc, append-nil}
 use Rattle.std.proofs.lemmas.List.{drop_at}
+use Rattle.std.proofs.lemmas.Option.{same_Some}
 use Rattle.px_bytes.specs.Parts.{limit}
 use Rattle.px_xmp_marks.specs.Reading.{Attr, name_view}
 use Rattle.px_xmp_marks.specs.declared.tags.StartTag.{StartTag}
@@ -22,10 +23,7 @@ use Rattle.px_xmp.specs.Meaning.{AreWhite, IsText, AreEntries}
 use Rattle.px_xmp.specs.Laws.{KindsAreRead}
 use Rattle.px_xmp.specs.calls.Steps.{IsLeft, Moves, IsFirst, IsTag, Next, Says}
 
-some_same : {A : Type 0} (p q : A) → Some p ≡ Some q → p ≡ q
-some_same p q h = cc
-
-nothing_read : read [] ≡ None
+pub nothing_read : read [] ≡ None
 unfolding read data_read
 nothing_read = refl
 
@@ -36,7 +34,7 @@ next_from : KindsAreRead → (x : List ℕ) (r : Read) (at to : ℕ) (y : List �
 next_from law x r at to y [] row few e h t = let wrong = sym nothing_read ∙ ap read (sym row) ∙ e in absurd (cc)
 next_from law x r at to y (k ∷ more) (m, rest, i, w, row) few e h t =
     let (q, g, size, is) = law k m rest i in
-    let same : q ≡ r = some_same q r (sym g ∙ ap read (sym w) ∙ e) in
+    let same : q ≡ r = same_Some q r (sym g ∙ ap read (sym w) ∙ e) in
     let len : length m ≡ r.size = sym size ∙ ap (λ (z : Read). z.size) same in
     let tail : rest ≡ y = sym (drop_at m rest r.size len) ∙ ap (λ (z : List ℕ). drop r.size z) (sym w) ∙ sym h in
     let whole : x ≡ m ++ y = w ∙ ap (λ (z : List ℕ). m ++ z) tail in

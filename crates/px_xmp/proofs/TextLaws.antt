@@ -7,6 +7,7 @@ use Rattle.std.proofs.lemmas.Str.{encodes-append, encode_ascii, inside_one, char
 use Rattle.std.specs.List.{AllByRecursion}
 use Rattle.std.specs.Char.{encode_utf8}
 use Rattle.std.specs.Str.{encode_utf8_all}
+use Rattle.std.proofs.lemmas.Option.{same_Some}
 use Rattle.px_xmp_text.specs.References.{Counted, is_char, reference}
 use Rattle.px_xmp_text.specs.Grammar.{IsReference, OnlyReferencesAreRead}
 use Rattle.px_xmp_text.specs.Texts.{has_references, white_space, begins_with_feed, piece, text_in, text_of}
@@ -90,9 +91,6 @@ abbrev IsSound : ℕ → List ℕ → List ℕ × ℕ → Type 0
 IsSound o x q =
     ((q.0 ≡ o ∷ []) × (q.1 ≡ 1)) ⊎ ((o < 128) × AreCharacters q.0 × (AreCharacters (o ∷ x) → AreCharacters (drop q.1 (o ∷ x))))
 
-some_same : {A : Type 0} (p q : A) → Some p ≡ Some q → p ≡ q
-some_same p q h = cc
-
 reference_ends : (x : List ℕ) (n : ℕ) → IsReference x n → (s : List ℕ) × (x ≡ s ++ 59 ∷ []) × (is_char n ≡ true)
 reference_ends x n (inl (inl (e, f))) = (codes "&amp", e, ap is_char f)
 reference_ends x n (inl (inr (inl (e, f)))) = (codes "&lt", e, ap is_char f)
@@ -108,7 +106,7 @@ reference_sound : OnlyReferencesAreRead → (o : ℕ) (x : List ℕ) (q : List �
     → option_map (λ r. (encode_utf8 r.0, r.1)) r ≡ Some q → IsSound o x q
 reference_sound law o x q None t e h = absurd (cc)
 reference_sound law o x q (Some r) t e h =
-    let same = some_same (encode_utf8 r.0, r.1) q h in
+    let same = same_Some (encode_utf8 r.0, r.1) q h in
     let (spelled, rest, whole, size, is) = law (o ∷ x) r.0 r.1 e in
     let (s, ends, allowed) = reference_ends spelled r.0 is in
     let follows : drop r.1 (o ∷ x) ≡ rest = ap (drop r.1) whole ∙ drop_at spelled rest r.1 (sym size) in
@@ -154,17 +152,17 @@ piece_sound law k o x q h = elim (cases_Bool ((o == 38) && has_references k)) [
   | inr f ↦
       let h1 = sym (cond-false ((o == 38) && has_references k) _ _ f) ∙ h in elim (cases_Bool (o == 13)) [
         | inl t ↦
-            let e = some_same _ q (sym (cond-true (o == 13) _ _ t) ∙ h1) in
+            let e = same_Some _ q (sym (cond-true (o == 13) _ _ t) ∙ h1) in
             let l : o < 128 = omega (arith, eqb-true o 13 t) in
             subst (IsSound o x) e (inr (l, white_is k, ended o x l))
         | inr f ↦
             let h2 = sym (cond-false (o == 13) _ _ f) ∙ h1 in elim (cases_Bool ((o == 9) || (o == 10))) [
               | inl t ↦
-                  let e = some_same _ q (sym (cond-true ((o == 9) || (o == 10)) _ _ t) ∙ h2) in
+                  let e = same_Some _ q (sym (cond-true ((o == 9) || (o == 10)) _ _ t) ∙ h2) in
                   let g = gap_is k o t in
                   subst (IsSound o x) e (inr (g.0, g.1, characters_past x o g.0))
               | inr f ↦
-                  let e = some_same _ q (sym (cond-false ((o == 9) || (o == 10)) _ _ f) ∙ h2) in
+                  let e = same_Some _ q (sym (cond-false ((o == 9) || (o == 10)) _ _ f) ∙ h2) in
                   subst (IsSound o x) e (inl (refl, refl))
             ]
       ]
@@ -179,7 +177,7 @@ after_piece : (n : ℕ) (k : TextKind) (o : ℕ) (x a t : List ℕ) (q : List �
     → AreCharacters (a ++ o ∷ x) → text_in n k (drop q.1 (o ∷ x)) ≡ r → option_map (λ s. q.0 ++ s) r ≡ Some t → AreCharacters (a ++ t)
 after_piece n k o x a t q None ih sound h e f = absurd (cc)
 after_piece n k o x a t q (Some s) ih (inl (one, size)) h e f =
-    let same : o ∷ s ≡ t = ap (λ (z : List ℕ). z ++ s) (sym one) ∙ some_same (q.0 ++ s) t f in
+    let same : o ∷ s ≡ t = ap (λ (z : List ℕ). z ++ s) (sym one) ∙ same_Some (q.0 ++ s) t f in
     let rest : text_in n k x ≡ Some s = ap (λ (m : ℕ). text_in n k (drop m (o ∷ x))) (sym size) ∙ e in
     let all : AreCharacters ((a ++ o ∷ []) ++ s) =
     ih x (a ++ o ∷ []) s (subst AreCharacters (sym (append_assoc a (o ∷ []) x)) h) rest in
@@ -187,7 +185,7 @@ after_piece n k o x a t q (Some s) ih (inl (one, size)) h e f =
 after_piece n k o x a t q (Some s) ih (inr (low, made, left)) h e f =
     let parts = characters_split a x o low h in
     let rest : AreCharacters s = ih (drop q.1 (o ∷ x)) [] s (left parts.1) e in
-    subst (λ (z : List ℕ). AreCharacters (a ++ z)) (some_same (q.0 ++ s) t f) (characters_joined a (q.0 ++ s) parts.0 (characters_joined q.0 s made rest))
+    subst (λ (z : List ℕ). AreCharacters (a ++ z)) (same_Some (q.0 ++ s) t f) (characters_joined a (q.0 ++ s) parts.0 (characters_joined q.0 s made rest))
 
 by_piece : (n : ℕ) (k : TextKind) (o : ℕ) (x a t : List ℕ) (p : Option (List ℕ × ℕ)) → KeepsCharacters n k
     → ((q : List ℕ × ℕ) → p ≡ Some q → IsSound o x q) → AreCharacters (a ++ o ∷ x)
@@ -197,7 +195,7 @@ by_piece n k o x a t (Some q) ih sound h e = after_piece n k o x a t q (text_in 
 
 text_in_is : OnlyReferencesAreRead → (n : ℕ) (k : TextKind) → KeepsCharacters n k
 unfolding text_in
-text_in_is law n k [] a t h e = subst (λ (z : List ℕ). AreCharacters (a ++ z)) (some_same [] t e) h
+text_in_is law n k [] a t h e = subst (λ (z : List ℕ). AreCharacters (a ++ z)) (same_Some [] t e) h
 text_in_is law zero k (o ∷ x) a t h e = absurd (cc)
 text_in_is law (suc n) k (o ∷ x) a t h e =
     by_piece n k o x a t (piece k (o ∷ x)) (λ y b s j f. text_in_is law n k y b s j f) (piece_sound law k o x) h e

@@ -2,12 +2,13 @@ use Rattle.std.proofs.Common.{is_some, ap, ◌∙◌}
 use Rattle.px_xmp.proofs.OpeningLaws.{none_next}
 use Rattle.std.specs.Bool.{⊤}
 use Rattle.std.proofs.lemmas.Result.{err_from_is_err_and}
-use Rattle.px_xmp.proofs.AheadLaws.{memory_says, true_false}
+use Rattle.std.proofs.lemmas.Bool.{both_ways}
+use Rattle.px_xmp.proofs.AheadLaws.{memory_says}
 use Rattle.px_xmp.proofs.opening.put_resource.Goals as goal
 
 pub returns-then-not-is_absolute-clause-accepts : goal.returns-then-not-is_absolute-clause-accepts
 returns-then-not-is_absolute-clause-accepts c more listed none absolute fits =
-    true_false c.is_absolute.result (c.is_absolute.ensures.1 absolute) c.if-not-is_absolute.true
+    absurd (both_ways c.is_absolute.result c.if-not-is_absolute.true (c.is_absolute.ensures.1 absolute))
 
 pub returns-in_err-put_resource-clause-accepts : goal.returns-in_err-put_resource-clause-accepts
 returns-in_err-put_resource-clause-accepts c more listed none absolute fits =
@@ -16,5 +17,4 @@ returns-in_err-put_resource-clause-accepts c more listed none absolute fits =
 
 pub returns-then-is_some-clause-accepts : goal.returns-then-is_some-clause-accepts
 returns-then-is_some-clause-accepts c more listed none absolute fits =
-    true_false c.is_some.result c.if-is_some.true
-    (c.is_some.ensures ∙ ap is_some (none_next c.next_plain.result more none (c.next_plain.ensures.value more listed)))
+    absurd (both_ways c.is_some.result (c.is_some.ensures ∙ ap is_some (none_next c.next_plain.result more none (c.next_plain.ensures.value more listed))) c.if-is_some.true)

@@ -2,13 +2,14 @@ use Rattle.std.specs.Bool.{⊤}
 use Rattle.std.specs.Prelude.{Err}
 use Rattle.std.proofs.Common.{◌≡◌, ◌⊎◌, ◌∷◌, Option, option_map, List, [], Some, codes, inl, inr, refl, sym, ap, subst, ◌∙◌}
 use Rattle.std.proofs.lemmas.Result.{err_from_is_err_and}
+use Rattle.std.proofs.lemmas.Bool.{both_ways}
 use Rattle.px_xmp_text.specs.Values.{Label, Structure}
 use Rattle.px_xmp_forms.specs.Entries.{Entry}
 use Rattle.px_xmp_forms.specs.Causes.{FailsByMemory}
 use Rattle.px_xmp.specs.declared.elements.Filling.{Filling}
 use Rattle.px_xmp.specs.calls.Fits.{AttributesFit, OneFits}
 use Rattle.px_xmp.specs.calls.Listed.{AreListed, IsNextPlain}
-use Rattle.px_xmp.proofs.AheadLaws.{memory_says, true_false}
+use Rattle.px_xmp.proofs.AheadLaws.{memory_says}
 use Rattle.px_xmp_marks.specs.Reading.{Attr, next_view}
 use Rattle.px_xmp_marks.specs.declared.listing.NextAttribute.{NextAttribute}
 use Rattle.px_xmp.specs.Names.{Name, is_rdf}
@@ -57,7 +58,7 @@ returns-in_err-put_resource-clause-accepts c all listed fits =
         × ((label : Label) × (label_in Structure (field_of c.args.scope.now (next_view c.in-Some.first).attribute).name ≡ Some label)))
         → FailsByMemory {X = ⊤} (Err c.in_err-put_resource.field-0.0)
     by more after (inl (none, inl (parse, is))) =
-        true_false c.is_rdf.result (c.is_rdf.ensures ∙ ap (λ (z : Name). is_rdf (codes "parseType") z) c.attribute-name.ensures ∙ parse) c.if-is_rdf.false
+        absurd (both_ways c.is_rdf.result c.if-is_rdf.false (c.is_rdf.ensures ∙ ap (λ (z : Name). is_rdf (codes "parseType") z) c.attribute-name.ensures ∙ parse))
     by more after (inl (none, inr (named, absolute, room))) = c.in_err-put_resource.ensures.accepts more after none absolute room
     by more after (inr (es, fit, (label, named))) =
         absurd (no_property (codes "resource") (field_of c.args.scope.now (next_view c.in-Some.first).attribute).name label refl
@@ -76,10 +77,9 @@ returns-in_err-put_properties-clause-accepts c all listed fits =
         × ((label : Label) × (label_in Structure (field_of c.args.scope.now (next_view c.in-Some.first).attribute).name ≡ Some label)))
         → FailsByMemory {X = ⊤} (Err c.in_err-put_properties.field-0.0)
     by more after (inl (none, inl (parse, is))) =
-        true_false c.is_rdf.result (c.is_rdf.ensures ∙ ap (λ (z : Name). is_rdf (codes "parseType") z) c.attribute-name.ensures ∙ parse) c.if-is_rdf.false
+        absurd (both_ways c.is_rdf.result c.if-is_rdf.false (c.is_rdf.ensures ∙ ap (λ (z : Name). is_rdf (codes "parseType") z) c.attribute-name.ensures ∙ parse))
     by more after (inl (none, inr (named, absolute, room))) =
-        true_false c.is_rdf-2.result (c.is_rdf-2.ensures ∙ ap (λ (z : Name). is_rdf (codes "resource") z) c.attribute-name.ensures ∙ named)
-        c.if-is_rdf-2.false
+        absurd (both_ways c.is_rdf-2.result c.if-is_rdf-2.false (c.is_rdf-2.ensures ∙ ap (λ (z : Name). is_rdf (codes "resource") z) c.attribute-name.ensures ∙ named))
     by more after (inr (es, fit, (label, named))) = c.in_err-put_properties.ensures.accepts all es listed fit
 
 pub returns-clause-value : goal.returns-clause-value

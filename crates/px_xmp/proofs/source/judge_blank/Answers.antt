@@ -5,11 +5,13 @@ use Rattle.px_xmp_text.specs.contracts.pieces.TextKind.{the_type}
 use Rattle.px_xmp_text.specs.Texts.{text_of, normal_text}
 use Rattle.px_xmp_text.specs.declared.pieces.TextKind.{TextKind}
 use Rattle.px_xmp.proofs.WhiteLaws.{own_text}
-use Rattle.px_xmp.proofs.BlankLaws.{some_same, white_short}
+use Rattle.px_xmp.proofs.BlankLaws.{white_short}
 use Rattle.px_xmp.proofs.source.judge_blank.Goals as goal
 use Rattle.std.proofs.lemmas.Result.{err_from_is_err_and}
+use Rattle.std.proofs.lemmas.Option.{same_Some}
+use Rattle.std.proofs.lemmas.Bool.{both_ways}
 use Rattle.px_xmp.proofs.RefusedLaws.{rare_says, wrong_at}
-use Rattle.px_xmp.proofs.AheadLaws.{memory_says, true_false}
+use Rattle.px_xmp.proofs.AheadLaws.{memory_says}
 use Rattle.px_xmp_forms.specs.Forms.{is_white}
 
 pub returns-then-are_plain_spaces-clause-says : goal.returns-then-are_plain_spaces-clause-says
@@ -44,6 +46,6 @@ returns-in_err-append_text-clause-accepts c (few, t, says, white) =
 pub returns-clause-accepts : goal.returns-clause-accepts
 returns-clause-accepts c (few, t, says, white) =
     let (u, is, form) = c.in_ok-append_text.ensures.items in
-    let same : t ≡ u = some_same t u (sym says ∙ is) in
+    let same : t ≡ u = same_Some t u (sym says ∙ is) in
     let blank = c.is_blank.ensures u (c.as_slice.ensures.value ∙ form ∙ ap (λ (z : List ℕ). z ++ normal_text u) c.list-form.ensures.items) in
-    true_false c.is_blank.result (blank ∙ ap is_white (sym same) ∙ white) c.if-is_blank.false
+    absurd (both_ways c.is_blank.result c.if-is_blank.false (blank ∙ ap is_white (sym same) ∙ white))

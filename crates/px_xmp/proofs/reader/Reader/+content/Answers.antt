@@ -1,4 +1,4 @@
-use Rattle.std.proofs.Common.{◌≡◌, ◌⊎◌, ◌++◌, inl, inr, Bool, false, Option, option_map, Some, List, [], ℕ, suc, refl, sym, ap, subst, ◌∙◌, arith}
+use Rattle.std.proofs.Common.{◌≡◌, ◌⊎◌, ◌++◌, inl, inr, Bool, false, Option, option_map, List, [], ℕ, suc, refl, sym, ap, subst, ◌∙◌, arith}
 use Rattle.std.specs.Prelude.{IfOk}
 use Rattle.std.proofs.lemmas.Result.{on_ok_weaker}
 use Rattle.px_xmp_forms.specs.Outputs.{begun, nothing, changed, with_text}
@@ -17,6 +17,7 @@ use Rattle.std.specs.Bool.{⊤}
 use Rattle.std.specs.Prelude.{Err}
 use Rattle.px_xmp_forms.specs.Causes.{FailsByMemory}
 use Rattle.std.proofs.lemmas.Result.{err_from_is_err_and}
+use Rattle.std.proofs.lemmas.Option.{same_Some}
 use Rattle.px_xmp_text.specs.Values.{Structure, Compound}
 use Rattle.px_xmp_forms.specs.Entries.{Inside, Entry}
 use Rattle.px_xmp.specs.Meaning.{HasAttributes, AreEntries, IsRow, IsNode, IsLiteral, IsResource, compound_of}
@@ -31,9 +32,6 @@ use Rattle.px_xmp.proofs.FitLaws.{row_fits, join_fits, fit_back, inside_fits, te
 use Rattle.px_xmp.proofs.MeaningLaws.{attributes_once, has_once}
 use Rattle.px_xmp.proofs.ItemLaws.{ItemsAhead, entries_tag, node_element, node_ahead, node_kind, items_left, item_ahead, item_labelled, items_same, value_fits}
 use Rattle.px_xmp.proofs.reader.Reader.+content.Goals as goal
-
-some_same : {A : Type 0} (p q : A) → Some p ≡ Some q → p ≡ q
-some_same p q h = cc
 
 pub read_items-returns-in_default-clause-read : goal.read_items-returns-in_default-clause-read
 read_items-returns-in_default-clause-read t c s has left =
@@ -415,7 +413,7 @@ read_text_or_node-returns-in_err-read_end-clause-accepts t c s nodes depth l v y
 
 pub read_node-returns-in_err-around-clause-accepts : goal.read_node-returns-in_err-around-clause-accepts
 read_node-returns-in_err-around-clause-accepts t c s u nodes k inner y has opened ahead tag (declares, kind, white, fs, es, attributes, are, row) fits =
-    let same : k ≡ node_view c.in-Some.node = some_same k (node_view c.in-Some.node) (sym kind ∙ ap compound_of (sym opened.0) ∙ sym c.in-Some.ensures) in
+    let same : k ≡ node_view c.in-Some.node = same_Some k (node_view c.in-Some.node) (sym kind ∙ ap compound_of (sym opened.0) ∙ sym c.in-Some.ensures) in
     let node = c.in-Some.node in
     let room : InsideFits c.args.outer.depth (node_view node) inner = subst (λ (z : Compound). InsideFits c.args.outer.depth z inner) same fits in
     let has_fields = subst (λ (z : Compound). HasAttributes z (inherited c.args.outer.language.now u.language) c.args.opened.place u.fields fs) same attributes in
@@ -429,7 +427,7 @@ read_node-returns-in_err-around-clause-accepts t c s u nodes k inner y has opene
 pub read_node-returns-in_err-read_items-clause-accepts : goal.read_node-returns-in_err-read_items-clause-accepts
 read_node-returns-in_err-read_items-clause-accepts t c s u nodes k inner y has opened ahead tag (declares, kind, white, fs, es, attributes, are, row) fits =
     let a = c.in_ok-around.around in
-    let same : k ≡ node_view c.in-Some.node = some_same k (node_view c.in-Some.node) (sym kind ∙ ap compound_of (sym opened.0) ∙ sym c.in-Some.ensures) in
+    let same : k ≡ node_view c.in-Some.node = same_Some k (node_view c.in-Some.node) (sym kind ∙ ap compound_of (sym opened.0) ∙ sym c.in-Some.ensures) in
     let b = c.in_ok-around.ensures.value (begun nothing s) u has opened in
     let rows : IsRow (node_view c.in-Some.node) (fs ++ es) inner = subst (λ (z : Compound). IsRow z (fs ++ es) inner) same row in
     let room = content_fits c.in-Some.node c.args.outer.depth a.depth inner b.inner (subst (λ (z : Compound). InsideFits c.args.outer.depth z inner) same fits) in
@@ -444,7 +442,7 @@ pub read_node-returns-in_err-end_node-clause-accepts : goal.read_node-returns-in
 read_node-returns-in_err-end_node-clause-accepts t c s u nodes k inner y has opened ahead tag (declares, kind, white, fs, es, attributes, are, row) fits =
     let a = c.in_ok-around.around in
     let node = c.in-Some.node in
-    let same : k ≡ node_view node = some_same k (node_view node) (sym kind ∙ ap compound_of (sym opened.0) ∙ sym c.in-Some.ensures) in
+    let same : k ≡ node_view node = same_Some k (node_view node) (sym kind ∙ ap compound_of (sym opened.0) ∙ sym c.in-Some.ensures) in
     let b = c.in_ok-around.ensures.value (begun nothing s) u has opened in
     let rows : IsRow (node_view node) (fs ++ es) inner = subst (λ (z : Compound). IsRow z (fs ++ es) inner) same row in
     let room = content_fits node c.args.outer.depth a.depth inner b.inner (subst (λ (z : Compound). InsideFits c.args.outer.depth z inner) same fits) in

@@ -5,12 +5,12 @@ use Rattle.px_xmp.specs.Nodes.{Nothing, Element}
 use Rattle.px_xmp.specs.Meaning.{IsAlone, IsRdf}
 use Rattle.px_xmp.specs.Refusals.{IsNamedRdf}
 use Rattle.px_xmp.proofs.NodeLaws.{IsStop}
-use Rattle.px_xmp.proofs.RootLaws.{true_false}
 use Rattle.px_xmp.specs.declared.elements.Opened.{Opened}
 use Rattle.px_xmp.specs.calls.Steps.{TagAfter}
 use Rattle.px_xmp.proofs.RootLaws.{around_done}
 use Rattle.px_xmp.proofs.reader.Reader.read_around.Goals as goal
 use Rattle.std.proofs.lemmas.Result.{err_from_is_err_and}
+use Rattle.std.proofs.lemmas.Bool.{both_ways}
 use Rattle.px_xmp.proofs.AheadLaws.{memory_says, element_entered, inside_ahead}
 use Rattle.px_xmp.proofs.SubjectLaws.{alone_tag}
 use Rattle.px_xmp.proofs.TagAheadLaws.{white_tag}
@@ -53,8 +53,8 @@ returns-in_err-read_rdf-clause-refused c nodes y has left fresh (e, row, ends) =
     let (t, start) = tag.is in
     let entered = enter_after c.kinds_are_read.ensures c.in-Some.inner white t nodes old mid (e ++ y) is_white tag start row (inr (e, y, ends, refl)) in
     let p = err_from_is_err_and c.from_residual-in_err-read_rdf.result c.from_residual-in_err-read_rdf.ensures.1 in
-    rw (p.1, p.2) (wrong_says ⊤ ⊤ c.in_err-read_rdf.field-0.0 _ _ (λ wrong h. true_false (is_rdf (codes "RDF") t.name)
-    (alone_inside IsNamedRdf c.in-Some.inner white t nodes old mid (e ++ y) entered is_white h).0 wrong) (c.in_err-read_rdf.ensures.refused t start.opened))
+    rw (p.1, p.2) (wrong_says ⊤ ⊤ c.in_err-read_rdf.field-0.0 _ _ (λ wrong h. absurd (both_ways (is_rdf (codes "RDF") t.name) wrong
+    (alone_inside IsNamedRdf c.in-Some.inner white t nodes old mid (e ++ y) entered is_white h).0)) (c.in_err-read_rdf.ensures.refused t start.opened))
 
 pub returns-in_err-second-clause-refused : goal.returns-in_err-second-clause-refused
 returns-in_err-second-clause-refused c nodes y has left fresh (e, row, ends) =

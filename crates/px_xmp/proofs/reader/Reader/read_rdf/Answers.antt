@@ -9,6 +9,7 @@ use Rattle.px_xmp.proofs.OpeningLaws.{none_after}
 use Rattle.px_xmp.proofs.RootLaws.{no_fields, rdf_row, rdf_done}
 use Rattle.px_xmp.proofs.reader.Reader.read_rdf.Goals as goal
 use Rattle.std.proofs.lemmas.Result.{err_from_is_err_and}
+use Rattle.std.proofs.lemmas.Bool.{both_ways}
 use Rattle.px_xmp.proofs.RefusedLaws.{rare_says, wrong_at}
 use Rattle.px_xmp_text.specs.Values.{Structure}
 use Rattle.px_xmp_forms.specs.Entries.{Entry}
@@ -19,7 +20,6 @@ use Rattle.px_xmp.proofs.OpeningLaws.{no_field}
 use Rattle.px_xmp.proofs.AheadLaws.{memory_says, none_some}
 use Rattle.px_xmp.proofs.FitLaws.{row_fits, join_fits, has_can}
 use Rattle.px_xmp.proofs.SubjectLaws.{subjects_same, new_fits}
-use Rattle.px_xmp.proofs.RootLaws.{true_false}
 
 pub returns-clause-read : goal.returns-clause-read
 returns-clause-read c t has left fresh (name, language, all, listed, fields) =
@@ -55,8 +55,7 @@ returns-in_err-join_properties-clause-refused c t opened =
 
 pub returns-then-is_some-clause-accepts : goal.returns-then-is_some-clause-accepts
 returns-then-is_some-clause-accepts c t nodes d y has fresh (name, language, all, listed, fields) ahead tag (declares, is, bare, u, es, subjects, row) fits =
-    true_false c.is_some.result c.if-is_some.true
-    (c.is_some.ensures ∙ ap is_some (no_field c.next_plain.result c.args.self.now.source.scope all (fields ∙ bare) (c.next_plain.ensures.value all listed)))
+    absurd (both_ways c.is_some.result (c.is_some.ensures ∙ ap is_some (no_field c.next_plain.result c.args.self.now.source.scope all (fields ∙ bare) (c.next_plain.ensures.value all listed))) c.if-is_some.true)
 
 pub returns-in_default-clause-accepts : goal.returns-in_default-clause-accepts
 returns-in_default-clause-accepts c t nodes d y has fresh opened ahead tag (declares, is, bare, u, es, subjects, row) fits =

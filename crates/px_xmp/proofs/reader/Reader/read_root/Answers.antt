@@ -6,9 +6,10 @@ use Rattle.px_xmp.specs.Meaning.{IsAlone, IsRdf}
 use Rattle.px_xmp.specs.Refusals.{IsNamedRdf}
 use Rattle.px_xmp.specs.calls.Steps.{HasInside}
 use Rattle.std.proofs.lemmas.Result.{on_ok_weaker}
-use Rattle.px_xmp.proofs.RootLaws.{root_rdf, root_around, rdf_alone, around_alone, true_false}
+use Rattle.px_xmp.proofs.RootLaws.{root_rdf, root_around, rdf_alone, around_alone}
 use Rattle.px_xmp.proofs.reader.Reader.read_root.Goals as goal
 use Rattle.std.proofs.lemmas.Result.{err_from_is_err_and}
+use Rattle.std.proofs.lemmas.Bool.{both_ways}
 use Rattle.px_xmp.proofs.RefusedLaws.{wrong_weaker, wrong_says, wrong_at}
 use Rattle.px_xmp.specs.calls.Fits.{IsAhead}
 use Rattle.px_xmp.proofs.AheadLaws.{memory_says}
@@ -26,8 +27,8 @@ returns-clause-read c t has left fresh (name, language, all, listed, fields) =
 
 pub returns-then-not-is_root-clause-refused : goal.returns-then-not-is_root-clause-refused
 returns-then-not-is_root-clause-refused c t nodes y has left fresh opened within =
-    wrong_weaker _ c.read_rdf.result _ _ (λ wrong h. true_false (is_rdf (codes "RDF") t.name)
-    (rdf_alone IsNamedRdf t nodes (ap is_root (sym opened.0) ∙ sym c.is_root.ensures ∙ c.if-not-is_root.true) h) wrong)
+    wrong_weaker _ c.read_rdf.result _ _ (λ wrong h. absurd (both_ways (is_rdf (codes "RDF") t.name) wrong
+    (rdf_alone IsNamedRdf t nodes (ap is_root (sym opened.0) ∙ sym c.is_root.ensures ∙ c.if-not-is_root.true) h)))
     (c.read_rdf.ensures.refused t opened)
 
 pub returns-then-opened-clause-refused : goal.returns-then-opened-clause-refused

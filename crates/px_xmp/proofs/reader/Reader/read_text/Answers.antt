@@ -5,11 +5,12 @@ use Rattle.px_xmp.specs.Nodes.{Nothing, Words}
 use Rattle.px_xmp.specs.Reading.{kind_view}
 use Rattle.px_xmp.proofs.StepLaws.{joined, text_step, white_joined, moves_on, tag_started}
 use Rattle.std.proofs.lemmas.Result.{err_from_is_err_and}
+use Rattle.std.proofs.lemmas.Bool.{both_ways}
 use Rattle.px_xmp_marks.specs.Reading.{start_tag_view}
 use Rattle.px_xmp.specs.declared.marks.MarkKind.{MarkKind}
 use Rattle.px_xmp.specs.declared.elements.Opened.{Opened}
 use Rattle.px_xmp.specs.calls.Steps.{Next}
-use Rattle.px_xmp.proofs.AheadLaws.{memory_says, none_some, true_false}
+use Rattle.px_xmp.proofs.AheadLaws.{memory_says, none_some}
 use Rattle.px_xmp.proofs.RefusedLaws.{white_front}
 use Rattle.px_xmp.proofs.TagAheadLaws.{tag_ahead, first_mark, element_tag, white_fits, white_back}
 use Rattle.px_xmp.proofs.LiteralLaws.{no_tag_kind, words_fit, text_no_start, blank_read, text_goes_on}
@@ -28,7 +29,7 @@ marks-init c =
     record {
       within = omega (arith);
       scope = refl;
-      read = λ s has left. (Nothing, [], refl, λ e. tt, λ e. true_false false e refl, refl, record { left = left; same = refl }, has);
+      read = λ s has left. (Nothing, [], refl, λ e. tt, λ e. absurd (both_ways false refl e), refl, record { left = left; same = refl }, has);
       failed_allocations = refl;
     }
 
@@ -47,7 +48,7 @@ marks-preserved-then-says-2 c =
             joined nodes (Words t Nothing),
             text ++ t,
             texts,
-            λ e. true_false c.marks.says c.if-says-2.true e,
+            λ e. absurd (both_ways c.marks.says e c.if-says-2.true),
             λ e h. other c.if-says-2.true (white_back nodes (Words t Nothing) h),
             after,
             on,

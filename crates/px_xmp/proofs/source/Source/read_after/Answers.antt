@@ -4,10 +4,11 @@ use Rattle.px_xmp.specs.Reading.{kind_view}
 use Rattle.px_xmp.proofs.StepLaws.{white_step}
 use Rattle.px_xmp.proofs.source.Source.read_after.Goals as goal
 use Rattle.std.proofs.lemmas.Result.{err_from_is_err_and}
+use Rattle.std.proofs.lemmas.Bool.{both_ways}
 use Rattle.px_xmp.proofs.RefusedLaws.{after_refused, white_passed, white_front, wrong_says}
 use Rattle.px_xmp.specs.Meaning.{AreWhite}
 use Rattle.px_xmp.proofs.TagAheadLaws.{last_mark, last_white}
-use Rattle.px_xmp.proofs.AheadLaws.{memory_says, none_some, true_false}
+use Rattle.px_xmp.proofs.AheadLaws.{memory_says, none_some}
 
 pub loop-place-preserved : goal.loop-place-preserved
 loop-place-preserved c =
@@ -53,5 +54,5 @@ returns-in_default-clause-accepts c nodes left row blank =
     let (more, whole, others) =
     white_passed c.kinds_are_read.ensures white nodes old.scope old.at now.at old.rest.now now.rest.now [] is_white octets row moves.same (inl refl) in
     let (k, z, first) =
-    last_mark more old.scope now.at now.rest.now others (white_front white more (subst AreWhite whole blank)) (λ e. true_false (length now.rest.now == 0) (ap (λ (q : List ℕ). length q == 0) e) (sym c.is_empty.ensures ∙ c.loop-place-test.true)) in
+    last_mark more old.scope now.at now.rest.now others (white_front white more (subst AreWhite whole blank)) (λ e. absurd (both_ways (length now.rest.now == 0) (sym c.is_empty.ensures ∙ c.loop-place-test.true) (ap (λ (q : List ℕ). length q == 0) e))) in
     absurd (none_some c.next.result c.in_default.is (c.next.ensures.some k z first))
