@@ -130,7 +130,10 @@ OF_PACKETS: Dict[str, Tuple[str, str]] = {
     "XmpSeveralSubjects": ("The packet makes statements about several subjects.", _PACKET),
     "XmpRareEncoding": ("The packet is not in UTF-8, or has a rare XML declaration.", _RARE),
     "XmpRareName": ("A name in the packet is not of ASCII.", _RARE),
-    "XmpRareNamespace": ("A namespace in the packet is a rare one: it has odd characters, or ends as no namespace of XMP does.", _RARE),
+    "XmpRareNamespace": (
+        "A namespace in the packet is a rare one: it is long, has odd characters, is a mere name, or begins as that of RDF or XML.",
+        _RARE,
+    ),
     "XmpRareCount": ("A tag has more than 256 attributes, or too many prefixes are declared at one place.", _RARE),
     "XmpRareElement": ("The packet has an element in a rare form of RDF/XML.", _RARE),
     "XmpRareAttribute": ("The packet has an attribute in a rare form of RDF/XML.", _RARE),

@@ -4,7 +4,7 @@
  *         printf("%s:%s\n", exifnorm_field_group(&field), exifnorm_field_name(&field));      IFD0:Artist
  *
  * The names and the groups are those that ExifTool and the command exifnorm-pictures print. All texts are ASCII, are in the program
- * itself, and end with a zero byte. A header alone, for C99 and C++11; a program that doesn't need its 7,570 bytes of texts leaves it out.
+ * itself, and end with a zero byte. A header alone, for C99 and C++11; a program that doesn't need its 7,591 bytes of texts leaves it out.
  */
 #ifndef EXIFNORM_NAMES_H
 #define EXIFNORM_NAMES_H
@@ -193,7 +193,7 @@ static inline const char *exifnorm_cause_text(uint32_t cause) {
     case EXIFNORM_XMP_SEVERAL_SUBJECTS: return "The packet makes statements about several subjects.";
     case EXIFNORM_XMP_RARE_ENCODING: return "The packet is not in UTF-8, or has a rare XML declaration.";
     case EXIFNORM_XMP_RARE_NAME: return "A name in the packet is not of ASCII.";
-    case EXIFNORM_XMP_RARE_NAMESPACE: return "A namespace in the packet is a rare one: it has odd characters, or ends as no namespace of XMP does.";
+    case EXIFNORM_XMP_RARE_NAMESPACE: return "A namespace in the packet is a rare one: it is long, has odd characters, is a mere name, or begins as that of RDF or XML.";
     case EXIFNORM_XMP_RARE_COUNT: return "A tag has more than 256 attributes, or too many prefixes are declared at one place.";
     case EXIFNORM_XMP_RARE_ELEMENT: return "The packet has an element in a rare form of RDF/XML.";
     case EXIFNORM_XMP_RARE_ATTRIBUTE: return "The packet has an attribute in a rare form of RDF/XML.";
