@@ -1,4 +1,7 @@
 pub mod AnswerLaws
 pub mod PartLaws
 pub mod CutLaws
+pub mod OrderLaws
+pub mod PointerLaws
+pub mod JoinedLaws
 pub mod LeftLaws

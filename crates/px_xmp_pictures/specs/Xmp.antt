@@ -10,7 +10,7 @@ use Rattle.px_pictures.specs.declared.faults.PictureSide.TheVariants.{First, Sec
 use Rattle.px_pictures.specs.Xmp.{IsOtherXmp}
 use Rattle.px_xmp.specs.Laws.{IsFormOfPacket}
 use Rattle.px_xmp_forms.specs.Forms.{IsNormal}
-use Rattle.px_xmp_pictures.specs.Joined.{NamesNone, IsLeftPacket, IsJoined}
+use Rattle.px_xmp_pictures.specs.Joined.{NamesNone, IsLeftPacket, IsJoined, IsNotJoined}
 use Rattle.px_xmp_pictures.specs.declared.reading.ReadXmp.{ReadXmp}
 use Rattle.px_xmp_pictures.specs.declared.reading.ReadXmp.TheVariants.{Absent, Form, NotRead}
 
@@ -21,10 +21,11 @@ abbrev pub IsOnlyPacket : Picture → List ℕ → ℕ → ℕ → Type 0
 IsOnlyPacket p form start size =
     (xmp_of p.octets p.parts ≡ found.Packet start size) × IsFormOfPacket (range p.octets start size) form
 
--- at an offset is a second packet or extended XMP; or the only packet, which has no meaning within the limits or names extended XMP
+-- at an offset is a second packet or extended XMP, of a picture that can't be joined; or the only packet, which has no meaning within the
+-- limits or names extended XMP
 abbrev pub IsLeft : Picture → ℕ → Type 0
 IsLeft p start =
-    (xmp_of p.octets p.parts ≡ found.NotRead start)
+    ((xmp_of p.octets p.parts ≡ found.NotRead start) × IsNotJoined p)
     ⊎ ((size : ℕ) × (xmp_of p.octets p.parts ≡ found.Packet start size) × IsLeftPacket (range p.octets start size))
 
 -- the picture has no XMP; or one packet, alone or with extended XMP, and its normal form, which names no other; or, at this place, XMP that

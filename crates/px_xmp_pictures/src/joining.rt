@@ -1,15 +1,17 @@
 // The XMP of a picture: its packet with the properties of its extended XMP. XMP part 3, 1.1.3.1.
-ghost use Rattle.std.specs.Prelude.{◌≡◌, ◌++◌, None, IfOk, IfSome, OnOk};
+ghost use Rattle.std.specs.Prelude.{◌≡◌, ◌≤◌, ◌++◌, ℕ, List, length, None, IfOk, IfSome, MatchOption, OnOk};
 ghost use Rattle.px_bytes.specs.Allocations.{CountsAllocFailure};
+ghost use Rattle.px_bytes.specs.Parts.{limit};
 ghost use Rattle.px_jpeg.specs.Pieces.{pieces, range};
 ghost use Rattle.px_pictures.specs.Xmp.{has_part};
+ghost use Rattle.px_xmp.specs.Accepted.{PacketFits};
 ghost use Rattle.px_xmp.specs.Packet.{IsPacket};
 ghost use Rattle.px_xmp.specs.Laws.{IsFormOfPacket};
 ghost use Rattle.px_xmp_forms.specs.Forms.{IsNormal};
 ghost use Rattle.px_xmp_text.specs.Values.{packet_end};
 ghost use Rattle.px_xmp_pictures.specs.Extension.{extension_pieces, IsExtension};
-ghost use Rattle.px_xmp_pictures.specs.Joined.{packet_start, name_start, name_end, NamesNone, IsLeftPacket};
-ghost use Rattle.px_xmp_pictures.specs.Joined.{HasExtension, IsJoinedPacket, IsJoined};
+ghost use Rattle.px_xmp_pictures.specs.Joined.{packet_start, Names, IsNamed, NamesNone, IsLeftPacket};
+ghost use Rattle.px_xmp_pictures.specs.Joined.{HasExtension, IsJoinedPacket, PartsFit, IsJoined, IsNotJoined};
 ghost use Rattle.px_xmp_pictures.specs.Counts.{IfLeft, CountsAllocFailureInXmp};
 
 use crate::digests::is_name_of;
@@ -44,7 +46,7 @@ struct Pointer<'a> {
 
 // What follows some first octets.
 fn after<'a>(octets: &'a [u8], first: &[u8]) -> Option<&'a [u8]>
-    ensures { IfSome result (λ rest. octets.now ≡ first.now ++ rest.now) }
+    ensures { MatchOption result ((rest : List ℕ) → octets.now ≡ first.now ++ rest → ⊥) (λ rest. octets.now ≡ first.now ++ rest.now) }
 {
     if octets.len() < first.len() {
         return None;
@@ -58,7 +60,7 @@ fn after<'a>(octets: &'a [u8], first: &[u8]) -> Option<&'a [u8]>
 
 // What precedes some last octets.
 fn before<'a>(octets: &'a [u8], last: &[u8]) -> Option<&'a [u8]>
-    ensures { IfSome result (λ rest. octets.now ≡ rest.now ++ last.now) }
+    ensures { MatchOption result ((rest : List ℕ) → octets.now ≡ rest ++ last.now → ⊥) (λ rest. octets.now ≡ rest.now ++ last.now) }
 {
     if octets.len() < last.len() {
         return None;
@@ -73,7 +75,8 @@ fn before<'a>(octets: &'a [u8], last: &[u8]) -> Option<&'a [u8]>
 // The element at the start of some octets, if it has a name of extended XMP as its text.
 fn pointer_at<'a>(front: &'a [u8], octets: &'a [u8]) -> Option<Pointer<'a>>
     ensures front { IfSome result (λ p. p.front.now ≡ front.now) }
-    ensures named { IfSome result (λ p. octets.now ≡ name_start ++ (p.name.now ++ (name_end ++ p.back.now))) }
+    ensures named { MatchOption result ((name back : List ℕ) → Names octets.now name back → ⊥)
+        (λ p. Names octets.now p.name.now p.back.now) }
 {
     let Some(rest) = after(octets, POINTER_START) else {
         return None;
@@ -88,14 +91,15 @@ fn pointer_at<'a>(front: &'a [u8], octets: &'a [u8]) -> Option<Pointer<'a>>
     Some(Pointer { front, name, back })
 }
 
-// The first such element of a form.
+// The first element of a form that names extended XMP, if it has a name as its text.
 fn find_pointer<'a>(form: &'a [u8]) -> Option<Pointer<'a>>
-    ensures { IfSome result (λ p. form.now ≡ p.front.now ++ (name_start ++ (p.name.now ++ (name_end ++ p.back.now)))) }
+    ensures { MatchOption result ((front name back : List ℕ) → IsNamed form.now front name back → ⊥)
+        (λ p. IsNamed form.now p.front.now p.name.now p.back.now) }
 {
     for (n, _) in form.iter().enumerate() {
         let (front, rest) = form.split_at(n);
-        if let Some(pointer) = pointer_at(front, rest) {
-            return Some(pointer);
+        if rest.starts_with(LABEL) {
+            return pointer_at(front, rest);
         }
     }
     None
@@ -116,7 +120,8 @@ fn has_part(wanted: &[u8], octets: &[u8]) -> bool
 
 // The properties of a form.
 fn properties_of<'a>(form: &'a [u8]) -> Option<&'a [u8]>
-    ensures { IfSome result (λ ps. form.now ≡ packet_start ++ ps.now ++ packet_end) }
+    ensures { MatchOption result ((ps : List ℕ) → form.now ≡ packet_start ++ ps ++ packet_end → ⊥)
+        (λ ps. form.now ≡ packet_start ++ ps.now ++ packet_end) }
 {
     match after(form, PACKET_START) {
         Some(rest) => before(rest, PACKET_END),
@@ -144,6 +149,7 @@ fn join_three(
 // Sees that the octets of a form up to an element end in no other: with the end of a form they are a packet.
 fn check_outermost(memory: &mut Memory, front: &[u8]) -> Result<(), Unjoined>
     ensures packet { OnOk result (IsPacket (front.now ++ packet_end)) }
+    ensures left { IfLeft result (PacketFits (front.now ++ packet_end) → ⊥) }
     ensures memory { CountsAllocFailureInXmp result memory.old memory.new }
 {
     let packet = join_three(memory, front, PACKET_END, b"")?;
@@ -155,6 +161,8 @@ fn check_outermost(memory: &mut Memory, front: &[u8]) -> Result<(), Unjoined>
 fn extension_in(memory: &mut Memory, front: &Front, name: &[u8]) -> Result<Vec<u8>, Unjoined>
     ensures extension { let all = extension_pieces (pieces front.now.octets None front.now.parts) in
         IfOk result (λ v. IsExtension front.now.octets all name.now v.items) }
+    ensures left { let all = extension_pieces (pieces front.now.octets None front.now.parts) in
+        IfLeft result ((x : List ℕ) → IsExtension front.now.octets all name.now x → length x ≤ limit → ⊥) }
     ensures memory { CountsAllocFailureInXmp result memory.old memory.new }
 {
     let bytes = front.bytes();
@@ -173,6 +181,8 @@ fn extension_in(memory: &mut Memory, front: &Front, name: &[u8]) -> Result<Vec<u
 fn extension_form(memory: &mut Memory, front: &Front, name: &[u8]) -> Result<Vec<u8>, Unjoined>
     ensures extended { let all = extension_pieces (pieces front.now.octets None front.now.parts) in
         IfOk result (λ v. HasExtension front.now.octets all name.now v.items) }
+    ensures left { let all = extension_pieces (pieces front.now.octets None front.now.parts) in
+        IfLeft result ((x : List ℕ) → IsExtension front.now.octets all name.now x → PacketFits x → ⊥) }
     ensures memory { CountsAllocFailureInXmp result memory.old memory.new }
 {
     let octets = extension_in(memory, front, name)?;
@@ -184,8 +194,12 @@ fn extension_form(memory: &mut Memory, front: &Front, name: &[u8]) -> Result<Vec
 fn joined_packet(memory: &mut Memory, front: &Front, form: &[u8]) -> Result<Vec<u8>, Unjoined>
     ensures joined { let all = extension_pieces (pieces front.now.octets None front.now.parts) in
         IfOk result (λ v. IsJoinedPacket front.now.octets all form.now v.items) }
+    ensures left { let all = extension_pieces (pieces front.now.octets None front.now.parts) in
+        IfLeft result ((whole : List ℕ) → (j : IsJoinedPacket front.now.octets all form.now whole) → PartsFit j → ⊥) }
     ensures memory { CountsAllocFailureInXmp result memory.old memory.new }
 {
+    px_xmp::laws::one_packet();
+    px_xmp::laws::one_meaning();
     let Some(pointer) = find_pointer(form) else {
         return Err(Unjoined::NotRead);
     };
@@ -221,6 +235,7 @@ fn packet_form(
     size: usize,
 ) -> Result<Vec<u8>, Unjoined>
     ensures form { IfOk result (λ form. IsFormOfPacket (range front.now.octets start size) form.items) }
+    ensures left { IfLeft result (PacketFits (range front.now.octets start size) → ⊥) }
     ensures memory { CountsAllocFailureInXmp result memory.old memory.new }
 {
     let form = normal_form_in(memory, range(front.bytes(), start, size))?;
@@ -249,8 +264,11 @@ pub(crate) fn joined_form(memory: &mut Memory, front: &Front) -> Result<Vec<u8>,
     ensures joined { IfOk result (λ form. IsJoined front.now form.items) }
     ensures normal { IfOk result (λ form. IsNormal form.items) }
     ensures none { IfOk result (λ form. NamesNone form.items) }
+    ensures left { IfLeft result (IsNotJoined front.now) }
     ensures memory { CountsAllocFailureInXmp result memory.old memory.new }
 {
+    px_xmp::laws::one_packet();
+    px_xmp::laws::one_meaning();
     let Some(packet) = only_packet(front) else {
         return Err(Unjoined::NotRead);
     };

@@ -3,7 +3,7 @@
 //!
 //! What is proved of Exif and IPTC is what px_pictures proves. Of XMP it is proved where the packets are, which pieces of extended XMP
 //! are joined and to what, and that the answer is that of the normal forms of what the packets mean. A picture's only packet is left only
-//! if it has no meaning within the limits of px_xmp, or names extended XMP. Which extended XMP is joined is tested.
+//! if it has no meaning within the limits of px_xmp, or names extended XMP, and extended XMP only if it can't be joined within the limits.
 #![tactic(auto)]
 
 mod comparing;

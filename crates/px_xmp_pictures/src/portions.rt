@@ -1,11 +1,13 @@
 // The pieces of extended XMP of a picture, joined. XMP part 3, 1.1.3.1.
-ghost use Rattle.std.specs.Prelude.{◌≡◌, ◌∷◌, [], ◌≤◌, ◌<◌, ◌+◌, length, drop, true, None, map, IfOk, IfSome, MatchOption};
+ghost use Rattle.std.specs.Prelude.{◌≡◌, ◌∷◌, [], ◌≤◌, ◌<◌, ◌+◌, length, drop, true, None, map, IfOk, MatchOption};
 ghost use Rattle.std.specs.List.{AllByRecursion, flat_map};
-ghost use Rattle.std.specs.List.Sorted.{IsPermutation};
+ghost use Rattle.std.specs.List.Sorted.{IsPermutation, IsNonDecreasingBy};
 ghost use Rattle.px_bytes.specs.Parts.{limit};
 ghost use Rattle.px_jpeg.specs.Pieces.{range, pieces};
 ghost use Rattle.px_jpeg.specs.Xmp.{is_packet};
-ghost use Rattle.px_xmp_pictures.specs.Counts.{CountsAllocFailureInXmp};
+ghost use Rattle.px_jpeg.specs.declared.pieces.Piece.{Piece as PieceValue};
+ghost use Rattle.px_xmp_pictures.specs.declared.portions.Portion.{Portion as PortionValue};
+ghost use Rattle.px_xmp_pictures.specs.Counts.{IfLeft, CountsAllocFailureInXmp};
 ghost use Rattle.px_xmp_pictures.specs.Extension.{is_of_extension, packets, extension_pieces, portion_of, text_of};
 ghost use Rattle.px_xmp_pictures.specs.Extension.{HasName, Follow};
 
@@ -85,7 +87,8 @@ fn next_of_extension<'a>(left: &mut Pieces<'a>) -> Option<Piece>
 
 // The packet of XMP, if there is exactly one.
 pub(crate) fn only_packet(front: &Front) -> Option<Piece>
-    ensures { IfSome result (λ p. packets (pieces front.now.octets None front.now.parts) ≡ p ∷ []) }
+    ensures { let all = packets (pieces front.now.octets None front.now.parts) in
+        MatchOption result ((p : PieceValue) → all ≡ p ∷ [] → ⊥) (λ p. all ≡ p ∷ []) }
 {
     let mut left = front.pieces();
     let Some(first) = next_packet(&mut left) else {
@@ -99,7 +102,8 @@ pub(crate) fn only_packet(front: &Front) -> Option<Piece>
 
 // What a piece says of its place, if it is whole up to its text and has this name.
 fn portion_of(bytes: &[u8], piece: &Piece, name: &[u8]) -> Option<Portion>
-    ensures { IfSome result (λ q. HasName bytes.now name.now piece.now × (q ≡ portion_of bytes.now piece.now)) }
+    ensures { MatchOption result (HasName bytes.now name.now piece.now → ⊥)
+        (λ q. HasName bytes.now name.now piece.now × (q ≡ portion_of bytes.now piece.now)) }
 {
     let octets = range(bytes, piece.start, piece.size);
     let Some(place) = read_extended(octets) else {
@@ -140,6 +144,8 @@ pub(crate) fn portions_in(
         IfOk result (λ v. AllByRecursion (HasName front.now.octets name.now) all) }
     ensures portions { let all = extension_pieces (pieces front.now.octets None front.now.parts) in
         IfOk result (λ v. v.items ≡ map (portion_of front.now.octets) all) }
+    ensures left { let all = extension_pieces (pieces front.now.octets None front.now.parts) in
+        IfLeft result (AllByRecursion (HasName front.now.octets name.now) all → ⊥) }
     ensures memory { CountsAllocFailureInXmp result memory.old memory.new }
 {
     let bytes = front.bytes();
@@ -158,14 +164,16 @@ pub(crate) fn portions_in(
 
 // The portions in order of their offsets. A heap sorts them, since std's own sorts call themselves.
 pub(crate) fn in_order(portions: Vec<Portion>) -> Vec<Portion>
-    ensures { IsPermutation portions.items result.items }
+    ensures all { IsPermutation portions.items result.items }
+    ensures order { IsNonDecreasingBy (λ (q : PortionValue). q.offset) result.items }
 {
     BinaryHeap::from(portions).into_sorted_vec()
 }
 
 // The number of octets of all texts, unless it is greater than the longest packet's.
 pub(crate) fn total_of(bytes: &[u8], portions: &[Portion]) -> Option<usize>
-    ensures { IfSome result (λ n. n ≤ limit) }
+    ensures { let len = length (flat_map (text_of bytes.now) portions.now) in
+        MatchOption result (limit < len) (λ n. (n ≤ limit) × (n ≡ len)) }
 {
     let mut total = 0;
     for portion in portions {
@@ -180,7 +188,8 @@ pub(crate) fn total_of(bytes: &[u8], portions: &[Portion]) -> Option<usize>
 
 // Whether a portion with so many octets of text says how long the extension is, begins at an offset, and has an octet.
 fn follows(portion: &Portion, total: usize, at: usize, size: usize) -> bool
-    ensures { result ≡ true → (portion.now.total ≡ total) × (portion.now.offset ≡ at) × (0 < size) }
+    ensures value { result ≡ true → (portion.now.total ≡ total) × (portion.now.offset ≡ at) × (0 < size) }
+    ensures all { portion.now.total ≡ total → portion.now.offset ≡ at → 0 < size → result ≡ true }
 {
     portion.total == total && portion.offset == at && size > 0
 }
@@ -195,6 +204,7 @@ pub(crate) fn join_portions(
     requires { total ≤ limit }
     ensures follow { IfOk result (λ v. Follow bytes.now (length v.items) 0 portions.now) }
     ensures joined { IfOk result (λ v. v.items ≡ flat_map (text_of bytes.now) portions.now) }
+    ensures left { IfLeft result (Follow bytes.now total 0 portions.now → total ≡ length (flat_map (text_of bytes.now) portions.now) → ⊥) }
     ensures memory { CountsAllocFailureInXmp result memory.old memory.new }
 {
     let mut octets = memory.list();

@@ -7,6 +7,8 @@ abbrev pub invariant-loop-piece : goal.invariant-loop-piece
 invariant-loop-piece l = record {
   named : AllByRecursion (HasName l.bytes l.name) (extension_pieces l.left)
       → AllByRecursion (HasName l.bytes l.name) (extension_pieces l.initial.left);
+  rest : AllByRecursion (HasName l.bytes l.name) (extension_pieces l.initial.left)
+      → AllByRecursion (HasName l.bytes l.name) (extension_pieces l.left);
   portions : l.list.items ++ map (portion_of l.bytes) (extension_pieces l.left) ≡ map (portion_of l.bytes) (extension_pieces l.initial.left);
   failed_allocations : l.memory.failed_allocations ≡ l.initial.memory.failed_allocations;
 }
