@@ -20,8 +20,9 @@ can run in several threads at once.
     [Field(directory='main', tag=274, type='SHORT', values=(6,))]
 
 The functions call the library libexifnorm. Of its answers these are proved: whether two blocks of Exif or IPTC mean the same, whether two
-JPEGs have the same Exif and IPTC (`jpeg_same_blocks`), that the normal form of a packet of XMP is that of what the packet means, and that a
-packet with a meaning has a form, within limits of length, depth and languages. The Python code that makes these calls, and objects of what they return, is tested.
+JPEGs have the same Exif, IPTC and XMP (`jpeg_same`), that the normal form of a packet of XMP is that of what the packet means, and that a
+packet with a meaning has a form, within the limits of `xmp_normal`. The Python code that makes these calls, and objects of what they return,
+is tested.
 """
 
 from ._calls import Block, digest, kind, normal, same, show, version

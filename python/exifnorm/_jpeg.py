@@ -296,7 +296,7 @@ def jpeg_same(first: Block, second: Block) -> Union[bool, NotRead]:
     in their order; and no XMP, or one packet each, which have equal forms by `xmp_normal` together with their extended XMP. So two JPEGs
     without metadata are the same. Pixels, and what follows the head, are not compared. What this says of Exif and IPTC is proved, and so is
     what packets mean that are read. It is also proved that one packet which is all XMP of a picture is read, unless it has no meaning within
-    the limits of `xmp_normal` or names extended XMP. Which extended XMP is joined is tested.
+    the limits of `xmp_normal` or names extended XMP, and that a packet and extended XMP are joined, unless they can't be within these limits.
 
     If they are the same as far as they are read, and something in one of them isn't read, the result is its place, a `NotRead`, which has no
     truth value: `if` raises TypeError, so nobody takes it for the same. Ask `is True` or `is False` where that may be. It is a place that

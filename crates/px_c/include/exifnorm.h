@@ -10,14 +10,13 @@
  * segments that contain blocks or a packet of XMP, without reading these. Two more compare the metadata of two pictures: exifnorm_jpeg_same
  * with XMP, and exifnorm_jpeg_same_blocks without.
  *
- * Whether two blocks of Exif or IPTC mean the same is proved. Whether two JPEGs have the same Exif and IPTC is proved of
- * exifnorm_jpeg_same_blocks, and exifnorm_jpeg_same returns nothing else of these. Where the packets of XMP are is proved. What is proved of
- * their forms is said at exifnorm_xmp_normalise. How blocks are found in other formats, and groups of pictures, are tested. It is proved of
- * each call which status but EXIFNORM_NO_MEMORY it returns for which input, what it sets, and what stays unchanged. Two things are only tested:
- * which packets of XMP without a form have the status REFUSED and which RARE, and which extended XMP exifnorm_jpeg_same joins. It is proved
- * that exifnorm_check doesn't return EXIFNORM_NO_MEMORY for a block of DataSets. What this page says otherwise of EXIFNORM_NO_MEMORY, and of
- * copies, of the stack, of threads, of ownership, and that EXIFNORM_NAME_ROOM is enough, is tested. That texts are ASCII is read in their
- * definitions, and tested.
+ * Whether two blocks of Exif or IPTC mean the same is proved, and whether two JPEGs have the same Exif, IPTC and XMP. Where the packets of
+ * XMP are is proved. What is proved of their forms is said at exifnorm_xmp_normalise. How blocks are found in other formats, and groups of
+ * pictures, are tested. It is proved of each call which status but EXIFNORM_NO_MEMORY it returns for which input, what it sets, and what stays
+ * unchanged, but for one thing, which is tested: which packets of XMP without a form have the status REFUSED and which RARE. It is proved that
+ * exifnorm_check doesn't return EXIFNORM_NO_MEMORY for a block of DataSets. What this page says otherwise of EXIFNORM_NO_MEMORY, and of copies,
+ * of the stack, of threads, of ownership, and that EXIFNORM_NAME_ROOM is enough, is tested. That texts are ASCII is read in their definitions,
+ * and tested.
  *
  * For every call:
  *
@@ -297,7 +296,7 @@ struct exifnorm_unread_part {
  * So two pictures without metadata have the same. Pixels, and what follows the head, are not compared. The first bytes of a file may be
  * enough, as for exifnorm_jpeg_parts. What is read of Exif and IPTC is proved, and so are the places of packets and that the forms are
  * those of what they mean. It is also proved that one packet which is all XMP of a picture is read, unless it has no meaning within the limits
- * of exifnorm_xmp_normalise or names extended XMP. Which extended XMP is joined is tested.
+ * of exifnorm_xmp_normalise or names extended XMP, and that a packet and extended XMP are joined, unless they can't be within these limits.
  *
  * A known difference comes first: in Exif or IPTC; or in XMP, if all XMP of both pictures is read and one has none, or the forms differ.
  * Otherwise, if something is not read, the pictures may differ there. Then the status is NOT_READ or SECOND_NOT_READ, and same is unchanged.
@@ -322,9 +321,9 @@ uint32_t exifnorm_jpeg_same(const unsigned char *first, size_t first_length,   /
                             struct exifnorm_unread_part *unread,               /* is set to a place that isn't read */
                             struct exifnorm_picture_fault *fault);             /* is set to the cause of a refusal */
 
-/* Compares the Exif and the IPTC of two JPEG pictures, and not their XMP: this call is proved as a whole. They have the same if they have
- * equal numbers of Exif blocks and of IPTC blocks, and each block means the same as its counterpart, in their order. Exif is in segments
- * APP1, and IPTC in Photoshop's resources 0x0404 in segments APP13. One without a byte is no block (docs/FORMAT.md, "The head of a JPEG").
+/* Compares the Exif and the IPTC of two JPEG pictures, and not their XMP. They have the same if they have equal numbers of Exif blocks and
+ * of IPTC blocks, and each block means the same as its counterpart, in their order. Exif is in segments APP1, and IPTC in Photoshop's
+ * resources 0x0404 in segments APP13. One without a byte is no block (docs/FORMAT.md, "The head of a JPEG").
  * Two pictures whose XMP differs may have the same here.
  *
  * Other programs read Exif and IPTC in more places, which exifnorm_jpeg_unread lists. If the pictures have the same, but one of them has
