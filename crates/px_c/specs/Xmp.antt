@@ -1,5 +1,5 @@
 -- What the calls for XMP packets return, and what they store for their caller.
-use Rattle.std.specs.Prelude.{◌≡◌, ◌≤◌, ℕ, List, length, true, false}
+use Rattle.std.specs.Prelude.{◌≡◌, ◌≤◌, ℕ, min, List, length, true, false}
 use Rattle.px_bytes.specs.Parts.{limit}
 use Rattle.px_engine.specs.declared.normal.Given.{Given}
 use Rattle.px_engine.specs.Slices.{IsPut}
@@ -14,6 +14,7 @@ use Rattle.px_xmp_forms.specs.Causes.{is_rare}
 use Rattle.px_xmp_forms.specs.Forms.{IsNormal}
 use Rattle.px_xmp.specs.Laws.{IsFormOfPacket, HasNoMeaning, SayTheSame}
 use Rattle.px_xmp.specs.Accepted.{FormFits}
+use Rattle.px_xmp.specs.Refusals.{IsRefused}
 use Rattle.px_c.specs.declared.faults.ExifnormFault.{ExifnormFault}
 
 -- the numbers of the causes; those of packets that are left to another reader follow 250
@@ -54,14 +55,18 @@ abbrev pub PutsUnsorted : List ℕ → Given → List ℕ → List ℕ → Type 
 PutsUnsorted packet given old new =
     (form : List ℕ) × SayTheSame packet form × IsNormal form × (length form ≤ limit) × IsPut given form old new
 
--- a packet is wrong: a number of such a cause, and an offset
-abbrev pub RefusesXmp : ExifnormFault → Type 0
-RefusesXmp fault = (c : Cause) × (fault.cause ≡ xmp_cause c) × (is_rare c ≡ false) × (fault.place ≤ limit)
+-- a cause is stored with its offset, or with the greatest that is not after the longest packet
+abbrev pub Stores : Cause → ℕ → ExifnormFault → Type 0
+Stores c n fault = (fault.cause ≡ xmp_cause c) × (fault.place ≡ min n limit)
+
+-- a packet is refused by a cause, which is stored
+abbrev pub IsRefusal : List ℕ → Cause → ExifnormFault → Type 0
+IsRefusal packet c fault = (n : ℕ) × IsRefused packet c n × Stores c n fault
 
 -- this packet is wrong, and has no meaning
 abbrev pub RefusesPacket : List ℕ → ExifnormFault → Type 0
-RefusesPacket packet fault = RefusesXmp fault × HasNoMeaning packet
+RefusesPacket packet fault = (c : Cause) × (is_rare c ≡ false) × IsRefusal packet c fault × HasNoMeaning packet
 
--- the packet is left to another reader
-abbrev pub LeavesXmp : ExifnormFault → Type 0
-LeavesXmp fault = (c : Cause) × (fault.cause ≡ xmp_cause c) × (is_rare c ≡ true) × (fault.place ≤ limit)
+-- this packet is left to another reader
+abbrev pub LeavesPacket : List ℕ → ExifnormFault → Type 0
+LeavesPacket packet fault = (c : Cause) × (is_rare c ≡ true) × IsRefusal packet c fault

@@ -30,7 +30,7 @@ ghost use Rattle.px_c.specs.Outcomes.{Refuses, PutsText, PutsTextOf, IsOfKind, A
 ghost use Rattle.px_c.specs.Packets.{ShowsPacket, LeavesRest, RefusesHead};
 ghost use Rattle.px_c.specs.Pictures.{ArePicturesCompared, LeavesUnread, RefusesPicture};
 ghost use Rattle.px_c.specs.Unread.{ShowsUnread, RefusesJoining};
-ghost use Rattle.px_c.specs.Xmp.{PutsXmp, PutsUnsorted, RefusesPacket, LeavesXmp};
+ghost use Rattle.px_c.specs.Xmp.{PutsXmp, PutsUnsorted, RefusesPacket, LeavesPacket};
 ghost use Rattle.px_c.specs.Numbers as status;
 
 mod blocks;
@@ -423,7 +423,7 @@ pub extern "C" fn exifnorm_photoshop_resources(
 pub extern "C" fn exifnorm_xmp_check(alloc: Global, packet: &[u8], fault: &mut ExifnormFault) -> u32
     ensures known { (result ≡ status.done) ⊎ (result ≡ status.refused) ⊎ (result ≡ status.rare) ⊎ (result ≡ status.no_memory) }
     ensures refused { result ≡ status.refused → RefusesPacket packet.now fault.new }
-    ensures rare { result ≡ status.rare → LeavesXmp fault.new }
+    ensures rare { result ≡ status.rare → LeavesPacket packet.now fault.new }
     ensures fault { result ≢ status.refused → result ≢ status.rare → fault.new ≡ fault.old }
     ensures accepts { PacketFits packet.now → (result ≡ status.done) ⊎ (result ≡ status.no_memory) }
     ensures own { FormFits packet.now → (result ≡ status.done) ⊎ (result ≡ status.no_memory) }
@@ -452,7 +452,7 @@ pub extern "C" fn exifnorm_xmp_normalise(
         ⊎ (result ≡ status.too_little_room) }
     ensures done { result ≡ status.done → PutsXmp packet.now (Whole written.new) out.old out.new }
     ensures refused { result ≡ status.refused → RefusesPacket packet.now fault.new }
-    ensures rare { result ≡ status.rare → LeavesXmp fault.new }
+    ensures rare { result ≡ status.rare → LeavesPacket packet.now fault.new }
     ensures short { result ≡ status.too_little_room → PutsXmp packet.now (Needs written.new) out.old out.new }
     ensures out { result ≢ status.done → out.new ≡ out.old }
     ensures written { result ≢ status.done → result ≢ status.too_little_room → written.new ≡ written.old }
@@ -483,7 +483,7 @@ pub extern "C" fn exifnorm_xmp_unsorted(
         ⊎ (result ≡ status.too_little_room) }
     ensures done { result ≡ status.done → PutsUnsorted packet.now (Whole written.new) out.old out.new }
     ensures refused { result ≡ status.refused → RefusesPacket packet.now fault.new }
-    ensures rare { result ≡ status.rare → LeavesXmp fault.new }
+    ensures rare { result ≡ status.rare → LeavesPacket packet.now fault.new }
     ensures short { result ≡ status.too_little_room → PutsUnsorted packet.now (Needs written.new) out.old out.new }
     ensures out { result ≢ status.done → out.new ≡ out.old }
     ensures written { result ≢ status.done → result ≢ status.too_little_room → written.new ≡ written.old }

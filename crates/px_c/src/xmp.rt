@@ -1,5 +1,5 @@
 // XMP packets. The calls are over memory: each returns `NO_MEMORY` exactly if an allocation failed in that call.
-ghost use Rattle.std.specs.Prelude.{◌≡◌, ◌≢◌, ◌⊎◌, ◌+◌, false};
+ghost use Rattle.std.specs.Prelude.{◌≡◌, ◌≢◌, ◌⊎◌, ◌+◌, true, false};
 ghost use Rattle.px_engine.specs.declared.normal.Given.TheVariants.{Whole, Needs};
 ghost use Rattle.px_engine.specs.Slices.{IsPut};
 ghost use Rattle.px_xmp_forms.specs.Causes.{is_rare};
@@ -7,7 +7,7 @@ ghost use Rattle.px_xmp.specs.Laws.{IsReadableForm};
 ghost use Rattle.px_xmp.specs.Accepted.{FormFits, PacketFits};
 ghost use Rattle.px_xmp.specs.Asking.{AsksOnlyForRdf};
 ghost use Rattle.px_c.specs.Numbers as status;
-ghost use Rattle.px_c.specs.Xmp.{xmp_cause, PutsXmp, PutsUnsorted, RefusesXmp, RefusesPacket, LeavesXmp};
+ghost use Rattle.px_c.specs.Xmp.{xmp_cause, PutsXmp, PutsUnsorted, Stores, RefusesPacket, LeavesPacket};
 
 use crate::faults::ExifnormFault;
 use crate::giving::give;
@@ -50,9 +50,9 @@ fn xmp_cause(cause: Cause) -> u32
 // Stores a refusal. Returns its status.
 fn refuse(cause: Cause, place: usize, fault: &mut ExifnormFault) -> u32
     ensures known { (result ≡ status.refused) ⊎ (result ≡ status.rare) }
-    ensures refused { result ≡ status.refused → RefusesXmp fault.new }
+    ensures stored { Stores cause place fault.new }
     ensures wrong { result ≡ status.refused → is_rare cause ≡ false }
-    ensures rare { result ≡ status.rare → LeavesXmp fault.new }
+    ensures rare { result ≡ status.rare → is_rare cause ≡ true }
 {
     *fault = ExifnormFault {
         cause: xmp_cause(cause),
@@ -68,7 +68,7 @@ fn refuse(cause: Cause, place: usize, fault: &mut ExifnormFault) -> u32
 pub(crate) fn xmp_check_in(memory: &mut Memory, packet: &[u8], fault: &mut ExifnormFault) -> u32
     ensures known { (result ≡ status.done) ⊎ (result ≡ status.refused) ⊎ (result ≡ status.rare) ⊎ (result ≡ status.no_memory) }
     ensures refused { result ≡ status.refused → RefusesPacket packet.now fault.new }
-    ensures rare { result ≡ status.rare → LeavesXmp fault.new }
+    ensures rare { result ≡ status.rare → LeavesPacket packet.now fault.new }
     ensures fault { result ≢ status.refused → result ≢ status.rare → fault.new ≡ fault.old }
     ensures lacking { result ≡ status.no_memory → memory.new.failed_allocations ≡ memory.old.failed_allocations + 1 }
     ensures memory { result ≢ status.no_memory → memory.new.failed_allocations ≡ memory.old.failed_allocations }
@@ -95,7 +95,7 @@ pub(crate) fn xmp_normalise_in(
         ⊎ (result ≡ status.too_little_room) }
     ensures done { result ≡ status.done → PutsXmp packet.now (Whole written.new) out.old out.new }
     ensures refused { result ≡ status.refused → RefusesPacket packet.now fault.new }
-    ensures rare { result ≡ status.rare → LeavesXmp fault.new }
+    ensures rare { result ≡ status.rare → LeavesPacket packet.now fault.new }
     ensures short { result ≡ status.too_little_room → PutsXmp packet.now (Needs written.new) out.old out.new }
     ensures out { result ≢ status.done → out.new ≡ out.old }
     ensures written { result ≢ status.done → result ≢ status.too_little_room → written.new ≡ written.old }
@@ -127,7 +127,7 @@ pub(crate) fn xmp_unsorted_in(
         ⊎ (result ≡ status.too_little_room) }
     ensures done { result ≡ status.done → PutsUnsorted packet.now (Whole written.new) out.old out.new }
     ensures refused { result ≡ status.refused → RefusesPacket packet.now fault.new }
-    ensures rare { result ≡ status.rare → LeavesXmp fault.new }
+    ensures rare { result ≡ status.rare → LeavesPacket packet.now fault.new }
     ensures short { result ≡ status.too_little_room → PutsUnsorted packet.now (Needs written.new) out.old out.new }
     ensures out { result ≢ status.done → out.new ≡ out.old }
     ensures written { result ≢ status.done → result ≢ status.too_little_room → written.new ≡ written.old }

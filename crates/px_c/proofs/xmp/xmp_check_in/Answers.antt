@@ -1,8 +1,16 @@
 use Rattle.px_c.proofs.xmp.xmp_check_in.Goals as goal
 
 pub returns-in-Err-Content-clause-refused : goal.returns-in-Err-Content-clause-refused
-returns-in-Err-Content-clause-refused c is =
-    (c.refuse.ensures.refused is, (rw c.in-Err-Content.field-0-is at c.in-Err-Content.ensures.refused) (c.refuse.ensures.wrong is))
+returns-in-Err-Content-clause-refused c is = (
+  _,
+  c.refuse.ensures.wrong is,
+  (_, rw c.in-Err-Content.field-0-is at c.in-Err-Content.ensures.layer, c.refuse.ensures.stored),
+  (rw c.in-Err-Content.field-0-is at c.in-Err-Content.ensures.refused) (c.refuse.ensures.wrong is),
+)
+
+pub returns-in-Err-Content-clause-rare : goal.returns-in-Err-Content-clause-rare
+returns-in-Err-Content-clause-rare c is =
+    (_, c.refuse.ensures.rare is, (_, rw c.in-Err-Content.field-0-is at c.in-Err-Content.ensures.layer, c.refuse.ensures.stored))
 
 pub returns-in-Err-Content-clause-accepts : goal.returns-in-Err-Content-clause-accepts
 returns-in-Err-Content-clause-accepts c packet = absurd ((rw c.in-Err-Content.field-0-is at c.in-Err-Content.ensures.accepts) packet)
