@@ -394,13 +394,14 @@ class Explained(WithPictures):
     def test_packets(self):
         lines = self.explained("xmp", b"<x").splitlines()
         self.assertEqual(lines[:2], ["xmp: unreadable: NotWellFormed", "  The packet is not well-formed XML."])
-        self.assertIn("Remedy: `exifnorm-pictures mend`", lines[2])
+        self.assertTrue(any("Remedy: `exifnorm-pictures mend`" in it for it in lines), lines)
         self.assertEqual(self.explained("xmp", T), "xmp: ok xmp")
 
     def test_of_a_picture(self):
         write(self.path("a.jpg"), jpeg(app1(A), app1_xmp(b"<x")))
         lines = self.asked("explain", "a.jpg", status=2)
-        self.assertEqual([*lines[:2], lines[4]], ["XMP: unreadable: NotWellFormed", "  The packet is not well-formed XML.", "Exif: ok"])
+        self.assertEqual(lines[:2], ["XMP: unreadable: NotWellFormed", "  The packet is not well-formed XML."])
+        self.assertIn("Exif: ok", lines)
         found = json.loads(self.asked("explain", "--json", "a.jpg", status=2)[0])
         self.assertEqual((found["kind"], found["sentence"]), ("xmp", "The packet is not well-formed XML."))
 
