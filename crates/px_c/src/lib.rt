@@ -19,7 +19,7 @@ ghost use Rattle.px_engine.specs.Files.{Said, kind_of};
 ghost use Rattle.px_engine.specs.Slices.{IsPut, PutsForm, IsUnwritten};
 ghost use Rattle.px_engine.specs.Input.{HasMeaning};
 ghost use Rattle.px_engine.specs.Prints.{caption_text, listing};
-ghost use Rattle.px_xmp.specs.Laws.{IsReadableForm};
+ghost use Rattle.px_xmp.specs.Laws.{HasForm, IsReadableForm};
 ghost use Rattle.px_xmp.specs.Accepted.{FormFits, PacketFits};
 ghost use Rattle.px_pictures.specs.declared.faults.PictureSide.TheVariants.{First, Second};
 ghost use Rattle.px_c.specs.declared.pictures.Compared.TheVariants.{Blocks, All};
@@ -422,6 +422,7 @@ pub extern "C" fn exifnorm_photoshop_resources(
 #[unsafe(no_mangle)]
 pub extern "C" fn exifnorm_xmp_check(alloc: Global, packet: &[u8], fault: &mut ExifnormFault) -> u32
     ensures known { (result ≡ status.done) ⊎ (result ≡ status.refused) ⊎ (result ≡ status.rare) ⊎ (result ≡ status.no_memory) }
+    ensures done { result ≡ status.done → HasForm packet.now }
     ensures refused { result ≡ status.refused → RefusesPacket packet.now fault.new }
     ensures rare { result ≡ status.rare → LeavesPacket packet.now fault.new }
     ensures fault { result ≢ status.refused → result ≢ status.rare → fault.new ≡ fault.old }

@@ -3,7 +3,7 @@ ghost use Rattle.std.specs.Prelude.{◌≡◌, ◌≢◌, ◌⊎◌, ◌+◌, tr
 ghost use Rattle.px_engine.specs.declared.normal.Given.TheVariants.{Whole, Needs};
 ghost use Rattle.px_engine.specs.Slices.{IsPut};
 ghost use Rattle.px_xmp_forms.specs.Causes.{is_rare};
-ghost use Rattle.px_xmp.specs.Laws.{IsReadableForm};
+ghost use Rattle.px_xmp.specs.Laws.{HasForm, IsReadableForm};
 ghost use Rattle.px_xmp.specs.Accepted.{FormFits, PacketFits};
 ghost use Rattle.px_xmp.specs.Asking.{AsksOnlyForRdf};
 ghost use Rattle.px_c.specs.Numbers as status;
@@ -67,6 +67,7 @@ fn refuse(cause: Cause, place: usize, fault: &mut ExifnormFault) -> u32
 // Whether a packet has a normal form.
 pub(crate) fn xmp_check_in(memory: &mut Memory, packet: &[u8], fault: &mut ExifnormFault) -> u32
     ensures known { (result ≡ status.done) ⊎ (result ≡ status.refused) ⊎ (result ≡ status.rare) ⊎ (result ≡ status.no_memory) }
+    ensures done { result ≡ status.done → HasForm packet.now }
     ensures refused { result ≡ status.refused → RefusesPacket packet.now fault.new }
     ensures rare { result ≡ status.rare → LeavesPacket packet.now fault.new }
     ensures fault { result ≢ status.refused → result ≢ status.rare → fault.new ≡ fault.old }

@@ -47,6 +47,10 @@ IsFormOf x start form = (c : Content) × IsContent c × HasMeaning x start c × 
 abbrev pub IsFormOfPacket : List ℕ → List ℕ → Type 0
 IsFormOfPacket x form = (p : IsPacket x) × IsFormOf p.document (length p.before) form
 
+-- octets are a packet whose document has a normal form
+abbrev pub HasForm : List ℕ → Type 0
+HasForm x = (form : List ℕ) × IsFormOfPacket x form
+
 -- these octets are the normal packet of content that can be read again
 abbrev pub IsReadableForm : List ℕ → Type 0
 IsReadableForm form = (c : Content) × IsContent c × IsReadable c × (form ≡ normal_packet c)

@@ -13,7 +13,7 @@ ghost use Rattle.px_xmp.specs.Accepted.{FormFits, DocumentFits, PacketFits};
 ghost use Rattle.px_xmp.specs.calls.Around.{BeginsAround};
 ghost use Rattle.px_xmp.specs.Refusals.{IfRefused, IsRefusedDocument, IsRefused};
 ghost use Rattle.px_xmp.specs.Asking.{AsksOnlyForRdf};
-ghost use Rattle.px_xmp.specs.Laws.{IsFormOf, IsFormOfPacket, HasNoMeaning, IsReadableForm};
+ghost use Rattle.px_xmp.specs.Laws.{IsFormOf, IsFormOfPacket, HasForm, HasNoMeaning, IsReadableForm};
 
 use crate::causes::cause_of;
 use crate::crowded::first_crowded;
@@ -221,6 +221,7 @@ pub fn normal_form_in(memory: &mut Memory, packet: &[u8]) -> Result<Vec<u8>, Ref
 /// Judges a packet as `normal_form_in` does, with the same errors.
 pub fn check_in(memory: &mut Memory, packet: &[u8]) -> Result<(), Refusal>
     ensures packet { OnOk result (IsPacket packet.now) }
+    ensures form { OnOk result (HasForm packet.now) }
     ensures memory { CountsAllocFailureInPacket result memory.old memory.new }
     ensures refused { IfWrong result (HasNoMeaning packet.now) }
     ensures accepts { PacketFits packet.now → FailsByMemory result }
