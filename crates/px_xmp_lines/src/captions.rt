@@ -1,5 +1,6 @@
 // The captions: the texts of the properties that have a label, in the order of those of a record of IPTC.
 ghost use Rattle.px_bytes.specs.Allocations.{CountsAllocFailure};
+ghost use Rattle.px_xmp_lines.specs.Lines.{KeepsPrinted};
 
 use crate::escaping::{append, append_after_space, append_text};
 use crate::parts::{Kind, Part, advance, depth_after, is_outer, read_part};
@@ -138,8 +139,9 @@ fn append_caption(
     part: Part,
 ) -> Result<(), AllocFailed>
     ensures memory { CountsAllocFailure result memory.old memory.new }
+    ensures printed { KeepsPrinted out.old.items out.new.items }
 {
-    append(memory, out, word)?;
+    append_text(memory, out, word)?;
     append_after_space(memory, out, part.language)?;
     append(memory, out, b": ")?;
     append_text(memory, out, part.text)?;
@@ -160,6 +162,7 @@ fn append_part(
     part: Part,
 ) -> Result<(), AllocFailed>
     ensures memory { CountsAllocFailure result memory.old memory.new }
+    ensures printed { KeepsPrinted out.old.items out.new.items }
 {
     if !is_text(part.kind) || !is_shown(place, part) {
         return Ok(());
@@ -175,6 +178,7 @@ fn append_labelled(
     label: &Labelled,
 ) -> Result<(), AllocFailed>
     ensures memory { CountsAllocFailure result memory.old memory.new }
+    ensures printed { KeepsPrinted out.old.items out.new.items }
 {
     let mut place = Place {
         depth: 0,
@@ -199,6 +203,7 @@ pub(crate) fn append_captions(
     properties: &[u8],
 ) -> Result<(), AllocFailed>
     ensures memory { CountsAllocFailure result memory.old memory.new }
+    ensures printed { KeepsPrinted out.old.items out.new.items }
 {
     for i in 0..LABELS.len() {
         append_labelled(memory, out, properties, &LABELS[i])?;

@@ -1,5 +1,7 @@
 // Octets and texts of a form, appended to lines. Only octets from space to tilde are printed, and line feeds between lines.
+ghost use Rattle.std.specs.Prelude.{◌≡◌, ◌<◌, true};
 ghost use Rattle.px_bytes.specs.Allocations.{CountsAllocFailure};
+ghost use Rattle.px_xmp_lines.specs.Lines.{is_printed, ArePrinted, KeepsPrinted};
 
 use crate::parts::advance;
 use px_bytes::{AllocFailed, Memory};
@@ -11,24 +13,31 @@ struct Character {
     size: usize,
 }
 
-// Appends octets.
+// Appends octets that may be printed as they are.
 pub(crate) fn append(
     memory: &mut Memory,
     out: &mut Vec<u8>,
     octets: &[u8],
 ) -> Result<(), AllocFailed>
+    requires { ArePrinted octets.now }
     ensures memory { CountsAllocFailure result memory.old memory.new }
+    ensures printed { KeepsPrinted out.old.items out.new.items }
 {
     memory.extend_from_slice(out, octets)
 }
 
 // Whether an octet is printed as it is.
-fn is_plain(octet: u8) -> bool {
+fn is_plain(octet: u8) -> bool
+    ensures { result ≡ true → is_printed octet ≡ true }
+{
     0x20 <= octet && octet <= 0x7E && octet != 0x5C
 }
 
 // A number below 16 as a hexadecimal digit.
-fn digit(number: u8) -> u8 {
+fn digit(number: u8) -> u8
+    requires { number < 16 }
+    ensures { is_printed result ≡ true }
+{
     if number < 10 {
         return number.saturating_add(b'0');
     }
@@ -38,6 +47,7 @@ fn digit(number: u8) -> u8 {
 // Appends an octet, escaped unless it is plain.
 fn append_octet(memory: &mut Memory, out: &mut Vec<u8>, octet: u8) -> Result<(), AllocFailed>
     ensures memory { CountsAllocFailure result memory.old memory.new }
+    ensures printed { KeepsPrinted out.old.items out.new.items }
 {
     if is_plain(octet) {
         return memory.push(out, octet);
@@ -87,6 +97,7 @@ pub(crate) fn append_text(
     text: &[u8],
 ) -> Result<(), AllocFailed>
     ensures memory { CountsAllocFailure result memory.old memory.new }
+    ensures printed { KeepsPrinted out.old.items out.new.items }
 {
     let mut rest = text;
     while !rest.is_empty() {
@@ -104,6 +115,7 @@ pub(crate) fn append_after_space(
     text: &[u8],
 ) -> Result<(), AllocFailed>
     ensures memory { CountsAllocFailure result memory.old memory.new }
+    ensures printed { KeepsPrinted out.old.items out.new.items }
 {
     if text.is_empty() {
         return Ok(());

@@ -1,5 +1,6 @@
 // The listing: a line for each property and each member.
 ghost use Rattle.px_bytes.specs.Allocations.{CountsAllocFailure};
+ghost use Rattle.px_xmp_lines.specs.Lines.{ArePrinted, KeepsPrinted};
 
 use crate::escaping::{append, append_after_space};
 use crate::names::append_name;
@@ -10,7 +11,9 @@ use px_bytes::{AllocFailed, Memory};
 const MOST_NESTED: usize = 255;
 
 // The word for the kind of a value.
-fn word(kind: Kind) -> &'static [u8] {
+fn word(kind: Kind) -> &'static [u8]
+    ensures { ArePrinted result.now }
+{
     match kind {
         Kind::Text => b"text",
         Kind::Uri => b"URI",
@@ -25,6 +28,7 @@ fn word(kind: Kind) -> &'static [u8] {
 // Appends a full stop and a space for each part around a line's.
 fn append_depth(memory: &mut Memory, out: &mut Vec<u8>, depth: usize) -> Result<(), AllocFailed>
     ensures memory { CountsAllocFailure result memory.old memory.new }
+    ensures printed { KeepsPrinted out.old.items out.new.items }
 {
     for _ in 0..depth.min(MOST_NESTED) {
         append(memory, out, b". ")?;
@@ -40,6 +44,7 @@ fn append_line(
     part: Part,
 ) -> Result<(), AllocFailed>
     ensures memory { CountsAllocFailure result memory.old memory.new }
+    ensures printed { KeepsPrinted out.old.items out.new.items }
 {
     append_depth(memory, out, depth)?;
     append_name(memory, out, part)?;
@@ -58,6 +63,7 @@ fn append_part(
     part: Part,
 ) -> Result<(), AllocFailed>
     ensures memory { CountsAllocFailure result memory.old memory.new }
+    ensures printed { KeepsPrinted out.old.items out.new.items }
 {
     if part.kind == Kind::End {
         return Ok(());
@@ -72,6 +78,7 @@ pub(crate) fn append_listing(
     properties: &[u8],
 ) -> Result<(), AllocFailed>
     ensures memory { CountsAllocFailure result memory.old memory.new }
+    ensures printed { KeepsPrinted out.old.items out.new.items }
 {
     let mut depth = 0;
     let mut rest = properties;

@@ -1,5 +1,6 @@
 // The names of properties, with the prefixes that the standards and ExifTool use.
 ghost use Rattle.px_bytes.specs.Allocations.{CountsAllocFailure};
+ghost use Rattle.px_xmp_lines.specs.Lines.{KeepsPrinted};
 
 use crate::escaping::{append, append_text};
 use crate::parts::Part;
@@ -174,9 +175,10 @@ fn append_short(
     name: &[u8],
 ) -> Result<(), AllocFailed>
     ensures memory { CountsAllocFailure result memory.old memory.new }
+    ensures printed { KeepsPrinted out.old.items out.new.items }
 {
     append(memory, out, b"XMP-")?;
-    append(memory, out, prefix)?;
+    append_text(memory, out, prefix)?;
     append(memory, out, b":")?;
     append_text(memory, out, name)
 }
@@ -184,6 +186,7 @@ fn append_short(
 // Appends the name of another property: its URI.
 fn append_long(memory: &mut Memory, out: &mut Vec<u8>, part: Part) -> Result<(), AllocFailed>
     ensures memory { CountsAllocFailure result memory.old memory.new }
+    ensures printed { KeepsPrinted out.old.items out.new.items }
 {
     append(memory, out, b"XMP:<")?;
     append_text(memory, out, part.space)?;
@@ -198,6 +201,7 @@ pub(crate) fn append_name(
     part: Part,
 ) -> Result<(), AllocFailed>
     ensures memory { CountsAllocFailure result memory.old memory.new }
+    ensures printed { KeepsPrinted out.old.items out.new.items }
 {
     if part.name.is_empty() {
         return Ok(());

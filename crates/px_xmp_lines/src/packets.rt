@@ -1,9 +1,9 @@
 // The lines of a packet.
-ghost use Rattle.std.specs.Prelude.{◌≡◌, OnOk};
+ghost use Rattle.std.specs.Prelude.{◌≡◌, IfOk, OnOk};
 ghost use Rattle.px_bytes.specs.Allocations.{CountsAllocFailure};
 ghost use Rattle.px_xmp.specs.Packet.{is_around, IsPacket};
 ghost use Rattle.px_xmp_forms.specs.Allocations.{CountsAllocFailureInPacket};
-ghost use Rattle.px_xmp_lines.specs.Lines.{begins_mark, is_wide, is_packet};
+ghost use Rattle.px_xmp_lines.specs.Lines.{begins_mark, is_wide, is_packet, ArePrinted, KeepsPrinted};
 
 use crate::captions::append_captions;
 use crate::escaping::append;
@@ -70,6 +70,7 @@ fn properties_of<'a>(form: &'a [u8]) -> &'a [u8] {
 // Appends the listing of a form.
 fn append_listing_of(memory: &mut Memory, out: &mut Vec<u8>, form: &[u8]) -> Result<(), AllocFailed>
     ensures memory { CountsAllocFailure result memory.old memory.new }
+    ensures printed { KeepsPrinted out.old.items out.new.items }
 {
     append(memory, out, b"xmp\n")?;
     append_listing(memory, out, properties_of(form))
@@ -82,6 +83,7 @@ fn append_captions_of(
     form: &[u8],
 ) -> Result<(), AllocFailed>
     ensures memory { CountsAllocFailure result memory.old memory.new }
+    ensures printed { KeepsPrinted out.old.items out.new.items }
 {
     append(memory, out, b"xmp\n")?;
     append_captions(memory, out, properties_of(form))
@@ -93,6 +95,7 @@ fn append_captions_of(
 /// `OutOfMemory`, exactly if an allocation failed in this call.
 pub fn listing_in(memory: &mut Memory, packet: &[u8]) -> Result<Vec<u8>, Refusal>
     ensures packet { OnOk result (IsPacket packet.now) }
+    ensures printed { IfOk result (λ text. ArePrinted text.items) }
     ensures memory { CountsAllocFailureInPacket result memory.old memory.new }
 {
     let form = normal_form_in(memory, packet)?;
@@ -106,6 +109,7 @@ pub fn listing_in(memory: &mut Memory, packet: &[u8]) -> Result<Vec<u8>, Refusal
 /// Allocation and errors are as for `listing_in`.
 pub fn captions_in(memory: &mut Memory, packet: &[u8]) -> Result<Vec<u8>, Refusal>
     ensures packet { OnOk result (IsPacket packet.now) }
+    ensures printed { IfOk result (λ text. ArePrinted text.items) }
     ensures memory { CountsAllocFailureInPacket result memory.old memory.new }
 {
     let form = normal_form_in(memory, packet)?;
