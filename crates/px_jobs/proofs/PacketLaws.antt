@@ -1,5 +1,5 @@
 -- A packet that was printed, and the file that it is.
-use Rattle.std.proofs.Common.{◌≡◌, ◌≢◌, ◌∙◌, ◌≤◌, ◌+◌, ℕ, true, false, List, length, Option, Some, None, Result, Ok, Err, OnOk, IfSome, ap, arith, inl, inr}
+use Rattle.std.proofs.Common.{◌≡◌, ◌≢◌, ◌∙◌, ◌≤◌, ◌+◌, ℕ, true, false, List, length, Option, Some, None, Result, Ok, Err, IfOk, OnOk, IfSome, ap, arith, inl, inr}
 use Rattle.std.proofs.Common.{refl, sym, subst}
 use Rattle.std.proofs.lemmas.List.{length-take}
 use Rattle.std.specs.Prelude.{⊤}
@@ -14,13 +14,18 @@ use Rattle.px_engine.specs.Input.{CountsAllocFailureInRun, CountsAllocFailureInR
 use Rattle.px_engine.specs.Laws.{taken}
 use Rattle.px_engine.specs.Prints.{PrintsRead, ReadsNothing}
 use Rattle.px_engine.specs.Runs.{CountsWrites}
+use Rattle.px_xmp.specs.Accepted.{PacketFits}
+use Rattle.px_xmp.specs.Laws.{HasNoMeaning}
 use Rattle.px_xmp.specs.Packet.{IsPacket}
+use Rattle.px_xmp.specs.Refusals.{IfRefused, IsRefused}
 use Rattle.px_xmp_forms.specs.Allocations.{CountsAllocFailureInPacket}
+use Rattle.px_xmp_forms.specs.Causes.{IfWrong, FailsByMemory}
 use Rattle.px_xmp_forms.specs.declared.faults.Refusal.{Refusal}
 use Rattle.px_xmp_forms.specs.declared.faults.Refusal.TheVariants as refusal
+use Rattle.px_xmp_lines.specs.Lines.{ArePrinted}
 use Rattle.px_jobs.specs.Endings.{EndsShown, EndsText, ReportsText}
 use Rattle.px_jobs.specs.Lines.{FlushesLast, ReportsFault}
-use Rattle.px_jobs.specs.Packets.{is_other, PrintsPacket, ReportsPacket}
+use Rattle.px_jobs.specs.Packets.{is_other, IsTextOf, PrintsPacket, ReportsPacket}
 use Rattle.px_jobs.specs.calls.Printing.{text_in, PrintsBlock, PrintsFile, PrintsOther, ReportsFile}
 use Rattle.px_jobs.proofs.EndLaws.{text_last}
 use Rattle.px_jobs.proofs.LineLaws.{device, last_after, reported_not_idle}
@@ -29,11 +34,16 @@ use Rattle.px_jobs.proofs.TextLaws.{text_reported}
 -- ---- a packet
 
 pub prints_packet : {V : Type 0} (items : V → List ℕ) (r : Result V Refusal) (file : List ℕ) (lines : Device)
-    (allocs allocs_now : MemoryCounts) (status : ℕ) → OnOk r (IsPacket file) → CountsAllocFailureInPacket r allocs allocs_now
-    → ReportsPacket (text_in items r) status lines → PrintsPacket file lines allocs allocs_now status
-prints_packet items (Ok v) file lines a b status p m t = (Ok (items v), p, m, t)
-prints_packet items (Err (refusal.Content cause place)) file lines a b status p m t = (Err (refusal.Content cause place), p, m, t)
-prints_packet items (Err refusal.OutOfMemory) file lines a b status p m t = (Err refusal.OutOfMemory, p, m, t)
+    (allocs allocs_now : MemoryCounts) (status : ℕ) → OnOk r (IsPacket file) → IfOk r (λ v. ArePrinted (items v))
+    → IfRefused r (IsRefused file) → IfWrong r (HasNoMeaning file) → (PacketFits file → FailsByMemory r)
+    → CountsAllocFailureInPacket r allocs allocs_now → ReportsPacket (text_in items r) status lines
+    → PrintsPacket file lines allocs allocs_now status
+prints_packet items (Ok v) file lines a b status p o l w k m t =
+    (Ok (items v), record { packet = p; printed = o; layer = l; refused = w; accepts = k }, m, t)
+prints_packet items (Err (refusal.Content cause place)) file lines a b status p o l w k m t =
+    (Err (refusal.Content cause place), record { packet = p; printed = o; layer = l; refused = w; accepts = k }, m, t)
+prints_packet items (Err refusal.OutOfMemory) file lines a b status p o l w k m t =
+    (Err refusal.OutOfMemory, record { packet = p; printed = o; layer = l; refused = w; accepts = k }, m, t)
 
 -- the lines of a packet were written, or a call failed
 reports_not_idle : (r : Result (List ℕ) Refusal) (status : ℕ) (calls now : Calls) (old new : Option (List ℕ))

@@ -1,16 +1,19 @@
 -- How a file is printed that is a packet of XMP.
-use Rattle.std.specs.Prelude.{◌++◌, ℕ, Bool, true, false, List, None, Result, Ok, Err, OnOk, codes, decimal, ⊤}
+use Rattle.std.specs.Prelude.{◌++◌, ℕ, Bool, true, false, List, None, Result, Ok, Err, IfOk, OnOk, codes, decimal, ⊤}
 use Rattle.px_bytes.specs.Allocations.{MemoryCounts}
 use Rattle.px_bytes.specs.Devices.{Device}
 use Rattle.px_engine.specs.declared.Fault.{Fault}
 use Rattle.px_engine.specs.declared.Fault.TheVariants as fault
+use Rattle.px_xmp.specs.Accepted.{PacketFits}
+use Rattle.px_xmp.specs.Laws.{HasNoMeaning}
 use Rattle.px_xmp.specs.Packet.{IsPacket}
+use Rattle.px_xmp.specs.Refusals.{IfRefused, IsRefused}
 use Rattle.px_xmp_forms.specs.Allocations.{CountsAllocFailureInPacket}
-use Rattle.px_xmp_forms.specs.Causes.{is_rare}
+use Rattle.px_xmp_forms.specs.Causes.{is_rare, IfWrong, FailsByMemory}
 use Rattle.px_xmp_forms.specs.declared.faults.Cause.{Cause}
 use Rattle.px_xmp_forms.specs.declared.faults.Refusal.{Refusal}
 use Rattle.px_xmp_forms.specs.declared.faults.Refusal.TheVariants.{Content, OutOfMemory}
-use Rattle.px_xmp_lines.specs.Lines.{cause_name, is_packet}
+use Rattle.px_xmp_lines.specs.Lines.{cause_name, is_packet, ArePrinted}
 use Rattle.px_jobs.specs.Lines.{Reports, ReportsFault}
 
 -- whether a file is refused as a block and begins as a packet does
@@ -38,8 +41,17 @@ ReportsPacket (Ok text) status lines = Reports 0 text status lines
 ReportsPacket (Err (Content cause place)) status lines = Reports 2 (packet_line cause place) status lines
 ReportsPacket (Err OutOfMemory) status lines = ReportsFault fault.OutOfMemory None status lines
 
--- A packet was printed or refused. A file with a text is a document in UTF-8, perhaps with padding. This definition doesn't state
--- which properties a text has.
+-- The text of a packet, or why it has none. A file with a text is a document in UTF-8, perhaps with padding; its text has line feeds and
+-- the octets from space to tilde. A cause is that of px_xmp, at that place, and a file that is wrong by it has no meaning. A file with a
+-- meaning within px_xmp's limits has a text, if memory suffices. This definition doesn't state which properties a text has.
+pub record IsTextOf (file : List ℕ) (r : Result (List ℕ) Refusal) : Type 0 where
+  pub packet : OnOk r (IsPacket file)
+  pub printed : IfOk r ArePrinted
+  pub layer : IfRefused r (IsRefused file)
+  pub refused : IfWrong r (HasNoMeaning file)
+  pub accepts : PacketFits file → FailsByMemory r
+
+-- a packet was printed or refused
 abbrev pub PrintsPacket : List ℕ → Device → MemoryCounts → MemoryCounts → ℕ → Type 0
-PrintsPacket file lines allocs allocs_now status = (r : Result (List ℕ) Refusal) × OnOk r (IsPacket file)
+PrintsPacket file lines allocs allocs_now status = (r : Result (List ℕ) Refusal) × IsTextOf file r
     × CountsAllocFailureInPacket r allocs allocs_now × ReportsPacket r status lines

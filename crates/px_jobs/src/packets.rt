@@ -1,11 +1,16 @@
 // Packets of XMP: how a file is printed that is no block.
-ghost use Rattle.std.specs.Prelude.{◌≡◌, ◌≢◌, ◌++◌, Err, OnOk};
+ghost use Rattle.std.specs.Prelude.{◌≡◌, ◌≢◌, ◌++◌, Err, IfOk, OnOk};
 ghost use Rattle.px_bytes.specs.Devices.{CanCountFailure, device_of, Sends};
 ghost use Rattle.px_bytes.specs.Waiting.{Adds};
 ghost use Rattle.px_engine.specs.declared.Fault.{Fault};
 ghost use Rattle.px_engine.specs.declared.Fault.TheVariants.{WriteFailed};
+ghost use Rattle.px_xmp.specs.Accepted.{PacketFits};
+ghost use Rattle.px_xmp.specs.Laws.{HasNoMeaning};
 ghost use Rattle.px_xmp.specs.Packet.{IsPacket};
+ghost use Rattle.px_xmp.specs.Refusals.{IfRefused, IsRefused};
 ghost use Rattle.px_xmp_forms.specs.Allocations.{CountsAllocFailureInPacket};
+ghost use Rattle.px_xmp_forms.specs.Causes.{IfWrong, FailsByMemory};
+ghost use Rattle.px_xmp_lines.specs.Lines.{ArePrinted};
 ghost use Rattle.px_jobs.specs.Lines.{FlushesLast, Reports};
 ghost use Rattle.px_jobs.specs.Packets.{end_of_packet, is_other, packet_line, PrintsPacket, ReportsPacket};
 ghost use Rattle.px_jobs.specs.calls.Printing.{text_in, ReportsFile};
@@ -103,6 +108,10 @@ fn report_packet<L: Sink>(lines: &mut L, text: Result<Vec<u8>, Refusal>) -> u8
 // The text of a packet.
 fn packet_text(memory: &mut Memory, file: &[u8], text: Text) -> Result<Vec<u8>, Refusal>
     ensures packet { OnOk result (IsPacket file.now) }
+    ensures printed { IfOk result (λ text. ArePrinted text.items) }
+    ensures layer { IfRefused result (IsRefused file.now) }
+    ensures refused { IfWrong result (HasNoMeaning file.now) }
+    ensures accepts { PacketFits file.now → FailsByMemory result }
     ensures memory { CountsAllocFailureInPacket result memory.old memory.new }
 {
     match text {

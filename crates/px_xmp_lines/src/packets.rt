@@ -1,8 +1,12 @@
 // The lines of a packet.
 ghost use Rattle.std.specs.Prelude.{◌≡◌, IfOk, OnOk};
 ghost use Rattle.px_bytes.specs.Allocations.{CountsAllocFailure};
+ghost use Rattle.px_xmp.specs.Accepted.{PacketFits};
+ghost use Rattle.px_xmp.specs.Laws.{HasNoMeaning};
 ghost use Rattle.px_xmp.specs.Packet.{is_around, IsPacket};
+ghost use Rattle.px_xmp.specs.Refusals.{IfRefused, IsRefused};
 ghost use Rattle.px_xmp_forms.specs.Allocations.{CountsAllocFailureInPacket};
+ghost use Rattle.px_xmp_forms.specs.Causes.{IfWrong, FailsByMemory};
 ghost use Rattle.px_xmp_lines.specs.Lines.{begins_mark, is_wide, is_packet, ArePrinted, KeepsPrinted};
 
 use crate::captions::append_captions;
@@ -96,6 +100,9 @@ fn append_captions_of(
 pub fn listing_in(memory: &mut Memory, packet: &[u8]) -> Result<Vec<u8>, Refusal>
     ensures packet { OnOk result (IsPacket packet.now) }
     ensures printed { IfOk result (λ text. ArePrinted text.items) }
+    ensures layer { IfRefused result (IsRefused packet.now) }
+    ensures refused { IfWrong result (HasNoMeaning packet.now) }
+    ensures accepts { PacketFits packet.now → FailsByMemory result }
     ensures memory { CountsAllocFailureInPacket result memory.old memory.new }
 {
     let form = normal_form_in(memory, packet)?;
@@ -110,6 +117,9 @@ pub fn listing_in(memory: &mut Memory, packet: &[u8]) -> Result<Vec<u8>, Refusal
 pub fn captions_in(memory: &mut Memory, packet: &[u8]) -> Result<Vec<u8>, Refusal>
     ensures packet { OnOk result (IsPacket packet.now) }
     ensures printed { IfOk result (λ text. ArePrinted text.items) }
+    ensures layer { IfRefused result (IsRefused packet.now) }
+    ensures refused { IfWrong result (HasNoMeaning packet.now) }
+    ensures accepts { PacketFits packet.now → FailsByMemory result }
     ensures memory { CountsAllocFailureInPacket result memory.old memory.new }
 {
     let form = normal_form_in(memory, packet)?;
