@@ -11,6 +11,7 @@ ghost use Rattle.px_engine.specs.Input.{HasMeaning};
 ghost use Rattle.px_engine.specs.Prints.{caption_text, listing};
 ghost use Rattle.px_pictures.specs.Asking.{AsksForBoth, join_request};
 ghost use Rattle.px_pictures.specs.declared.faults.PictureSide.TheVariants.{First, Second};
+ghost use Rattle.px_xmp_pictures.specs.Asking.{AsksWithoutXmp};
 ghost use Rattle.px_c.specs.declared.pictures.Compared.TheVariants.{Blocks, All};
 ghost use Rattle.px_c.specs.Outcomes.{Refuses, PutsTextOf, IsOfKind, AreCompared};
 ghost use Rattle.px_c.specs.Pictures.{ArePicturesCompared, LeavesUnread, RefusesPicture};
@@ -240,6 +241,7 @@ fn compare_pictures_in(
     ensures lacking { result ≡ status.no_memory → memory.new.failed_allocations ≡ memory.old.failed_allocations + 1 }
     ensures memory { result ≢ status.no_memory → memory.new.failed_allocations ≡ memory.old.failed_allocations }
     ensures asked { compared ≡ Blocks → AsksForBoth pictures.entry.first.now pictures.entry.second.now memory.old memory.new }
+    ensures asked_for_all { compared ≡ All → AsksWithoutXmp pictures.entry.first.now pictures.entry.second.now memory.old memory.new }
 {
     match crate::pictures::compare_in(memory, compared, pictures.first, pictures.second) {
         Ok(Comparison::Same) => {
@@ -320,6 +322,7 @@ pub(crate) fn jpeg_same_in(
     ensures fault { result ≢ status.refused → result ≢ status.second_refused → fault.new ≡ fault.old }
     ensures lacking { result ≡ status.no_memory → memory.new.failed_allocations ≡ memory.old.failed_allocations + 1 }
     ensures memory { result ≢ status.no_memory → memory.new.failed_allocations ≡ memory.old.failed_allocations }
+    ensures asked { AsksWithoutXmp first.now second.now memory.old memory.new }
 {
     let pictures = Pair { first, second };
     compare_pictures_in(memory, Compared::All, pictures, same, unread, fault)

@@ -3,7 +3,8 @@ ghost use Rattle.std.specs.Prelude.{◌≡◌, IfOk, IfErr, MatchOption};
 ghost use Rattle.px_pictures.specs.declared.faults.MetadataFault.TheVariants.{OutOfMemory};
 ghost use Rattle.px_pictures.specs.Asking.{AsksForBoth};
 ghost use Rattle.px_pictures.specs.Faults.{IsPictureFault, CountsAllocFailureInPicture};
-ghost use Rattle.px_c.specs.declared.pictures.Compared.TheVariants.{Blocks};
+ghost use Rattle.px_xmp_pictures.specs.Asking.{AsksWithoutXmp};
+ghost use Rattle.px_c.specs.declared.pictures.Compared.TheVariants.{Blocks, All};
 ghost use Rattle.px_c.specs.Pictures.{IsSeenFault, IsAnswer, block_kind};
 
 use crate::jpeg::head_cause;
@@ -55,6 +56,7 @@ pub(crate) fn compare_in(
     ensures fault { IfErr result (IsPictureFault first.now second.now memory.new.failed_allocations) }
     ensures memory { CountsAllocFailureInPicture result memory.old memory.new }
     ensures asked { compared ≡ Blocks → AsksForBoth first.now second.now memory.old memory.new }
+    ensures asked_for_all { compared ≡ All → AsksWithoutXmp first.now second.now memory.old memory.new }
 {
     match compared {
         Compared::Blocks => px_pictures::compare_metadata_in(memory, first, second),

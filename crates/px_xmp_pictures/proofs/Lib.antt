@@ -1,4 +1,5 @@
 pub mod AnswerLaws
+pub mod AskLaws
 pub mod PartLaws
 pub mod CutLaws
 pub mod OrderLaws

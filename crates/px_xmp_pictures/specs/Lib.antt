@@ -3,3 +3,4 @@ pub mod Extension
 pub mod Joined
 pub mod Xmp
 pub mod Same
+pub mod Asking

@@ -1,8 +1,11 @@
 // The answer for two pictures, of all three kinds of metadata.
-ghost use Rattle.std.specs.Prelude.{◌≡◌, MatchBool, IfOk, IfErr};
+ghost use Rattle.std.specs.Prelude.{◌≡◌, length, MatchBool, IfOk, IfErr};
+ghost use Rattle.px_bytes.specs.Allocations.{AsksAtMost};
+ghost use Rattle.px_pictures.specs.Asking.{join_request};
 ghost use Rattle.px_pictures.specs.Faults.{IsHeadFault, IsPictureFault, CountsAllocFailureInPicture};
 ghost use Rattle.px_pictures.specs.declared.faults.PictureSide.TheVariants.{Second};
 ghost use Rattle.px_pictures.specs.Metadata.{Blocks, HasBlocks};
+ghost use Rattle.px_xmp_pictures.specs.Asking.{HasNoXmp, AsksForNoXmp, AsksWithoutXmp};
 ghost use Rattle.px_xmp_pictures.specs.Xmp.{HasXmp, IsFormAnswer, IsXmpAnswer, IsXmpComparison};
 ghost use Rattle.px_xmp_pictures.specs.Same.{joint, IsComparisonOfAll};
 ghost use Rattle.px_xmp_pictures.specs.declared.reading.ReadXmp.{ReadXmp};
@@ -53,6 +56,7 @@ fn compare_second(
     ensures compared { IfOk result (λ c. (y : ReadXmp) × HasXmp second.now y × IsXmpAnswer first.now y c) }
     ensures fault { IfErr result (λ e. (e.side ≡ Second) × IsHeadFault second.now memory.new.failed_allocations e.fault) }
     ensures memory { CountsAllocFailureInPicture result memory.old memory.new }
+    ensures asked { HasNoXmp second.now → AsksAtMost (join_request (length second.now)) memory.old memory.new }
 {
     let other = read_xmp(memory, second, PictureSide::Second)?;
     let answer = xmp_answer(first, &other);
@@ -65,6 +69,7 @@ fn compare_xmp(memory: &mut Memory, first: &[u8], second: &[u8]) -> Result<Compa
     ensures compared { IfOk result (IsXmpComparison first.now second.now) }
     ensures fault { IfErr result (IsPictureFault first.now second.now memory.new.failed_allocations) }
     ensures memory { CountsAllocFailureInPicture result memory.old memory.new }
+    ensures asked { AsksForNoXmp first.now second.now memory.old memory.new }
 {
     let one = read_xmp(memory, first, PictureSide::First)?;
     let answer = compare_second(memory, &one, second);
@@ -109,6 +114,7 @@ pub fn compare_all_in(
     ensures compared { IfOk result (IsComparisonOfAll first.now second.now) }
     ensures fault { IfErr result (IsPictureFault first.now second.now memory.new.failed_allocations) }
     ensures memory { CountsAllocFailureInPicture result memory.old memory.new }
+    ensures asked { AsksWithoutXmp first.now second.now memory.old memory.new }
 {
     match compare_metadata_in(memory, first, second)? {
         Comparison::Different => Ok(Comparison::Different),

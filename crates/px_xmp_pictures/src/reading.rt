@@ -1,9 +1,14 @@
 // The XMP of one picture.
-ghost use Rattle.std.specs.Prelude.{◌≡◌, ℕ, false, IfOk, IfErr};
+ghost use Rattle.std.specs.Prelude.{◌≡◌, ℕ, false, length, IfOk, IfErr};
+ghost use Rattle.px_bytes.specs.Allocations.{AsksAtMost};
+ghost use Rattle.px_jpeg.specs.declared.packets.FoundXmp.TheVariants.{Absent};
+ghost use Rattle.px_jpeg.specs.Xmp.{xmp_of};
+ghost use Rattle.px_pictures.specs.Asking.{join_request};
 ghost use Rattle.px_pictures.specs.declared.faults.MetadataFault.TheVariants as fault;
 ghost use Rattle.px_pictures.specs.Faults.{IsHeadFault, CountsAllocFailureInMetadata, CountsAllocFailureInMetadataBy};
 ghost use Rattle.px_pictures.specs.Faults.{CountsAllocFailureInPicture};
 ghost use Rattle.px_pictures.specs.Metadata.{Blocks, HasBlocks};
+ghost use Rattle.px_xmp_pictures.specs.Asking.{HasNoXmp};
 ghost use Rattle.px_xmp_pictures.specs.Xmp.{IsXmp, HasXmp};
 ghost use Rattle.px_xmp_pictures.specs.Counts.{CountsAllocFailureOfXmp};
 ghost use Rattle.px_xmp_pictures.specs.declared.reading.ReadXmp.TheVariants.{NotRead};
@@ -55,6 +60,7 @@ fn xmp_in(memory: &mut Memory, found: &Metadata, front: &Front) -> Result<ReadXm
     ensures read { IfOk result (IsXmp front.now) }
     ensures fault { IfErr result (λ e. e ≡ fault.OutOfMemory) }
     ensures memory { CountsAllocFailureInMetadata result memory.old memory.new }
+    ensures asked { xmp_of front.now.octets front.now.parts ≡ Absent → memory.new.asked ≡ memory.old.asked }
 {
     if let Some(place) = found.other_xmp() {
         return Ok(ReadXmp::NotRead(place));
@@ -82,6 +88,7 @@ pub(crate) fn read_xmp(
     ensures blocks { IfOk result (λ _. (x : Blocks) × HasBlocks bytes.now x) }
     ensures fault { IfErr result (λ e. (e.side ≡ side) × IsHeadFault bytes.now memory.new.failed_allocations e.fault) }
     ensures memory { CountsAllocFailureInPicture result memory.old memory.new }
+    ensures asked { HasNoXmp bytes.now → AsksAtMost (join_request (length bytes.now)) memory.old memory.new }
 {
     let front = match read_head(bytes) {
         Ok(head) => head.front(),
