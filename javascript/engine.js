@@ -74,7 +74,7 @@ export class XmpRefused extends Refused {
   }
 }
 
-/** Two JPEGs have the same metadata as far as they are read, and one has a place that isn't read. */
+/** Two JPEGs have the same metadata as far as both are read, and one has a place that isn't read. */
 export class NotRead extends Error {
   constructor(side, unread) {
     const where = `${unread.start}${unread.joined ? " of its joined blocks" : ""}`;

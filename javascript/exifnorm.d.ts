@@ -116,7 +116,7 @@ export class XmpNotRead extends Error {
   readonly offset: number;
 }
 
-/** Two JPEGs have the same metadata as far as they are read, and one has a place that isn't read. */
+/** Two JPEGs have the same metadata as far as both are read, and one has a place that isn't read. */
 export class NotRead extends Error {
   /** The number of the JPEG, 1 or 2; 2 only if all of the first is read. */
   readonly side: 1 | 2;
@@ -160,14 +160,17 @@ export function jpegBlocks(picture: Uint8Array, most?: number): JpegBlock[];
 /**
  * Whether two JPEGs have the same Exif, IPTC and XMP: as many blocks of each kind, which mean the same, pair by pair, in their order; and no
  * XMP, or one packet each, with equal normal forms together with its extended XMP. So two JPEGs without metadata are the same. Pixels, and
- * what follows the head, are not compared. Throws NotRead if they are the same as far as they are read, but one has more that other programs
+ * what follows the head, are not compared. Throws NotRead if they are the same as far as both are read, but one has more that other programs
  * may read: a place that jpegUnread returns, XMP in another place, a packet that xmpNormalise refuses, a second packet, or extended XMP that
  * is missing or can't be joined to the packet. Also throws PictureRefused, OutOfMemory. Which extended XMP is joined is tested and, unlike
  * the rest, not proved.
  */
 export function jpegSame(first: Uint8Array, second: Uint8Array): boolean;
 
-/** Whether two JPEGs have the same Exif and IPTC, as for jpegSame: XMP is not compared. Throws NotRead, PictureRefused, OutOfMemory. */
+/**
+ * Whether two JPEGs have the same Exif and IPTC, as for jpegSame: XMP is not compared. Throws NotRead if each block that both have means the
+ * same, and jpegUnread finds a place in one of them: it may have a block that the other has more. Throws PictureRefused, OutOfMemory.
+ */
 export function jpegSameBlocks(first: Uint8Array, second: Uint8Array): boolean;
 
 /**

@@ -216,7 +216,7 @@ class Unread(NamedTuple):
 
 
 class NotRead(NamedTuple):
-    """Two JPEGs have the same metadata as far as they are read, and one has a place that isn't read. It is neither true nor false, so a test
+    """Two JPEGs have the same metadata as far as both are read, and one has a place that isn't read. It is neither true nor false, so a test
     of it raises TypeError.
 
     >>> if NotRead(1, Unread(False, 6)):
@@ -298,7 +298,7 @@ def jpeg_same(first: Block, second: Block) -> Union[bool, NotRead]:
     what packets mean that are read. It is also proved that one packet which is all XMP of a picture is read, unless it has no meaning within
     the limits of `xmp_normal` or names extended XMP, and that a packet and extended XMP are joined, unless they can't be within these limits.
 
-    If they are the same as far as they are read, and something in one of them isn't read, the result is its place, a `NotRead`, which has no
+    If they are the same as far as both are read, and something in one of them isn't read, the result is its place, a `NotRead`, which has no
     truth value: `if` raises TypeError, so nobody takes it for the same. Ask `is True` or `is False` where that may be. It is a place that
     `jpeg_unread` returns; or XMP by another mark or in Photoshop's resource 0424; a packet that `xmp_normal` refuses; a second packet; or extended
     XMP that is missing, or that can't be joined to the packet.

@@ -298,7 +298,7 @@ struct exifnorm_unread_part {
  * those of what they mean. It is also proved that one packet which is all XMP of a picture is read, unless it has no meaning within the limits
  * of exifnorm_xmp_normalise or names extended XMP, and that a packet and extended XMP are joined, unless they can't be within these limits.
  *
- * A known difference comes first: in Exif or IPTC; or in XMP, if all XMP of both pictures is read and one has none, or the forms differ.
+ * A known difference comes first: in Exif or IPTC, as for exifnorm_jpeg_same_blocks; or in XMP, if all XMP of both pictures is read and one has none, or the forms differ.
  * Otherwise, if something is not read, the pictures may differ there. Then the status is NOT_READ or SECOND_NOT_READ, and same is unchanged.
  * In each picture, the first of these places counts:
  *
@@ -309,7 +309,7 @@ struct exifnorm_unread_part {
  * - a second packet, or extended XMP that can't be joined to the packet (docs/FORMAT.md, "The head of a JPEG"), whichever comes first.
  *
  *   DONE             same is set: 1 if the pictures have the same, 0 if they don't.
- *   NOT_READ         they have the same, as far as they are read; unread is a place in the first picture.
+ *   NOT_READ         they have the same, as far as both are read; unread is a place in the first picture.
  *   SECOND_NOT_READ  the same; all of the first picture is read, and unread is a place in the second picture.
  *   REFUSED          fault is set, and describes the first picture. No fault of XMP is one of these.
  *   SECOND_REFUSED   fault is set, and describes the second picture.
@@ -326,8 +326,9 @@ uint32_t exifnorm_jpeg_same(const unsigned char *first, size_t first_length,   /
  * resources 0x0404 in segments APP13. One without a byte is no block (docs/FORMAT.md, "The head of a JPEG").
  * Two pictures whose XMP differs may have the same here.
  *
- * Other programs read Exif and IPTC in more places, which exifnorm_jpeg_unread lists. If the pictures have the same, but one of them has
- * something in such a place, they may differ there. Then the status is NOT_READ or SECOND_NOT_READ, and same is unchanged.
+ * Other programs read Exif and IPTC in more places, which exifnorm_jpeg_unread lists. If one of the pictures has something in such a place,
+ * they may differ there, or have there what one has less. Then the status is NOT_READ or SECOND_NOT_READ, and same is unchanged, unless two
+ * blocks with the same number mean different things: then same is 0.
  *
  * Both heads are read first. Then the blocks of the first picture are checked, and then those of the second, Exif before IPTC. Statuses as
  * for exifnorm_jpeg_same; unread is the first such place of its picture.

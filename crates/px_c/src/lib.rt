@@ -299,12 +299,13 @@ pub extern "C" fn exifnorm_jpeg_same(
 }
 
 /// Stores in `same` whether two pictures have the same Exif and IPTC: 1 if they have as many blocks of each kind,
-/// these mean the same, pair by pair, in order, and `exifnorm_jpeg_unread` finds nothing in either; 0 if they have
-/// not as many, or one pair doesn't mean the same. XMP is not compared. Exif is that of APP1, IPTC that of Photoshop's resource 0x0404, of
-/// which one without a byte is no block. Each picture may be its first bytes, as far as its head goes. Allocates what
-/// `compare_metadata_in` of px_pictures does: the blocks in several pieces, and the meanings of two blocks at a time.
+/// these mean the same, pair by pair, in order, and `exifnorm_jpeg_unread` finds nothing in either; 0 if one pair doesn't mean
+/// the same, or they have not as many and it finds nothing in either. XMP is not compared. Exif is that of APP1, IPTC that of
+/// Photoshop's resource 0x0404, of which one without a byte is no block. Each picture may be its first bytes, as far as its
+/// head goes. Allocates what `compare_metadata_in` of px_pictures does: the blocks in several pieces, and the meanings of two blocks at
+/// a time.
 ///
-/// `NOT_READ`: what is read is the same, and `unread` is the first place of the first picture that isn't read.
+/// `NOT_READ`: each pair means the same, and `unread` is the first place of the first picture that isn't read.
 /// `SECOND_NOT_READ`: there is none in the first, and `unread` is that of the second. `REFUSED`: `fault` is in the
 /// first picture; `SECOND_REFUSED`: in the second. It is the first fault: that of the first head, or that too many of
 /// its bytes are joined; then the same of the second; then of a block of the first picture, then of the second.

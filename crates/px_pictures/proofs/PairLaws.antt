@@ -12,7 +12,8 @@ use Rattle.px_meaning.specs.Says.{SaysExif}
 use Rattle.px_tree.specs.Refused.{IsRefused}
 use Rattle.px_pictures.specs.declared.faults.MetadataFault.{MetadataFault}
 use Rattle.px_pictures.specs.Metadata.{MeanAll}
-use Rattle.px_pictures.specs.calls.Judging.{MeanSame}
+use Rattle.px_pictures.specs.Same.{PairsAgree}
+use Rattle.px_pictures.specs.calls.Judging.{MeanSame, PairsMeanSame}
 
 module _ (M : Type 0) (Says : List ℕ → M → Type 0) where
   abbrev AllMean : List (List ℕ) → Type 0
@@ -51,6 +52,26 @@ module _ (M : Type 0) (Says : List ℕ → M → Type 0) where
       let p = (pairs x y xs ys ms (subst (λ z. MeanAll Says z ms) e u) (subst (λ z. MeanAll Says z ms) f v)).0 in
       differ (one x m p.0 s p.1 ∙ sym (one y n p.0 t p.2))
 
+  -- ---- the blocks that both have
+
+  open_pair : (ps qs xs ys : List (List ℕ)) (x y : List ℕ) → ps ≡ x ∷ xs → qs ≡ y ∷ ys → PairsMeanSame Says ps qs
+      → ((m : M) × Says x m × Says y m) × PairsMeanSame Says xs ys
+  open_pair ps qs xs ys x y e f h =
+      subst (λ z. PairsMeanSame Says (x ∷ xs) z) f (subst (λ z. PairsMeanSame Says z qs) e h)
+
+  pub alike_pair : (ps qs xs ys : List (List ℕ)) (x y : List ℕ) (m : M) → ps ≡ x ∷ xs → qs ≡ y ∷ ys → Says x m → Says y m
+      → PairsMeanSame Says ps qs ↔ PairsMeanSame Says xs ys
+  alike_pair ps qs xs ys x y m e f s t = (
+    λ h. (open_pair ps qs xs ys x y e f h).1,
+    λ h. subst (λ z. PairsMeanSame Says z qs) (sym e) (subst (λ z. PairsMeanSame Says (x ∷ xs) z) (sym f) ((m, s, t), h)),
+  )
+
+  pub unlike_pair : ((b : List ℕ) (m n : M) → Says b m → Says b n → m ≡ n) → (ps qs xs ys : List (List ℕ)) (x y : List ℕ) (m n : M)
+      → ps ≡ x ∷ xs → qs ≡ y ∷ ys → Says x m → Says y n → (m ≡ n → ⊥) → PairsMeanSame Says ps qs → ⊥
+  unlike_pair one ps qs xs ys x y m n e f s t differ h =
+      let p = (open_pair ps qs xs ys x y e f h).0 in
+      differ (one x m p.0 s p.1 ∙ sym (one y n p.0 t p.2))
+
   pub both_has_meaning : (r : Result Bool MetadataFault) (x y : List ℕ) (m : M) → Says x m
       → IfOk r (λ same. (n : M) × Says y n × (IsTrue same ↔ (m ≡ n)))
       → IfOk r (λ same. (m n : M) × Says x m × Says y n × (IsTrue same ↔ (m ≡ n)))
@@ -75,6 +96,22 @@ module _ (M : Type 0) (Says : List ℕ → M → Type 0) where
     λ h. let (ks, u, v) = h in mean_one one xs ms ks s u ∙ sym (mean_one one ys ns ks t v),
     λ e. (ms, s, subst (λ z. MeanAll Says ys z) (sym e) t),
   )
+
+module _ (M : Type 0) (Says : List ℕ → M → Type 0) (one : (b : List ℕ) (m n : M) → Says b m → Says b n → m ≡ n) where
+  -- the blocks that both have mean the same exactly if their meanings agree
+  pub pair_lists : (xs ys : List (List ℕ)) (ms ns : List M) → MeanAll Says xs ms → MeanAll Says ys ns
+      → PairsMeanSame Says xs ys ↔ PairsAgree ms ns
+  pair_lists [] ys [] ns s t = (λ h. tt, λ h. tt)
+  pair_lists [] ys (m ∷ ms) ns s t = absurd s
+  pair_lists (x ∷ xs) ys [] ns s t = absurd s
+  pair_lists (x ∷ xs) [] (m ∷ ms) [] s t = (λ h. tt, λ h. tt)
+  pair_lists (x ∷ xs) [] (m ∷ ms) (n ∷ ns) s t = absurd t
+  pair_lists (x ∷ xs) (y ∷ ys) (m ∷ ms) [] s t = absurd t
+  pair_lists (x ∷ xs) (y ∷ ys) (m ∷ ms) (n ∷ ns) s t =
+      let more = pair_lists xs ys ms ns s.1 t.1 in (
+        λ h. (one x m h.0.0 s.0 h.0.1 ∙ sym (one y n h.0.0 t.0 h.0.2), more.0 h.1),
+        λ h. ((m, s.0, subst (λ z. Says y z) (sym h.0) t.0), more.1 h.1),
+      )
 
 -- ---- the memory of a block that has a meaning
 

@@ -12,7 +12,7 @@ ghost use Rattle.px_pictures.specs.declared.faults.MetadataFault.TheVariants as 
 ghost use Rattle.px_pictures.specs.Asking.{exif_requests, iptc_requests};
 ghost use Rattle.px_pictures.specs.Faults.{AllExif, AllIptc, AllRead, CountsAllocFailureInMetadata};
 ghost use Rattle.px_pictures.specs.Metadata.{blocks_of};
-ghost use Rattle.px_pictures.specs.calls.Judging.{MeanSame};
+ghost use Rattle.px_pictures.specs.calls.Judging.{MeanSame, PairsMeanSame};
 
 use crate::blocks::{ExifBlocks, IptcBlocks};
 use crate::faults::MetadataFault;
@@ -20,6 +20,26 @@ use crate::found::Metadata;
 use px_bytes::{Block, Memory};
 use px_iim::{Iim, read_iim_in, same_iim};
 use px_tree::{Meaning, read_block_in, same_meaning};
+
+/// How the blocks of two pictures compare.
+#[derive(Clone, Copy, Debug, PartialEq, Eq)]
+pub(crate) struct Likeness {
+    /// There are as many, and they mean the same, pair by pair.
+    pub(crate) same: bool,
+    /// Those that both pictures have mean the same, pair by pair.
+    pub(crate) alike: bool,
+}
+
+// That of two kinds of blocks.
+fn of_both(first: Likeness, second: Likeness) -> Likeness
+    ensures same { IsTrue result.same ↔ (IsTrue first.same × IsTrue second.same) }
+    ensures alike { IsTrue result.alike ↔ (IsTrue first.alike × IsTrue second.alike) }
+{
+    Likeness {
+        same: first.same && second.same,
+        alike: first.alike && second.alike,
+    }
+}
 
 // The meaning of an Exif block that has one.
 fn exif_in<'a>(memory: &mut Memory, bytes: &'a [u8]) -> Result<Meaning<'a>, MetadataFault>
@@ -68,15 +88,16 @@ fn same_exif(memory: &mut Memory, first: &[u8], second: &[u8]) -> Result<bool, M
     same
 }
 
-// Whether Exif blocks that have meanings have the same, pair by pair.
+// How Exif blocks that have meanings compare.
 fn same_exif_blocks(
     memory: &mut Memory,
     first: ExifBlocks,
     second: ExifBlocks,
-) -> Result<bool, MetadataFault>
+) -> Result<Likeness, MetadataFault>
     requires first { AllExif first }
     requires second { AllExif second }
-    ensures same { IfOk result (λ same. IsTrue same ↔ MeanSame SaysExif first.entry second.entry) }
+    ensures same { IfOk result (λ found. IsTrue found.same ↔ MeanSame SaysExif first.entry second.entry) }
+    ensures alike { IfOk result (λ found. IsTrue found.alike ↔ PairsMeanSame SaysExif first.entry second.entry) }
     ensures fault { IfErr result (λ e. e ≡ fault.OutOfMemory) }
     ensures memory { CountsAllocFailureInMetadata result memory.old memory.new }
     ensures asked { AsksAtMost (exif_requests first.entry + exif_requests second.entry) memory.old memory.new }
@@ -86,13 +107,22 @@ fn same_exif_blocks(
     let mut others = second;
     loop {
         let Some(block) = left.next() else {
-            return Ok(others.next().is_none());
+            return Ok(Likeness {
+                same: others.next().is_none(),
+                alike: true,
+            });
         };
         let Some(other) = others.next() else {
-            return Ok(false);
+            return Ok(Likeness {
+                same: false,
+                alike: true,
+            });
         };
         if !same_exif(memory, block, other)? {
-            return Ok(false);
+            return Ok(Likeness {
+                same: false,
+                alike: false,
+            });
         }
     }
 }
@@ -140,15 +170,16 @@ fn same_iptc(memory: &mut Memory, first: &[u8], second: &[u8]) -> Result<bool, M
     same
 }
 
-// Whether IPTC blocks that have records have the same, pair by pair.
+// How IPTC blocks that have records compare.
 fn same_iptc_blocks(
     memory: &mut Memory,
     first: IptcBlocks,
     second: IptcBlocks,
-) -> Result<bool, MetadataFault>
+) -> Result<Likeness, MetadataFault>
     requires first { AllIptc first }
     requires second { AllIptc second }
-    ensures same { IfOk result (λ same. IsTrue same ↔ MeanSame SaysIim first.entry second.entry) }
+    ensures same { IfOk result (λ found. IsTrue found.same ↔ MeanSame SaysIim first.entry second.entry) }
+    ensures alike { IfOk result (λ found. IsTrue found.alike ↔ PairsMeanSame SaysIim first.entry second.entry) }
     ensures fault { IfErr result (λ e. e ≡ fault.OutOfMemory) }
     ensures memory { CountsAllocFailureInMetadata result memory.old memory.new }
     ensures asked { AsksAtMost (iptc_requests first.entry + iptc_requests second.entry) memory.old memory.new }
@@ -157,35 +188,44 @@ fn same_iptc_blocks(
     let mut others = second;
     loop {
         let Some(block) = left.next() else {
-            return Ok(others.next().is_none());
+            return Ok(Likeness {
+                same: others.next().is_none(),
+                alike: true,
+            });
         };
         let Some(other) = others.next() else {
-            return Ok(false);
+            return Ok(Likeness {
+                same: false,
+                alike: true,
+            });
         };
         if !same_iptc(memory, block, other)? {
-            return Ok(false);
+            return Ok(Likeness {
+                same: false,
+                alike: false,
+            });
         }
     }
 }
 
-// Whether two pictures of which all blocks have meanings have the same: as many of each kind, with the same meanings, pair by
-// pair.
+// How the blocks of two pictures compare that all have meanings.
 pub(crate) fn same_blocks(
     memory: &mut Memory,
     first: &Metadata,
     second: &Metadata,
-) -> Result<bool, MetadataFault>
+) -> Result<Likeness, MetadataFault>
     requires first { AllRead (blocks_of first.now) }
     requires second { AllRead (blocks_of second.now) }
-    ensures same { let x = blocks_of first.now in let y = blocks_of second.now in IfOk result (λ same. IsTrue same
+    ensures same { let x = blocks_of first.now in let y = blocks_of second.now in IfOk result (λ found. IsTrue found.same
         ↔ (MeanSame SaysExif x.exif y.exif × MeanSame SaysIim x.iptc y.iptc)) }
+    ensures alike { let x = blocks_of first.now in let y = blocks_of second.now in IfOk result (λ found. IsTrue found.alike
+        ↔ (PairsMeanSame SaysExif x.exif y.exif × PairsMeanSame SaysIim x.iptc y.iptc)) }
     ensures fault { IfErr result (λ e. e ≡ fault.OutOfMemory) }
     ensures memory { CountsAllocFailureInMetadata result memory.old memory.new }
     ensures asked { let x = blocks_of first.now in let y = blocks_of second.now in AsksAtMost (exif_requests x.exif + exif_requests y.exif
         + (iptc_requests x.iptc + iptc_requests y.iptc)) memory.old memory.new }
 {
-    if !same_exif_blocks(memory, first.exif(), second.exif())? {
-        return Ok(false);
-    }
-    same_iptc_blocks(memory, first.iptc(), second.iptc())
+    let exif = same_exif_blocks(memory, first.exif(), second.exif())?;
+    let iptc = same_iptc_blocks(memory, first.iptc(), second.iptc())?;
+    Ok(of_both(exif, iptc))
 }

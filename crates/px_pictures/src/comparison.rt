@@ -26,7 +26,8 @@ fn compare_found(
     ensures memory { CountsAllocFailureInPicture result memory.old memory.new }
     ensures asked { AsksAtMost (blocks_request (blocks_of first.now) + blocks_request (blocks_of second.now)) memory.old memory.new }
 {
-    if !same_found(memory, first, second)? {
+    let found = same_found(memory, first, second)?;
+    if !found.alike {
         return Ok(Comparison::Different);
     }
     if let Some(place) = first.unread() {
@@ -34,6 +35,9 @@ fn compare_found(
     }
     if let Some(place) = second.unread() {
         return Ok(Comparison::NotRead(PictureSide::Second, place));
+    }
+    if !found.same {
+        return Ok(Comparison::Different);
     }
     Ok(Comparison::Same)
 }
@@ -56,10 +60,11 @@ fn compare_second(
     outcome
 }
 
-/// Compares the Exif and IPTC of two pictures as `same_metadata_in` does. `Different`: all blocks have meanings, but
-/// not equally many, or some pair doesn't mean the same. `Same`: they mean the same, pair by pair, in order, and
-/// `unread_in` finds no place that isn't read in either picture. `NotRead`: they mean the same, and this is the first
-/// such place: of the first picture, or, if that has none, of the second.
+/// Compares the Exif and IPTC of two pictures as `same_metadata_in` does. All blocks have meanings. `Different`: some pair doesn't mean
+/// the same; or there are not equally many, and `unread_in` finds no place that isn't read in either picture. `Same`: there are
+/// equally many, which mean the same, pair by pair, in order, and there is no such place. `NotRead`: each pair means the same, and
+/// this is the first such place, which may have what the other picture has more: of the first picture, or, if that has none, of the
+/// second.
 ///
 /// Allocates what `same_metadata_in` does. Errors as for `same_metadata_in`, with the picture: the first fault, where both
 /// heads are read first, then the first picture's blocks, then the second's, Exif before IPTC.

@@ -50,7 +50,7 @@ pub enum Comparison {
     Same,
     /// Their Exif or IPTC is different.
     Different,
-    /// The Exif and IPTC that is read is the same, and the picture of this side has this first place that isn't read.
+    /// The Exif and IPTC that is read of both is the same, and the picture of this side has this first place that isn't read.
     /// In the second picture only if there is none in the first.
     NotRead(PictureSide, Unread),
 }

@@ -5,9 +5,10 @@ ghost use Rattle.px_pictures.specs.Asking.{join_request, exif_requests, blocks_r
 ghost use Rattle.px_pictures.specs.Faults.{AllRead, IsHeadFault, IsBlockFault, IsPictureFault, CountsAllocFailureInPicture};
 ghost use Rattle.px_pictures.specs.Metadata.{HasBlocks, blocks_of};
 ghost use Rattle.px_pictures.specs.Same.{IsSameMetadata};
-ghost use Rattle.px_pictures.specs.calls.Judging.{IsFew, AreSameBlocks, AreSameAsFirst, BlocksFail, SecondFails, AsksForSecond};
+ghost use Rattle.px_pictures.specs.calls.Judging.{IsFew, AreSameBlocks, AreAlikeBlocks, AreSameAsFirst};
+ghost use Rattle.px_pictures.specs.calls.Judging.{BlocksFail, SecondFails, AsksForSecond};
 
-use crate::compared::same_blocks;
+use crate::compared::{Likeness, same_blocks};
 use crate::faults::{PictureFault, PictureSide};
 use crate::found::{Metadata, metadata_of_in};
 use crate::judged::judge_all;
@@ -45,15 +46,16 @@ fn judge(memory: &mut Memory, found: &Metadata, side: PictureSide) -> Result<(),
     }
 }
 
-// Judges the blocks of two pictures and returns whether they mean the same.
+// Judges the blocks of two pictures and compares them.
 pub(crate) fn same_found(
     memory: &mut Memory,
     first: &Metadata,
     second: &Metadata,
-) -> Result<bool, PictureFault>
+) -> Result<Likeness, PictureFault>
     requires first { IsFew (blocks_of first.now) }
     requires second { IsFew (blocks_of second.now) }
-    ensures same { IfOk result (AreSameBlocks (blocks_of first.now) (blocks_of second.now)) }
+    ensures same { IfOk result (λ found. AreSameBlocks (blocks_of first.now) (blocks_of second.now) found.same) }
+    ensures alike { IfOk result (λ found. AreAlikeBlocks (blocks_of first.now) (blocks_of second.now) found.alike) }
     ensures fault { IfErr result (λ e.
         BlocksFail e.side (blocks_of first.now) (blocks_of second.now) memory.new.failed_allocations e.fault) }
     ensures memory { CountsAllocFailureInPicture result memory.old memory.new }
@@ -62,7 +64,7 @@ pub(crate) fn same_found(
     judge(memory, first, PictureSide::First)?;
     judge(memory, second, PictureSide::Second)?;
     match same_blocks(memory, first, second) {
-        Ok(same) => Ok(same),
+        Ok(found) => Ok(found),
         Err(fault) => Err(PictureFault {
             side: PictureSide::First,
             fault,
@@ -79,9 +81,12 @@ fn same_second(memory: &mut Memory, first: &Metadata, second: &[u8]) -> Result<b
     ensures asked { AsksForSecond (blocks_request (blocks_of first.now)) second.now memory.old memory.new }
 {
     let other = found(memory, second, PictureSide::Second)?;
-    let same = same_found(memory, first, &other);
+    let found = same_found(memory, first, &other);
     drop(other);
-    same
+    match found {
+        Ok(found) => Ok(found.same),
+        Err(fault) => Err(fault),
+    }
 }
 
 /// Whether two pictures have the same Exif and IPTC: equally many Exif blocks and equally many IPTC blocks, which mean

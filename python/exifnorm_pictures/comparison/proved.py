@@ -24,7 +24,7 @@ class Answers(NamedTuple):
     - `blocks`: for their Exif and IPTC
     - `all`: for these and XMP
 
-    Each is `SAME`, `DIFFERENT`, or `NOT_WHOLLY_READ`: the same as far as it was read. None if the library has no answer: one of the two is no
+    Each is `SAME`, `DIFFERENT`, or `NOT_WHOLLY_READ`: the same as far as both were read. None if the library has no answer: one of the two is no
     JPEG, has a damaged head or a block that is refused, or can't be read.
     """
 

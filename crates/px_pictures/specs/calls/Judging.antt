@@ -1,5 +1,5 @@
 -- What judging and comparing the blocks of pictures returns.
-use Rattle.std.specs.Prelude.{◌≡◌, ◌≤◌, ◌<◌, ◌+◌, ◌^◌, ◌↔◌, ◌⊎◌, ℕ, Bool, true, false, IsTrue, Some, None, List, length}
+use Rattle.std.specs.Prelude.{◌≡◌, ◌≤◌, ◌<◌, ◌+◌, ◌^◌, ◌↔◌, ◌⊎◌, ℕ, Bool, true, false, IsTrue, Some, None, List, [], ◌∷◌, length, ⊤}
 use Rattle.px_bytes.specs.Allocations.{MemoryCounts, AsksAtMost}
 use Rattle.px_iim.specs.Record.{SaysIim}
 use Rattle.px_jpeg.specs.Head.{Picture}
@@ -51,21 +51,33 @@ IsFew x = AreFew x.exif × AreFew x.iptc
 abbrev pub MeanSame : {M : Type 0} → (List ℕ → M → Type 0) → List (List ℕ) → List (List ℕ) → Type 0
 MeanSame {M} Says xs ys = (ms : List M) × MeanAll Says xs ms × MeanAll Says ys ms
 
+-- those that both have do, pair by pair
+abbrev pub PairsMeanSame : {M : Type 0} → (List ℕ → M → Type 0) → List (List ℕ) → List (List ℕ) → Type 0
+PairsMeanSame Says [] ys = ⊤
+PairsMeanSame Says (x ∷ xs) [] = ⊤
+PairsMeanSame {M} Says (x ∷ xs) (y ∷ ys) = ((m : M) × Says x m × Says y m) × PairsMeanSame Says xs ys
+
 -- the blocks have meanings, and these are the same or not
 abbrev pub AreSameBlocks : Blocks → Blocks → Bool → Type 0
 AreSameBlocks x y same =
     AllRead x × AllRead y × (IsTrue same ↔ (MeanSame SaysExif x.exif y.exif × MeanSame SaysIim x.iptc y.iptc))
+
+-- and those of the blocks that both have
+abbrev pub AreAlikeBlocks : Blocks → Blocks → Bool → Type 0
+AreAlikeBlocks x y alike =
+    AllRead x × AllRead y × (IsTrue alike ↔ (PairsMeanSame SaysExif x.exif y.exif × PairsMeanSame SaysIim x.iptc y.iptc))
 
 abbrev pub AreSameAsFirst : Blocks → List ℕ → Bool → Type 0
 AreSameAsFirst x g same = (y : Blocks) × HasBlocks g y × AreSameBlocks x y same
 
 -- the answer for two pictures, of which all blocks have meanings
 abbrev pub AreCompared : Picture → Picture → Comparison → Type 0
-AreCompared p q Different = AreSameBlocks (blocks_of p) (blocks_of q) false
+AreCompared p q Different = AreAlikeBlocks (blocks_of p) (blocks_of q) false
+    ⊎ (AreSameBlocks (blocks_of p) (blocks_of q) false × IsUnread p.octets None × IsUnread q.octets None)
 AreCompared p q Same = AreSameBlocks (blocks_of p) (blocks_of q) true × IsUnread p.octets None × IsUnread q.octets None
-AreCompared p q (NotRead First u) = AreSameBlocks (blocks_of p) (blocks_of q) true × IsUnread p.octets (Some u)
+AreCompared p q (NotRead First u) = AreAlikeBlocks (blocks_of p) (blocks_of q) true × IsUnread p.octets (Some u)
 AreCompared p q (NotRead Second u) =
-    AreSameBlocks (blocks_of p) (blocks_of q) true × IsUnread p.octets None × IsUnread q.octets (Some u)
+    AreAlikeBlocks (blocks_of p) (blocks_of q) true × IsUnread p.octets None × IsUnread q.octets (Some u)
 
 abbrev pub IsComparedWith : Picture → List ℕ → Comparison → Type 0
 IsComparedWith p g c = (q : Picture) × (q.octets ≡ g) × HasBlocks g (blocks_of q) × AreCompared p q c
