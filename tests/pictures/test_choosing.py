@@ -12,7 +12,7 @@ from made_blocks import BLOCKS, LONG, MAKE, block, entry, table
 from made_files import app1, app1_xmp, exif, iim, jpeg, with_record, xmp
 from studio import SMALL_JPEG, errors, needs, tool
 
-from exifnorm_pictures.comparison.changed import _Left
+from exifnorm_pictures.comparison.block_pairs import Weight, weights_of
 from exifnorm_pictures.fields.choosing import SAVES, Choice, kinds_of
 from exifnorm_pictures.model.found import EXIF, IPTC, XMP
 
@@ -293,10 +293,8 @@ def test_what_stands_for_more_fields_than_are_kept_always_counts():
 
 def test_a_difference_that_no_field_shows_stays():
     """Blocks whose meanings differ, and whose listings don't."""
-    left = _Left(Choice(ignore=["Artist"]))
-    assert left.without(EXIF, [], False) == [] and left.rest == {EXIF}
-    left = _Left(Choice(ignore=["Artist"]))
-    assert left.without(EXIF, [], True) == [] and left.rest == set()
+    assert weights_of([], False, Choice(ignore=["Artist"])) == [Weight.COUNTS]
+    assert weights_of([], True, Choice(ignore=["Artist"])) == []
 
 
 def test_long_values_are_compared_by_their_digests(compared):

@@ -7,6 +7,7 @@ from typing import Optional, Tuple
 
 from ..model.found import CUT
 from ..model.records import PictureRecord
+from ..model.results import Result
 from ..model.words import Word
 
 
@@ -43,21 +44,46 @@ def coded_result(picture: Optional[PictureRecord], other: Optional[PictureRecord
     """Whether two files have the same coded picture, and a note. One that is damaged is no other picture than a whole one, and isn't the same either."""
     if picture is None or other is None:
         return Coded.UNKNOWN, ""
-    if other.damage and picture.damage:
-        both = dict.fromkeys([picture.damage, other.damage])
-        return Coded.DAMAGED_BOTH, f"{Coded.DAMAGED_BOTH}: {', and then '.join(both)}"
-    if other.damage:
-        # the end of a file is looked for at each look, and other damage only by --pixels
-        is_known = bool(picture.coded_picture) or other.coded_picture is None or other.damage.startswith(CUT)
-        return Coded.DAMAGED, other.damage + ("" if is_known else ", and whether it was so before isn't known")
-    if picture.damage:
-        return Coded.DAMAGED_BEFORE, f"{Coded.DAMAGED_BEFORE}: {picture.damage}"
+    if picture.damage or other.damage:
+        return _damaged(picture, other)
     if picture.type != other.type:  # the data of two formats can't be equal, even if the pictures are
         return Coded.UNKNOWN, ""
-    if picture.coded_picture and other.coded_picture:
-        same = Coded.SAME if picture.beside == other.beside else Coded.BESIDE
-        return (same if picture.coded_picture == other.coded_picture else Coded.OTHER), ""
-    return (Coded.SAME if picture.sha256 and picture.sha256 == other.sha256 else Coded.UNKNOWN), ""
+    return _by_digests(picture, other), ""
+
+
+def _by_digests(picture: PictureRecord, other: PictureRecord) -> Coded:
+    if not picture.coded_picture or not other.coded_picture:
+        return Coded.SAME if picture.sha256 and picture.sha256 == other.sha256 else Coded.UNKNOWN
+    if picture.coded_picture != other.coded_picture:
+        return Coded.OTHER
+    return Coded.SAME if picture.beside == other.beside else Coded.BESIDE
+
+
+def _damaged(picture: PictureRecord, other: PictureRecord) -> Tuple[Coded, str]:
+    if not other.damage:
+        return Coded.DAMAGED_BEFORE, f"{Coded.DAMAGED_BEFORE}: {picture.damage}"
+    if picture.damage:
+        both = dict.fromkeys([picture.damage, other.damage])
+        return Coded.DAMAGED_BOTH, f"{Coded.DAMAGED_BOTH}: {', and then '.join(both)}"
+    # the end of a file is looked for at each look, and other damage only by --pixels
+    is_known = bool(picture.coded_picture) or other.coded_picture is None or other.damage.startswith(CUT)
+    return Coded.DAMAGED, other.damage + ("" if is_known else ", and whether it was so before isn't known")
+
+
+# What the coded pictures make of the result of the metadata, if that has changed, if it is equal, and if it is anything else
+_RESULTS = {
+    Coded.DAMAGED: (Result.DAMAGED_DIFFERENT, Result.DAMAGED, Result.DAMAGED),
+    Coded.DAMAGED_BEFORE: (Result.DAMAGED_DIFFERENT, Result.DAMAGED_BEFORE, Result.DAMAGED_BEFORE),
+    Coded.OTHER: (None, Result.OTHER_PICTURE_ALONE, Result.OTHER_PICTURE),
+}
+# What they add to the note, if the result says nothing of them
+_CLAUSES = {Coded.OTHER: "the picture differs, too", Coded.BESIDE: "a colour profile or a comment differs or is missing"}
+
+
+def result_with(coded: Coded, result: Result) -> Tuple[Result, str]:
+    """The result of the metadata and the coded pictures together, and what isn't in its word."""
+    by_metadata = _RESULTS.get(coded, (None,) * 3)[0 if result.has_changed else 1 if result.is_equal else 2]
+    return (by_metadata, "") if by_metadata else (result, _CLAUSES.get(coded, ""))
 
 
 def sentence_of_coded(counts: "Counter[Coded]", pixels: str = "index --pixels") -> str:

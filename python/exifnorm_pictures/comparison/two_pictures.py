@@ -5,7 +5,7 @@ from __future__ import annotations
 import contextlib
 import os
 from dataclasses import dataclass
-from typing import Dict, List, NamedTuple, Optional, Tuple
+from typing import Dict, List, NamedTuple, Optional, Sequence, Tuple
 
 from ..extract.formats.streams import digest_of_file
 from ..fields.block_fields import fields_of
@@ -63,7 +63,7 @@ class ComparedPair:
         return Result.SAME if self.is_identical else self.compared.result
 
     @property
-    def left_out(self) -> List[str]:
+    def left_out(self) -> Sequence[str]:
         """The fields that differ and don't count."""
         return [] if self.is_identical else self.compared.left_out
 

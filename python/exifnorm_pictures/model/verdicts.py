@@ -5,10 +5,11 @@ A result names the kinds that were compared. No picture is the same as another i
 
 from __future__ import annotations
 
+import functools
 from collections import Counter
-from typing import Dict, Iterable, List, NamedTuple, Sequence
+from typing import Dict, Iterable, List, Mapping, NamedTuple, Sequence, Tuple
 
-from .found import EXIF, IPTC, NAMES, XMP, NotRead
+from .found import EXIF, IPTC, NAMES, XMP, NotRead, cut
 from .results import Result
 from .sides import NO_BLOCK, REACHED, Side, Status
 
@@ -24,6 +25,11 @@ class Verdict(NamedTuple):
     def is_open(self) -> bool:
         """Whether the result is unknown: a block is refused or unreadable, or may be missing, and its bytes are not the same."""
         return (self.result == Result.NOT_KNOWN or self.result in _SAME_BYTES) and not self.same_bytes
+
+    @property
+    def may_differ(self) -> bool:
+        """Whether there is a block, and it isn't known to be the same."""
+        return self.result not in (Result.SAME, Result.ABSENT) and not self.same_bytes
 
 
 _OF_STATUS = {Status.REFUSED: Result.REFUSED, Status.UNREADABLE: Result.UNREADABLE}
@@ -151,3 +157,38 @@ def result_of(verdicts: Sequence[Verdict], open_parts: Sequence[str] = ()) -> Re
         if result in results:
             return same_bytes
     return Result.SAME
+
+
+Turns = Mapping[str, Mapping[Result, Result]]  # what becomes of the verdict on each kind
+
+
+class Judged(NamedTuple):
+    """What is known of two pictures: the verdicts, and the parts that were not read and may differ."""
+
+    verdicts: Tuple[Verdict, ...]
+    parts: Tuple[str, ...] = ()
+
+    @property
+    def result(self) -> Result:
+        """The worst of all."""
+        return result_of(self.verdicts, self.parts)
+
+    @property
+    def is_different(self) -> bool:
+        """Whether a difference is known."""
+        return any(it.result in (Result.DIFFERENT, Result.DIFFERENT_REPAIRED) for it in self.verdicts)
+
+    @property
+    def sentence(self) -> str:
+        """The kinds and the parts; the end of a file that is cut off is named before them."""
+        return _sentence(self.verdicts, tuple(it for it in self.parts if not cut([it])))
+
+    def turned(self, turns: Turns) -> Judged:
+        """With other verdicts on some kinds."""
+        if not any(turns.values()):
+            return self
+        others = [(it, turns.get(it.kind, {}).get(it.result)) for it in self.verdicts]
+        return self._replace(verdicts=tuple(Verdict(it.kind, other) if other else it for it, other in others))
+
+
+_sentence = functools.lru_cache(maxsize=1000)(sentence_of_verdicts)  # an archive's pictures have few different ones
