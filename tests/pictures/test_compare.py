@@ -4,6 +4,7 @@ import functools
 import itertools
 import json
 import os
+import shutil
 import struct
 import subprocess
 import unicodedata
@@ -18,11 +19,12 @@ from test_jpeg_heads import COMPARED
 from test_list import record
 from test_never_the_same import damages, parts, reached, segments, texts
 
+from exifnorm_pictures.comparison import proved
 from exifnorm_pictures.comparison.differing import FieldDifference
-from exifnorm_pictures.comparison.proved import head_of_file
 from exifnorm_pictures.comparison.two_pictures import compare, read
 from exifnorm_pictures.comparison.wording import told_apart, what
 from exifnorm_pictures.fields.field import Field
+from exifnorm_pictures.files import opening
 from exifnorm_pictures.files.session import Session
 from exifnorm_pictures.model.found import EXIF, IPTC
 from exifnorm_pictures.scan.batches import How
@@ -74,7 +76,8 @@ def pairs_compared(folder, pairs):
         for name, octets in (("a.jpg", before), ("b.jpg", after)):
             (folder / name).write_bytes(octets)
             sides.append(read(os.fsencode(folder / name), How(1), Session()))
-        yield before, after, sides, compare(*sides, None, heads=tuple(head_of_file(it.path) for it in sides))
+        sides, heads = zip(*sides)
+        yield before, after, sides, compare(*sides, None, heads=heads)
 
 
 def test_the_proved_comparison_says_the_same(folder):
@@ -83,14 +86,45 @@ def test_the_proved_comparison_says_the_same(folder):
     met = Counter()
     for before, after, sides, found in pairs_compared(folder, pairs):
         results = [it.result for it in found.compared.verdicts if it.kind in (EXIF, IPTC)]
-        proved = found.proved.blocks
-        met[proved] += 1
-        if proved == "different":
+        answer = found.proved.blocks
+        met[answer] += 1
+        if answer == "different":
             assert any(map(is_other, results)), (before.hex(), after.hex())
-        elif proved and before in HEADS and after in HEADS:
-            assert proved != "same" or not any(map(is_other, results)), (before.hex(), after.hex())
-            assert proved != "not wholly read" or any(it.unread for it in sides), "what isn't read is named"
+        elif answer and before in HEADS and after in HEADS:
+            assert answer != "same" or not any(map(is_other, results)), (before.hex(), after.hex())
+            assert answer != "not wholly read" or any(it.unread for it in sides), "what isn't read is named"
     assert min(met[it] for it in ("same", "different", "not wholly read", None)) > 5, met
+
+
+@pytest.mark.parametrize("mark", [b"Exif\0\1", b"exif\0\0", b"1234Exif\0\0"], ids=repr)
+def test_exif_under_a_mark_that_the_proved_comparison_does_not_read(mark, run):
+    """It is the same for this package, and the proved comparison says that it hasn't read all."""
+    status, found = compared(run, jpeg(app1(exif(b"abc"))), jpeg(segment(0xE1, mark + exif(b"abc"))))
+    assert (status, found["kinds"]["exif"], found["proved"]) == (0, "same", "not wholly read")
+
+
+@pytest.mark.parametrize("save", [os.replace, shutil.copyfile], ids=["replaced", "in place"])
+@pytest.mark.parametrize("when", range(1, 8))
+def test_a_picture_that_is_saved_while_it_is_compared(save, when, folder, monkeypatch):
+    """The metadata and the proved answer are of one state of the file, or there is no proved answer."""
+    one, two = jpeg(app1(exif(b"abc"))), jpeg(app1(exif(b"abd")))
+    for name, octets in (("a.jpg", one), ("b.jpg", one), ("new", two)):
+        (folder / name).write_bytes(octets)
+    opened, left = opening.opened, [when]
+
+    def saved_before(place):
+        left[0] -= 1
+        if not left[0]:
+            save(folder / "new", folder / "b.jpg")
+        return opened(place)
+
+    first, head = read(os.fsencode(folder / "a.jpg"), How(1, pixels=True), Session())
+    for module in (opening, proved):
+        monkeypatch.setattr(module, "opened", saved_before)
+    second, other = read(os.fsencode(folder / "b.jpg"), How(1, pixels=True), Session())
+    found = compare(first, second, None, heads=(head, other))
+    is_same = next(it.result for it in found.compared.verdicts if it.kind == EXIF) == "same"
+    assert found.proved.blocks in (None, "same" if is_same else "different")
 
 
 def test_the_proved_comparison_with_xmp_says_the_same(folder):

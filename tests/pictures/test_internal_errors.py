@@ -292,9 +292,9 @@ def test_a_file_that_has_no_bytes_yet(words, called, folder, monkeypatch):
     """As a link to the kernel's messages, /proc/kmsg, which is a regular file by its kind."""
     opened = opening.opened
 
-    def opened_as_usual(path):
-        if os.path.basename(os.fsencode(path)) != b"k.jpg":
-            return opened(path)
+    def opened_as_usual(place):
+        if isinstance(place, opening.Held) or os.path.basename(os.fsencode(place)) != b"k.jpg":
+            return opened(place)
         number, other = os.pipe2(os.O_NONBLOCK)
         ends.append(other)
         return number, 0

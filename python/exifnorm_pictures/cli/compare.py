@@ -8,7 +8,6 @@ import shutil
 from typing import TYPE_CHECKING, Dict, Iterator, List, Optional, Sequence
 
 from ..comparison.coded import Coded, coded_result
-from ..comparison.proved import head_of_file
 from ..comparison.two_pictures import MORE, ComparedPair, FieldRow, compare, read, rows_of, with_position
 from ..comparison.wording import NONE, tag_of
 from ..fields.block_fields import fields_of
@@ -38,10 +37,10 @@ def run(arguments: argparse.Namespace) -> int:
     """Compares two pictures."""
     refuse_folders(arguments.before, arguments.after)
     how = How(1, whole=arguments.whole, pixels=True, seconds=arguments.limit, debug=arguments.session.debug)
-    old, new = (read(os.fsencode(it), how, arguments.session) for it in (arguments.before, arguments.after))
+    (old, head), (new, other) = (read(os.fsencode(it), how, arguments.session) for it in (arguments.before, arguments.after))
     choice = _choice(arguments, old, new)
     session = None if arguments.no_exiftool else arguments.session
-    comparison = compare(old, new, session, choice, (None, None) if choice else (head_of_file(old.path), head_of_file(new.path)))
+    comparison = compare(old, new, session, choice, (head, other))
     rows = rows_of(comparison, arguments.exact)
     rows = rows if arguments.exact else with_position(rows, old, new)
     names = [os.fsencode(it) for it in (arguments.before, arguments.after)]

@@ -10,7 +10,7 @@ import exifnorm
 from ..extract.formats.jpeg import START
 from ..extract.formats.jpeg_segments import read_head
 from ..extract.formats.streams import File, Parts
-from ..files.opening import opened
+from ..files.opening import Place, opened
 from ..model.budgets import Budget, TooMuch
 from ..model.results import Result
 
@@ -60,10 +60,15 @@ def head_of(picture: Parts) -> Optional[bytes]:
         return None
 
 
-def head_of_file(path: bytes) -> Optional[bytes]:
-    """The same of a file by its path; None if it can't be read."""
+def head_of_file(place: Place) -> Optional[bytes]:
+    """The same of a file; None if it can't be read."""
     try:
-        with closing(File(*opened(path), Budget())) as file:
+        with closing(File(*opened(place), Budget())) as file:
             return head_of(file)
     except OSError:
         return None
+
+
+def has_unread(*heads: Head) -> bool:
+    """Whether one of two heads has a place that may have a block, and that the proved comparisons don't read, as Exif under another mark."""
+    return any(head is not None and exifnorm.jpeg_unread(head) is not None for head in heads)

@@ -15,6 +15,7 @@ from ..fields.listing import MAKER_NOTE
 from ..fields.plain_names import group_name
 from ..fields.plain_values import POSITION_TAGS, position
 from ..fields.shown import LIMITS, Shown
+from ..files.opening import Held, held
 from ..files.session import Session
 from ..judge.sides import Fresh
 from ..model.found import EXIF, IPTC, KINDS, NAMES
@@ -28,7 +29,7 @@ from . import proved
 from .changed import Compared, compared
 from .differing import FieldDifference, exact_side
 from .pairs import Pair
-from .proved import Answers
+from .proved import Answers, head_of_file
 from .wording import plain_sides
 
 
@@ -78,17 +79,21 @@ class ComparedPair:
         )
 
 
-def read(name: bytes, how: How, session: Session) -> PictureRecord:
-    """Reads a picture as `index --pixels` does, always with the digest of its file, if it can be read."""
+def read(name: bytes, how: How, session: Session) -> Tuple[PictureRecord, Optional[bytes]]:
+    """Reads a picture as `index --pixels` does, always with the digest of its file, if it can be read; and the head of a JPEG, which is that of
+    the same file. A file that is written to meanwhile has no head."""
     path = os.path.abspath(name)
     stamp = Stamp.at(path)
     if stamp is None and not os.path.lexists(path):
-        return PictureRecord.of(path, b"", problem=Problem.NO_FILE, detail=Problem.NO_FILE.text)
-    picture = look(FoundFile(path, os.path.dirname(path), stamp), how, session, packs=False)
-    with contextlib.suppress(OSError):
-        if picture.sha256 is None:  # as of one for which ExifTool is needed
-            return picture._replace(sha256=digest_of_file(path, 1 << 62))
-    return picture
+        return PictureRecord.of(path, b"", problem=Problem.NO_FILE, detail=Problem.NO_FILE.text), None
+    with held(path) as place:
+        picture = look(FoundFile(path, os.path.dirname(path), stamp), how, session, packs=False, place=place)
+        with contextlib.suppress(OSError):
+            if picture.sha256 is None:  # as of one for which ExifTool is needed
+                picture = picture._replace(sha256=digest_of_file(place, 1 << 62))
+        head = head_of_file(place)
+        is_as_it_was = isinstance(place, Held) and Stamp.of(os.fstat(place.number)) == stamp
+    return picture, head if is_as_it_was else None
 
 
 def compare(
@@ -103,13 +108,19 @@ def compare(
 
 
 def _proved(comparison: Compared, heads: Heads) -> Answers:
-    """The answers of the library's proved comparisons, of which the result must not say otherwise."""
+    """The answers of the library's proved comparisons, of which the result must not say otherwise. Where only this package reads a block, the
+    two may be the same to it alone: then the proved ones have not read all."""
     answers = proved.answers(*heads)
-    for answer, names in ((answers.blocks, (EXIF, IPTC)), (answers.all, KINDS)):
-        results = [it.result for it in comparison.verdicts if it.kind in names]
-        if answer == Result.DIFFERENT and results and all(it in (Result.SAME, Result.ABSENT) for it in results):
-            raise AssertionError(f"{' or '.join(names)} of the two differ by the proved comparison, and are the same by the tested one")
-    return answers
+    return Answers(_confirmed(answers.blocks, comparison, (EXIF, IPTC), heads), _confirmed(answers.all, comparison, KINDS, heads))
+
+
+def _confirmed(answer: Optional[Result], comparison: Compared, names: Sequence[str], heads: Heads) -> Optional[Result]:
+    results = [it.result for it in comparison.verdicts if it.kind in names]
+    if answer != Result.DIFFERENT or not results or any(it not in (Result.SAME, Result.ABSENT) for it in results):
+        return answer
+    if proved.has_unread(*heads):
+        return Result.NOT_WHOLLY_READ
+    raise AssertionError(f"{' or '.join(names)} of the two differ by the proved comparison, and are the same by the tested one")
 
 
 # The rows of the table

@@ -35,11 +35,11 @@ class CodedPicture(NamedTuple):
     damage: str = ""  # what is damaged
 
 
-def of_file(path: bytes, budget: Budget) -> CodedPicture:
+def of_file(path: bytes, budget: Budget, place: Optional[opening.Place] = None) -> CodedPicture:
     """The digest of the coded picture of a file: none if its format has none here, if it is damaged, or if it goes over what is left of a
-    budget."""
+    budget. `place` is the file, if it is held."""
     try:
-        with contextlib.closing(File(*opening.opened(path), budget)) as file:
+        with contextlib.closing(File(*opening.opened(place or path), budget)) as file:
             return of_stream(file, budget, path)
     except OSError:
         return CodedPicture()

@@ -2,11 +2,12 @@
 
 from __future__ import annotations
 
+import contextlib
 import errno
 import io
 import os
 import stat
-from typing import TYPE_CHECKING, BinaryIO, Optional, Tuple, TypeVar, Union
+from typing import TYPE_CHECKING, BinaryIO, Iterator, NamedTuple, Optional, Tuple, TypeVar, Union
 
 if TYPE_CHECKING:
     from _typeshed import WriteableBuffer
@@ -16,8 +17,33 @@ Read = TypeVar("Read")
 IRREGULAR = "it is no regular file"
 
 
-def opened(path: Union[bytes, str]) -> Tuple[int, int]:
+class Held(NamedTuple):
+    """A file that is open, and that `opened` opens again whatever has its name meanwhile: so all that is read of it is of one file."""
+
+    number: int
+
+
+Place = Union[bytes, str, Held]
+
+
+@contextlib.contextmanager
+def held(path: bytes) -> Iterator[Place]:
+    """Holds a file open. One that can't be opened stays its path, of which `opened` raises why."""
+    try:
+        number, _ = opened(path)
+    except OSError:
+        yield path
+        return
+    try:
+        yield Held(number)
+    finally:
+        os.close(number)
+
+
+def opened(path: Place) -> Tuple[int, int]:
     """The number of a regular file that is open, and its length. A file that becomes a pipe isn't waited for. Raises `OSError`."""
+    if isinstance(path, Held):
+        return os.dup(path.number), os.fstat(path.number).st_size
     try:
         if not stat.S_ISREG(os.stat(path).st_mode):
             raise OSError(errno.EINVAL, IRREGULAR, path)
@@ -47,6 +73,6 @@ def _there(read: Optional[Read]) -> Read:
     return read
 
 
-def reading(path: Union[bytes, str]) -> BinaryIO:
+def reading(path: Place) -> BinaryIO:
     """A regular file as a stream. Raises `OSError`."""
     return io.BufferedReader(_Regular(opened(path)[0]))

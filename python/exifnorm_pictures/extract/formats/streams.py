@@ -171,7 +171,7 @@ def is_blank(stream: Stream, start: int, end: int) -> bool:
     return not any(it.strip(b"\0") for it in pieces(stream, start, end))
 
 
-def digest_of_file(path: bytes, most: int) -> str:
+def digest_of_file(path: opening.Place, most: int) -> str:
     """SHA-256 of a whole file; empty if it has more bytes than `most`, or more holes than `HOLES`."""
     with opening.reading(path) as file:
         size = os.fstat(file.fileno()).st_size
