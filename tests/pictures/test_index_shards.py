@@ -52,7 +52,7 @@ def test_each_folder_has_a_catalogue(archive, called_lines):
     status, lines, _ = called_lines("index", "p", "--shards", "shards")
     assert (status, lines[0]) == (0, "5 accepted")
     assert [name.split("-")[1] for name in names(archive)] == ["a", "b", "p"]
-    assert sorted(os.listdir(archive / "shards")) == sorted(["catalogues", *names(archive)])
+    assert sorted(os.listdir(archive / "shards")) == sorted([".lock", "catalogues", *names(archive)])
     assert called_lines("index", "p", "--catalogue", "all", "--quiet")[0] == 0
     assert rows(archive) == rows(archive, "all"), "with the same folder, by which rules and names are relative"
     for number, name in enumerate(names(archive)):
@@ -253,6 +253,18 @@ def test_killed_at_any_picture_nothing_is_lost(archive, called_lines, before):
     assert called_lines("index", "p", "--catalogue", "all", "--quiet")[0] == 0
     assert [row[:2] for row in rows(archive)] == [row[:2] for row in rows(archive, "all")]
     assert rows(archive) == rows(archive, "all")
+
+
+def test_runs_that_begin_at_once_list_the_catalogues_of_all(archive):
+    """As where each machine of several indexes its own folders, by GNU parallel."""
+    for number in range(8):
+        (archive / "p" / f"part{number}").mkdir()
+        (archive / "p" / f"part{number}" / "1.jpg").write_bytes(picture(number))
+    begin = [sys.executable, "-m", "exifnorm_pictures", "index", "--shards", "shards", "--quiet", "--jobs", "1"]
+    runs = [subprocess.Popen([*begin, f"p/part{number}"], cwd=archive, env=Studio.environment()) for number in range(8)]
+    assert [run.wait() for run in runs] == [0] * 8
+    listed = shards.listed(str(archive / "shards"))
+    assert len(listed) == 8 == len({name[:5] for name in listed}) and len(rows(archive)) == 8
 
 
 def test_two_processes_at_one_part_lose_nothing(archive):

@@ -6,6 +6,8 @@ they have numbers of pictures in common, or are more than SQLite attaches, they 
 
 from __future__ import annotations
 
+import contextlib
+import fcntl
 import itertools
 import os
 import tempfile
@@ -18,6 +20,7 @@ from .merge import merge
 from .store import LIST, LIST_HEAD, Catalogue, NoCatalogue, address, check_schema, connect, head_is_ours, list_of, unlike
 
 MOST = 10  # that SQLite attaches
+LOCK = ".lock"  # a file of a folder, for the time in which its list changes
 _TABLES = ("runs", "pictures", "blocks", "not_read", "maker_notes")
 
 
@@ -63,6 +66,17 @@ def shards_of(folder: str) -> Shards:
 def listed(folder: str) -> List[str]:
     """The names of the catalogues of a folder, relative to it."""
     return [os.fsdecode(line) for line in (list_of(folder) or b"").split(b"\n") if line]
+
+
+@contextlib.contextmanager
+def listing(folder: str) -> Iterator[None]:
+    """While no other run changes the list of a folder: of two that begin at once, one would list its own catalogues alone."""
+    lock = os.open(os.path.join(folder, LOCK), os.O_RDWR | os.O_CREAT | os.O_CLOEXEC | os.O_NOFOLLOW, 0o666)
+    try:
+        fcntl.lockf(lock, fcntl.LOCK_EX)  # which network shares have, too, as they have no flock of a folder
+        yield
+    finally:
+        os.close(lock)
 
 
 def put_list(folder: str, names: Sequence[str]) -> None:

@@ -73,7 +73,7 @@ def plan(where: str, names: Sequence[bytes], patterns: Sequence[str]) -> Plan:
     tops = list(outermost(names))
     listed = _check(where, tops)
     known = {_key_of(name): name for name in listed}
-    kept = {key: _kept(os.path.join(where, name)) for key, name in known.items() if os.path.exists(os.path.join(where, name))}
+    kept = {key: _kept(os.path.join(where, name)) for key, name in known.items() if _is_made(os.path.join(where, name))}
     roots = {one.part.top for one in kept.values() if one.part}
     excluded = Excluded(patterns)
     now = {_key(part): part for top in tops for part in _parts(top, excluded, known, roots)}
@@ -82,14 +82,22 @@ def plan(where: str, names: Sequence[bytes], patterns: Sequence[str]) -> Plan:
     for top in tops:
         if not os.path.isdir(top) and not any(top in shard.part for shard in gone):
             raise WrongFolder(f"there is no folder {shown_path(top)}")
-    first = max(map(_number_of, listed), default=-1) + 1
-    new = [_name(number, key, now[key]) for number, key in enumerate((key for key in now if key not in known), first)]
     os.makedirs(where, exist_ok=True)
-    if new:
-        shards.put_list(where, [*listed, *new])
-    present_shards = [Shard(name, now[_key_of(name)]) for name in (*listed, *new) if _key_of(name) in now]
+    if not now.keys() <= known.keys():
+        listed = _listed_with(where, now)
+    present_shards = [Shard(name, now[_key_of(name)]) for name in listed if _key_of(name) in now]
     has_sidecars, has_digests = (any(one[at] for one in kept.values()) for at in (1, 2))
     return Plan([*present_shards, *gone], has_sidecars, has_digests, not roots, excluded.count, frozenset(excluded.unused()))
+
+
+def _listed_with(where: str, parts: Dict[str, Part]) -> List[str]:
+    """All catalogues that are listed, to which those of some parts are added. Other runs may add theirs at the same time."""
+    with shards.listing(where):
+        listed = shards.listed(where)
+        known, first = set(map(_key_of, listed)), max(map(_number_of, listed), default=-1) + 1
+        listed += [_name(number, key, parts[key]) for number, key in enumerate((key for key in parts if key not in known), first)]
+        shards.put_list(where, listed)
+    return listed
 
 
 def _check(where: str, tops: Sequence[bytes]) -> List[str]:
@@ -103,7 +111,7 @@ def _check(where: str, tops: Sequence[bytes]) -> List[str]:
             raise WrongFolder(f"{shown} lies below {shown_path(top)}, which is indexed: give another folder to --shards")
     if not os.path.lexists(where):
         return []
-    if not os.path.isdir(where) or (os.listdir(where) and not shards.is_folder(where)):
+    if not os.path.isdir(where) or (not shards.is_folder(where) and any(not name.startswith(".") for name in os.listdir(where))):
         raise WrongFolder(f"{shown} is no folder of catalogues: give a new folder to --shards")
     listed = shards.listed(where)
     for name in listed:
@@ -156,6 +164,11 @@ def _key_of(name: str) -> str:
 
 def _number_of(name: str) -> int:
     return int(name.partition("-")[0])
+
+
+def _is_made(name: str) -> bool:
+    """Whether a catalogue is there. One that another run begins just now is empty."""
+    return os.path.exists(name) and os.path.getsize(name) > 0
 
 
 def _kept(name: str) -> _Kept:
