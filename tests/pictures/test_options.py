@@ -1,6 +1,5 @@
 """An option that a command accepts has an effect, or is refused."""
 
-import argparse
 import csv
 import importlib
 import io
@@ -16,6 +15,7 @@ from meanings import ASCII, BYTE, UNDEFINED
 from studio import TOP
 
 from exifnorm_pictures.cli import parser
+from exifnorm_pictures.cli.options import Options
 from exifnorm_pictures.files.session import Session
 from exifnorm_pictures.model import budgets
 from exifnorm_pictures.scan import batches
@@ -45,11 +45,11 @@ COMMANDS = {
 }
 
 
-class Recorded(argparse.Namespace):
-    """Arguments that record which of them were read."""
+class Recorded(Options):
+    """Arguments that record which of them were read, and so does each copy of them."""
 
-    def __init__(self):
-        self.read = set()
+    def __init__(self, **words):
+        super().__init__(**{"read": set(), **words})
 
     def __getattribute__(self, name):
         if not name.startswith("_") and name != "read":
@@ -73,10 +73,9 @@ def archive(folder, called):
 def test_each_option_is_looked_at(command, archive, capsys):
     """An option that no statement looks at would be accepted and have no effect. `main` itself looks at --debug, --limit and --xlsx."""
     words = (*COMMANDS[command], *(("--evidence", "sums") if command == "verify" else ()))  # by which --form is looked at
-    arguments = parser.parsers()[0].parse_args([command, *words], Recorded())
-    accepted = set(vars(arguments)) - {"read", "command", "version", "debug", "limit", "xlsx"}
-    arguments.session = Session()
-    arguments.read.clear()
+    given = vars(parser.parsers()[0].parse_args([command, *words]))
+    accepted = set(given) - {"command", "version", "debug", "limit", "xlsx"}
+    arguments = Recorded(**given, session=Session())
     importlib.import_module(f"exifnorm_pictures.cli.{command}").run(arguments)
     assert accepted <= arguments.read, "an option of this command is never looked at"
 

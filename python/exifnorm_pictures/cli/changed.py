@@ -28,11 +28,12 @@ from .choice import choice_of, listings_of, note_absent, refuse_unknown
 from .exit_codes import status_of_results
 from .looking import catalogue_of, files_of, is_of_pictures
 from .names import from_list, refuse_pictures, say_unknown
+from .options import Options
 from .output import print_line, print_lines, say_notes, table_of
 from .summary import lines
 
 
-def run(arguments: argparse.Namespace) -> int:
+def run(arguments: Options) -> int:
     """Prints the differences between two states."""
     _refuse_missing(arguments.before, arguments.after)
     refuse_pictures(arguments.before, arguments.after)
@@ -43,7 +44,7 @@ def run(arguments: argparse.Namespace) -> int:
     pictures: "Counter[Coded]" = Counter()  # by what is known of the coded ones
     notes = _Notes(arguments, pictures)
     with contextlib.ExitStack() as open_:
-        _go_on_with_sidecars(arguments)
+        arguments = _with_sidecars(arguments)
         before, after = (open_.enter_context(catalogue_of(it, arguments, True)) for it in (arguments.before, arguments.after))
         if before.has_digests() and after.has_digests():
             notes.pixels = ""
@@ -142,15 +143,16 @@ def _refuse_for_catalogues(arguments: argparse.Namespace) -> None:
         raise WrongUse(f"--{given[0]} is for folders: a catalogue has what index --{given[0]} read")
 
 
-def _go_on_with_sidecars(arguments: argparse.Namespace) -> None:
+def _with_sidecars(arguments: Options) -> Options:
     """A folder is read with XMP sidecars if the catalogue that it is compared with has them. Raises `WrongUse`."""
-    asked = arguments.sidecars
+    has_sidecars = False
     for name in (arguments.before, arguments.after):
         for file in files_of(name):
             with Catalogue(file) as catalogue:
-                if asked and not catalogue.has_sidecars() and not catalogue.is_empty():
+                if arguments.sidecars and not catalogue.has_sidecars() and not catalogue.is_empty():
                     raise WrongUse(f"{catalogue.name} was made without --sidecars: leave it out, or make a new catalogue")
-                arguments.sidecars = arguments.sidecars or catalogue.has_sidecars()
+                has_sidecars = has_sidecars or catalogue.has_sidecars()
+    return arguments.but(sidecars=arguments.sidecars or has_sidecars)
 
 
 def _parts_of(comparison: changes.Compared, exact: bool) -> List[object]:

@@ -16,6 +16,7 @@ from .exit_codes import DIFFERENCE, SUCCESS, UNKNOWN
 from .looking import Preparing, catalogue_for_questions, note_sidecars, refuse_for_catalogues
 from .names import is_catalogue
 from .objects import print_object
+from .options import Options
 from .output import print_line, print_lines, say_notes, table_of
 from .sources import settle
 
@@ -25,9 +26,10 @@ if TYPE_CHECKING:
 _LONGEST = 10_000_000  # bytes of rules, and of a file of words
 
 
-def run(arguments: argparse.Namespace) -> int:
+def run(arguments: Options) -> int:
     """Lists the pictures that break a rule."""
-    source = settle(arguments)
+    arguments = settle(arguments)
+    source = arguments.catalogue
     refuse_for_catalogues(arguments, source)
     if is_catalogue(arguments.rules):
         names = " ".join(escaped(shlex.quote(name)) for name in (source, arguments.rules))

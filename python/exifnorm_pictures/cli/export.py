@@ -21,15 +21,17 @@ from .exit_codes import SUCCESS
 from .looking import files_of, opened
 from .names import chosen_paths, say_unknown
 from .objects import print_object
+from .options import Options
 from .output import print_line
 from .sources import settle
 
 
-def run(arguments: argparse.Namespace) -> int:
+def run(arguments: Options) -> int:
     """Writes a catalogue as plain tables of SQLite."""
     _refuse_table(arguments.file)
     chosen = chosen_paths(arguments)
-    with opened(settle(arguments), arguments) as catalogue:
+    arguments = settle(arguments)
+    with opened(arguments.catalogue, arguments) as catalogue:
         file = os.path.join(arguments.session.room, "export")
         with tables(file) as written:
             _add_about(written, catalogue)

@@ -2,7 +2,6 @@
 
 from __future__ import annotations
 
-import argparse
 import os
 
 from ..catalogue.store import Catalogue
@@ -11,13 +10,15 @@ from .exit_codes import SUCCESS
 from .looking import files_of
 from .names import named
 from .objects import print_object
+from .options import Options
 from .output import print_line
 from .sources import settle_first
 
 
-def run(arguments: argparse.Namespace) -> int:
+def run(arguments: Options) -> int:
     """Removes folders and pictures from a catalogue; the files stay."""
-    name = settle_first(arguments)
+    arguments = settle_first(arguments)
+    name = arguments.catalogue
     names = named(arguments, arguments.folders)
     files = files_of(name) or [name]
     for file in files:

@@ -20,21 +20,23 @@ from . import objects
 from .exit_codes import SUCCESS, UNKNOWN
 from .looking import how_of, xmp_files_alone
 from .names import is_catalogue, named
+from .options import Options
 from .output import counted, kind_of_part, print_line, print_lines, record_lines, say_notes
 from .sources import settle_first
 
 
-def go_on_with_sidecars(arguments: argparse.Namespace, catalogue: Catalogue) -> None:
-    """Goes on with XMP sidecars in a catalogue that has them. Raises `WrongUse`."""
+def going_on(arguments: Options, catalogue: Catalogue) -> Options:
+    """Goes on with XMP sidecars, and with digests of coded pictures, in a catalogue that has them. Raises `WrongUse`."""
     if arguments.sidecars and not catalogue.has_sidecars() and not catalogue.is_empty():
         raise WrongUse(f"{catalogue.name} was made without --sidecars: make a new catalogue")
-    arguments.sidecars = arguments.sidecars or catalogue.has_sidecars()
+    # of the pictures that changed, too
+    return arguments.but(sidecars=arguments.sidecars or catalogue.has_sidecars(), pixels=arguments.pixels or catalogue.has_digests())
 
 
-def run(arguments: argparse.Namespace) -> int:
+def run(arguments: Options) -> int:
     """Looks at pictures and keeps the results."""
     if not arguments.shards:
-        settle_first(arguments)
+        arguments = settle_first(arguments)
     if arguments.shards or shards.is_folder(arguments.catalogue):
         from . import index_shards  # which few need
 
@@ -42,7 +44,7 @@ def run(arguments: argparse.Namespace) -> int:
     names, excluded = _names(arguments), Excluded(arguments.exclude)
     has_words = not arguments.json and not arguments.quiet
     with Catalogue(arguments.catalogue, make=True) as catalogue:
-        _prepare(arguments, catalogue)
+        arguments = _prepared(arguments, catalogue)
         options = _options(arguments, names, excluded)
         counts, unread = index(options, catalogue), lacking(options, catalogue)
         parts = _parts(catalogue) if has_words else []
@@ -67,14 +69,14 @@ def not_read_again(counts: "Counter[str]") -> Iterator[str]:
             yield f"{pictures_in_words(count)} unchanged, and not read again by {option}: index --again {option} reads all"
 
 
-def _prepare(arguments: argparse.Namespace, catalogue: Catalogue) -> None:
+def _prepared(arguments: Options, catalogue: Catalogue) -> Options:
     """Goes on with what a catalogue has. Raises `WrongUse`."""
     if arguments.keep_old:
         _keep_old(catalogue, arguments)
-    go_on_with_sidecars(arguments, catalogue)
+    arguments = going_on(arguments, catalogue)
     if arguments.sidecars and arguments.scheduler:
         raise WrongUse("XMP sidecars are read here only, not on the workers of a cluster: leave out --scheduler")
-    arguments.pixels = arguments.pixels or catalogue.has_digests()  # of the pictures that changed, too
+    return arguments
 
 
 def _keep_old(catalogue: Catalogue, arguments: argparse.Namespace) -> None:

@@ -15,12 +15,15 @@ from .exit_codes import SUCCESS, UNKNOWN
 from .index import not_read_again, printing_options, say_unused
 from .looking import how_of
 from .names import named
+from .options import Options
 from .output import counted, print_line, print_lines, record_lines, say_notes
 
 
-def run(arguments: argparse.Namespace) -> int:
+def run(arguments: Options) -> int:
     """Looks at the pictures of each part, and keeps the results in its catalogue."""
-    names = _settle(arguments)
+    if arguments.shards is None:
+        arguments = arguments.but(shards=arguments.catalogue)
+    names = named(arguments, [*([] if arguments.source is None else [arguments.source]), *arguments.folders])
     if arguments.keep_old:
         raise WrongUse(f"--keep-old copies one catalogue, and {escaped(arguments.shards)} is a folder of them: copy it before the run")
     if arguments.elsewhere:
@@ -37,25 +40,17 @@ def run(arguments: argparse.Namespace) -> int:
     return UNKNOWN if any(outcome.counts[it] for it in NOT_READABLE) else SUCCESS
 
 
-def _settle(arguments: argparse.Namespace) -> List[bytes]:
-    """The folders; `shards` is the folder of catalogues from then on."""
-    if arguments.shards is None:
-        arguments.shards = arguments.catalogue
-    return named(arguments, [*([] if arguments.source is None else [arguments.source]), *arguments.folders])
-
-
-def _go_on(arguments: argparse.Namespace, planned: Plan) -> None:
+def _going_on(arguments: Options, planned: Plan) -> Options:
     """All parts are looked at as those before. Raises `WrongUse`."""
     if arguments.sidecars and not planned.has_sidecars and not planned.is_empty:
         raise WrongUse(f"{arguments.shards} was made without --sidecars: give a new folder to --shards")
-    arguments.sidecars = arguments.sidecars or planned.has_sidecars
-    arguments.pixels = arguments.pixels or planned.has_digests
+    return arguments.but(sidecars=arguments.sidecars or planned.has_sidecars, pixels=arguments.pixels or planned.has_digests)
 
 
-def _here(arguments: argparse.Namespace, names: Sequence[bytes]) -> "tuple[Plan, List[Outcome]]":
+def _here(arguments: Options, names: Sequence[bytes]) -> "tuple[Plan, List[Outcome]]":
     """By this process, one part after another."""
     planned = plan(arguments.shards, names, arguments.exclude)
-    _go_on(arguments, planned)
+    arguments = _going_on(arguments, planned)
     options = printing_options(arguments, [])
     outcomes = []
     for shard in planned.shards:
@@ -64,13 +59,13 @@ def _here(arguments: argparse.Namespace, names: Sequence[bytes]) -> "tuple[Plan,
     return planned, outcomes
 
 
-def _on_cluster(arguments: argparse.Namespace, names: Sequence[bytes]) -> "tuple[Plan, List[Outcome]]":
+def _on_cluster(arguments: Options, names: Sequence[bytes]) -> "tuple[Plan, List[Outcome]]":
     """By the workers of a cluster, of which each has some parts. A line is printed for each that is done."""
     from ..scan.shard_tasks import Parts  # only this needs Dask
 
     parts = Parts(arguments.scheduler, arguments.shards, arguments.again, how_of(arguments, ""), arguments.exclude)
     planned = parts.planned(names)
-    _go_on(arguments, planned)
+    arguments = _going_on(arguments, planned)
     outcomes = []
     for shard, outcome in parts.outcomes(planned, how_of(arguments, "")):
         outcomes.append(outcome)

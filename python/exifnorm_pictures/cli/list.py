@@ -19,6 +19,7 @@ from . import listed_texts
 from .exit_codes import SUCCESS, UNKNOWN
 from .looking import Preparing, catalogue_for_questions, note_sidecars, refuse_for_catalogues
 from .objects import print_object
+from .options import Options
 from .output import print_line, print_lines, say_notes, table_of
 from .sources import settle
 
@@ -28,15 +29,16 @@ _WHAT_CHANGED = (
 )
 
 
-def run(arguments: argparse.Namespace) -> int:
+def run(arguments: Options) -> int:
     """Lists pictures by their texts."""
     question = _question(arguments)
     columns = _columns(arguments, question)
     counted = given_label(arguments.count) if arguments.count else None
     since = _since(arguments.since) if arguments.since else None
-    source = settle(arguments)
+    arguments = settle(arguments)
+    source = arguments.catalogue
     refuse_for_catalogues(arguments, source)
-    arguments.pixels = DAMAGE in (*(labels_of(question) if question else ()), *columns, counted)  # of a folder
+    arguments = arguments.but(pixels=DAMAGE in (*(labels_of(question) if question else ()), *columns, counted))  # of a folder
     with catalogue_for_questions(source, arguments) as catalogue, catalogue.reading(is_answer=True):
         note_sidecars(catalogue, source, arguments)
         shown = [*columns, *([] if counted is None else [counted])]

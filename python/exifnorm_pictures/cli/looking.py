@@ -45,7 +45,7 @@ def say_missing(known: shards.Shards, arguments: argparse.Namespace) -> None:
     """Says which catalogues of a folder an answer is without; the status is 2 at least then."""
     for note in known.notes():
         say_notes(note)
-        arguments.least_status = UNKNOWN
+        arguments.least.status = UNKNOWN
 
 
 def files_of(name: str) -> List[str]:

@@ -6,7 +6,6 @@ from . import search_path
 
 search_path.leave_out_current_folder()  # before other modules are imported
 
-import argparse
 import ctypes
 import gc
 import importlib
@@ -19,7 +18,8 @@ from ..files.session import Session
 from ..model import errors
 from ..model.budgets import OWN_PAGES, PROGRAM_SECONDS
 from ..model.texts import described, reason, shown_path
-from .exit_codes import FAILURE, STOPPED, SUCCESS, USAGE
+from .exit_codes import FAILURE, STOPPED, USAGE
+from .options import Least, Options
 from .parser import parsed
 
 COLLECTED = 50_000  # objects after which Python looks for rings of objects: what a picture needs makes none, so mostly it looks in vain
@@ -61,10 +61,10 @@ def _run(words: Optional[Sequence[str]]) -> int:
     """Runs a command in a session: its temporary files and programs end with it."""
     command, session, goes_on = "", Session(), False
     try:
-        arguments = parsed(words)
+        given, least = parsed(words), Least()
+        arguments = Options(**vars(given), session=session, sheet=None, least=least)
         session.debug = session.debug or arguments.debug
         session.seconds = getattr(arguments, "limit", PROGRAM_SECONDS)
-        arguments.session, arguments.sheet, arguments.least_status = session, None, SUCCESS
         # importing the modules of all commands would take longer than most commands do
         command = arguments.command
         goes_on = command in ("index", "nightly") or bool(getattr(arguments, "state", None))
@@ -73,7 +73,7 @@ def _run(words: Optional[Sequence[str]]) -> int:
         gc.set_threshold(COLLECTED)
         with session:
             status = _with_spreadsheet(module, arguments) if getattr(arguments, "xlsx", None) else int(module.run(arguments))
-            return max(status, arguments.least_status)
+            return max(status, least.status)
     except KeyboardInterrupt:
         more = "; the same command goes on from there" if goes_on else ""
         signals.say(f"exifnorm-pictures: stopped{more}")
@@ -84,13 +84,12 @@ def _run(words: Optional[Sequence[str]]) -> int:
         return _failed_by(error, session.debug)
 
 
-def _with_spreadsheet(module: ModuleType, arguments: argparse.Namespace) -> int:
+def _with_spreadsheet(module: ModuleType, arguments: Options) -> int:
     """Runs a command whose table goes to a file."""
     from . import sheets
 
-    arguments.csv = True
-    with sheets.written(arguments.xlsx, arguments.session) as arguments.sheet:
-        return int(module.run(arguments))
+    with sheets.written(arguments.xlsx, arguments.session) as sheet:
+        return int(module.run(arguments.but(csv=True, sheet=sheet)))
 
 
 def _failed_by(error: Exception, debug: bool) -> int:

@@ -22,11 +22,13 @@ from .names import chosen_paths, each_of_list, is_catalogue
 from .not_read import REMEDY
 from .objects import picture_object, print_object
 from .output import print_line, print_lines
+from .options import Options
 from .parser import refuse
 
 
-def run(arguments: argparse.Namespace) -> int:
+def run(arguments: Options) -> int:
     """Writes copies whose blocks are accepted; of several pictures also counts."""
+    arguments = _settled(arguments)
     worst, damaged = SUCCESS, 0
     counts: "Counter[str]" = Counter()
     folder = _folder(arguments)
@@ -75,12 +77,16 @@ def _mend_one(arguments: argparse.Namespace, picture: bytes, out: bytes, folder:
     return UNKNOWN if is_damaged else DIFFERENCE if mended.lost else SUCCESS, result, is_damaged
 
 
+def _settled(arguments: Options) -> Options:
+    """The options with a catalogue that is the first name as `catalogue`."""
+    if arguments.catalogue is None and arguments.picture is not None and is_catalogue(arguments.picture):
+        return arguments.but(catalogue=arguments.picture, picture=arguments.out, out=None)
+    return arguments
+
+
 def _folder(arguments: argparse.Namespace) -> Optional[bytes]:
-    """The folder of the copies, if there may be several; then `catalogue` is the one that is given, if one is. `picture` and `out` are the
-    names of one picture and its copy otherwise."""
+    """The folder of the copies, if there may be several. `picture` and `out` are the names of one picture and its copy otherwise."""
     names = [name for name in (arguments.picture, arguments.out) if name is not None]
-    if arguments.catalogue is None and names and is_catalogue(names[0]):
-        arguments.catalogue, *names = names
     if arguments.catalogue is None and not arguments.files_from:
         if len(names) != 2:
             refuse("mend", "give PICTURE and OUT, or CATALOGUE and OUT")

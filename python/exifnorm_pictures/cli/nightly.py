@@ -2,7 +2,6 @@
 
 from __future__ import annotations
 
-import argparse
 import contextlib
 import os
 import shlex
@@ -27,10 +26,11 @@ from ..scan.excluded import Excluded
 from ..scan.index import IndexOptions, index, lacking, number_of
 from .check import rules_of_file
 from .exit_codes import DIFFERENCE, SUCCESS, UNKNOWN
-from .index import go_on_with_sidecars, not_read_again, say_unused
+from .index import going_on, not_read_again, say_unused
 from .letter import command, letter
 from .looking import how_of
 from .objects import print_object
+from .options import Options
 from .output import local_time, print_lines, say_notes
 from .page_file import write_report
 from .sources import settle_first
@@ -41,7 +41,7 @@ Broken = Optional[Tuple[int, int]]  # how many pictures break a rule tonight, an
 class Night:
     """A run, and what it has found."""
 
-    def __init__(self, arguments: argparse.Namespace, nights: Nights, folders: List[bytes], rules: Sequence[Rule]) -> None:
+    def __init__(self, arguments: Options, nights: Nights, folders: List[bytes], rules: Sequence[Rule]) -> None:
         self.arguments, self.nights, self.folders, self.rules = arguments, nights, folders, rules
         self.is_first = nights.is_first
         self.excluded = Excluded(arguments.exclude)
@@ -64,14 +64,13 @@ class Night:
         """Fills tonight's catalogue."""
         session = self.arguments.session
         with Catalogue(self.nights.tonight, make=True) as tonight:
-            if self.nights.earlier:  # which went on with both
-                self.arguments.sidecars = self.arguments.sidecars or self.nights.earlier.sidecars
-                self.arguments.pixels = self.arguments.pixels or self.nights.earlier.pixels
-            go_on_with_sidecars(self.arguments, tonight)
-            self.arguments.pixels = self.arguments.pixels or tonight.has_digests()
+            arguments, earlier = self.arguments, self.nights.earlier
+            if earlier:  # which went on with both
+                arguments = arguments.but(sidecars=arguments.sidecars or earlier.sidecars, pixels=arguments.pixels or earlier.pixels)
+            arguments = going_on(arguments, tonight)
             quiet = not sys.stderr.isatty()
             own = [*self.nights.names, *[self.arguments.html] * bool(self.arguments.html)]
-            how = how_of(self.arguments, session.room)
+            how = how_of(arguments, session.room)
             options = IndexOptions(self.folders, quiet=quiet, how=how, excluded=self.excluded, lines=self._note, own=own)
             index(options, tonight)
             self.unread = lacking(options, tonight)
@@ -134,9 +133,10 @@ class Night:
             self.broken = (now.pictures_broken(), before.pictures_broken())
 
 
-def run(arguments: argparse.Namespace) -> int:
+def run(arguments: Options) -> int:
     """Looks at the folders, tells what is new, and keeps tonight's catalogue as the last one."""
-    name = settle_first(arguments)
+    arguments = settle_first(arguments)
+    name = arguments.catalogue
     if shards.is_folder(name):
         raise NoCatalogue(
             f"{name} is a folder of catalogues, and nightly keeps one catalogue. What is new of a folder of them: cp -r {shlex.quote(name)}"

@@ -2,7 +2,6 @@
 
 from __future__ import annotations
 
-import argparse
 import contextlib
 
 from ..report import contents, links
@@ -13,16 +12,17 @@ from .exit_codes import SUCCESS
 from .looking import files_of, opened
 from .names import chosen_paths, say_unknown
 from .objects import print_object
+from .options import Options
 from .page_file import write_report
 from .parser import refuse
 from .sources import settle
 
 
-def run(arguments: argparse.Namespace) -> int:
+def run(arguments: Options) -> int:
     """Writes a page or a folder of pages about a catalogue, or the same as JSON."""
     if not arguments.html and not arguments.json:
         refuse("report", "give --html PAGE, --json, or both")
-    name = settle(arguments)
+    name = settle(arguments).catalogue
     if arguments.html:
         check()
     address = links.check(arguments.link_to) if arguments.link_to else ""

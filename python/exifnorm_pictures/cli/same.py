@@ -29,6 +29,7 @@ from .exit_codes import UNKNOWN, status_of_results
 from .looking import Preparing, keep_texts, opened
 from .names import chosen_paths, say_unknown
 from .objects import line_of, print_object
+from .options import Options
 from .output import print_line, print_lines, say_notes, table_of
 from .parser import FILE, PIXELS
 from .sources import settle
@@ -116,9 +117,9 @@ class _Texts:
             yield "Where a text is not known, the picture was not wholly read"
 
 
-def run(arguments: argparse.Namespace) -> int:
+def run(arguments: Options) -> int:
     """Lists the groups of pictures with the same metadata."""
-    settle(arguments)
+    arguments = settle(arguments)
     kinds = KINDS if arguments.kind in ("all", PIXELS, FILE) else (arguments.kind,)
     chosen = chosen_paths(arguments)
     if arguments.columns or arguments.differ:

@@ -52,7 +52,7 @@ class _Shown(Shown):
         """The fields of a block, or the first ones. If some are left out, the status says so."""
         first = self._first(block)
         if self.has_more:
-            self._arguments.least_status = UNKNOWN
+            self._arguments.least.status = UNKNOWN
         return first
 
     def _first(self, block: Block) -> List[Field]:

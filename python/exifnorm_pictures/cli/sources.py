@@ -2,7 +2,6 @@
 
 from __future__ import annotations
 
-import argparse
 import os
 import shlex
 from typing import List, Sequence
@@ -10,6 +9,7 @@ from typing import List, Sequence
 from ..model.errors import WrongUse
 from ..model.texts import escaped
 from .names import is_catalogue
+from .options import Options
 from .parser import refuse
 
 # How each command with one catalogue and no further names but one is written
@@ -24,27 +24,26 @@ _LINES = {
 _MAKERS = ("index", "nightly")  # which make the catalogue of --catalogue, if it is missing
 
 
-def settle(arguments: argparse.Namespace) -> str:
-    """The catalogue, which is given once; it is `catalogue` from then on."""
+def settle(arguments: Options) -> Options:
+    """The options with the catalogue, which is given once, as `catalogue`."""
     given = [name for name in (arguments.source, arguments.catalogue) if name is not None]
     if len(given) != 1:
         refuse(arguments.command, f"give one catalogue: exifnorm-pictures {_LINES[arguments.command]}")
-    arguments.catalogue, arguments.source = given[0], None
-    return str(given[0])
+    return arguments.but(catalogue=given[0], source=None)
 
 
-def settle_first(arguments: argparse.Namespace) -> str:
-    """The catalogue of --catalogue, or the first name; `folders` are the other names from then on. Raises `WrongUse`: a name alone is never
-    taken for a new catalogue, because it may be that of a folder which isn't mounted."""
+def settle_first(arguments: Options) -> Options:
+    """The options with the catalogue of --catalogue, or the first name, as `catalogue`, and the other names as `folders`. Raises `WrongUse`: a
+    name alone is never taken for a new catalogue, because it may be that of a folder which isn't mounted."""
     names: List[str] = [*([] if arguments.source is None else [arguments.source]), *arguments.folders]
-    if arguments.catalogue is None:
+    catalogue = arguments.catalogue
+    if catalogue is None:
         if not names:
             refuse(arguments.command, f"give a catalogue: exifnorm-pictures {_line(arguments.command, names)}")
         if not is_catalogue(names[0]):
             raise WrongUse(_why(names[0]) + f". Write: exifnorm-pictures {_line(arguments.command, names)}")
-        arguments.catalogue, *names = names
-    arguments.source, arguments.folders = None, names
-    return str(arguments.catalogue)
+        catalogue, *names = names
+    return arguments.but(catalogue=catalogue, source=None, folders=names)
 
 
 def _why(name: str) -> str:

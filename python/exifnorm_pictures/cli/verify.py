@@ -24,6 +24,7 @@ from .exit_codes import DIFFERENCE, SUCCESS, UNKNOWN
 from .looking import opened
 from .names import named
 from .objects import print_object
+from .options import Options
 from .output import closed_folder, print_line, print_lines
 from .sources import settle_first
 
@@ -39,9 +40,9 @@ LISTS = {
 }
 
 
-def run(arguments: argparse.Namespace) -> int:
+def run(arguments: Options) -> int:
     """Compares the files that are there with a catalogue."""
-    _settle(arguments)
+    arguments = _settle(arguments)
     if arguments.evidence and os.path.lexists(arguments.evidence):
         raise atomic.NotReplaced(atomic.not_written(escaped(arguments.evidence), "it is there already"))
     told = Told(arguments)
@@ -80,12 +81,11 @@ def run(arguments: argparse.Namespace) -> int:
     return DIFFERENCE if is_more or any(it.is_good is False for it in counts) else SUCCESS
 
 
-def _settle(arguments: argparse.Namespace) -> None:
-    """Makes `catalogue` the one that is given, unless a bag is."""
+def _settle(arguments: Options) -> Options:
+    """The options with the catalogue that is given as `catalogue`, unless a bag is."""
     if arguments.bag is None:
-        settle_first(arguments)
-    else:
-        arguments.folders = [*([] if arguments.source is None else [arguments.source]), *arguments.folders]
+        return settle_first(arguments)
+    return arguments.but(folders=[*([] if arguments.source is None else [arguments.source]), *arguments.folders])
 
 
 def _folders(names: Sequence[bytes], catalogue: Catalogue) -> List[bytes]:
