@@ -7,6 +7,7 @@ import json
 import os
 import re
 import sqlite3
+import struct
 import zlib
 
 import hypothesis
@@ -591,3 +592,20 @@ def test_maker_notes_without_exiftool(command, folder, called, monkeypatch):
     assert "installed" not in called(*command.split(), "--maker-notes")[2]
     with sqlite3.connect("c") as base:
         assert base.execute(query).fetchall() == [(2, 2, 0, 2)]
+
+
+@needs("exiftool")
+@pytest.mark.parametrize("owner, result", [(b"Annette", "only equal numbers are written otherwise"), (b"Bernard", "different")])
+def test_equal_numbers_are_not_all_if_a_maker_note_reads_otherwise(owner, result, folder, called_lines):
+    """The MakerNote has the same bytes, and leads to others behind it."""
+
+    def picture(numbers, owner):
+        note = table([entry(0x0009, ASCII, 8, 100)])
+        entries = [entry(0x010F, ASCII, 6, 68), entry(0x011A, 5, 1, 74), entry(0x8769, LONG, 1, 50)]
+        octets = block(entries) + table([entry(0x927C, UNDEFINED, len(note), 82)]) + b"Canon\0" + numbers + note + owner + b"\0"
+        return jpeg(app1(octets))
+
+    for name, octets in (("a", picture(struct.pack(">2I", 72, 1), b"Annette")), ("b", picture(struct.pack(">2I", 144, 2), owner))):
+        (folder / name).mkdir()
+        (folder / name / "p.jpg").write_bytes(octets)
+    assert called_lines("changed", "a", "b", "--each")[1][-2] == f"1 {result}"

@@ -103,7 +103,7 @@ def _read_otherwise(before: Noted, notes: _Notes, values: "List[maker_notes.Note
     change = (notes.lines[0] if notes.lines else FieldDifference(*MAKER_NOTE, (), ()))._replace(note=note)
     at = before.changes.index(notes.lines[0]) if notes.lines else len(before.changes)
     changes = [*before.changes[:at], change, *before.changes[at + bool(notes.lines) :]]
-    is_known = before.judged.is_different
+    is_known = before.judged.is_different and before.result != Result.ONLY_NUMBERS
     judged = before.judged.turned({EXIF: _READS_OTHERWISE})
     return Noted(judged, before.result if is_known else Result.DIFFERENT, changes, f"MakerNote {note} (ExifTool)", values)
 
