@@ -164,7 +164,7 @@ class Comparison(NamedTuple):
     - `result`: the result as `changed` prints it
     - `note`: a sentence about each kind of block
     - `differences`: the fields that differ
-    - `picture`: whether the data are equal from which the pixels are decoded: "the same", "the same but for colour profiles or comments",
+    - `picture`: whether the data are equal from which the pixels are decoded: "the same", "the same but for other parts",
       "other", "damaged", "damaged before" or "damaged before and after"; "not compared" if there is no reader for these data, the formats
       differ, or a file is gone
     - `proved`: the proved answer of `exifnorm.jpeg_same_blocks` for the Exif and IPTC in the heads of two JPEGs: "same", "different", or "not wholly

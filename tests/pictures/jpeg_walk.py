@@ -11,6 +11,7 @@ from exifnorm_pictures.model.found import EXIF, IPTC, XMP, Blocks, FoundBlock, o
 TIFF = (b"II*\0", b"MM\0*")
 OLD_HEAD = b"Adobe_Photoshop2.5:"
 EXIF_LIKE = re.compile(rb".{0,4}?Exif\0.", re.I | re.S)
+XMP_LIKE = re.compile(rb"(?:http|XMP\0).{0,60}?(<(?:\?xpacket|x:xmpmeta|rdf:RDF)\b.*)", re.S)
 META = (b"Meta\0\0", b"META\0\0", b"Exif\0\0")
 NOT_COMPARED = ((0, b"JFIF\0"), (0, b"JFXX\0"), (2, b"ICC_PROFILE\0"), (11, b"JP"), (13, b"Adobe_CM"), (14, b"Adobe"))
 RESOURCES = {0x0404: IPTC, 0x0422: EXIF, 0x0424: XMP}
@@ -70,6 +71,8 @@ class Walk:
             self.piece(place, data)
         elif like := EXIF_LIKE.match(data):
             self.exif.append((place, [data[like.end() :]]))
+        elif like := XMP_LIKE.match(data):
+            self.blocks.add(XMP, data[like.start(1) :], place, self.part)
         else:
             self.leave("APP1 segment of an unknown kind", data)
         return None
@@ -118,6 +121,8 @@ class Walk:
             found, rest = resources(data)
             for number, inside in found:
                 place = f"Photoshop resource {number:04x} in the {where}"
+                if number == 0x0404 and not inside:
+                    continue
                 if number in RESOURCES:
                     bare = inside[6:] if number == 0x0422 and inside.startswith(SIX) else inside
                     self.blocks.add(RESOURCES[number], bare, place, self.part)

@@ -411,6 +411,6 @@ def test_values_that_look_alike(folder, called):
     (row,) = json.loads(called("compare", "a.jpg", "b.jpg", "--json")[1])["fields"]
     assert (row["before"]["value"], row["after"]["value"]) == ("Z\u00fcrich", "Zu\u0308rich")
     status, printed, _ = called("compare", "a.jpg", "c.jpg")
-    assert status == 0 and printed.endswith("Their colour profiles or comments differ.\n")
-    assert json.loads(called("compare", "a.jpg", "c.jpg", "--json")[1])["coded_picture"] == "the same but for colour profiles or comments"
-    assert "comments differ" not in called("compare", "b.jpg", "c.jpg")[1]
+    assert status == 0 and printed.endswith("Other parts of the files differ: comment removed.\n")
+    assert json.loads(called("compare", "a.jpg", "c.jpg", "--json")[1])["coded_picture"] == "the same but for other parts"
+    assert "parts of the files" not in called("compare", "b.jpg", "c.jpg")[1]

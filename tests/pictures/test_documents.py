@@ -37,7 +37,7 @@ class Documents(WithPictures):
         from exifnorm_pictures.extract.formats.jpeg_segments import NOT_COMPARED
 
         page = read(os.path.join(TOP, "docs", "RECIPES.md")).decode()
-        self.assertIn(f"these segments of a JPEG: {', '.join(words for _, _, words in NOT_COMPARED)}.\n", page)
+        self.assertIn(f"these segments of a JPEG: {', '.join(words for *_, words in NOT_COMPARED)}.\n", page)
 
     def test_the_formats(self):
         """The page has the tables of the readers."""

@@ -18,12 +18,13 @@ PROFILE = jpeg(app1(A), segment(0xE2, b"ICC_PROFILE\0\1\1a profile"))
 COMMENT = jpeg(app1(A), segment(0xFE, b"scanned by Anna"))
 PNG_A, PNG_B = png(chunk(b"eXIf", A)), png(chunk(b"eXIf", A), chunk(b"tEXt", b"Comment\0by Anna"))
 PNG_C, PNG_D = png(chunk(b"eXIf", A), chunk(b"iCCP", b"x\0\0abc")), png(chunk(b"eXIf", A), chunk(b"tIME", b"1234567"))
+PNG_PARTS = "colour profile added, tEXt chunk Comment removed", "tEXt chunk Comment removed, tIME chunk added"
 NOT_KNOWN = "whether its picture is that of another one isn't known: index --pixels finds out"
 NO_STRIP = tiff(page((0x010F, ASCII, b"abc\0"), (0x0117, LONG, bytes(8))))  # two lengths of one strip
 NO_LENGTHS = "damaged: the strips of the directory at 16 have no lengths"
 DAMAGED = "damaged: the file ends before the end mark of its picture"
 ALONE = "no other one has the same picture"
-BESIDE = "one with the same picture has another colour profile or comment"
+OTHER_PARTS = "other parts than one with the same picture: {}"
 
 # Files by name, and whether each stays, without the digests of pictures and with them
 CASES = {
@@ -32,10 +33,15 @@ CASES = {
     "equal files": ({"a": MASTER, "b": MASTER}, (True, False), (True, False)),
     "equal files and a smaller one": ({"a": SMALLER, "b": MASTER, "c": MASTER}, (NOT_KNOWN, True, False), (ALONE, True, False)),
     "written again": ({"a": MASTER, "b": AGAIN}, (NOT_KNOWN, NOT_KNOWN), (True, False)),
-    "a copy without the colour profile": ({"a": MASTER, "m": PROFILE}, (NOT_KNOWN, NOT_KNOWN), (BESIDE, BESIDE)),
-    "two with the colour profile": ({"a": MASTER, "m": PROFILE, "n": PROFILE}, (NOT_KNOWN, True, False), (BESIDE, True, False)),
-    "a comment": ({"a": MASTER, "b": COMMENT, "c": MASTER}, (True, NOT_KNOWN, False), (True, BESIDE, False)),
-    "PNG": ({"a": PNG_A, "b": PNG_B, "c": PNG_C, "d": PNG_D}, (NOT_KNOWN,) * 4, (True, BESIDE, BESIDE, False)),
+    "a copy without the colour profile": ({"a": MASTER, "m": PROFILE}, (NOT_KNOWN, NOT_KNOWN), (False, True)),
+    "two with the colour profile": ({"a": MASTER, "m": PROFILE, "n": PROFILE}, (NOT_KNOWN, True, False), (False, True, False)),
+    "a comment": ({"a": MASTER, "b": COMMENT, "c": MASTER}, (True, NOT_KNOWN, False), (False, True, False)),
+    "a comment and a profile": (
+        {"a": COMMENT, "b": PROFILE},
+        (NOT_KNOWN, NOT_KNOWN),
+        (OTHER_PARTS.format("colour profile removed, comment added"), OTHER_PARTS.format("colour profile added, comment removed")),
+    ),
+    "PNG": ({"a": PNG_A, "b": PNG_B, "c": PNG_C, "d": PNG_D}, (NOT_KNOWN,) * 4, (False, True, *map(OTHER_PARTS.format, PNG_PARTS))),
     "all cut alike": ({"a": CUT, "b": CUT}, (DAMAGED, DAMAGED), (DAMAGED, DAMAGED)),
     "equal files without a picture": ({"a": NO_STRIP, "b": NO_STRIP}, (NO_LENGTHS, NO_LENGTHS), (NO_LENGTHS, NO_LENGTHS)),
     "two pictures twice": ({"a": MASTER, "b": SMALLER, "c": AGAIN, "d": SMALLER}, None, (True, True, False, False)),

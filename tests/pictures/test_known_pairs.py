@@ -63,6 +63,8 @@ def test_each_pair(folder, called, checks):
     assert status == 2 and found.keys() == pairs.keys()  # of a picture that is cut, and not edited otherwise, no difference is known
     for name, (metadata, edit) in pairs.items():
         one, is_edited, expected = found[name], METADATA[metadata][1], PICTURE[edit]
+        if (metadata, edit) == ("all removed", "nothing"):
+            expected = "the same but for other parts"  # ExifTool removes JFIF, too
         differs = "different" in one["kinds"].values()
         checks.equal(f"{metadata}, {edit}: metadata", differs, is_edited)
         checks.equal(f"{metadata}, {edit}: picture", one["coded_picture"], expected)

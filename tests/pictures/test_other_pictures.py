@@ -66,7 +66,7 @@ def test_a_picture_that_lost_its_profile_or_comment(folder, called, part):
     """Its pixels may look otherwise, so it is never only counted as the same."""
     put(folder / "a", {"x.jpg": MASTER[:2] + part + MASTER[2:], "y.jpg": MASTER})
     put(folder / "b", {"x.jpg": MASTER, "y.jpg": MASTER})
-    expected = {"the same": 1, "the same but for colour profiles or comments": 1}
+    expected = {"the same": 1, "the same but for other parts": 1}
     printed = called("changed", "a", "b", "--pixels")[1]
     assert f"The coded pictures: {', '.join(f'{count} {it}' for it, count in expected.items())}." in printed
     *pictures, summary = map(json.loads, called("changed", "a", "b", "--pixels", "--all", "--json")[1].splitlines())
@@ -76,15 +76,15 @@ def test_a_picture_that_lost_its_profile_or_comment(folder, called, part):
         assert "x.jpg" in printed and "y.jpg" not in printed, words
 
 
-@pytest.mark.parametrize("part", PARTS, ids=["profile", "comment"])
-def test_a_night_on_which_a_picture_lost_its_profile_or_comment(folder, called, part):
+@pytest.mark.parametrize("name, part", zip(("colour profile", "comment"), PARTS))
+def test_a_night_on_which_a_picture_lost_its_profile_or_comment(folder, called, name, part):
     """It is news, once; the bytes of the metadata alone aren't."""
     night = ("nightly", "a", "--catalogue", "n", "--pixels")
     put(folder / "a", {"x.jpg": MASTER[:2] + part + MASTER[2:], "y.jpg": MASTER})
     called(*night)
     put(folder / "a", {"x.jpg": MASTER, "y.jpg": MASTER})
     status, printed, _ = called(*night)
-    assert status == 1 and "colour profile or comment" in printed and "x.jpg" in printed and "y.jpg" not in printed, printed
+    assert status == 1 and f"with {name} removed" in printed and "x.jpg" in printed and "y.jpg" not in printed, printed
     assert called(*night)[:2] == (0, "")
 
 

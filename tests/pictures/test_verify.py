@@ -11,6 +11,7 @@ import sys
 
 import pytest
 from bag_reader import faults_of_bag
+from made_blocks import segment
 from made_files import A, B, app1, jpeg, title
 from made_more_files import gif
 from studio import SMALL_JPEG, Studio, needs, put, run, tool
@@ -65,6 +66,7 @@ HAPPENS = {
     "captioned": (lambda it: written(it, CAPTIONED), ("captioned", None), 0),
     "captioned, with its time": (lambda it: written(it, CAPTIONED, True), ("captioned", None), 0),
     "written again": (lambda it: written(it, jpeg(app1(A + b"\0\0"))), ("written again", None), 0),
+    "with a comment": (lambda it: written(it, jpeg(app1(A), segment(0xFE, b"by Anna"))), ("other parts", "comment added"), 1),
     "replaced": (lambda it: written(it, OTHER), ("other picture", None), 1),
     "rotted": (lambda it: written(it, OTHER, True), ("DAMAGED", SAME_TIME), 1),
     "cut": (lambda it: written(it, PICTURE[:-20]), ("cut off", "the file ends before the end mark of its picture"), 1),
@@ -78,7 +80,7 @@ HAPPENS = {
 LISTS = {
     "damaged": {"DAMAGED", "cut off"},
     "missing": {"missing"},
-    "other": {"other picture", "other file"},
+    "other": {"other picture", "other file", "other parts"},
     "captioned": {"captioned", "written again"},
     "moved": {"moved"},
     "unknown": {"can't be read", "without a digest"},

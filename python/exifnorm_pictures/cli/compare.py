@@ -111,6 +111,7 @@ def _lines(comparison: ComparedPair, rows: Sequence[FieldRow], names: Sequence[b
         return
     # `_of_pictures` says the rest of a damaged file
     note = comparison.compared.note.removeprefix(f"{coded_result(*comparison.records)[1]}; ")
+    note = note.removesuffix(f"; {', '.join(comparison.compared.parts)}")
     yield f"{note[:1].upper()}{note[1:]}. {_of_pictures(comparison, names)}".rstrip()
     if any(not it.is_accepted for record in comparison.records for it in record.blocks):
         yield "More about a block that isn't accepted: exifnorm-pictures explain PICTURE"
@@ -146,7 +147,8 @@ def _of_pictures(comparison: ComparedPair, names: Sequence[bytes]) -> str:
     if comparison.compared.picture == Coded.UNKNOWN and len(types) > 1:
         return "Only metadata was compared: the pictures are in two formats."
     damages = [f"{shown_path(name)} is damaged: {it.damage}." for name, it in zip(names, comparison.records) if it.damage]
-    return " ".join(damages) or comparison.compared.picture.sentence
+    parts = f": {', '.join(comparison.compared.parts)}." if comparison.compared.picture == Coded.BESIDE else ""
+    return " ".join(damages) or f"{comparison.compared.picture.sentence}{parts}"
 
 
 def _heads(names: Sequence[bytes]) -> List[str]:

@@ -19,7 +19,7 @@ _WORDS = {
     Kind.DAMAGED: ("is damaged", "are damaged"),
     Kind.RULE: ("breaks {}", "break {}"),
     Kind.OTHER_PICTURE: ("has another picture", "have another picture"),
-    Kind.PROFILE: ("has another colour profile or comment, or none", "have another colour profile or comment, or none"),
+    Kind.PARTS: ("with {}", "with {}"),
     Kind.UNREADABLE: ("can't be read", "can't be read"),
     Kind.OPEN: ("can't be fully compared", "can't be fully compared"),
     Kind.UNREAD: ("was not wholly read, and may break a rule", "were not wholly read, and may break a rule"),

@@ -277,7 +277,9 @@ def _print_lines(group: Group, number: int, keeps: Keeps, texts: _Texts) -> None
     for link in group.files.links:
         links.setdefault(link.of, []).append(link)
     reasons = set(group.reasons.values())
-    has_same_pictures = sum(one.keep is False for one in keeps.values()) == group.count - 1 > 0
+    has_same_pictures = (
+        sum(one.keep is False for one in keeps.values()) == group.count - 1 > 0 and len({it.beside for it in group.members}) == 1
+    )
     are_no_pictures = bool(keeps) and all(one.why == NO_PICTURE for one in keeps.values())
     about = {} if has_same_pictures or are_no_pictures or all(one.why in (NOT_KNOWN, KEEP_ALL) for one in keeps.values()) else keeps
     for picture in group.members:

@@ -33,7 +33,7 @@ SHOWN = 10  # files that are named of each state
 LISTS = {
     "damaged": (State.ROTTED, State.CUT),  # besides files that were damaged before
     "missing": (State.MISSING,),
-    "other": (State.OTHER, State.OTHER_FILE, State.NOT_LISTED_SO),
+    "other": (State.OTHER, State.OTHER_FILE, State.NOT_LISTED_SO, State.PARTS),
     "captioned": (State.CAPTIONED, State.AGAIN),
     "moved": (State.MOVED,),
     "unknown": (State.UNREADABLE, State.NO_DIGEST),

@@ -20,6 +20,7 @@ from ..model.found import EXIF, NAMES, OWN, PROGRAMS, XMP_FILE, lost_kinds
 from ..model.problems import Problem
 from ..model.records import BlockRecord, PictureRecord, is_same_file
 from ..model.results import Result
+from ..model.rest import changes as changes_of_rest
 from ..model.sides import REACHED, Status
 from ..model.steps import Step
 from ..model.verdicts import Judged, Verdict, left_open, verdicts
@@ -46,6 +47,7 @@ class Compared(NamedTuple):
     repairs: Sequence[Tuple[str, Tuple[Step, ...], Tuple[Step, ...]]] = ()  # of each block, before and after
     left_out: Sequence[str] = ()  # fields and kinds that differ and don't count
     picture: Coded = Coded.UNKNOWN  # what is known of the coded picture
+    parts: Sequence[str] = ()  # what has come, gone or changed of the rest of the file
     is_unseen: bool = False  # whether its file has other bytes and the same metadata, and its picture can't be compared
     damage: Tuple[str, str] = ("", "")  # of the file before and after
     has_more: bool = False  # whether further fields weren't compared, of pages that share blocks of many fields
@@ -85,13 +87,19 @@ def compared(pair: Pair, sides: Sides, session: Optional[Session], choice: Choic
     """Compares one picture before and after. Its coded picture counts, unless only some fields do; that a file is damaged is always said."""
     comparison = _by_metadata(pair, sides, session, choice)
     coded, damage = result_of_coded(pair.old, pair.new)
-    comparison = comparison._replace(picture=coded, damage=(pair.old.damage if pair.old else "", pair.new.damage if pair.new else ""))
+    damaged = (pair.old.damage if pair.old else "", pair.new.damage if pair.new else "")
+    comparison = comparison._replace(picture=coded, parts=_other_parts(pair, coded), damage=damaged)
     if pair.place is not None or (choice.only and not coded.is_damaged):
         return comparison
-    result, clause = (comparison.result, "") if choice.only else result_with(coded, comparison.result)
+    result, clause = (comparison.result, "") if choice.only else result_with(coded, comparison.result, comparison.parts)
     is_unseen = coded == Coded.UNKNOWN and result == Result.SAME and _have_other_bytes(pair)
     unseen = "the file has other bytes, and its picture isn't read here" if is_unseen else ""
     return comparison._replace(result=result, note=_joined(damage, comparison.note, clause, unseen), is_unseen=is_unseen)
+
+
+def _other_parts(pair: Pair, coded: Coded) -> List[str]:
+    """What has come, gone or changed of the rest of the files, if both were read."""
+    return changes_of_rest(pair.old.beside, pair.new.beside) if coded in (Coded.BESIDE, Coded.OTHER) and pair.old and pair.new else []
 
 
 def _joined(*clauses: str) -> str:

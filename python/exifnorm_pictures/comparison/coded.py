@@ -3,7 +3,7 @@
 from __future__ import annotations
 
 from collections import Counter
-from typing import Optional, Tuple
+from typing import Optional, Sequence, Tuple
 
 from ..model.found import CUT
 from ..model.records import PictureRecord
@@ -22,7 +22,7 @@ class Coded(Word):
         return self in (Coded.DAMAGED, Coded.DAMAGED_BEFORE, Coded.DAMAGED_BOTH)
 
     SAME = ("the same", "The pictures are the same: the data from which their pixels are decoded are equal.")
-    BESIDE = ("the same but for colour profiles or comments", f"{SAME[1]} Their colour profiles or comments differ.")
+    BESIDE = ("the same but for other parts", f"{SAME[1]} Other parts of the files differ")  # which `compare` names
     OTHER = (
         "other",
         "The pictures differ in the data from which their pixels are decoded: one may be edited, smaller, or only saved again.",
@@ -76,14 +76,14 @@ _RESULTS = {
     Coded.DAMAGED_BEFORE: (Result.DAMAGED_DIFFERENT, Result.DAMAGED_BEFORE, Result.DAMAGED_BEFORE),
     Coded.OTHER: (None, Result.OTHER_PICTURE_ALONE, Result.OTHER_PICTURE),
 }
-# What they add to the note, if the result says nothing of them
-_CLAUSES = {Coded.OTHER: "the picture differs, too", Coded.BESIDE: "a colour profile or a comment differs or is missing"}
 
 
-def result_with(coded: Coded, result: Result) -> Tuple[Result, str]:
-    """The result of the metadata and the coded pictures together, and what isn't in its word."""
+def result_with(coded: Coded, result: Result, parts: Sequence[str]) -> Tuple[Result, str]:
+    """The result of the metadata and the coded pictures together, and what isn't in its word, as the other `parts` that differ."""
     by_metadata = _RESULTS.get(coded, (None,) * 3)[0 if result.has_changed else 1 if result.is_equal else 2]
-    return (by_metadata, "") if by_metadata else (result, _CLAUSES.get(coded, ""))
+    if by_metadata:
+        return by_metadata, ""
+    return result, {Coded.OTHER: "the picture differs, too", Coded.BESIDE: ", ".join(parts)}.get(coded, "")
 
 
 def sentence_of_coded(counts: "Counter[Coded]", pixels: str = "index --pixels") -> str:

@@ -1,6 +1,6 @@
 """Which picture of a group may stay alone. The metadata of its pictures mean the same, and the pictures themselves may differ: one may be
 smaller, cropped, or cut off. So one stands for another only if both are whole and known to be equal, by the digests of `index --pixels` or by
-all bytes of their files, which are read then. A file that is no picture stands for no other: equal ones may belong to two pictures."""
+all bytes of their files, which are read then; and if its file has each other part of the other one's, byte for byte. A file that is no picture stands for no other: equal ones may belong to two pictures."""
 
 from __future__ import annotations
 
@@ -8,6 +8,7 @@ import contextlib
 from collections import Counter
 from typing import Dict, List, NamedTuple, Optional, Sequence, Tuple
 
+from ..model import rest
 from ..model.found import XMP_FILE
 from ..model.problems import Problem
 from ..model.records import PictureRecord
@@ -16,11 +17,12 @@ from .group import Group
 
 NOT_KNOWN = "whether its picture is that of another one isn't known: index --pixels finds out"
 OTHER = "no other one has the same picture"
-OTHER_BESIDE = "one with the same picture has another colour profile or comment"
+OTHER_PARTS = "other parts than one with the same picture: {}"  # what it has, lacks, or has otherwise
 OTHER_FILE = "no other file has the same bytes, and pictures of this format aren't compared"
 NO_PICTURE = "no picture, and may belong to one, as an XMP file does"
 KEEP_ALL = "which one to keep isn't known: equal readings don't show whose offsets are still right"  # of groups that rest on MakerNotes
-NOT_ALL = "its file has other bytes, outside of metadata, picture, colour profile and comments"
+HAS_MORE = "it stays for one without other parts: {}"
+NOT_ALL = "its file has other bytes that say the same"
 
 _Key = Tuple[str, str]  # what was compared, and its digest
 
@@ -49,10 +51,11 @@ def damaged(fault: str) -> str:
 
 def keeping(group: Group, reads: bool = True) -> Dict[int, Keep]:
     """What may be done with each picture of a group, by its number. The first of equal pictures by path stays: so of all groups that a picture
-    is in, the one that stays is no later one, and a chain of groups ends at a picture that stays. `reads` reads files with equal sizes."""
+    is in, the one that stays is no later one, and a chain of groups ends at a picture that stays. One whose file has more parts comes first, as it
+    may stay for one that lacks some. `reads` reads files with equal sizes."""
     if group.rests_on_readings:
         return {it.id: Keep(why=KEEP_ALL) for it in group.members}
-    members = sorted([it for it in group.members if _is_picture(it)], key=lambda it: it.path)
+    members = sorted([it for it in group.members if _is_picture(it)], key=lambda it: (-len(rest.names_in(it.beside)), it.path))
     keys = _keys(members, reads)
     damages = {it.id: it.damage for it in members if it.damage}
     equal: Dict[_Key, List[PictureRecord]] = {}
@@ -79,19 +82,19 @@ def _keep(
     if picture.id not in keys:
         return Keep(why=NOT_KNOWN)
     same = equal[keys[picture.id]]
+    is_file = keys[picture.id][0] == "file"
     if len(same) == 1:
-        if any(
-            other is not picture and other.coded_picture == picture.coded_picture
-            for pictures in equal.values()
-            for other in pictures
-            if picture.coded_picture
-        ):
-            return Keep(why=OTHER_BESIDE)
-        return Keep(why=NOT_KNOWN if has_unknown else OTHER if keys[picture.id][0] == "picture" else OTHER_FILE)
-    if picture is not same[0]:
-        return Keep(False, same_as=same[0].path)
-    has_equal_bytes = keys[picture.id][0] == "file" or (len({one.sha256 for one in same}) == 1 and bool(picture.sha256))
-    return Keep(True, "" if has_equal_bytes else NOT_ALL)
+        return Keep(why=NOT_KNOWN if has_unknown else OTHER_FILE if is_file else OTHER)
+    firsts = {it.id: next(one for one in same if one is it or is_file or rest.has_all(one.beside, it.beside)) for it in same}
+    first = firsts[picture.id]
+    if picture is not first:
+        return Keep(False, same_as=first.path)
+    if not any(it is first for number, it in firsts.items() if number != picture.id):
+        other = next(it for it in same if it is not picture)
+        return Keep(why=OTHER_PARTS.format(", ".join(rest.changes(other.beside, picture.beside))))
+    more = [rest.changes(it.beside, picture.beside) for it in same if firsts[it.id] is picture and it.beside != picture.beside]
+    has_equal_bytes = is_file or (len({it.sha256 for it in same}) == 1 and bool(picture.sha256))
+    return Keep(True, HAS_MORE.format(", ".join(more[0])) if more else "" if has_equal_bytes else NOT_ALL)
 
 
 def _keys(members: Sequence[PictureRecord], reads: bool) -> Dict[int, _Key]:
@@ -102,7 +105,7 @@ def _keys(members: Sequence[PictureRecord], reads: bool) -> Dict[int, _Key]:
         if picture.damage:
             continue
         if picture.coded_picture:
-            keys[picture.id] = ("picture", picture.coded_picture + picture.beside)
+            keys[picture.id] = ("picture", picture.coded_picture)
         elif picture.sha256 or picture.file:
             keys[picture.id] = ("file", picture.sha256 or picture.file)
         elif reads and sizes[picture.size] > 1:

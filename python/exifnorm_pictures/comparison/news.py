@@ -36,7 +36,7 @@ class Kind(Word):
     DAMAGED = ("damaged",)
     RULE = ("rule broken",)
     OTHER_PICTURE = ("other picture",)
-    PROFILE = ("other colours or comments",)  # the same coded picture with another colour profile or comment, or without
+    PARTS = ("other parts",)  # the same coded picture in a file of which another part came, went or changed
     UNREADABLE = ("not readable", True)
     OPEN = ("not comparable", True)
     UNREAD = ("not wholly read", True)  # so that it may break a rule
@@ -64,7 +64,7 @@ class News:
     """One kind of news, and what it is about: a label, a rule or a folder."""
 
     kind: Kind
-    about: str = ""
+    about: str = ""  # or a part of files and what became of it
     count: int = 0
     names: List[Named] = field(default_factory=list)  # the first ones
     to: str = ""  # the new place of a folder
@@ -150,7 +150,8 @@ class Between:
             return self._not_read(name)
         kinds = list(_kinds(comparison))
         for kind in kinds:
-            self.tally.add(kind, comparison.moved_to or name)
+            for part in comparison.parts if kind == Kind.PARTS else [""]:
+                self.tally.add(kind, comparison.moved_to or name, part)
         has_news = bool(kinds) or comparison.moved_to is not None
         return bool(comparison.changes and self._changes(comparison, bool(kinds))) or has_news
 
@@ -245,7 +246,7 @@ def _kinds(comparison: Compared) -> Iterator[Kind]:
         yield Kind.OPEN
 
 
-_OF_CODED = {Coded.DAMAGED: Kind.DAMAGED, Coded.DAMAGED_BEFORE: Kind.READABLE, Coded.OTHER: Kind.OTHER_PICTURE, Coded.BESIDE: Kind.PROFILE}
+_OF_CODED = {Coded.DAMAGED: Kind.DAMAGED, Coded.DAMAGED_BEFORE: Kind.READABLE, Coded.OTHER: Kind.OTHER_PICTURE, Coded.BESIDE: Kind.PARTS}
 
 
 def _labels(comparison: Compared) -> List[str]:

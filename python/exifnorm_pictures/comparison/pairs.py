@@ -35,7 +35,7 @@ PRAGMA main.synchronous = OFF;
 """
 
 # The pairs for which nothing is reported: all kinds are known and mean the same, what wasn't read is known to be the same, and the coded
-# pictures, their colour profiles and comments aren't known to differ, nor the files whose pictures can't be compared.
+# pictures and the rest of their files aren't known to differ, nor the files whose pictures can't be compared.
 _SAME = """(typeof(old.path) = 'blob' AND old.problem IS NULL AND new.problem IS NULL AND old.exif = new.exif
     AND old.iptc = new.iptc AND old.xmp = new.xmp AND old.not_read = new.not_read
     AND (old.exif_octets = new.exif_octets OR old.maker_notes = '' OR new.maker_notes = '')

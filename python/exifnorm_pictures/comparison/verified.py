@@ -12,6 +12,7 @@ from ..catalogue.store import Catalogue
 from ..model.columns import Damaged
 from ..model.problems import NOT_THERE, TEXTS
 from ..model.records import BlockRecord, PictureRecord, Stamp, has
+from ..model.rest import changes
 from ..model.results import Result
 from ..model.verdicts import result_of, verdicts
 from ..model.words import Word
@@ -26,6 +27,7 @@ class State(Word):
     AS_IT_WAS = ("as they were", "unchanged: the same bytes", True)
     CAPTIONED = ("captioned", "captioned: other metadata, the same picture", True)
     AGAIN = ("written again", "written again: the same metadata, the same picture", True)
+    PARTS = ("other parts", "written again: the same metadata and picture, but other parts of the file", False)
     MOVED = ("moved", "moved: the same file under another name", True)
     OTHER = ("other picture", "edited or replaced: other picture, and a later time", False)
     OTHER_FILE = ("other file", "written since: other bytes, in a format whose pictures aren't compared", False)
@@ -64,7 +66,9 @@ def state_of(before: PictureRecord, now: PictureRecord) -> Tuple[State, str]:
         return State.ROTTED, "in its metadata" * is_same_picture
     if is_same_picture:
         same = result_of(verdicts(before.sides(), now.sides())) == Result.SAME and before.not_read == now.not_read is not None
-        return (State.AGAIN if same else State.CAPTIONED), _before(now)
+        parts = changes(before.beside, now.beside)
+        note = "; ".join(filter(None, [_before(now), ", ".join(parts)]))
+        return (State.CAPTIONED if not same else State.PARTS if parts else State.AGAIN), note
     if (now.size, now.modified) == (before.size, before.modified):
         return State.ROTTED, "size and time are as before"
     return (State.OTHER, "") if before.coded_picture and now.coded_picture else (State.OTHER_FILE, "")

@@ -15,6 +15,7 @@ from ..model.budgets import STRIPS, Budget
 from ..model.found import IN_PICTURE, Broken
 from ..model.tiff_types import IFD, LONG, LONG8, SHORT
 from .formats import tiff
+from .formats.parts import Part
 from .formats.streams import pieces
 from .formats.tiff_directories import Directories, Directory
 from .formats.tiff_entries import IN_ENTRY, Entry
@@ -29,7 +30,7 @@ _CODING = (
 )
 _STRIPS, _TILES = 0x0111, 0x0144
 _OFFSETS = {_STRIPS: 0x0117, _TILES: 0x0145, 0x0201: 0x0202, 0xA010: 0xA011}  # each with the tag of the lengths; Samsung's table of rows
-_PROFILE = 0x8773
+_PROFILE = 0x8773  # of which two are not followed
 _OLD_TABLES = frozenset((0x0207, 0x0208, 0x0209))  # of JPEG in TIFF 6.0, whose lengths aren't in the file's directories
 _COUNTED = frozenset((*_CODING, *_OFFSETS, *_OFFSETS.values(), _PROFILE))
 _NUMBERS = frozenset((_WIDTH, _HEIGHT, _BITS, _COMPRESSION, _PHOTOMETRIC, _SAMPLES, _ROWS, _PLANES, _TILE_WIDTH, _TILE_HEIGHT))
@@ -42,13 +43,13 @@ class NotFollowed(Broken):
     """A coded picture in a form that isn't followed here, which is no damage."""
 
 
-def add(directories: Directories, coded: "hashlib.blake2b", budget: Budget, beside: "hashlib.blake2b") -> None:
-    """Adds the coded picture to a digest, and colour profiles to `beside`. Raises `Broken` and `TooMuch`."""
+def add(directories: Directories, coded: "hashlib.blake2b", budget: Budget) -> Iterator[Part]:
+    """Adds the coded picture to a digest. Returns claims to the parts of the file. Raises `Broken` and `TooMuch`."""
     left, strips = directories.size, 0  # strips may share bytes in a made file
-    for number, page in enumerate(tiff.Reader(directories, False).pages()):
+    reader, pages = tiff.Reader(directories, False), []
+    for page in reader.pages():
+        pages.append(page)
         entries = _counted(page.directory)
-        if _PROFILE in entries:
-            beside.update(b"%d:" % number + directories.value(entries[_PROFILE]))
         coded.update(page.part.encode("ascii"))
         coded.update(_order(directories, entries))
         for tag in _CODING:
@@ -62,6 +63,7 @@ def add(directories: Directories, coded: "hashlib.blake2b", budget: Budget, besi
             budget.check_time()
             for data in pieces(directories.stream, start, end):
                 coded.update(data)
+    return reader.parts(pages)
 
 
 def _counted(directory: Directory) -> Entries:

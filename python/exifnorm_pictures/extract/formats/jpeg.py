@@ -7,17 +7,19 @@ are compared by their bytes, and named.
 
 from __future__ import annotations
 
+import contextlib
 import re
-from typing import List, Set, Tuple
+from typing import Iterator, List, Set, Tuple
 
-from ...model.budgets import Budget, budget_of
+from ...model.budgets import RESOURCES, Budget, budget_of
 from ...model.found import CUT, EXIF, REST, SIX, XMP, Blocks, Broken, NotRead
 from ...model.texts import in_words
 from . import mpf, photoshop
 from .extended_xmp import HEAD as EXTENDED, Pieces
-from .jpeg_segments import APP0, APP1, APP13, APP15, APP2, APP3, SOS
-from .jpeg_segments import EXIF_PIECE, PHOTOSHOP_PIECE, XMP_PACKET, blocks_of, is_not_compared, read_head
-from .jpeg_tail import WINDOW, Tail, is_scan, tail
+from .jpeg_segments import APP0, APP1, APP13, APP14, APP15, APP2, APP3, COM, EOI, SOI
+from .jpeg_segments import EXIF_PIECE, PHOTOSHOP_PIECE, XMP_PACKET, Head, blocks_of, not_compared, read_head
+from .jpeg_tail import WINDOW, Markers, Tail, is_scan, tail
+from .parts import COMMENT, CREDENTIALS, METADATA, PICTURE, REST as THE_REST, STRUCTURE, Part, Range, word
 from .streams import Stream, digest_of, digest_of_rest, read_at, size_of
 from .trailers import add_blocks, known_trailer
 
@@ -26,6 +28,8 @@ NO_END_MARK = f"{CUT}before the end mark of its picture"  # which a decoder may 
 _XMP = b"http://ns.adobe.com/xap/1.0/\0"
 # Some writers put up to four bytes before the word, or write it in another way; ExifTool reads these as well.
 _EXIF_LIKE = re.compile(rb".{0,4}?Exif\0.", re.I | re.S)
+# ExifTool also reads a packet under a mark that only begins like that of XMP.
+_XMP_LIKE = re.compile(rb"(?:http|XMP\0).{0,60}?(?=<(?:\?xpacket|x:xmpmeta|rdf:RDF)\b)", re.S)
 _META = (b"Meta\0\0", b"META\0\0", b"Exif\0\0")  # Kodak's APP3, which has the structure of an Exif block
 
 
@@ -89,7 +93,7 @@ class _Head:
         self.end, self.is_open = head.end, head.is_open
         if head.fault:
             raise Broken(head.fault)
-        self.has_scan = bool(head.parts) and head.parts[-1][0] == SOS
+        self.has_scan = head.has_scan
 
     def ends_at(self, end: int) -> bool:
         """Whether the bytes that were read show that the picture has one plain scan, and ends at `end`."""
@@ -108,21 +112,39 @@ class _Head:
 
     def _segment(self, marker: int, start: int, data: bytes) -> None:
         """Adds what a segment of no known kind has."""
-        name = f"APP{marker - APP0} segment"
-        if marker == APP1 and (like := _EXIF_LIKE.match(data)):  # a lenient form: a mark that is written in another way
-            self._exif.append((f"{name} at {start}", data[like.end() :]))
-        elif marker == APP13 and data.startswith(photoshop.OLD_HEAD):  # a lenient form: the mark of an older Photoshop
-            self._runs.append((f"{name} at {start}", data[photoshop.OLD_HEAD_LENGTH :]))
-        elif marker == APP2 and data.startswith(mpf.HEAD):
-            self.indexes.append((start + 4 + len(mpf.HEAD), data[len(mpf.HEAD) :]))
-        elif marker == APP3 and data.startswith(_META):
-            self._leave(f"{name} Meta", data)
-        elif not is_not_compared(marker, data):
-            word = bytes(it for it in data.split(b"\0")[0][:12] if 32 < it < 127).decode("ascii")
-            self._leave(f"{name} of an unknown kind" if marker in (APP1, APP13) else f"{name} {word}".rstrip(), data)
+        kind, mark = _kind_of(marker, data)
+        if kind == EXIF:
+            self._exif.append((f"APP1 segment at {start}", data[mark:]))
+        elif kind == XMP:
+            self.blocks.add(XMP, data[mark:], f"APP1 segment at {start}", self.part)
+        elif kind == _RESOURCES:
+            self._runs.append((f"APP13 segment at {start}", data[mark:]))
+        elif kind == _INDEX:
+            self.indexes.append((start + 4 + mark, data[mark:]))
+        elif not not_compared(marker, data):
+            self._leave(kind, data)
 
     def _leave(self, what: str, data: bytes) -> None:
         self.blocks.leave(what + self.of, data)
+
+
+_RESOURCES, _INDEX = "Photoshop resources", "MPF index"
+
+
+def _kind_of(marker: int, data: bytes) -> Tuple[str, int]:
+    """What a segment of an application has whose mark the library doesn't know, and the length of the mark; or its name."""
+    if marker == APP1 and (like := _EXIF_LIKE.match(data)):  # a lenient form: a mark that is written in another way
+        return EXIF, like.end()
+    if marker == APP1 and (like := _XMP_LIKE.match(data)):
+        return XMP, like.end()
+    if marker == APP13 and data.startswith(photoshop.OLD_HEAD):  # a lenient form: the mark of an older Photoshop
+        return _RESOURCES, photoshop.OLD_HEAD_LENGTH
+    if marker == APP2 and data.startswith(mpf.HEAD):
+        return _INDEX, len(mpf.HEAD)
+    if marker == APP3 and data.startswith(_META):
+        return "APP3 segment Meta", 0
+    name = f"APP{marker - APP0} segment"
+    return not_compared(marker, data) or (f"{name} of an unknown kind" if marker in (APP1, APP13) else f"{name} {word(data)}".rstrip()), 0
 
 
 def _further(stream: Stream, head: _Head, end: int) -> List[int]:
@@ -173,3 +195,77 @@ def _kind_of_rest(stream: Stream, at: int, end: int) -> str:
     stream.seek(at)
     first = stream.read(min(64, end - at)).lstrip(b"\0")
     return "second picture" if first.startswith(START) else "trailer"
+
+
+_ALONE = frozenset((0x01, *range(0xD0, 0xD8)))  # markers without a segment
+_BESIDE = frozenset((*range(APP0, APP14), APP15, COM))  # markers of segments that say nothing of how to decode the picture
+SCAN = "scan"  # the name of the parts from the first scan on
+
+
+def parts(stream: Stream, head: Head, budget: Budget) -> Iterator[Part]:
+    """Claims to the parts of a JPEG with this head, in their order but for those of Photoshop's resources. The pictures of its index are rest.
+    Raises `Broken` and `TooMuch`."""
+    end = 0
+    for part in _of_picture(stream, head, 0, size_of(stream), budget):
+        yield part
+        end = max(end, part.end)
+    starts: Set[int] = set()
+    for marker, _, _, at, length in head.parts:
+        data = head.octets[at : at + length]
+        if marker == APP2 and data.startswith(mpf.HEAD):
+            with contextlib.suppress(Broken):  # what a wrong index leads to is rest in any case
+                starts.update(start for start, _ in mpf.further_pictures(data[len(mpf.HEAD) :], at + len(mpf.HEAD)) if start >= end)
+    places = [*sorted(starts), size_of(stream)]
+    for number, (start, end) in enumerate(zip(places, places[1:]), 2):
+        following = read_head(stream, start, budget)
+        if following.fault or not following.has_scan:
+            yield Part(THE_REST, start, end, f"MPF picture {number}")
+        else:
+            yield from _of_picture(stream, following, start, end, budget, f"MPF picture {number}")
+
+
+def _of_picture(stream: Stream, head: Head, start: int, end: int, budget: Budget, name: str = "") -> Iterator[Part]:
+    """The same of one picture up to `end`. One with a name is a rest itself."""
+    if head.fault or not head.has_scan:
+        raise Broken(head.fault or f"no scan before {head.end}")
+    kind, of = (THE_REST, f" of {name}") if name else (PICTURE, "")
+    at, runs = start, []  # type: int, List[List[Range]]
+    last = ""
+    for marker, piece, begins, first, length in head.parts[:-1]:
+        data, first = head.octets[first : first + length], start + first
+        what, mark = ("", 0) if piece else (COMMENT, 0) if marker == COM else _kind_of(marker, data)
+        if marker == SOI:
+            raise Broken(f"no segment at {first - 2}")
+        if piece == PHOTOSHOP_PIECE or what == _RESOURCES:
+            runs += [[]] if begins or not piece else []
+            runs[-1].append((first + mark, first + length))
+            yield Part(STRUCTURE, at, first + mark)
+        elif piece or what in (EXIF, XMP):
+            yield from (Part(STRUCTURE, at, first + mark), Part(METADATA, first + mark, first + length))
+        elif marker in _ALONE or what == _INDEX:
+            yield Part(STRUCTURE, at, first + length)
+        elif marker in _BESIDE:
+            last = CREDENTIALS if what == "JUMBF" and (b"c2pa" in data[:64] or last == CREDENTIALS) else what
+            yield from (Part(STRUCTURE, at, first), Part(THE_REST, first, first + length, last + of))
+        else:
+            yield from (Part(STRUCTURE, at, first - 4), Part(kind, first - 4, first + length, name))
+        at = first + length
+    octets = [b"".join(head.octets[one - start : other - start] for one, other in run) for run in runs]
+    yield from (it._replace(name=it.name + of) for it in photoshop.parts(runs, octets, budget.left[RESOURCES]))
+    begin = start + head.parts[-1][3] - 4
+    yield Part(STRUCTURE, at, begin)
+    markers, passed = Markers(stream, begin, end), 0
+    while (marker := markers.following()) not in (0, EOI):
+        passed += 1
+        if not passed & 4095:
+            budget.check_time()
+        if marker >= 0xC0 and marker not in _ALONE and marker != SOI:
+            here = markers.at - 2
+            markers.pass_over()
+            if marker in _BESIDE:
+                yield Part(kind, begin, here, name or SCAN)
+                yield Part(THE_REST, here, markers.at, f"segment behind the first scan{of}")
+                begin = markers.at
+    if marker == 0 and not name:
+        raise Broken(NO_END_MARK)
+    yield Part(kind, begin, markers.at, name or SCAN)

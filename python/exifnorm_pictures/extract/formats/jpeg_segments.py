@@ -9,31 +9,32 @@ import exifnorm
 from exifnorm._jpeg import PART_KINDS, PartRow, part_rows, whole_blocks
 
 from ...model.budgets import SEGMENTS, SEGMENT_BYTES, Budget
+from .parts import PROFILE
 from .streams import HEAD, Stream
 
-SOI, EOI, SOS = 0xD8, 0xD9, 0xDA
+SOI, EOI, SOS, COM = 0xD8, 0xD9, 0xDA, 0xFE
 END_MARK = bytes((0xFF, EOI))
-APP0, APP1, APP2, APP3, APP13, APP15 = 0xE0, 0xE1, 0xE2, 0xE3, 0xED, 0xEF
+APP0, APP1, APP2, APP3, APP13, APP14, APP15 = 0xE0, 0xE1, 0xE2, 0xE3, 0xED, 0xEE, 0xEF
 
-# The segments of applications that contain no Exif, IPTC or XMP, and are neither compared nor named: the marker, how the segment begins,
-# and its name in docs/RECIPES.md, whose list is made of this table.
+# The segments of applications that contain no Exif, IPTC or XMP, and are compared only as the rest of a file: the marker, how the segment
+# begins, the name of the part, and its name in docs/RECIPES.md, whose list is made of this table.
 NOT_COMPARED = (
-    (0xE0, b"JFIF\0", "JFIF (APP0)"),
-    (0xE0, b"JFXX\0", "the thumbnail of JFIF (APP0)"),
-    (0xE2, b"ICC_PROFILE\0", "ICC profiles (APP2)"),
-    (0xEB, b"JP", "JUMBF (APP11)"),
-    (0xED, b"Adobe_CM", "Adobe_CM (APP13)"),
-    (0xEE, b"Adobe", "the colour transform of Adobe (APP14)"),
+    (0xE0, b"JFIF\0", "JFIF", "JFIF (APP0)"),
+    (0xE0, b"JFXX\0", "thumbnail of JFIF", "the thumbnail of JFIF (APP0)"),
+    (0xE2, b"ICC_PROFILE\0", PROFILE, "ICC profiles (APP2)"),
+    (0xEB, b"JP", "JUMBF", "JUMBF (APP11)"),
+    (0xED, b"Adobe_CM", "Adobe_CM", "Adobe_CM (APP13)"),
+    (0xEE, b"Adobe", "colour transform of Adobe", "the colour transform of Adobe (APP14)"),
 )
 
 
-def is_not_compared(marker: int, data: bytes) -> bool:
-    """Whether a segment is one of `NOT_COMPARED`.
+def not_compared(marker: int, data: bytes) -> str:
+    """The name of a segment of `NOT_COMPARED`; empty of any other.
 
-    >>> is_not_compared(0xE0, b"JFIF\\0\\1"), is_not_compared(0xE1, b"JFIF\\0\\1")
-    (True, False)
+    >>> not_compared(0xE0, b"JFIF\\0\\1"), not_compared(0xE1, b"JFIF\\0\\1")
+    ('JFIF', '')
     """
-    return any(marker == number and data.startswith(head) for number, head, _ in NOT_COMPARED)
+    return next((name for number, head, name, _ in NOT_COMPARED if marker == number and data.startswith(head)), "")
 
 
 EXIF_PIECE, PHOTOSHOP_PIECE, XMP_PACKET, XMP_PIECE = (PART_KINDS.index(it) for it in ("exif", "photoshop", "xmp", "extended xmp"))
@@ -47,6 +48,11 @@ class Head(NamedTuple):
     end: int  # in the file, after the last part
     fault: str = ""  # why the head isn't whole
     is_open: bool = False  # whether the file ends after a whole segment, before a scan and the end mark
+
+    @property
+    def has_scan(self) -> bool:
+        """Whether it ends with the header of a scan."""
+        return bool(self.parts) and self.parts[-1][0] == SOS
 
 
 def read_head(stream: Stream, start: int, budget: Budget) -> Head:

@@ -6,12 +6,13 @@ an even length (Adobe Photoshop File Formats Specification, "Image Resource Bloc
 
 from __future__ import annotations
 
-from typing import List, Sequence, Tuple
+from typing import Iterator, List, Sequence, Tuple
 
 import exifnorm
 
 from ...model.budgets import LIMITS, RESOURCES, TooMuch
 from ...model.found import EXIF, FEW, IPTC, SIX, XMP, Blocks
+from .parts import METADATA, REST, STRUCTURE, Part, Range, placed
 
 HEAD = b"Photoshop 3.0\0"
 OLD_HEAD = b"Adobe_Photoshop2.5:"
@@ -21,6 +22,22 @@ SIGNATURES = (b"8BIM", b"PHUT", b"AgHg", b"DCSR", b"MeSa")  # Photoshop, PhotoDe
 _KINDS = {0x0404: IPTC, 0x0422: EXIF, 0x0424: XMP}
 _MORE_EXIF = 0x0423
 KEPT = (*_KINDS, _MORE_EXIF)  # the resources that are looked at
+_SUM = 0x0425  # a check sum of the IPTC
+_HEAD = 12  # bytes of a resource without a name before its data
+_NAMES = {
+    0x03ED: "resolution",
+    0x03F0: "caption",
+    0x0408: "guides",
+    0x0409: "thumbnail",
+    0x040A: "copyright flag",
+    0x040B: "URL",
+    0x040C: "thumbnail",
+    0x040F: "colour profile",
+    0x041A: "slices",
+    _MORE_EXIF: "Exif",
+    **dict.fromkeys(range(0x07D0, 0x0BB7), "path"),
+    0x0BB7: "name of the clipping path",
+}
 
 
 def resources(data: bytes, most: int = LIMITS[RESOURCES]) -> Tuple[List[exifnorm.Resource], bytes]:
@@ -59,7 +76,33 @@ def add_one(blocks: Blocks, number: int, data: bytes, where: str, part: str = ""
     """Adds the block of a resource that is kept, or names it."""
     place = f"Photoshop resource {number:04x} in the {where}"
     kind = _KINDS.get(number)
+    if not data and kind == IPTC:  # which counts as none (docs/FORMAT.md, 9)
+        return
     if kind is None:
         blocks.leave(place, data)
     else:
         blocks.add(kind, data.removeprefix(SIX) if kind == EXIF else data, place, part)
+
+
+def parts(runs: Sequence[Sequence[Range]], data: Sequence[bytes], most: int = LIMITS[RESOURCES]) -> Iterator[Part]:
+    """The parts of some runs of resources, each run with its ranges in the file and its bytes. Raises `TooMuch`."""
+    if len(runs) > 1 and any(resources(it, most)[1] for it in data[:-1]):
+        runs, data = [[it for run in runs for it in run]], [b"".join(data)]
+    for ranges, octets in zip(runs, data):
+        rows, rest = resources(octets, most)
+        at = 0
+        for number, start, size in rows:
+            kind = METADATA if number in _KINDS else STRUCTURE if number == _SUM else REST
+            name = " ".join(filter(None, [f"Photoshop resource {number:04x}", f"({_NAMES[number]})" if number in _NAMES else ""]))
+            head = REST if kind == REST or start - at > _HEAD else STRUCTURE
+            end = start + size
+            for what, first, last in ((head, at, start), (kind, start, end), (STRUCTURE, end, min(end + size % 2, len(octets)))):
+                yield from (Part(what, *it, name if what == REST else "") for it in placed(ranges, first, last))
+            at = end + size % 2
+        behind = (REST, "bytes behind the Photoshop resources") if rest else (STRUCTURE, "")
+        yield from (Part(behind[0], *it, behind[1]) for it in placed(ranges, at, len(octets)))
+
+
+def has_rest(data: bytes) -> bool:
+    """Whether some resources have more than metadata. Raises `TooMuch`."""
+    return any(it.kind == REST for it in parts([[(0, len(data))]], [data]))

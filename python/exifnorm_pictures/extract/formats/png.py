@@ -7,11 +7,12 @@ Not compared, because they contain no Exif, IPTC or XMP: text chunks with other 
 from __future__ import annotations
 
 import zlib
-from typing import Iterator, Tuple
+from typing import Iterable, Iterator, Tuple
 
 from ...model.budgets import CHUNKS, CHUNK_BYTES, Budget, budget_of
 from ...model.found import EXIF, IPTC, SIX, XMP, Blocks, Broken
 from . import photoshop
+from .parts import CREDENTIALS, METADATA, PICTURE, PROFILE, REST, STRUCTURE, Part, word
 from .streams import Stream, leave_rest, read_at, size_of
 
 START = b"\x89PNG\r\n\x1a\n"
@@ -19,6 +20,8 @@ _XMP_KEYWORD = b"xml:com.adobe.xmp"
 _XMP_HEAD = b"http://ns.adobe.com/xap/1.0/\0"
 _PROFILE = b"raw profile type "
 TEXTS = (b"tEXt", b"zTXt", b"iTXt")
+PIXELS = frozenset((b"IHDR", b"PLTE", b"tRNS", b"IDAT", b"acTL", b"fcTL", b"fdAT"))  # chunks of the coded picture
+_NAMES = {b"iCCP": PROFILE, b"caBX": CREDENTIALS}
 
 
 class _Unreadable(Exception):
@@ -47,6 +50,33 @@ def chunks(stream: Stream, budget: Budget) -> Iterator[Tuple[int, bytes, int]]:
         at += 12 + length
 
 
+def parts(stream: Stream, found: Iterable[Tuple[int, bytes, int]]) -> Iterator[Part]:
+    """Claims to the parts of a PNG with these chunks, in their order. Raises `TooMuch`."""
+    yield Part(STRUCTURE, 0, len(START))
+    for at, kind, length in found:
+        start, end = at + 8, at + 8 + length
+        yield Part(STRUCTURE, at, start)
+        if kind in PIXELS:
+            yield Part(PICTURE, start, end)
+        elif kind == b"eXIf" or (kind in TEXTS and _is_metadata(stream, at, kind, length)):
+            yield Part(METADATA, start, end)
+        else:
+            keyword = word(read_at(stream, start, min(length, 12))) if kind in TEXTS else ""
+            yield Part(REST, start, end, _NAMES.get(kind) or f"{word(kind)} chunk {keyword}".strip())
+        yield Part(STRUCTURE, end, end + 4)
+
+
+def _is_metadata(stream: Stream, at: int, kind: bytes, length: int) -> bool:
+    """Whether a text is one of metadata, and has nothing else."""
+    reader = _Reader(stream)
+    reader.budget = reader.blocks.budget = Budget()  # all this was counted when it was read
+    try:
+        reader.chunk(at, kind, length)
+    except Broken:
+        return False
+    return bool(reader.blocks.blocks) and not reader.blocks.not_read and not reader.has_rest
+
+
 class _Reader:
     """The chunks of one file."""
 
@@ -54,6 +84,7 @@ class _Reader:
         self.stream = stream
         self.budget = budget_of(stream)
         self.blocks = Blocks(type="PNG", budget=self.budget)
+        self.has_rest = False  # whether a profile has more than metadata
 
     def chunk(self, at: int, kind: bytes, length: int) -> None:
         """Adds the blocks of a chunk."""
@@ -119,7 +150,9 @@ class _Reader:
             if data[:1] == b"\x1c":
                 self.blocks.add(IPTC, data, where)
             else:
-                photoshop.add_resources(self.blocks, [(where, data.removeprefix(photoshop.HEAD))])
+                data = data.removeprefix(photoshop.HEAD)
+                photoshop.add_resources(self.blocks, [(where, data)])
+                self.has_rest = self.has_rest or photoshop.has_rest(data)
         elif kind == b"xmp":
             self.blocks.add(XMP, data, where)
         elif kind not in (b"icc", b"icm"):

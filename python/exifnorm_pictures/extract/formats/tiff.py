@@ -7,9 +7,11 @@ Raw pictures have the same structure: DNG, CR2, NEF and others. Some begin in an
 
 from __future__ import annotations
 
+import contextlib
 import hashlib
+import itertools
 from collections import deque
-from typing import Deque, Dict, Iterator, List, NamedTuple, Set, Tuple
+from typing import Deque, Dict, Iterable, Iterator, List, NamedTuple, Set, Tuple
 
 from exifnorm import LIMIT
 
@@ -19,6 +21,7 @@ from ...model.problems import Problem
 from ...model.tiff_types import HEADS, IFD, LONG
 from ..structure import counted, placed
 from . import photoshop
+from .parts import METADATA, PICTURE, PROFILE, REST as THE_REST, STRUCTURE, Part
 from .private import RW2_HEAD, Private
 from .streams import Stream, digest_of_rest, leave_rest, pieces
 from .tiff_block import Layout, Table, is_directory
@@ -34,7 +37,9 @@ DEEPEST = 10  # SubIFDs below one another
 
 _FREE = (0x0120, 0x0121)  # which Panasonic uses for other things
 _PAIRS = ((0x0111, 0x0117), (0x0144, 0x0145), (0x0201, 0x0202))
-_XMP, _IPTC, _PHOTOSHOP, _LAYERS = 0x02BC, 0x83BB, 0x8649, 0x935C
+_XMP, _IPTC, _PHOTOSHOP, _PROFILE, _LAYERS = 0x02BC, 0x83BB, 0x8649, 0x8773, 0x935C
+_NAMES = {_PROFILE: PROFILE, _LAYERS: "Photoshop's layers"}  # of values that are rest
+_OWN = frozenset((_XMP, _IPTC, _PHOTOSHOP, _LAYERS))  # which aren't in the block of their directory
 _Pointers = Dict[int, "_Pointers"]
 _POINTERS: _Pointers = {0x8769: {0xA005: {}}, 0x8825: {}}  # Exif with Interoperability, GPS
 OTHER_POINTERS = {
@@ -50,7 +55,7 @@ _DNG_VERSION, _MAKER_NOTE = 0xC612, 0x927C
 _Place = Tuple[int, str, int]  # the offset of a directory, the name of its chain, and its number there
 
 
-class _Page(NamedTuple):
+class Page(NamedTuple):
     """A directory of pixels, and its name: none for the first page."""
 
     directory: Directory
@@ -104,25 +109,25 @@ class Reader:
         self._private = Private(directories, self.blocks, self._reached, whole)
         self._pixels = {tag: name for tag, name in PIXELS.items() if not (self._private.is_panasonic and tag in _FREE)}
 
-    def pages(self) -> Iterator[_Page]:
+    def pages(self) -> Iterator[Page]:
         """Each page, followed by its SubIFDs."""
         number = 0
         at = self.directories.first
         while at or not number:
             number += 1
             page = self._read(at)
-            yield _Page(page, "" if number == 1 else f"page {number}")
+            yield Page(page, "" if number == 1 else f"page {number}")
             yield from self._below(page, f"page {number}")
             at = page.following
 
-    def _below(self, page: Directory, part: str) -> Iterator[_Page]:
+    def _below(self, page: Directory, part: str) -> Iterator[Page]:
         """The SubIFDs of a page, each with those that follow it and those below it."""
         waiting: Deque[_Place] = deque(self._named(page, part))
         while waiting:
             at, name, number = waiting.popleft()
             directory = self._read(at)
             part = name if number == 1 else f"{name}, directory {number}"
-            yield _Page(directory, part)
+            yield Page(directory, part)
             waiting += self._named(directory, part)
             if directory.following:
                 waiting.appendleft((directory.following, name, number + 1))
@@ -163,13 +168,15 @@ class Reader:
                 self._reached.end = None  # old files have no lengths of strips
                 continue
             starts, sizes = (self.directories.numbers(entry) for entry in pair)
-            self._reached.parts += [(start, start + size) for start, size in zip(starts, sizes)]
+            pixels = [(start, start + size) for start, size in zip(starts, sizes)]
+            self._reached.parts += pixels
+            self._reached.pixels += pixels
             end = max((start + size for start, size in zip(starts, sizes)), default=0)
             self._reached.add(end)
             if end > self.directories.size and not self._private.is_panasonic:  # whose strips are elsewhere
                 self.blocks.damage = IN_PICTURE
 
-    def take(self, page: _Page) -> None:
+    def take(self, page: Page) -> None:
         """Adds the blocks of a page."""
         left_out: Set[str] = set()
         kept: List[Entry] = []
@@ -228,6 +235,30 @@ class Reader:
                 below[entry.tag] = self._table(directory.entries, pointers[entry.tag])
         self._values_reach(entries)
         return Table(entries, below)
+
+    def parts(self, pages: Iterable[Page]) -> Iterator[Part]:
+        """Claims to the parts of the file, of which these are the pages. Raises `TooMuch`."""
+        for page in pages:
+            kept: List[Entry] = []
+            variant = self.directories.variant
+            length = 4 + 2 * variant.offset  # of an entry: its tag, its type, and two numbers
+            for at, entry in zip(itertools.count(page.directory.at + variant.number, length), page.directory.entries):
+                place = self.directories.place_of(entry) if entry.size > IN_ENTRY else None
+                if entry.tag in self._private.tags:
+                    with contextlib.suppress(Broken):
+                        self._private.takes(entry, page.part or "page 1")
+                if place and entry.tag in _OWN:
+                    yield Part(STRUCTURE, at, at + length)
+                if place and entry.tag == _PHOTOSHOP:
+                    yield from photoshop.parts([[place]], [self.directories.shared(entry)])
+                elif place and entry.tag in _NAMES:
+                    yield Part(THE_REST, *place, _NAMES[entry.tag])
+                else:
+                    kept.append(entry)
+            with contextlib.suppress(Broken):  # what it leads to is rest then
+                self._table(kept, _POINTERS)
+        yield from (Part(PICTURE, *it) for it in self._reached.pixels)
+        yield from (Part(METADATA, *it) for it in self._reached.parts)
 
     def rest(self) -> None:
         """The bytes after all parts that the directories point to; and with a MakerNote, which may lead to them, the bytes between."""

@@ -31,6 +31,7 @@ class Reached:
 
     def __init__(self, header: int) -> None:
         self.parts: List[Tuple[int, int]] = [(0, header)]
+        self.pixels: List[Tuple[int, int]] = []  # those of them with strips, tiles and JPEGs
         self.end: Optional[int] = header  # after all of them; None if it is unknown
 
     def add(self, end: int, start: Optional[int] = None) -> None:

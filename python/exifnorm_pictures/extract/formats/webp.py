@@ -4,14 +4,17 @@ and some end the name XMP by a zero byte."""
 from __future__ import annotations
 
 import struct
-from typing import Iterator, Tuple
+from typing import Iterable, Iterator, Tuple
 
 from ...model.budgets import CHUNKS, CHUNK_BYTES, Budget, budget_of
 from ...model.found import EXIF, SIX, XMP, Blocks, Broken
+from .parts import METADATA, PICTURE, PROFILE, REST, STRUCTURE, Part, word
 from .streams import Stream, leave_rest, read_at, size_of
 
 _FIRST = 12  # the offset of the first chunk
-_WITHOUT = frozenset((b"VP8 ", b"VP8L", b"VP8X", b"ALPH", b"ANIM", b"ANMF", b"ICCP"))  # chunks without metadata (RFC 9649, 2.6 and 2.7)
+PIXELS = frozenset((b"VP8 ", b"VP8L", b"ALPH", b"ANIM", b"ANMF"))  # chunks of the coded picture
+_WITHOUT = frozenset((*PIXELS, b"VP8X", b"ICCP"))  # chunks without metadata (RFC 9649, 2.6 and 2.7)
+_XMP = (b"XMP ", b"XMP\0")
 
 
 def is_webp(head: bytes) -> bool:
@@ -59,9 +62,26 @@ def chunks(stream: Stream, end: int, budget: Budget) -> Iterator[Tuple[int, byte
 
 
 def _add(blocks: Blocks, kind: bytes, data: bytes, at: int) -> None:
-    if kind in (b"XMP ", b"XMP\0"):
+    if kind in _XMP:
         blocks.add(XMP, data, f"XMP chunk at {at}")
     elif kind == b"EXIF":
         blocks.add(EXIF, data.removeprefix(SIX), f"EXIF chunk at {at}")
     else:
         blocks.leave("chunk of an unknown kind", data)
+
+
+def parts(found: Iterable[Tuple[int, bytes, int]]) -> Iterator[Part]:
+    """Claims to the parts of a WebP with these chunks, in their order."""
+    yield Part(STRUCTURE, 0, _FIRST)
+    for at, kind, length in found:
+        start, end = at + 8, at + 8 + length
+        yield Part(STRUCTURE, at, start)
+        if kind in PIXELS:
+            yield Part(PICTURE, start, end)
+        elif kind in (*_XMP, b"EXIF"):
+            yield Part(METADATA, start, end)
+        elif kind == b"VP8X":
+            yield Part(STRUCTURE, start, end)
+        else:
+            yield Part(REST, start, end, PROFILE if kind == b"ICCP" else f"{word(kind)} chunk")
+        yield Part(STRUCTURE, end, end + length % 2)
