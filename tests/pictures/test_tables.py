@@ -650,7 +650,7 @@ class Remedies(WithPictures):
             file.write("a\nb\nc")
         blocks = mock.patch.multiple(mend, _printed=printed, _refusals=lambda _: {}, _REMEDIES={it: remedy(it) for it in mend._REMEDIES})
         with blocks, mock.patch.object(mend, "blocks_of_file", lambda _, **__: mend.Blocks()), tempfile.TemporaryDirectory() as room:
-            found = mend._best(None, os.fsencode(self.path("picture.jpg")), None, room)
+            found = mend._best(None, os.fsencode(self.path("picture.jpg")), mend.Blocks(), None, room)
         return found and (found[0], found[2], found[3]), tried
 
     def test_the_one_that_loses_least(self):

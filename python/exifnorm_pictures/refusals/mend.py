@@ -2,6 +2,7 @@
 
 from __future__ import annotations
 
+import contextlib
 import os
 import re
 import tempfile
@@ -9,13 +10,15 @@ from collections import Counter
 from dataclasses import dataclass, field
 from typing import Callable, Dict, List, NamedTuple, Optional, Tuple, Union
 
-from ..extract import programs
+from ..extract import coded_picture, programs
 from ..extract.extraction import blocks_of_file
+from ..extract.formats.parts import digests
+from ..extract.formats.streams import File
 from ..files import atomic, copying, opening
 from ..files.session import Session
 from ..judge.judge import judge_all
-from ..model.budgets import MENDED_BYTES, TooMuch
-from ..model.found import EXIF, REST, Blocks, cut, damage
+from ..model.budgets import MENDED_BYTES, Budget, TooMuch
+from ..model.found import EXIF, REST, Blocks, Broken, cut, damage
 from ..model.steps import Step, loses
 from ..model.texts import reason, shown_path
 from ..model.words import Word
@@ -70,8 +73,9 @@ class Mended:
 def mend(picture: bytes, out: bytes, session: Session, folder: Optional[bytes] = None, lossless: bool = False) -> Mended:
     """Writes a copy with accepted blocks to the new file `out`. Raises `NotWritten`, `NeedsExifTool`, `programs.Failed` and `TooMuch`.
 
-    The remedies are tried in their order. The first that changes no printed value is used; if none is, the one that loses
-    the fewest values and, among equals, adds the fewest; with `lossless` a copy that loses any isn't written. The values are those that
+    The remedies are tried in their order. A repair that loses nothing is used, and else the first remedy that changes no printed value and no
+    other part of the file; if none is, the one that loses the fewest and, among equals, adds the fewest; with `lossless` a copy that loses
+    any isn't written. The values are those that
     ExifTool prints, without offsets. Without ExifTool only a repair that loses nothing is used. Temporary files are in the session's
     folder. With `folder` the folders of `out` are made; no link may lead out of it. A copy is judged before it gets its name, since another
     process may write to the picture meanwhile.
@@ -111,7 +115,7 @@ def attempt(session: Session, picture: bytes, room: str) -> Tuple[Mended, Option
         raise TooMuch(f"more than {MENDED_BYTES:,} bytes of a picture to mend")
     repair = _repaired(session, picture, taken, room)
     if programs.is_there("exiftool"):
-        best = _best(session, picture, repair, room)
+        best = _best(session, picture, taken, repair, room)
     elif repair is not None and not loses(repair.steps):
         best = (Remedy.REPAIR, repair.file, [], [])
     else:
@@ -188,12 +192,27 @@ def _copy(source: Union[bytes, str], name: str) -> None:
         copying.copy(given.fileno(), copy.fileno())
 
 
-def _best(session: Session, picture: bytes, repair: Optional[_Repair], room: str) -> Optional[Attempt]:
+def _others(name: str, taken: Blocks) -> Dict[str, str]:
+    """Digests by name of what is no metadata of a file: of each of its parts, or, if these aren't known, of those that were not read."""
+    try:
+        with contextlib.closing(File(*opening.opened(os.fsencode(name)), Budget(True))) as file:
+            coded, found = coded_picture.followed(file, file.budget)
+            if coded:
+                return {"coded picture": coded, **digests(file, (it for it in found if it.name != "JFIF"))}  # which ExifTool writes anew
+    except (Broken, TooMuch):
+        pass
+    return {it.what.partition(" (")[0]: it.digest for it in taken.not_read}
+
+
+def _best(session: Session, picture: bytes, taken: Blocks, repair: Optional[_Repair], room: str) -> Optional[Attempt]:
+    """The remedy that loses the least. A repair that loses nothing is the best one, whatever can be read again by it; what can be read of one
+    that loses something is lost if the file of another remedy doesn't have it. All that is no metadata must stay as it is."""
     suffix = _suffix(picture)
     first = os.path.join(room, "first" + suffix)
     _copy(picture, first)
-    before = _printed(session, first)
+    before, others = _printed(session, first), _others(first, taken)
     best: Optional[Attempt] = None
+    known = (0, 0)
     for remedy in (Remedy.REPAIR, *_REMEDIES):
         file = os.path.join(room, remedy + suffix)
         if remedy != Remedy.REPAIR:
@@ -202,14 +221,20 @@ def _best(session: Session, picture: bytes, repair: Optional[_Repair], room: str
                 continue
         elif repair is None:
             continue
-        taken = blocks_of_file(os.fsencode(file), session=session)
-        if taken.problem or _refusals(taken):
+        written = blocks_of_file(os.fsencode(file), session=session)
+        if written.problem or _refusals(written):
             continue
         after = _printed(session, file)
         lost, gained = sorted((before - after).elements()), sorted((after - before).elements())
-        if best is None or (len(lost), len(gained)) < (len(best[2]), len(best[3])):
-            best = (remedy, file, lost, gained)
-        if not lost and not gained:
+        if remedy == Remedy.REPAIR:
+            before |= after
+        else:
+            left = _others(file, written)
+            lost += [f"{name}: {'changed' if name in left else 'removed'}" for name, it in others.items() if not it or left.get(name) != it]
+        rank = (len(lost), 0 if remedy == Remedy.REPAIR else len(gained))
+        if best is None or rank < known:
+            best, known = (remedy, file, lost, gained), rank
+        if rank == (0, 0):
             break
     return best
 
