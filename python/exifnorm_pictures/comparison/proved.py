@@ -69,6 +69,14 @@ def head_of_file(place: Place) -> Optional[bytes]:
         return None
 
 
-def has_unread(*heads: Head) -> bool:
-    """Whether one of two heads has a place that may have a block, and that the proved comparisons don't read, as Exif under another mark."""
-    return any(head is not None and exifnorm.jpeg_unread(head) is not None for head in heads)
+def has_unread(head: Head) -> bool:
+    """Whether a head has a place that may have a block, as Exif under another mark, or XMP, and that the proved comparisons don't read."""
+    if head is None:
+        return False
+    try:
+        exifnorm.jpeg_xmp(head)
+        return exifnorm.jpeg_unread(head) is not None
+    except exifnorm.XmpNotRead:
+        return True
+    except exifnorm.PictureRefused:
+        return False

@@ -118,7 +118,7 @@ def _confirmed(answer: Optional[Result], comparison: Compared, names: Sequence[s
     results = [it.result for it in comparison.verdicts if it.kind in names]
     if answer != Result.DIFFERENT or not results or any(it not in (Result.SAME, Result.ABSENT) for it in results):
         return answer
-    if proved.has_unread(*heads):
+    if any(map(proved.has_unread, heads)):
         return Result.NOT_WHOLLY_READ
     raise AssertionError(f"{' or '.join(names)} of the two differ by the proved comparison, and are the same by the tested one")
 
