@@ -19,6 +19,7 @@ from studio import SMALL_JPEG, TOP, Studio, needs, put, read
 from test_list import record
 from test_nights import CUT, NEVER_WHOLE
 
+from exifnorm_pictures.comparison import absent as absent_
 from exifnorm_pictures.catalogue import nights
 from exifnorm_pictures.catalogue.store import Catalogue
 from exifnorm_pictures.cli import letter, nightly
@@ -208,9 +209,18 @@ def test_a_damaged_picture(archive, night):
 # Disks
 
 
+def test_the_only_picture_of_a_folder(archive, night):
+    """An empty folder on the device of its pictures is no disk that isn't mounted."""
+    put(archive, {"object/one.jpg": picture(90)})
+    night()
+    os.remove(archive / "object" / "one.jpg")
+    assert night()[:2] == (1, {("gone", None): 1})
+    assert night()[0] == 0
+
+
 @pytest.mark.parametrize("is_empty", [True, False])
 @pytest.mark.parametrize("name", ["", "web", "scans", "scans/old"])
-def test_a_disk_that_is_not_mounted(name, is_empty, archive, night, folder):
+def test_a_disk_that_is_not_mounted(name, is_empty, archive, night, folder, monkeypatch):
     """It is one line each night. When it is back, what was edited meanwhile is news, and nothing else. A picture that went before isn't counted."""
     put(archive, {f"{place}/gone.jpg": picture(50 + at) for at, place in enumerate(("web", "scans/old"))})
     night()
@@ -218,6 +228,7 @@ def test_a_disk_that_is_not_mounted(name, is_empty, archive, night, folder):
         os.remove(archive / place / "gone.jpg")
     assert night()[:2] == (1, {("gone", None): 2})
     os.rename(archive / name, folder / "disk")
+    monkeypatch.setattr(absent_, "_device_of", lambda folder: 0)  # the folder is on another device than the disk
     if is_empty:
         (archive / name).mkdir()
     known = sum(it.startswith(name) for it in NAMES)

@@ -7,6 +7,7 @@ from dataclasses import dataclass, field
 from typing import Dict, Iterable, List, Optional, Set
 
 from ..catalogue.store import Catalogue
+from ..model.records import Stamp
 
 _NAMED = 3  # pictures of a folder
 
@@ -30,10 +31,11 @@ class Absent:
         self._folders: Dict[bytes, Folder] = {}
         self._left: Set[bytes] = set()  # absent folders that a picture has left for another place
 
-    def add(self, path: bytes, name: bytes) -> bool:
-        """Counts a picture that is gone with its folder; False if its folder is there."""
+    def add(self, path: bytes, name: bytes, device: Optional[int]) -> bool:
+        """Counts a picture that is gone with its folder; False if its folder is there: also an empty one on the device that the picture was on,
+        since the folder of a disk that isn't mounted is on another one."""
         place = self._absent(path)
-        if place is None:
+        if place is None or _device_of(os.path.dirname(path)) == device is not None:
             return False
         folder = self._folders.setdefault(place, Folder(place))
         folder.count += 1
@@ -76,6 +78,11 @@ class Absent:
         if folder not in self._have_files:
             self._have_files[folder] = any(names for _, _, names in os.walk(folder))
         return self._have_files[folder]
+
+
+def _device_of(folder: bytes) -> Optional[int]:
+    stamp = Stamp.at(folder)
+    return stamp.device if stamp else None
 
 
 _HOLD = """UPDATE main.pictures SET (problem, detail, run) = (SELECT problem, detail, run FROM last.pictures AS old WHERE old.path = main.pictures.path)

@@ -171,9 +171,10 @@ class Between:
 
     def _went(self, name: bytes) -> bool:
         """Counts a picture that isn't there, unless it seems to be on a disk that isn't: that is known once all are compared."""
-        if self._picture(0, name).problem == Problem.NO_PICTURE:
+        picture = self._picture(0, name)
+        if picture.problem == Problem.NO_PICTURE:
             return False
-        if not self.absent.add(self._full(0, name), name):
+        if not self.absent.add(self._full(0, name), name, picture.device):
             self.tally.add(Kind.GONE, name)
         return True
 
