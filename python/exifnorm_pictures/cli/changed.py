@@ -15,7 +15,7 @@ from ..catalogue.store import Catalogue, NoCatalogue, of_day
 from ..comparison import changed as changes
 from ..comparison.coded import Coded, sentence_of_coded
 from ..comparison.summary import Summary
-from ..comparison.wording import NONE, line_of
+from ..comparison.wording import NONE, line_of, tell_apart
 from ..fields.choosing import Choice
 from ..fields.left_out import lines as lines_of_choice
 from ..fields.listing import MAKER_NOTE
@@ -158,7 +158,7 @@ def _with_sidecars(arguments: Options) -> Options:
 def _parts_of(comparison: changes.Compared, exact: bool) -> List[object]:
     """The changes of a picture, without its name."""
     note = f" ({comparison.note})" if comparison.note else ""
-    to = f" to {shown_path(comparison.moved_to)}" if comparison.moved_to is not None else ""
+    to = "" if comparison.moved_to is None else f" to {tell_apart([shown_path(comparison.name), shown_path(comparison.moved_to)])[1]}"
     return [
         bool(comparison.changes),
         f"{comparison.result}{to}{note}",

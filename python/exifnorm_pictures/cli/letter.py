@@ -6,6 +6,7 @@ from itertools import groupby
 from typing import Iterator, List, Sequence
 
 from ..comparison.news import Kind, Named, News
+from ..comparison.wording import moved
 from ..model.texts import escaped, pictures_in_words, shown_path
 from .columns import width
 
@@ -89,7 +90,7 @@ def words_of(news: News) -> str:
 
 
 def _name(named: Named) -> str:
-    return shown_path(named.path) + (f" to {shown_path(named.to)}" if named.to is not None else "")
+    return shown_path(named.path) if named.to is None else moved(named.path, named.to)
 
 
 def with_names(text: str, names: Sequence[str], count: int) -> str:

@@ -10,7 +10,7 @@ from ..model.results import Result
 from ..model.texts import pictures_in_words, shown_path
 from . import changed
 from .summary import FIELDS, PARTS, FieldCount, PartCount, Summary
-from .wording import cut
+from .wording import cut, moved
 
 SHOWN_VALUES = 3  # values of a field that have a line each
 GROUPS = 4  # groups whose further fields have a line each
@@ -194,4 +194,4 @@ def _pictures(summary: Summary, result: str) -> Iterator[_Name]:
     """The first pictures, without those that moved with their folder."""
     for path, place in summary.pictures.get(result, ()):
         if not (result == Result.MOVED and summary.moved.count(path, place) > 1):
-            yield _Name(shown_path(path) + (f" to {shown_path(place)}" if place else ""))
+            yield _Name(moved(path, place) if place else shown_path(path))

@@ -14,7 +14,7 @@ from ..fields.field import Field
 from ..fields.listing import MAKER_NOTE
 from ..fields.plain_texts import text_of, xmp_texts
 from ..fields.plain_values import in_line
-from ..model.texts import quoted
+from ..model.texts import quoted, shown_path
 from .differing import FieldDifference, exact_side
 
 NONE = "(none)"  # in place of a value that isn't there
@@ -57,6 +57,15 @@ def told_apart(before: Optional[str], after: Optional[str]) -> Tuple[Optional[st
         return before, after
     first, second = tell_apart([before, after])
     return first, second
+
+
+def moved(old: bytes, new: bytes) -> str:
+    """Two names of a file, told apart.
+
+    >>> moved("Zu\u0308rich".encode(), "Z\u00fcrich".encode()), moved(b"a.jpg", b"b.jpg")
+    ('Zu<U+0308>rich to Zürich', 'a.jpg to b.jpg')
+    """
+    return " to ".join(tell_apart([shown_path(old), shown_path(new)]))
 
 
 def tell_apart(texts: Sequence[str]) -> List[str]:

@@ -132,9 +132,13 @@ def _listed(folder: bytes, head: int, excluded: Excluded) -> Tuple[List[bytes], 
                 continue
             if entry.is_dir(follow_symlinks=False):
                 folders.append(entry.name)
-            elif not _leads_to_folder(entry):
+            elif entry.name not in _OF_SYSTEMS and not _leads_to_folder(entry):
                 files.append(entry.name)
-    return sorted(folders), sorted(files)
+    halves = {b"._" + it for it in files}  # macOS keeps what another system's disk has no room for in such a file
+    return sorted(folders), sorted(it for it in files if it not in halves)
+
+
+_OF_SYSTEMS = frozenset((b".DS_Store", b"Thumbs.db", b"desktop.ini"))  # files of macOS and Windows about a folder
 
 
 def _leads_to_folder(entry: "os.DirEntry[bytes]") -> bool:
