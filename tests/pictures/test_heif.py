@@ -94,9 +94,7 @@ IN_IDAT = heif(PICTURE, of_exif(A, (1,), method=1, parts=2), mime(T, (1,), metho
 # Parts that are not read, each with the bytes of its digest; None if it has none
 LEFT = {
     "other items": (
-        heif(
-            *ONE, Item(b"mime", b"text", b"text/plain\0"), Item(b"mime", CODED, RDF + b"deflate\0", (1,)), Item(b"uri ", b"a", b"urn:x\0")
-        ),
+        heif(*ONE, Item(b"mime", b"text", b"text/plain\0"), Item(b"mime", CODED, RDF + b"br\0", (1,)), Item(b"uri ", b"a", b"urn:x\0")),
         [("mime item text/plain", b"text"), ("mime item application/rdf+xml", CODED), ("uri item", b"a")],
     ),
     "another picture's item": (
@@ -281,7 +279,7 @@ PAIRS = {
                 it
                 for it in (
                     Item(b"uri ", b"a", b"urn:x\0"),
-                    Item(b"mime", CODED, RDF + b"deflate\0", (1,)),
+                    Item(b"mime", CODED, RDF + b"br\0", (1,)),
                     Item(b"mime", b"text", b"text/plain\0"),
                 )
             ),
@@ -294,6 +292,11 @@ PAIRS = {
         heif(*ONE, mime(b"a")._replace(after_name=RDF + b"deflate\0")),
         heif(*ONE, mime(b"b")._replace(after_name=RDF + b"deflate\0")),
         UNDECIDED,
+    ),
+    "XMP that is compressed, and that isn't": (
+        heif(*ONE[:2], mime(U, (1,))),
+        heif(*ONE[:2], mime(zlib.compress(U), (1,))._replace(after_name=RDF + b"deflate\0")),
+        SAME,
     ),
     "an unknown box": (heif(*ONE, behind=box(b"moov", b"a")), heif(*ONE, behind=box(b"moov", b"b")), UNDECIDED),
     "protected items": (heif(*ONE, of_exif(B, protected=1)), heif(*ONE, of_exif(B, protected=1), padding=b"-"), UNDECIDED),

@@ -6,6 +6,7 @@ that no item has.
 
 from __future__ import annotations
 
+import zlib
 from typing import Dict, List, Optional, Set, Tuple
 
 from ...model.budgets import BOX_BYTES, budget_of
@@ -117,10 +118,25 @@ class _Reader:
                 self.blocks.name(NotRead(f"{what} without a header", digest_of_parts(self.stream, ranges)))
             else:
                 self.blocks.add(EXIF, block, f"Exif item at {ranges[0][0]}", part)
-        elif item.type == _TYPE_OF_XMP and not item.encoding:
-            self.blocks.add(XMP, self._data(ranges), f"XMP item at {ranges[0][0]}", part)
+        elif item.type == _TYPE_OF_XMP and (packet := self._packet(item, ranges)) is not None:
+            self.blocks.add(XMP, packet, f"XMP item at {ranges[0][0]}", part)
         else:
             self.blocks.name(NotRead(what, digest_of_parts(self.stream, ranges)))
+
+    def _packet(self, item: Item, ranges: List[Tuple[int, int]]) -> Optional[bytes]:
+        """The packet of an item, which may be compressed as by zlib; None if it can't be read."""
+        if item.encoding not in (b"", b"deflate"):
+            return None
+        data = self._data(ranges)
+        if not item.encoding:
+            return data
+        opened = zlib.decompressobj()
+        try:
+            packet = opened.decompress(data, self.blocks.budget.left[BOX_BYTES] + 1)
+        except zlib.error:
+            return None
+        self.blocks.budget.spend(BOX_BYTES, len(packet))
+        return packet if opened.eof else None
 
     def _ranges(self, item: Item) -> Optional[List[Tuple[int, int]]]:
         """The parts of the file that an item has; None if it is elsewhere, or consists of other items."""
