@@ -294,18 +294,32 @@ class Picture:
         """The same, by which `dict(picture)` has all values."""
         return self.names
 
-    def _named(self, name: str) -> Iterator[Tuple[BlockRecord, List[Field]]]:
-        """The fields with a name, of each block that has some."""
+    def _own(self, name: str) -> Iterator[Tuple[BlockRecord, List[Field]]]:
+        """The fields with a name of this program, of each block that has some."""
         if self._names is None:
             known = {id(fields): _by_name(fields) for fields in self._lists()}
             self._names = [known[id(fields)] for _, fields in self._of_blocks()]
+        folded = _text(name).casefold()
         for (record, _), names in zip(self._of_blocks(), self._names):
-            named = names.get(_text(name).casefold())
-            if named:
-                yield record, named
+            if folded in names:
+                yield record, names[folded]
+
+    def _named(self, name: str) -> Iterator[Tuple[BlockRecord, List[Field]]]:
+        """The same, or else the fields that other programs name so."""
+        own = list(self._own(name))
+        yield from own
+        if not own:
+            from .fields.structures import with_other_name  # which few names need
+
+            for record, fields in self._of_blocks():
+                named = with_other_name(fields, name.casefold())
+                if named:
+                    yield record, named
 
     def find(self, name: str) -> Tuple[Field, ...]:
-        """All fields with a name, of all blocks: with its group or without, or the field's key, such as "dc:title", in capital or small letters."""
+        """All fields with a name, of all blocks: with its group or without, or the field's key, such as "dc:title", in capital or small letters.
+        If none has it, those that ExifTool, exiv2 or the standard name so ("EXIF:Model", "Exif.Photo.FNumber", "DateTimeDigitized"), and the
+        members of structures as ExifTool has them ("XMP-iptcExt:LocationCreatedCity")."""
         return tuple([field.in_block(record.name) for record, fields in self._named(name) for field in fields])
 
     def get(self, name: str, default: Value = None) -> Value:
@@ -314,6 +328,10 @@ class Picture:
             same = [it for it in fields if it.name == fields[0].name]
             return same[0].value if len(same) == 1 else tuple([it.value for it in same])
         return default
+
+    def _first(self, name: str) -> Value:
+        """The value of the first field with a name of this program."""
+        return next((fields[0].value for _, fields in self._own(name)), None)
 
     def __getitem__(self, name: str) -> Value:
         if name not in self:
@@ -364,10 +382,9 @@ class Picture:
         """When it was taken: DateTimeOriginal, with its part of a second and its zone if they are there."""
         from datetime import datetime, timedelta, timezone
 
-        when = self.get("ExifIFD:DateTimeOriginal")
+        when, part, zone = map(self._first, ("ExifIFD:DateTimeOriginal", "ExifIFD:SubSecTimeOriginal", "ExifIFD:OffsetTimeOriginal"))
         if not isinstance(when, datetime):
             return None
-        part, zone = self.get("ExifIFD:SubSecTimeOriginal"), self.get("ExifIFD:OffsetTimeOriginal")
         if isinstance(part, str) and part.strip().isdecimal():
             when = when.replace(microsecond=int(part.strip()[:6].ljust(6, "0")))
         match = re.fullmatch(r"Z|([+-])([01]\d|2[0-3]):([0-5]\d)", zone.strip()) if isinstance(zone, str) else None

@@ -10,7 +10,7 @@ from typing import Callable, Dict, FrozenSet, Iterable, Iterator, List, Sequence
 
 from ..model.errors import WrongUse
 from ..model.found import EXIF, IPTC, NAMES, XMP
-from .field_names import EXIF_GROUPS, XMP_GROUPS, Names, dictionary, is_possible, names_and_groups
+from .field_names import EXIF_GROUPS, XMP_GROUPS, Names, asked_name, dictionary, is_possible, names_and_groups
 from .field import Field
 from .listing import MAKER_NOTE, is_rest
 
@@ -23,7 +23,7 @@ SETS = {"saves": SAVES}
 CACHED, LONGEST_CACHED = 5000, 200  # fields whose decision is kept, and characters of such a field's key
 MOST_LISTED = 1000  # fields that are listed as left out
 
-Test = Callable[[Names, Names], bool]  # of the names of a field, and of its groups
+Test = Callable[[Names, Names, Names], bool]  # of the names of a field, of its groups, and of its names in other programs
 
 
 class UnknownField(WrongUse):
@@ -34,7 +34,8 @@ _WILD = re.compile(r"[*?]")
 
 
 def fits_of(pattern: str) -> Test:
-    """Whether a field has a name that fits a pattern. A group without a colon stands for all its fields.
+    """Whether a field has a name that fits a pattern, in this program or, of a pattern without wildcards, in another one. A group without a
+    colon stands for all its fields.
 
     >>> keywords = names_and_groups("iptc", "2:25")
     >>> fits_of("iptc:*")(*keywords), fits_of("iptc")(*keywords), fits_of("I*")(*keywords)
@@ -42,11 +43,12 @@ def fits_of(pattern: str) -> Test:
     """
     folded = pattern.casefold()
     if folded == "*":
-        return lambda names, groups: True
+        return lambda names, groups, others: True
     if not _WILD.search(folded):
-        return lambda names, groups: folded in names or folded in groups
+        asked = asked_name(folded)
+        return lambda names, groups, others: folded in names or folded in groups or asked in others
     compiled = _compiled(folded)
-    return lambda names, groups: any(map(compiled.fullmatch, _of_form(folded, names)))
+    return lambda names, groups, others: any(map(compiled.fullmatch, _of_form(folded, names)))
 
 
 def _compiled(folded: str) -> "re.Pattern[str]":
@@ -66,6 +68,8 @@ def kinds_of(pattern: str) -> FrozenSet[str]:
     (['exif'], ['iptc'], ['xmp'], 3)
     """
     group, colon, _ = pattern.casefold().partition(":")
+    if "." in group:  # as exiv2 has it
+        group = {"exif": "exif", "iptc": "iptc", "xmp": "xmp"}.get(group.partition(".")[0], group)
     if group in EXIF_GROUPS:
         return frozenset({EXIF})
     if group == "iptc" or (colon and group.isdigit()):

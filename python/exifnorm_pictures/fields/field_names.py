@@ -4,14 +4,19 @@ from __future__ import annotations
 
 import functools
 import re
-from typing import FrozenSet, List, Tuple
+from typing import Dict, FrozenSet, Iterator, List, Sequence, Tuple
 
 from ..model.texts import safe
 from ..model.xmp_names import PREFIXES
+from . import other_names
 from .names import TABLES, name_of
 from .plain_names import group_name, group_of, plain_name
 
-_OTHER_PREFIXES = {"Iptc4xmpCore": "iptcCore", "Iptc4xmpExt": "iptcExt", "MicrosoftPhoto": "microsoft"}  # ExifTool's
+# ExifTool's and exiv2's prefixes where they are others, and ExifTool's of namespaces that have none here
+_OTHER_PREFIXES = {"Iptc4xmpCore": ("iptcCore", "iptc"), "Iptc4xmpExt": ("iptcExt",), "MicrosoftPhoto": ("microsoft",)}
+_SPACES: Dict[str, str] = dict(line.split() for line in other_names.SPACES.strip().splitlines())
+_NAMES: Dict[str, Sequence[str]] = {key: names.split(",") for key, _, names in (word.partition("=") for word in other_names.NAMES.split())}
+_EXIV2 = {"main": "Exif.Image", "exif": "Exif.Photo", "gps": "Exif.GPSInfo", "interop": "Exif.Iop", "thumb": "Exif.Thumbnail"}
 
 # Properties of the Adobe XMP Specification (parts 1 and 2) and of the IPTC Photo Metadata Standard; those of Exif and TIFF have the names of
 # their tags
@@ -25,15 +30,15 @@ xmpMM:Versions photoshop:AuthorsPosition photoshop:CaptionWriter photoshop:Categ
 photoshop:Credit photoshop:DateCreated photoshop:DocumentAncestors photoshop:Headline photoshop:History photoshop:ICCProfile
 photoshop:Instructions photoshop:LegacyIPTCDigest photoshop:Source photoshop:State photoshop:SupplementalCategories
 photoshop:TransmissionReference photoshop:Urgency Iptc4xmpCore:CiAdrCity Iptc4xmpCore:CountryCode Iptc4xmpCore:CreatorContactInfo
-Iptc4xmpCore:IntellectualGenre Iptc4xmpCore:Location Iptc4xmpCore:Scene Iptc4xmpCore:SubjectCode lr:hierarchicalSubject
+Iptc4xmpCore:IntellectualGenre Iptc4xmpCore:Location Iptc4xmpCore:Scene Iptc4xmpCore:SubjectCode lr:hierarchicalSubject plus:DataMining plus:OtherConstraints
 """.split()
 
 Names = FrozenSet[str]
 _DIRECTORIES = ("main", "exif", "gps", "interop", "thumb", "iptc")
 
 
-def names_and_groups(where: str, key: str, block: str = "") -> Tuple[Names, Names]:
-    """The names of a field, and its groups, in small letters.
+def names_and_groups(where: str, key: str, block: str = "") -> Tuple[Names, Names, Names]:
+    """The names of a field, its groups, and its names in other programs, in small letters.
 
     >>> sorted(names_and_groups("iptc", "2:25")[0])
     ['2:25', 'iptc:2:25', 'iptc:keywords', 'keywords']
@@ -47,7 +52,60 @@ def names_and_groups(where: str, key: str, block: str = "") -> Tuple[Names, Name
         names.append(key)
     if block:
         names += [f"{it} ({block})" for it in (printed, safe(printed))]
-    return frozenset(map(str.casefold, names)), groups
+    own = frozenset(map(str.casefold, names))
+    return own, groups, frozenset(map(str.casefold, _others(where, key, bare))) - own
+
+
+def _others(where: str, key: str, bare: Sequence[str]) -> Iterator[str]:
+    """The names of a field as `exiftool -G1`, `exiftool -G` and exiv2 print them, where they aren't those of this program.
+
+    >>> set(_others("exif", "9004", _bare("exif", "9004"))) > {"DateTimeDigitized", "EXIF:CreateDate", "Exif.Photo.DateTimeDigitized"}
+    True
+    >>> set(_others("xmp", "exif:PixelXDimension", ["PixelXDimension"])) > {"XMP-exif:ExifImageWidth", "XMP:ExifImageWidth", "Xmp.exif.PixelXDimension"}
+    True
+    """
+    if where == "xmp":
+        prefix, name = _parted(key)
+        names = [name, *_NAMES.get(f"{prefix}:{name}", ())]
+        yield from names
+        for other in (prefix, *_OTHER_PREFIXES.get(prefix, ())) if prefix else ():
+            yield from (
+                f"{form}{it}" for it in names for form in (f"XMP-{other}:", f"{other}:" * (other not in _DIRECTORIES), f"Xmp.{other}.")
+            )
+        yield from (f"XMP-?:{it}" for it in names if f"xmp-{prefix}".casefold() not in XMP_GROUPS)
+        # "xmp:" is the prefix of a namespace, too, whose own names come first
+        yield from (f"XMP:{it}" for it in names if prefix == "xmp" or f"xmp:{it}".casefold() not in _OF_XMP)
+        return
+    if where not in _DIRECTORIES:
+        return
+    table = "main:" if where in ("exif", "thumb") else "" if where == "iptc" else f"{where}:"
+    names = [*bare, *_NAMES.get(table + key, ())]
+    record = {"1": "Iptc.Envelope.", "2": "Iptc.Application2."}.get(key.partition(":")[0], "") if where == "iptc" else f"{_EXIV2[where]}."
+    for name in names:
+        yield from (name, f"{group_of(where)}:{name}", f"{'IPTC' if where == 'iptc' else 'EXIF'}:{name}", *[record + name] * bool(record))
+
+
+def asked_name(folded: str) -> str:
+    """A name in small letters as `names_and_groups` has it: a prefix that no namespace has here is one of a file.
+
+    >>> asked_name("xmp-gimp:api"), asked_name("xmp-dc:title")
+    ('xmp-?:api', 'xmp-dc:title')
+    """
+    group, colon, name = folded.partition(":")
+    if folded.startswith("xmp.") and not colon:  # as exiv2 has it
+        _, prefix, name = f"{folded}..".split(".", 2)
+        group, name = f"xmp-{prefix}", name.rstrip(".")
+    return f"xmp-?:{name}" if name and group.startswith("xmp-") and group not in XMP_GROUPS and group != "xmp-iptc" else folded
+
+
+def _parted(key: str) -> Tuple[str, str]:
+    """The prefix of a property and its name; of a namespace without a prefix ExifTool's, or none."""
+    if not key.startswith("<"):
+        prefix, _, name = key.partition(":")
+        return prefix, name
+    uri = key[1:-1]
+    at = max(uri.rfind("/"), uri.rfind("#")) + 1
+    return _SPACES.get(uri[:at], _SPACES.get(uri[: at - 1], "")), uri[at:]
 
 
 def _bare(where: str, key: str) -> List[str]:
@@ -66,7 +124,7 @@ def _groups(where: str, key: str) -> Names:
     groups = [group_of(where), where]
     if where == "xmp" and not key.startswith("<"):
         prefix = key.partition(":")[0]
-        groups += [f"XMP-{prefix}", f"XMP-{_OTHER_PREFIXES.get(prefix, prefix)}"]
+        groups += [f"XMP-{prefix}", *(f"XMP-{other}" for other in _OTHER_PREFIXES.get(prefix, ())[:1])]
     elif where in _DIRECTORIES[:5]:
         groups.append("Exif")
     return frozenset(map(str.casefold, groups))
@@ -74,19 +132,33 @@ def _groups(where: str, key: str) -> Names:
 
 @functools.lru_cache(maxsize=1)
 def dictionary() -> Tuple[Names, Tuple[str, ...]]:
-    """All names of the standards' fields and of their groups; and those of them that are printed, as they are printed."""
+    """All names of the standards' fields and of their groups; and those of them that are printed and no numbers, as they are printed."""
     fields = [(where, key) for where, tables in TABLES.items() for table in tables for key in table]
-    fields += [("thumb", "jpeg"), ("thumb", "strip"), *(("xmp", it) for it in _XMP)]
+    fields += [("thumb", "jpeg"), ("thumb", "strip"), *(("xmp", it) for it in (*_XMP, *other_names.PROPERTIES.split()))]
     fields += [("xmp", f"{prefix}:{it}") for prefix, place in _TAGS_IN_XMP for table in TABLES[place] for it in table.values()]
+    groups = ((it.rpartition(":")[0], it.rpartition(":")[2], it) for it in _NAMES)
+    fields += [
+        place
+        for group, key, whole in groups
+        for place in ([(where, key) for where in ("main", "exif", "thumb")] if group == "main" else [_place_of(group, key, whole)])
+    ]
     names = frozenset(name for it in fields for some in names_and_groups(*it) for name in some)
-    printed = [group_name(*it) for it in fields]
+    printed = [it for it in (group_name(*it) for it in fields) if not _NUMBER.fullmatch(it.partition(":")[2])]
     return names, tuple(dict.fromkeys([*printed, *(it.partition(":")[2] for it in printed)]))
 
 
+_NUMBER = re.compile(r"0x[0-9a-f]{4}|\d+:\d+")  # of a field that has a name in other programs alone: nobody means it by another one
+
+
+def _place_of(group: str, key: str, whole: str) -> Tuple[str, str]:
+    return ("iptc", whole) if group.isdigit() else (group, key) if group in _DIRECTORIES[:5] and len(key) == 4 else ("xmp", whole)
+
+
+_OF_XMP = frozenset(it.casefold() for it in _XMP if it.startswith("xmp:"))
 _TAGS_IN_XMP = (("tiff", "main"), ("exif", "exif"), ("exif", "gps"))
 
 
-_PREFIXES = {it.casefold() for it in (*PREFIXES, *_OTHER_PREFIXES.values())}
+_PREFIXES = {it.casefold() for it in (*PREFIXES, *(one for some in _OTHER_PREFIXES.values() for one in some[:1]), *_SPACES.values())}
 EXIF_GROUPS = {"exif", *(it.casefold() for where in _DIRECTORIES[:5] for it in (where, group_of(where)))}
 XMP_GROUPS = (_PREFIXES - EXIF_GROUPS) | {f"xmp-{it}" for it in _PREFIXES}
 _NUMBER = re.compile(r"([a-z0-9]+:)?0x[0-9a-f]{4}|(iptc:)?[0-9]{1,3}:[0-9]{1,3}|(xmp:)?<.*>", re.S)
