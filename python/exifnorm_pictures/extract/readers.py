@@ -5,6 +5,7 @@ The tables in docs/RECIPES.md are made of `FORMATS`.
 
 from __future__ import annotations
 
+import os
 import re
 from typing import Callable, NamedTuple, Optional, Tuple
 
@@ -14,6 +15,7 @@ from .formats import cr3, gif, heif, jp2, jpeg, jxl, png, psd, raf, tiff, webp, 
 from .formats.streams import Stream
 
 HEAD = 16  # bytes of a file that show its format
+_BLANK, _PACKETS = b"\xef\xbb\xbf \t\r\n", (b"<?xpacket begin", b"<x:xmpmeta")  # of a file that has no name, or one without an ending
 
 Read = Callable[[Stream, bool], Blocks]  # raises `Broken` and `LeftToOthers`; the second argument is --whole
 
@@ -177,7 +179,7 @@ FORMATS: Tuple[Format, ...] = (
     ),
     Format(
         "NAME.xmp",
-        lambda _, path: path.lower().endswith(b".xmp"),
+        lambda head, path: path.lower().endswith(b".xmp") or (not os.path.splitext(path)[1] and head.lstrip(_BLANK).startswith(_PACKETS)),
         xmp_file.read,
         xmp="the whole file",
     ),
