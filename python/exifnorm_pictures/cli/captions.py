@@ -11,6 +11,7 @@ from ..comparison.wording import tell_apart
 from ..fields.labels import LABEL_WORDS, POSITION, Caption
 from ..fields.places import Place
 from ..fields.shown import Shown
+from ..model.found import SIDECAR
 from ..model.texts import Members, escaped, shown_path
 from ..picture import Picture
 from .columns import width
@@ -80,7 +81,7 @@ def _lines(picture: Picture) -> Iterator[str]:
         mark = f"   <- {conflict.detail or 'they differ'}" if conflict and not conflict.is_alike else ""
         every = together([one for one in picture.labelled.texts if one.label == word])
         for ours, line in zip(every, tell_apart([ours[0].line for ours in every])):
-            is_compared = not all(one.is_extra or one.block for one in ours)
+            is_compared = not all(one.is_extra or (one.block and not one.block.endswith(SIDECAR)) for one in ours)
             note = f"   <- {_OWN}" if any(one.is_own for one in ours) else mark if is_compared else ""
             yield f"{_padded(word)} {escaped(line)}   [{origins(ours)}]{note}"
     if place := _position(picture):

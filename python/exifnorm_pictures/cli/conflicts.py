@@ -12,7 +12,7 @@ from ..comparison.conflicts import Conflict, ConflictKind, conflicts
 from ..comparison.wording import tell_apart
 from ..fields.choosing import UnknownField
 from ..fields.labels import LABELS, POSITION, label_of
-from ..model.found import STANDARDS, damage
+from ..model.found import SIDECAR, STANDARDS, damage
 from ..model.texts import Members, escaped, pictures_in_words, shown_path
 from ..picture import Picture
 from .captions import text_members
@@ -40,6 +40,7 @@ class _Counts:
     labels: "Counter[str]" = field(default_factory=Counter)
     kinds: "Counter[ConflictKind]" = field(default_factory=Counter)
     left_out: "Counter[str]" = field(default_factory=Counter)  # contradictions
+    sidecars: int = 0  # pictures with texts of an XMP sidecar, which are compared, too
 
 
 def run(arguments: argparse.Namespace) -> int:
@@ -82,6 +83,7 @@ def _chosen(arguments: argparse.Namespace) -> Set[str]:
 def _count(counts: _Counts, picture: Picture, counted: Sequence[Conflict]) -> None:
     counts.pictures += not picture.problem
     counts.not_wholly_read += is_open(picture)
+    counts.sidecars += any(one.block.endswith(SIDECAR) for one in picture.labelled.texts)
     counts.in_several_standards += bool(conflicts(picture.labelled.texts, picture.labelled.located))
     real = [one.label for one in counted if one.is_real]
     counts.contradicting += bool(real)
@@ -110,7 +112,7 @@ def _unread(picture: Picture) -> List[str]:
 def _texts(conflict: Conflict) -> List[Cell]:
     texts: Dict[str, List[str]] = {}
     for text in conflict.texts:
-        texts.setdefault(text.standard, []).append(text.line)
+        texts.setdefault(text.standard, []).append(text.line + f" ({text.block})" * bool(text.block))
     return ["; ".join(texts.get(standard, [])) for standard in STANDARDS]
 
 
@@ -140,6 +142,8 @@ def _print(picture: Picture, conflicts: Sequence[Conflict]) -> None:
 
 def _summary(counts: _Counts, every: bool) -> Iterator[str]:
     yield f"{pictures_in_words(counts.pictures)} read, {counts.in_several_standards:,} of them with a label in more than one of Exif, IPTC and XMP"
+    if counts.sidecars:
+        yield f"{pictures_in_words(counts.sidecars)} with an XMP sidecar, whose texts are compared with those of the picture"
     if counts.contradicting:
         yield f"{pictures_in_words(counts.contradicting)} with a contradiction ({_listed(counts.labels)})"
     if counts.differing_in_form:

@@ -10,7 +10,7 @@ from typing import Dict, Iterator, List, NamedTuple, Optional, Sequence, Tuple
 
 from ..fields.labels import DATE, LABELS, POSITION, Caption, Label
 from ..fields.places import Located, is_same_place, metres_apart
-from ..model.found import EXIF, IPTC, NAMES, STANDARDS, XMP
+from ..model.found import EXIF, IPTC, NAMES, SIDECAR, STANDARDS, XMP
 from ..model.words import Word
 
 
@@ -72,17 +72,22 @@ class _How(NamedTuple):
 
 
 def conflicts(texts: Sequence[Caption], positions: Positions = (None, None)) -> List[Conflict]:
-    """The labels with texts in two standards at least, and the position if Exif and XMP have one."""
+    """The labels with texts in two standards at least, and the position if Exif and XMP have one. An XMP sidecar counts beside them."""
     by_label: Dict[str, List[Caption]] = {}
     for text in texts:
-        if not text.block and not text.is_extra:
+        if not text.is_extra and (not text.block or text.block.endswith(SIDECAR)):
             by_label.setdefault(text.label, []).append(text)
-    several = {word: ours for word, ours in by_label.items() if len(ours) > 1 and len({it.standard for it in ours}) > 1}
+    several = {word: ours for word, ours in by_label.items() if len(ours) > 1 and len(set(map(_source, ours))) > 1}
     of_position = list(_of_positions(*positions))
     if not several:
         return of_position
     due = [(label, several[label.word]) for label in LABELS if label.word in several]
     return [*(_conflict(label, ours) for label, ours in due if not all(it.is_empty for it in ours)), *of_position]
+
+
+def _source(text: Caption) -> Tuple[str, str]:
+    """The standard that a text is of, or the sidecar."""
+    return text.standard, text.block
 
 
 def _of_positions(exif: Optional[Located], xmp: Optional[Located]) -> Iterator[Conflict]:
@@ -104,7 +109,7 @@ def _conflict(label: Label, ours: Sequence[Caption]) -> Conflict:
     hows += [_How(ConflictKind.CAMERA, f"{it.field} has a camera's own text") for it in ours if it.is_own]
     texts = [it for it in ours if not it.is_empty and not it.is_own]
     texts.sort(key=lambda it: _CLEAREST.index(it.standard))
-    hows += [_pair(label, one, other) for at, one in enumerate(texts) for other in texts[at + 1 :] if one.standard != other.standard]
+    hows += [_pair(label, one, other) for at, one in enumerate(texts) for other in texts[at + 1 :] if _source(one) != _source(other)]
     kind = max((it.kind for it in hows), key=_ORDER.index, default=ConflictKind.ALIKE)
     details = dict.fromkeys(it.detail for it in hows if it.detail and (it.kind == kind or kind != ConflictKind.DIFFERENT))
     worse = tuple(it.worse for it in hows if it.worse)

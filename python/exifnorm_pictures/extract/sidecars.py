@@ -15,11 +15,11 @@ from typing import Callable, Dict, Iterable, Iterator, List, NamedTuple, Optiona
 
 from ..files import opening
 from ..model.budgets import LIMITS, PACKET_BYTES, XMP_BYTES
-from ..model.found import XMP, Blocks, FoundBlock, NotRead, ordinal
+from ..model.found import SIDECAR, XMP, Blocks, FoundBlock, NotRead, ordinal
 from ..model.records import RACY, Stamp
 from . import raw_files
 
-NAME = "XMP sidecar"
+NAME = SIDECAR
 MOST = 100  # sidecars of a picture that are read; real ones have one for each of their versions
 _RAW = "|".join(raw_files.ALL).encode()
 _RAW_NAME = rb"\.(?:%s)\Z" % _RAW  # regular expressions, which are compiled at the first use, that of --sidecars

@@ -14,6 +14,7 @@ FEW = 8  # blocks or parts of a usual picture at most; more are counted, which t
 EXIF, IPTC, XMP = KINDS = ("exif", "iptc", "xmp")  # the kinds of blocks, as catalogues and JSON call them; the engine says iim
 NAMES = {EXIF: "Exif", IPTC: "IPTC", XMP: "XMP"}
 XMP_FILE = "XMP"  # the type of a file that is one packet: it has no picture
+SIDECAR = "XMP sidecar"  # the name of a block of a file beside the picture
 STANDARDS = tuple(NAMES.values())  # the first one that has a text wins where there is space for one
 OWN, EXIFTOOL, EXIV2 = "own", "exiftool", "exiv2"  # which program extracted a block
 PROGRAMS = {EXIFTOOL: "ExifTool", EXIV2: "exiv2"}
