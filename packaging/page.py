@@ -63,7 +63,7 @@ def tables() -> dict[str, Any]:
     return {
         "groups": plain_names._GROUPS,
         "names": {**{where: names_of(where) for where in names.TABLES}, "thumb": {**names_of("thumb"), **plain_names._PICTURES}},
-        "words": plain_values._WORDS,
+        "words": plain_values.WORDS,
         "causes": {cause.name: [cause.sentence, cause.meaning, cause.remedy, cause.cost] for cause in causes._CAUSES},
         "heads": {name: list(texts) for name, texts in OF_HEADS.items()},
         "packets": {name: [sentence, "", remedy, ""] for name, (sentence, remedy) in OF_PACKETS.items()},

@@ -22,5 +22,9 @@ FIELDS = {
     "comment": ["ExifIFD:UserComment"],
     "serial": ["ExifIFD:SerialNumber", "ExifIFD:LensSerialNumber", "XMP-aux:SerialNumber", "XMP-exifEX:LensSerialNumber"],
     "owner": ["ExifIFD:OwnerName", "XMP-aux:OwnerName", "XMP-exifEX:OwnerName"],
+    "rights end": ["IPTC:ExpirationDate", "XMP-plus:LicenseEndDate"],
+    "embargo": ["IPTC:ReleaseDate"],
+    "digital source": ["XMP-iptcExt:DigitalSourceType"],
+    "data mining": [],  # which the ExifTool of Debian 12 can't write
     "position": ["GPS:GPSLatitude", "XMP-exif:GPSLongitude"],
 }

@@ -4,13 +4,13 @@ import subprocess
 from pathlib import Path
 
 import pytest
-from exifnorm_pictures.fields.labels import POSITION, PRIVATE, fields_by_label
+from exifnorm_pictures.fields.labels import POSITION, OF_FIELDS, fields_by_label
 from labelled_fields import FIELDS
 from made_files import app1, exif, jpeg
 from studio import TOP, needs, put
 from test_captions import data_set, with_record, with_texts
 
-VALUES = {"date created": "2001:02:03 04:05:06", "position": "12.5"}
+VALUES = {"date created": "2001:02:03 04:05:06", "position": "12.5", "rights end": "2001:02:03", "embargo": "2001:02:03"}
 BASE = jpeg(with_texts(artist=b"Anna"), with_record(data_set(15, b"one")))
 
 
@@ -20,7 +20,7 @@ def test_each_label_has_its_row_and_its_documents(checks):
         checks.check(label, label in FIELDS, "it has no fields in labelled_fields.py")
         for page in (
             ("docs/exifnorm-pictures.1",)
-            if label in (POSITION, *PRIVATE)
+            if label in (POSITION, *OF_FIELDS)
             else ("docs/JSON.md", "docs/CATALOGUE.md", "docs/exifnorm-pictures.1")
         ):
             checks.check(label, label in (Path(TOP) / page).read_text(encoding="utf-8"), f"{page} doesn't name it")
@@ -35,7 +35,7 @@ def test_each_field_of_a_label(folder, called):
     words = [f"-{field}={VALUES.get(label, 'Other')}\n{folder}/after/{name}\n-execute" for name, (label, field) in names.items()]
     (folder / "words").write_text("\n".join(words), encoding="utf-8")
     subprocess.run(["exiftool", "-q", "-@", "words", "-common_args", "-overwrite_original"], cwd=folder, check=True, capture_output=True)
-    for label in FIELDS:
+    for label in filter(FIELDS.get, FIELDS):
         ours = [name for name, (of, _) in names.items() if of == label]
         (folder / "list").write_text("".join(f"{it}\n" for it in ours), encoding="utf-8")
         status, printed, _ = called("changed", "before", "after", "--only", label, "--files-from", "list", "--no-exiftool")

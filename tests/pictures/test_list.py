@@ -59,6 +59,7 @@ def asked(called):
     def ask(*words):
         status, printed, _ = called("list", "c", "--json", *words)
         *listed, last = map(json.loads, printed.splitlines())
+        assert len(last.pop("may_fit")) == last["not_known"]
         return [it["path"].rpartition("/")[2] for it in listed], status, last
 
     return ask

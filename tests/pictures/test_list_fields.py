@@ -163,7 +163,7 @@ XMP_ANGLES = "xmlns:exif='http://ns.adobe.com/exif/1.0/' exif:GPSLatitude='{}' e
         (with_gps(LATITUDE, LONGITUDE), True),
         (with_gps((1, ASCII, b"N\0"), (2, RATIONAL, angle(97, 30, 0)), (3, ASCII, b"E\0"), LONGITUDE), True),
         (jpeg(app1_xmp(xmp("", XMP_ANGLES.format("7.5", "8.25")))), True),
-        (with_gps((1, ASCII, b"N\0"), LATITUDE, (3, ASCII, b"E\0")), False),
+        (with_gps((1, ASCII, b"N\0"), LATITUDE, (3, ASCII, b"E\0")), True),
         (with_gps((2, RATIONAL, bytes(24)), (4, RATIONAL, bytes(24))), False),
         (with_gps((1, ASCII, b"N\0"), LATITUDE, (3, ASCII, b"E\0"), LONGITUDE), None),
         (jpeg(app1_xmp(xmp("", XMP_ANGLES.format("7,30N", "8,15E")))), None),
@@ -171,7 +171,7 @@ XMP_ANGLES = "xmlns:exif='http://ns.adobe.com/exif/1.0/' exif:GPSLatitude='{}' e
 )
 def test_angles_that_make_no_position(picture, is_unclear, folder, called):
     """Whether the picture has a position isn't known, since other programs may show one: no rule and no question takes it for one without, and
-    none for one with a position. An angle alone, or one of 0/0 as phones write it, shows no place. None: it has a position."""
+    none for one with a position. So it is of an angle alone; one of 0/0, as phones write it, shows no place. None: it has a position."""
     put(folder / "p", {"a.jpg": picture})
     called("index", "p", "--catalogue", "c", "--quiet")
     expected = {True: (0, 0, 1), False: (0, 1, 0), None: (1, 0, 0)}[is_unclear]

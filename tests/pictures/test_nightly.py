@@ -182,7 +182,7 @@ def test_a_rule_that_is_new_is_no_news(archive, night, folder):
 
 def test_what_may_break_a_rule_is_told_once(archive, night, folder):
     """A picture with a refused block: on the night on which it comes, and not when it moves."""
-    (folder / "rules").write_text("every picture needs credit\n")
+    (folder / "rules").write_text("every picture needs caption\n")
     night("--rules", "rules")
     put(archive, {"web/refused.jpg": jpeg(app1(b"II*\0\xff\xff\0\0"))})
     assert night("--rules", "rules")[:2] == (2, {("new", None): 1, ("not wholly read", None): 1})

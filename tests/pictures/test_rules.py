@@ -247,7 +247,7 @@ def test_each_mistake_is_named(folder, called):
         "every pictures need title",
         "date not after today",
         'copyright = "Museum"',
-        "Artist is Anna",
+        "Artst is Anna",
         "title like ####",
         "position and serial never",
         "title is 'A",
@@ -257,7 +257,7 @@ def test_each_mistake_is_named(folder, called):
     assert (status, printed) == (3, "")
     for number, line in enumerate(wrong, 2):
         assert f"line {number}: " in messages and f"\n  {line}\n" in messages
-    meant = {3: "creator", 12: "every picture needs", 13: "date created", 14: " is ", 15: "creator", 16: "comment", 17: "comma"}
+    meant = {3: "creator", 12: "every picture needs", 13: "date created", 14: " is ", 15: "Artist", 16: "comment", 17: "comma"}
     for number, proposal in meant.items():
         assert proposal in messages.split(f"line {number}: ")[1].splitlines()[0], number
     assert messages.count("begins a comment") == 1

@@ -68,7 +68,7 @@ CASES = {
     ("compare", 1): ("good", "compare p/a.jpg p/b.jpg"),
     ("compare", 2): ("refused", "compare p/a.jpg p/b.jpg --only IFD0:Artist"),
     ("list", 0): ("good", INDEX, "list c --without credit"),
-    ("list", 2): ("refused", INDEX, "list c --without credit"),
+    ("list", 2): ("refused", INDEX, "list c --without creator"),
     ("check", 0): ("good", INDEX, "check rules c"),
     ("check", 1): ("two creators", INDEX, "check rules c"),
     ("check", 2): ("refused", INDEX, "check rules c"),

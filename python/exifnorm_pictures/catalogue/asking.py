@@ -13,14 +13,21 @@ from operator import and_, itemgetter, or_
 from typing import Callable, Dict, Iterator, List, NamedTuple, Optional, Sequence, Tuple
 
 from ..fields.folding import bare, folded
-from ..fields.labels import DAMAGE, DATE, POSITION, UNCLEAR_POSITION, fields_by_label, is_in_maker_notes
+from ..fields.forms import clock_of, number_of, words_of
+from ..fields.choosing import kinds_of
+from ..fields.dates import EXPECTED, asked_date, plain_date
+from ..fields.labels import DAMAGE, DATED, POSITION, UNCLEAR_POSITION, fields_by_label, is_in_maker_notes
 from ..fields.listing import LONGEST_TEXT
-from ..fields.questions import All, Any, Condition, Not, Question, With, fields_in, labels_of
+from ..fields.questions import ORDERED, All, Any, Condition, Not, Question, Unsure, With, WrongQuestion, conditions_of, fields_in, labels_of
+from ..fields.plain_names import group_name
 from ..model.columns import Damaged
+from ..model.found import EXIF, IPTC, XMP
 from ..model.numbers import Numbers
 from ..model.problems import NOT_THERE, Problem
 from ..model.records import has, has_short
 from ..model.words import Word
+from .field_texts import DATE as FIELD_DATE
+from .field_texts import NUMBER, OTHER, SHOWN, Places, add_fields
 from .kept_texts import Report, make_ready, say_nothing
 from .store import HEAD, NOT_WHOLE, Catalogue
 
@@ -40,14 +47,23 @@ class Unread(Word):
     """What makes it unknown whether a picture has a text."""
 
     PICTURE = ("picture",)  # nobody has read its picture, or none of its format is read, so that nobody knows whether it is damaged
-    PARTS = ("parts",)  # it was not wholly read, or it has texts that aren't kept
+    PARTS = ("parts",)  # a part of the file was not read, or it has texts that aren't kept
+    EXIF = (EXIF,)  # its block of Exif, which may have such a text, was refused
+    IPTC = (IPTC,)
+    XMP = (XMP,)
     POSITION = ("position",)  # it has a latitude and a longitude that make no position, and that other programs may show
     MAKER_NOTE = ("MakerNote",)  # of which ExifTool wasn't asked, and which may have a serial number or an owner
 
 
 _UNREAD = {
     Unread.PICTURE: ("SELECT id FROM pictures WHERE damage = '' AND ifnull(coded_picture, '') = ''",),
-    Unread.PARTS: (f"SELECT id FROM pictures WHERE {NOT_WHOLE}", "SELECT picture FROM texts WHERE label = ''"),
+    Unread.PARTS: (
+        f"SELECT id FROM pictures WHERE ({NOT_WHOLE}) AND (problem IS NOT NULL OR other_not_read IS NOT '')",
+        "SELECT picture FROM texts WHERE label = ''",
+    ),
+    Unread.EXIF: (f"SELECT id FROM pictures WHERE ({NOT_WHOLE}) AND exif IS NULL AND exif_repaired IS NULL",),
+    Unread.IPTC: (f"SELECT id FROM pictures WHERE ({NOT_WHOLE}) AND iptc IS NULL",),
+    Unread.XMP: (f"SELECT id FROM pictures WHERE ({NOT_WHOLE}) AND xmp IS NULL",),
     Unread.POSITION: (f"SELECT picture FROM texts WHERE label = '{UNCLEAR_POSITION}'",),
     Unread.MAKER_NOTE: ("SELECT id FROM pictures WHERE maker_notes != '' AND id NOT IN (SELECT picture FROM maker_notes)",),
 }
@@ -55,7 +71,9 @@ _UNREAD = {
 
 def _reasons(labels: Sequence[str]) -> List[Unread]:
     """What can make it unknown whether a picture has a text of some labels."""
-    reasons = [Unread.PICTURE] * (DAMAGE in labels) + [Unread.PARTS] * (set(labels) != {DAMAGE})
+    kinds = {kind for label in labels if label != DAMAGE for name in fields_by_label().get(label, (label,)) for kind in kinds_of(name)}
+    reasons = [Unread.PICTURE] * (DAMAGE in labels) + [Unread.PARTS] * bool(kinds)
+    reasons += [reason for reason in (Unread.EXIF, Unread.IPTC, Unread.XMP) if str(reason) in kinds]
     reasons += [Unread.POSITION] * (POSITION in labels)
     return reasons + [Unread.MAKER_NOTE] * any(map(is_in_maker_notes, labels))
 
@@ -117,15 +135,16 @@ class _Finder:
         """The pictures with a text that compares so."""
         numbers = Numbers()
         for table in self._catalogue.all_texts:
-            if question.comparison in _TESTS:
-                test, value = _test_of(question)
-                numbers |= self._short(table, question.label, test.format("head"), value)
-                parts = [_Part(f"long = 1 AND {test.format(_WHOLE)}", (value,))]
-            else:
-                parts = _compared(question)
-            for part in parts:
-                query = f"SELECT picture FROM {table} WHERE label = ? AND {part.sql}"
-                numbers |= self._catalogue.numbers(query, (question.label, *part.values))
+            for label in _labels(question.label):
+                if question.comparison in _TESTS:
+                    test, value = _test_of(question)
+                    numbers |= self._short(table, label, test.format("head"), value)
+                    parts = [_Part(f"long = 1 AND {test.format(_WHOLE)}", (value,))]
+                else:
+                    parts = _compared(question, label)
+                for part in parts:
+                    query = f"SELECT picture FROM {table} WHERE label = ? AND {part.sql}"
+                    numbers |= self._catalogue.numbers(query, (label, *part.values))
         return numbers
 
     def _short(self, table: str, label: str, test: str, value: str) -> Numbers:
@@ -158,15 +177,46 @@ def _test_of(question: Condition) -> Tuple[str, str]:
     return _TESTS[question.comparison], value.replace("[", "[[]") if question.comparison == "like" else value
 
 
-def _compared(question: Condition) -> List[_Part]:
+def is_field(word: str) -> bool:
+    """Whether a word of a question stands for fields, whose texts are made for it."""
+    return word not in fields_by_label() and word != DAMAGE
+
+
+def _labels(word: str) -> List[str]:
+    """The labels that have the texts of a word in all their forms."""
+    return [before + word for before in ("", SHOWN, OTHER, NUMBER, FIELD_DATE)] if is_field(word) else [word]
+
+
+def _compared(question: Condition, label: str) -> List[_Part]:
     """The texts of a comparison, as conditions that the index can answer; one of them has to hold."""
     value = folded(question.value)
-    if question.label == DATE and question.comparison in _DATES:
-        return [part._replace(sql=f"{part.sql} AND head GLOB '[0-9][0-9][0-9][0-9]*'") for part in _DATES[question.comparison](value)]
+    if question.label in DATED and question.comparison in _DATES and plain_date(question.value):
+        return [part._replace(sql=f"{part.sql} AND {_YEAR}") for part in _DATES[question.comparison](value)]
+    if is_field(question.label):
+        return _compared_field(question, label)
     if question.comparison == "=":
         return _equal(value)
     number = f"CAST(head AS REAL) {question.comparison} ?"
     return [_Part(f"long = 0 AND {number} AND head GLOB '[-+0-9]*' AND head NOT GLOB '?*[^0-9.]*'", (float(value),))]
+
+
+_YEAR, _CLOCK = "head GLOB '[0-9][0-9][0-9][0-9]*'", "head GLOB '[0-9][0-9]:*'"
+
+
+def _compared_field(question: Condition, label: str) -> List[_Part]:
+    """The same of a field: numbers with numbers, dates with dates, times with times, and if they are to be equal also texts with texts."""
+    value = question.value
+    if label.startswith(FIELD_DATE):
+        compare = _DATES[question.comparison]
+        day, clock = asked_date(value), clock_of(value)
+        dates = [part._replace(sql=f"{part.sql} AND {_YEAR}") for part in (compare(folded(day)) if day else ())]
+        return dates + [part._replace(sql=f"{part.sql} AND {_CLOCK}") for part in (compare(folded(clock)) if clock else ())]
+    number = number_of(value) if label.startswith(NUMBER) else None
+    if number is not None:
+        if question.comparison == "=":
+            return [_Part("CAST(head AS REAL) BETWEEN ? AND ?", (number.value - number.last, number.value + number.last))]
+        return [_Part(f"CAST(head AS REAL) {question.comparison} ?", (number.value,))]
+    return _equal(folded(value)) if question.comparison == "=" else []
 
 
 def _equal(value: str) -> List[_Part]:
@@ -196,6 +246,12 @@ _DATES: Dict[str, Callable[[str], List[_Part]]] = {
     ">": _after,
     ">=": lambda value: [*_within(value), *_after(value)],
 }
+
+
+# Whether a picture has a text of a field that is no number and no date
+_FREE = """SELECT EXISTS (SELECT 1 FROM texts t WHERE t.label = ?1
+    AND NOT EXISTS (SELECT 1 FROM texts n WHERE n.label IN (?2, ?3) AND n.picture = t.picture))"""
+_EXAMPLES = "SELECT text FROM texts WHERE label = ? GROUP BY text ORDER BY count(*) DESC, text LIMIT 3"
 
 
 class Fitting(NamedTuple):
@@ -284,16 +340,19 @@ class Answer:
         since: Optional[str] = None,
         report: Report = say_nothing,
         shown: Sequence[str] = (),
+        in_words: bool = False,
     ) -> None:
         """It is about all pictures, or those that were new or changed in a run that began at `since`, in UTC, or later. `shown` are further
-        labels and fields whose texts are asked for later."""
+        labels and fields whose texts are asked for later, those of fields in the words of `show` or as `exiftool -n` has them."""
         make_ready(catalogue, report)
+        self._catalogue, self._in_words = catalogue, in_words
         fields = fields_in([*(labels_of(question) if question else []), *shown])
+        self._places: Places = {}
         if fields:
-            from .field_texts import add_fields  # which few questions need
-
-            add_fields(catalogue, fields, report)
-        self._catalogue = catalogue
+            self._places = add_fields(catalogue, fields, report)
+        for word in fields:
+            if isinstance(word, Unsure) and not self._places[word]:
+                raise word.why
         self.labels = labels_of(question) if question else []  # that are asked for
         self._finder = _Finder(catalogue)
         self._total = catalogue.count()
@@ -305,6 +364,37 @@ class Answer:
         self._are_all = question is None and not ~self._scope
         sets = self._finder.of(question) if question else _Sets(self._scope, self._scope)
         self._sure, self._may = sets.sure & self._scope, sets.may & self._scope
+        for condition in conditions_of(question) if question else ():
+            self._refuse_impossible(condition)
+
+    def absent(self) -> List[str]:
+        """The words of fields that no picture has."""
+        return [word for word, places in self._places.items() if not places]
+
+    def ambiguous(self) -> Dict[str, List[str]]:
+        """The words that stand for several fields of the pictures, and the names of these; no patterns, which are meant so."""
+        names = {word: sorted({group_name(*place) for place in places}) for word, places in self._places.items()}
+        return {word: of_word for word, of_word in names.items() if len(of_word) > 1 and not {"*", "?"} & set(word)}
+
+    def _refuse_impossible(self, condition: Condition) -> None:
+        """Raises `WrongQuestion` if no text of a field can ever compare so: it is a number or a date in each picture, and the value is none, and
+        no word for a number either."""
+        word, value = condition.label, folded(condition.value)
+        if word in DATED and condition.comparison == "=" and not plain_date(value) and not self._finder.of(condition).may:
+            raise WrongQuestion(f"the {word} of no picture is {condition.value!r}; expected: {EXPECTED}")
+        places = self._places.get(word, set())
+        if not places or condition.comparison not in ("=", *ORDERED) or self._finder.of(condition).sure:
+            return
+        if number_of(condition.value) or asked_date(condition.value) or clock_of(condition.value):
+            return
+        words = {number: names for place in sorted(places) for number, names in words_of(*place).items()}
+        if any(value == folded(name) for names in words.values() for name in names):
+            return
+        if self._catalogue.number_of(_FREE, (SHOWN + word, NUMBER + word, FIELD_DATE + word)):
+            return
+        examples = [row[0] for row in self._catalogue.rows(_EXAMPLES, (SHOWN + word,))]
+        known = "; ".join(f"{number} {names[0]}" for number, names in words.items()) or ", ".join(map(repr, examples))
+        raise WrongQuestion(f"{word} is never {condition.value!r}: {'it is one of ' if words else 'pictures have '}{known}")
 
     def count(self) -> int:
         """How many pictures the question is about."""
@@ -313,6 +403,12 @@ class Answer:
     def not_known(self) -> int:
         """Of how many pictures it isn't known whether they fit, because they were not wholly read."""
         return self._not_known().count(self._total)
+
+    def paths_not_known(self, most: Optional[int] = None) -> Iterator[bytes]:
+        """These pictures by path, or the first ones of them."""
+        self._put("not_known", self._not_known() & self._scope)
+        query = "SELECT path FROM temp.not_known n JOIN pictures p ON p.id = n.picture ORDER BY path LIMIT ?"
+        yield from (row[0] for row in self._catalogue.rows(query, (-1 if most is None else most,)))
 
     def _not_known(self) -> Numbers:
         return self._finder.unread(self.labels) & self._may & ~self._sure if self.labels else Numbers()
@@ -403,9 +499,13 @@ class Answer:
     def _shown_texts(self, label: str, pictures: Sequence[Tuple[int, bytes]]) -> Iterator[Optional[Tuple[str, ...]]]:
         """The texts of a label of each picture in the table of those that are shown next."""
         query = " UNION ALL ".join(_SHOWN.format(table) for table in self._catalogue.all_texts)
-        rows = self._catalogue.rows(f"{query} ORDER BY place, number", (label,), _numbered_text)
+        rows = self._catalogue.rows(f"{query} ORDER BY place, number", (self._printed(label),), _numbered_text)
         for (picture, _), (_, of_picture) in zip(pictures, groupby(rows, key=itemgetter(0))):
             yield self._or_not_known(picture, label, [text for _, number, text in of_picture if number is not None])
+
+    def _printed(self, label: str) -> str:
+        """The label of the texts that are printed for a label or a field."""
+        return SHOWN + label if self._in_words and is_field(label) else label
 
     def _or_not_known(self, number: int, label: str, texts: Sequence[str]) -> Optional[Tuple[str, ...]]:
         return None if not texts and number in self._lacking_of(label) else tuple(texts)
@@ -439,7 +539,9 @@ class Answer:
     def texts_of(self, number: int, labels: Sequence[str]) -> Texts:
         """The texts of a picture, by its number, for some labels."""
         query = "SELECT text FROM texts WHERE label = ? AND long IN (0, 1) AND picture = ? ORDER BY number"
-        return [self._or_not_known(number, label, list(self._catalogue.rows(query, (label, number), _text))) for label in labels]
+        return [
+            self._or_not_known(number, label, list(self._catalogue.rows(query, (self._printed(label), number), _text))) for label in labels
+        ]
 
     def _of_fitting(self) -> str:
         """The texts of the pictures that fit, in SQL. If all do, no picture is looked up."""
@@ -461,7 +563,7 @@ class Answer:
                 base.execute(
                     f"INSERT INTO temp.counted SELECT text, count({counted}), bare(text) FROM texts"
                     f" WHERE label = ? AND {kind} AND {fits} GROUP BY head, text",
-                    (label,),
+                    (self._printed(label),),
                 )
             for statement in _ALIKE:
                 base.execute(statement)

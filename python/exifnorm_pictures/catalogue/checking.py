@@ -9,12 +9,16 @@ from dataclasses import replace
 from itertools import groupby
 from typing import Dict, Iterator, List, NamedTuple, Optional, Sequence, Tuple
 
+from ..fields.dates import is_impossible
 from ..fields.folding import folded
 from ..fields.labels import POSITION, UNCLEAR_POSITION
+from ..fields.questions import Unsure, fields_in
 from ..fields.rules import AFTER, BEFORE, LENGTH, LIKE, NEEDS, NEVER, VALUES, Rule
 from ..model.records import has, has_short
 from ..model.texts import escaped, pictures_in_words, shown_path
-from .asking import IN_SCOPE, has_text, unread
+from .asking import IN_SCOPE, has_text, is_field, unread
+from .field_texts import DATE as FIELD_DATE
+from .field_texts import EACH, OTHER, SHOWN, add_fields
 from .kept_texts import Report, make_ready, say_nothing
 from .store import HEAD, Catalogue, root_of_row
 
@@ -51,10 +55,16 @@ class Checked:
 
     def __init__(self, catalogue: Catalogue, rules: Sequence[Rule], report: Report = say_nothing) -> None:
         make_ready(catalogue, report)
+        fields = fields_in(label for rule in rules for label in rule.labels)
+        places = add_fields(catalogue, fields, report) if fields else {}
+        for word in fields:
+            if isinstance(word, Unsure) and not places[word]:
+                raise word.why
         self._catalogue = catalogue
         self.rules = rules
         base = catalogue.base
         base.create_function("composed", 1, _composed, deterministic=True)
+        base.create_function("is_impossible", 1, _is_impossible, deterministic=True)
         with catalogue.guarded():
             base.execute("CREATE TEMP TABLE broken (path BLOB, number INTEGER, label TEXT, text TEXT)")
             base.execute("CREATE TEMP TABLE allowed (number INTEGER, text TEXT, PRIMARY KEY (number, text)) WITHOUT ROWID")
@@ -72,10 +82,10 @@ class Checked:
             query += " AND p.id NOT IN (SELECT picture FROM texts WHERE label = ?)"
             values: Tuple[object, ...] = (label,)
         else:
-            test, given = self._test(number, rule)
+            test, given = self._test(number, rule, label)
             query = "SELECT p.path, p.root, t.text FROM texts t JOIN pictures p ON p.id = t.picture"
             query += f" WHERE t.label = ? AND {test} AND {IN_SCOPE}"
-            values = (label, *given)
+            values = (self._label_of(rule, label), *given)
         for path, root, text in self._catalogue.rows(query, values):
             has(bytes, path, root)
             if text is not None:
@@ -83,8 +93,12 @@ class Checked:
             if rule.is_about(_below(path, root)):
                 yield path, text
 
-    def _test(self, number: int, rule: Rule) -> Tuple[str, Tuple[object, ...]]:
-        """What a text has to be in SQL to break a rule, and its values."""
+    def _label_of(self, rule: Rule, label: str) -> str:
+        """The label of the texts that a rule is about: of a field those that `show` prints, or its dates."""
+        return label if not is_field(label) else (FIELD_DATE if rule.kind in (AFTER, BEFORE) else SHOWN) + label
+
+    def _test(self, number: int, rule: Rule, label: str) -> Tuple[str, Tuple[object, ...]]:
+        """What a text has to be in SQL to break a rule, and its values. A date that no calendar has breaks each rule of dates."""
         if rule.kind == NEVER:
             return "1", ()
         if rule.kind == LIKE:
@@ -94,15 +108,21 @@ class Checked:
         if rule.kind == LENGTH:
             return "length(composed(t.text)) > ?", (int(rule.values[0]),)
         if rule.kind == AFTER:
-            return f"{_DATED} AND t.head > ?", (rule.values[0] + _LAST,)
+            return f"(is_impossible(t.text) OR {_DATED} AND t.head > ?)", (rule.values[0] + _LAST,)
         if rule.kind == BEFORE:
-            return f"{_DATED} AND t.head < ? AND substr(?, 1, length(t.head)) != t.head", (rule.values[0], rule.values[0])
+            before = f"{_DATED} AND t.head < ? AND substr(?, 1, length(t.head)) != t.head"
+            return f"(is_impossible(t.text) OR {before})", (rule.values[0], rule.values[0])
         assert rule.kind == VALUES
         texts = {(number, unicodedata.normalize("NFC", text)) for text in rule.values}
         with self._catalogue.guarded():
             self._catalogue.base.executemany("INSERT OR IGNORE INTO temp.allowed VALUES (?, ?)", texts)
         allowed = "EXISTS (SELECT 1 FROM temp.allowed a WHERE a.number = ? AND a.text = {})"
-        return f"NOT ({allowed.format('t.text')} OR {allowed.format('composed(t.text)')})", (number, number)
+        test = f"{allowed.format('t.text')} OR {allowed.format('composed(t.text)')}"
+        if not is_field(label):
+            return f"NOT ({test})", (number, number)
+        # a value of a field is also one in another form, as 1 beside upright
+        forms = f"SELECT 1 FROM texts f WHERE f.label IN (?, ?) AND f.picture = t.picture AND f.number / {EACH} = t.number / {EACH}"
+        return f"NOT ({test} OR EXISTS ({forms} AND {allowed.format('f.text')}))", (number, number, label, OTHER + label, number)
 
     def broken(self, by_picture: bool = False) -> Iterator[Broken]:
         """What breaks a rule, by rules or by pictures."""
@@ -131,7 +151,7 @@ class Checked:
         why = "may break more rules: a block is refused or unreadable, or a part was not read"
         is_asked = any(POSITION in rule.labels for rule in self.rules)
         if is_asked and self._catalogue.number_of("SELECT count(*) FROM texts WHERE label = ?", (UNCLEAR_POSITION,)):
-            why += ", or a latitude and a longitude make no position, as without a direction"
+            why += ", or a latitude or a longitude makes no position, as without a direction or the other one"
         return f"{pictures_in_words(self.not_known())} {why}" if self.not_known() else ""
 
     def paths_not_known(self) -> Iterator[bytes]:
@@ -181,7 +201,8 @@ class Checked:
         in_index = "SELECT 1 FROM texts WHERE label = ? AND long = 0 AND head = ? AND text = ? LIMIT 1"
         allowed = "(SELECT a.text FROM temp.allowed a WHERE a.number = ?)"
         in_label = f"SELECT DISTINCT composed(text) FROM texts WHERE label = ? AND (text IN {allowed} OR composed(text) IN {allowed})"
-        for label in rule.labels if rule.kind == VALUES and len(rule.values) <= _FEW else ():
+        labels = [label for label in rule.labels if not is_field(label)]
+        for label in labels if rule.kind == VALUES and len(rule.values) <= _FEW else ():
             heads = [(text, folded(text)[:HEAD]) for text in rule.values]
             absent = [text for text, head in heads if next(self._catalogue.rows(in_index, (label, head, text)), None) is None]
             present = {row[0] for row in self._catalogue.rows(in_label, (label, number, number))} if absent else set()
@@ -209,6 +230,11 @@ def _nearest(unused: Unused, frequent: Sequence[str]) -> str:
         return ""
     others = [text for text in frequent if text not in unused.rule.values]
     return next(iter(difflib.get_close_matches(unused.text, others, 1, 0.75)), "")
+
+
+def _is_impossible(text: object) -> bool:
+    """Whether a text is a date that no calendar has."""
+    return isinstance(text, str) and is_impossible(text)
 
 
 def _composed(text: object) -> Optional[str]:

@@ -1,18 +1,23 @@
 """The texts of fields that have no label, for a question about them: of all pictures, in one pass over the fields that the catalogue has.
-What is damaged of a file, which is no field, is a text, too."""
+What is damaged of a file, which is no field, is a text, too.
+
+A field has its values as `exiftool -n` has them by its word as a label, and its other forms by the labels of `SHOWN`, `OTHER`, `NUMBER` and `DATE`.
+"""
 
 from __future__ import annotations
 
 from decimal import Decimal
 from functools import partial
-from typing import Any, Iterator, List, Sequence, Tuple
+from typing import Any, Dict, Iterator, List, Sequence, Set, Tuple
 
 from ..fields.choosing import Choice
 from ..fields.field import Field
+from ..fields.forms import Forms, forms_of, number_of
 from ..fields.labels import DAMAGE
 from ..fields.listing import LONGEST_TEXT, is_rest
 from ..fields.places import is_angle, signed_degrees
 from ..fields.plain_values import plain
+from ..fields.structures import has_members, members_of
 from ..fields.typed import typed
 from ..model.found import NAMES
 from ..model.records import PictureRecord
@@ -31,9 +36,14 @@ _EXPONENTS = {
 _GREATEST = 100  # of the logarithm of a time that ExifTool reads; others are 0 seconds
 
 
-def add_fields(catalogue: Catalogue, words: Sequence[str], report: Report = say_nothing) -> None:
+SHOWN, OTHER, NUMBER, DATE = "show ", "other ", "number ", "date "  # before the word of a field: labels of its forms
+EACH = 1_000_000  # numbers of texts for each field that a word stands for
+Places = Dict[str, Set[Tuple[str, str]]]  # the fields that some words stand for, by their directories and tags
+
+
+def add_fields(catalogue: Catalogue, words: Sequence[str], report: Report = say_nothing) -> Places:
     """Makes the name `texts` stand for the texts of these fields, too, each with its word as a label. The texts by label are ready. Of damage
-    the fields of no picture are read."""
+    the fields of no picture are read. Returns the fields that were seen."""
     base = catalogue.base
     with catalogue.guarded():
         has_others = base.execute("SELECT 1 FROM sqlite_temp_master WHERE name = 'other_texts'").fetchone()
@@ -46,22 +56,39 @@ def add_fields(catalogue: Catalogue, words: Sequence[str], report: Report = say_
             damaged = catalogue.rows("SELECT id, damage FROM pictures WHERE damage != ''")
             base.executemany(put_text(_FIELDS), ((number, 0, *kept_text(DAMAGE, text)) for number, text in damaged))
     choices = [(word, Choice(only=[word])) for word in words if word != DAMAGE]
+    seen: Places = {word: set() for word, _ in choices}
     if choices:
         due = catalogue.number_of("SELECT count(*) FROM pictures")
-        fill(catalogue, _FIELDS, "SELECT id FROM pictures", due, partial(_rows, choices), report)
+        fill(catalogue, _FIELDS, "SELECT id FROM pictures", due, partial(_rows, choices, seen), report)
+    return seen
 
 
-def _rows(choices: Sequence[Tuple[str, Choice]], catalogue: Catalogue, number: int) -> Iterator[Tuple[object, ...]]:
+def _rows(choices: Sequence[Tuple[str, Choice]], seen: Places, catalogue: Catalogue, number: int) -> Iterator[Tuple[object, ...]]:
     """The texts of a picture as rows. Of fields with the same texts one counts; a field may have a text twice, as 16 bits for each colour."""
     blocks = catalogue.blocks_with_fields(PictureRecord(number))
     for word, choice in choices:
-        lists = []
+        lists: Dict[Tuple[str, ...], Forms] = {}
         for block, fields in blocks:
             name = "" if block.name == NAMES[block.kind] else block.name
-            chosen = [field for field in choice.of(fields, name) if not is_rest(field.directory, field.tag)]
-            lists += [tuple(texts_of_field(field, fields)) for field in chosen]
-        for at, text in enumerate([text for texts in dict.fromkeys(lists) for text in texts]):
-            yield (number, at, *kept_text(word, text))
+            for field in _chosen(choice, fields, name):
+                texts = tuple(texts_of_field(field, fields))
+                if texts not in lists:
+                    lists[texts] = forms_of(field, texts)
+                seen[word].add((field.directory, field.tag))
+        for first, (texts, forms) in enumerate(lists.items()):
+            for label, of_label in (("", texts), (SHOWN, forms.shown), (OTHER, forms.others), (DATE, forms.dates)):
+                for at, text in enumerate(of_label):
+                    yield (number, first * EACH + at, *kept_text(label + word, text))
+            for at, text in enumerate(forms.numbers):
+                one = number_of(text)
+                assert one
+                yield (number, first * EACH + at, *kept_text(NUMBER + word, repr(one.value)))
+
+
+def _chosen(choice: Choice, fields: Sequence[Field], block: str) -> List[Field]:
+    """The fields of a block that a word stands for, or else the members of structures."""
+    chosen = [it for it in choice.of(fields, block) if not is_rest(it.directory, it.tag)]
+    return chosen or choice.of([one for it in fields if it.directory == "xmp" and has_members(it) for one in members_of(it)], block)
 
 
 def texts_of_field(field: Field, fields: Sequence[Field] = ()) -> List[str]:

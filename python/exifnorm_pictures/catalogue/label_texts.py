@@ -6,10 +6,12 @@ from itertools import chain
 from typing import Dict, Iterator, List, Mapping, NamedTuple, Optional, Sequence, Tuple
 
 from ..fields.folding import folded
-from ..fields.labels import POSITION, PRIVATE, UNCLEAR_POSITION, decoded
+from ..fields.dates import plain_date
+from ..fields.labels import CODED, DATED, OF_FIELDS, POSITION, UNCLEAR_POSITION, decoded
 from ..fields.field import Field
 from ..fields.listing import LONGEST_TEXT, is_rest
-from ..fields.places import has_angles, position_of
+from ..fields.places import further_places, has_angles, position_of
+from ..fields.plain_numbers import iptc_time
 from ..model.records import BlockRecord
 from ..model.xmp_values import Long, texts_in
 from .store import HEAD
@@ -65,8 +67,8 @@ def rows_of(blocks: Sequence[Tuple[BlockRecord, List[Field]]], maker_notes: Mapp
 
 
 def _is_long(field: Field) -> bool:
-    """Whether a serial number or an owner is too long to be kept."""
-    if (field.directory, field.tag) not in _PRIVATE:
+    """Whether the text of a label of fields is too long to be kept."""
+    if (field.directory, field.tag) not in _OF_FIELDS:
         return False
     return isinstance(field.content, Long) or (field.directory == "xmp" and any(isinstance(value, Long) for value in field.content))
 
@@ -78,11 +80,18 @@ def _texts(labelled: PictureTexts, fields: Sequence[Field]) -> Iterator[Tuple[st
     place = position_of(fields)
     if place is not None:
         yield POSITION, place.text
-    elif has_angles(fields):
+    further, is_unclear = further_places(fields)
+    yield from ((POSITION, one.text) for one in further)
+    if is_unclear or (place is None and has_angles(fields)):
         yield UNCLEAR_POSITION, "?"
     for field in fields:
-        label = _PRIVATE.get((field.directory, field.tag))
-        if label:
+        label = _OF_FIELDS.get((field.directory, field.tag))
+        if label in DATED:
+            clock = next((iptc_time(it) for it in fields if it.directory == "iptc" and it.tag == _CLOCKS.get(field.tag)), "")
+            yield from ((label, f"{plain_date(text) or text} {clock or ''}".rstrip()) for text in _of_field(field))
+        elif label in CODED:
+            yield from ((label, text.rstrip("/").rpartition("/")[2]) for text in _of_field(field))
+        elif label:
             yield from ((label, text) for text in _of_field(field))
 
 
@@ -94,7 +103,8 @@ def _of_maker_notes(values: Mapping[str, str]) -> Iterator[Tuple[str, str]]:
                 yield label, text.strip()
 
 
-_PRIVATE = {place: label for label, places in PRIVATE.items() for place in places}
+_OF_FIELDS = {place: label for label, places in OF_FIELDS.items() for place in places}
+_CLOCKS = {"2:30": "2:35", "2:37": "2:38"}  # of the dates of IPTC
 
 
 def _of_field(field: Field) -> Iterator[str]:

@@ -51,7 +51,7 @@ def texts_table(name: str, reference: str = "") -> str:
     """The statement that makes a table of texts. Those of a label are beside each other, short ones before long ones, so that a question reads
     no others."""
     return f"""CREATE TABLE {name} (
-    label TEXT NOT NULL,            -- a label of captions; position, serial or owner; empty: some texts are too many or too long to be kept
+    label TEXT NOT NULL,            -- a label of captions; position, serial, owner, rights end ..; empty: some texts are too many or too long to be kept
     long INTEGER NOT NULL,          -- 1: the head isn't all of the text
     picture INTEGER NOT NULL{reference},
     number INTEGER NOT NULL,        -- the order of the texts of a picture

@@ -42,7 +42,7 @@ def run(arguments: Options) -> int:
     with catalogue_for_questions(source, arguments) as catalogue, catalogue.reading(is_answer=True):
         note_sidecars(catalogue, source, arguments)
         shown = [*columns, *([] if counted is None else [counted])]
-        answer = Answer(catalogue, question, since, Preparing(arguments).report, shown)
+        answer = Answer(catalogue, question, since, Preparing(arguments).report, shown, not arguments.json)
         not_known = 0
         if counted is not None:
             not_known = _print_counts(arguments, answer, counted)
@@ -126,7 +126,7 @@ def _print_end(arguments: argparse.Namespace, answer: Answer, listed: int, damag
     whether they fit."""
     if arguments.json:
         numbers: Members = {"pictures": answer.count(), "listed": listed, "not_known": answer.not_known(), "damaged": damaged}
-        print_object("list", "summary", numbers)
+        print_object("list", "summary", {**numbers, "may_fit": list(map(path_members, answer.paths_not_known()))})
         return
     end = (
         f"{listed:,} of {pictures_in_words(answer.count())}"
@@ -134,8 +134,12 @@ def _print_end(arguments: argparse.Namespace, answer: Answer, listed: int, damag
         + f", {damaged:,} of them cut off or damaged" * bool(damaged)
         + _of_unknown(answer)
         + "".join(_of_lacking(answer, label) for label in columns)
+        + "".join(f"; none has {escaped(word)}" for word in answer.absent())
+        + "".join(f"; {word} stands for {escaped(', '.join(names[:_FIELDS]))}" for word, names in answer.ambiguous().items())
     )
     if not (arguments.csv or arguments.null or arguments.geojson):
+        if 0 < answer.not_known() <= _NAMED:
+            print_lines(["may fit:", *(f"  {shown_path(path)}" for path in answer.paths_not_known(_NAMED))])
         print_line(end)
         if arguments.since and listed:
             print_line(_WHAT_CHANGED)
@@ -160,15 +164,19 @@ def _of_lacking(answer: Answer, label: str) -> str:
 
 def _unread(reasons: Sequence[Unread]) -> str:
     """What was not read of pictures."""
-    return ", or ".join(_UNREAD[it] for it in reasons)
+    return ", or ".join(dict.fromkeys(_UNREAD.get(it, _UNREAD[Unread.PARTS]) for it in reasons))
 
 
 _UNREAD = {
     Unread.PICTURE: "their pictures were not read for damage; index --pixels reads those of JPEG, PNG, TIFF, WebP and raw files",
     Unread.PARTS: "they were not wholly read",
-    Unread.POSITION: "their latitude and longitude make no position, as without a direction",
+    Unread.POSITION: "their latitude or longitude makes no position, as without a direction or the other one",
     Unread.MAKER_NOTE: "they have a MakerNote, which index --maker-notes --again reads",
 }
+
+
+_FIELDS = 5  # that a word stands for
+_NAMED = 20  # pictures of which it isn't known whether they fit
 
 
 # Counts
@@ -200,9 +208,9 @@ def _print_end_of_counts(arguments: argparse.Namespace, answer: Answer, label: s
         return not_known
     more = f"; {not_known:,} not known: {_unread(answer.why_not_known(label))}" if not_known else ""
     of_new = f", of {pictures_in_words(total)}{_since_then(arguments, total)}" * bool(arguments.since)
-    end = f"{pictures_in_words(having)} with a text of {label}, {without:,} without{of_new}{more}"
+    end = f"{pictures_in_words(having)} with a text of {label}, {without:,} without{of_new}{more}{_of_unknown(answer)}"
     if not arguments.csv:
         print_line(end)
-    elif not_known:
+    elif not_known or answer.not_known():
         say_notes(end)
     return not_known

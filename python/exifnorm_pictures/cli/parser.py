@@ -435,9 +435,12 @@ _QUESTIONS = """A question compares labels by =, !=, has, like (with * and ?), a
 numbers by <, <=, >, >=. Join comparisons by and, or, not and brackets:
   keywords = clay and not creator like 'Otto*'
   date created < 1950 or without credit
-A label is one of captions, or position, serial, owner or damage, or the name
-of a field as for --only of changed, such as FNumber or XMP-dc:rights. A
-question about a field takes longer; its numbers are as in exiftool -n.
+  rights end < today + 30 days or Orientation = upright
+A label is one of captions, or position, serial, owner, rights end, embargo,
+digital source, data mining or damage, or the name of a field as this program,
+ExifTool, exiv2 or the standards have it, such as FNumber, EXIF:Model or
+Exif.Photo.DateTimeDigitized. A question about a field takes longer; its value
+may be as show or exiftool prints it, or the number: f/11, 1/60 s, upright, 1.
 Capitals, spaces and composed letters make no difference. If you give several
 options, a picture must fit all. A text that a camera writes by itself doesn't
 count."""

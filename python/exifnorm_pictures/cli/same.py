@@ -88,7 +88,7 @@ class _Texts:
         if self.labels:
             from ..catalogue import asking  # which most groups don't need
 
-            self._answer = asking.Answer(catalogue, None, report=Preparing(arguments).report, shown=self.labels)
+            self._answer = asking.Answer(catalogue, None, None, Preparing(arguments).report, self.labels, not arguments.json)
 
     def of(self, picture: PictureRecord) -> Texts:
         """The texts of a picture, for each label."""

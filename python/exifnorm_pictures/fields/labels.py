@@ -56,8 +56,10 @@ WINDOWS = {"9c9b": "title", "9c9c": COMMENT, "9c9d": "creator", "9c9e": "keyword
 POSITION = "position"  # no label of a text: where the picture was taken, by GPS
 UNCLEAR_POSITION = "position?"  # a latitude and a longitude that make no position; no question has this word
 DAMAGE = "damage"  # no label either: where a file is cut off, or its coded picture is damaged. No field has it
-# No labels of texts either: what tells which camera, lens and owner a picture is of. A MakerNote may have it, too, which only ExifTool reads
-PRIVATE = {
+RIGHTS_END, EMBARGO, DIGITAL_SOURCE, DATA_MINING = "rights end", "embargo", "digital source", "data mining"
+# No labels of captions either, but of fields that are asked for: which camera, lens and owner a picture is of, which a MakerNote may have, too
+# (only ExifTool reads it); until when, from when and for what it may be used; and whether a program has made it
+OF_FIELDS = {
     "serial": (
         ("exif", "a431"),
         ("exif", "a435"),
@@ -68,7 +70,13 @@ PRIVATE = {
         ("xmp", "aux:LensSerialNumber"),
     ),
     "owner": (("exif", "a430"), ("xmp", "exifEX:CameraOwnerName"), ("xmp", "aux:OwnerName")),
+    RIGHTS_END: (("iptc", "2:37"), ("xmp", "plus:LicenseEndDate")),
+    EMBARGO: (("iptc", "2:30"), ("xmp", "<http://prismstandard.org/namespaces/basic/2.0/embargoDate>")),
+    DIGITAL_SOURCE: (("xmp", "Iptc4xmpExt:DigitalSourceType"),),
+    DATA_MINING: (("xmp", "plus:DataMining"),),
 }
+DATED = (DATE, RIGHTS_END, EMBARGO)  # labels of dates
+CODED = (DIGITAL_SOURCE, DATA_MINING)  # labels of codes, which are the last part of a URI
 
 
 def is_in_maker_notes(word: str) -> bool:
@@ -109,7 +117,7 @@ def fields_by_label() -> Dict[str, Tuple[str, ...]]:
         *(("gps", it) for it in _POSITION),
         *(("xmp", f"exif:{plain_name('gps', it)}") for it in ("0002", "0004", "0005", "0006")),
     ]
-    by_label.update({word: list(fields) for word, fields in PRIVATE.items()})
+    by_label.update({word: list(fields) for word, fields in OF_FIELDS.items()})
     return {word: tuple(group_name(*it) for it in fields) for word, fields in by_label.items()}
 
 

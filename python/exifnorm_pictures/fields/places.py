@@ -5,9 +5,9 @@ from __future__ import annotations
 import math
 import re
 from fractions import Fraction
-from typing import Dict, Iterable, List, NamedTuple, Optional, Sequence, Tuple
+from typing import Dict, Iterable, Iterator, List, NamedTuple, Optional, Sequence, Tuple
 
-from ..model.xmp_values import texts_in
+from ..model.xmp_values import Array, Long, LongStructure, Structure, texts_in
 from .field import Field
 from .plain_numbers import degrees, denominators
 
@@ -25,13 +25,15 @@ class Place(NamedTuple):
 
 
 def place_of(text: str) -> Optional[Place]:
-    """The place of a text, as `Place.text` has it; None of any other text.
+    """The place of a text, as `Place.text` and as `show` have it; None of any other text.
 
     >>> place_of("-33.500000, 7.202167"), place_of("33 S")
     (Place(latitude=-33.5, longitude=7.202167), None)
     """
-    match = re.fullmatch(r"(-?\d{1,2}\.\d{6}), (-?\d{1,3}\.\d{6})", text)
-    return Place(float(match[1]), float(match[2])) if match else None
+    match = re.fullmatch(r"(-?\d{1,2}(?:\.\d+)?)(?:° ?([NS]))?, ?(-?\d{1,3}(?:\.\d+)?)(?:° ?([EW]))?", text.strip())
+    if match is None:
+        return None
+    return Place(float(match[1]) * (-1 if match[2] == "S" else 1), float(match[3]) * (-1 if match[4] == "W" else 1))
 
 
 def is_of_position(field: Field) -> bool:
@@ -115,14 +117,59 @@ def _by_tag(fields: Iterable[Field]) -> Tuple[Dict[str, Field], Dict[str, Field]
 
 
 def has_angles(fields: Iterable[Field]) -> bool:
-    """Whether there are a latitude and a longitude, also such that make no position because a direction is missing or is another letter, or
-    because they are none of the earth: other programs may show a place.
+    """Whether there is a latitude or a longitude, also such as make no position because the other one or a direction is missing or is another
+    letter, or because they are none of the earth: other programs may show a place.
 
     >>> has_angles([Field("gps", key, "RATIONAL", 3, ((7, 1), (30, 1), (0, 1))) for key in ("0002", "0004")])
     True
     """
     gps, properties = _by_tag(fields)
-    return all(key in gps and degrees(gps[key]) is not None for key in ("0002", "0004")) or len(properties) == 2
+    return any(key in gps and degrees(gps[key]) is not None for key in ("0002", "0004")) or bool(properties)
+
+
+def further_places(fields: Iterable[Field]) -> Tuple[List[Place], bool]:
+    """The positions in structures of XMP, at any depth, as those of where a picture was created and of what it shows; and whether there may be
+    more: coordinates that make no position, or a structure of places that isn't kept.
+
+    >>> from ..model.xmp_values import Literal
+    >>> place = Structure((("exif:GPSLatitude", Literal("52,30N")), ("exif:GPSLongitude", Literal("13,15E"))))
+    >>> further_places([Field("xmp", "Iptc4xmpExt:LocationCreated", "structure", 2, (place,))])
+    ([Place(latitude=52.5, longitude=13.25)], False)
+    """
+    places: List[Place] = []
+    is_unclear = False
+    for field in fields:
+        if field.directory != "xmp" or not isinstance(field.content, tuple):
+            continue
+        if field.tag in _PLACES and any(isinstance(it, Long) and not isinstance(it, LongStructure) for it in field.content):
+            is_unclear = True
+        for structure in _structures(field.content):
+            halves = {name.rpartition(":")[2]: value for name, value in structure.members if name.rpartition(":")[2] in _HALVES}
+            if halves:
+                angles = [
+                    _of_xmp(Field("xmp", name, "text", 1, (halves[name],)) if name in halves else None, signs)
+                    for name, signs in _HALVES.items()
+                ]
+                place = _located(*angles)
+                places += [place.place] if place else []
+                is_unclear = is_unclear or place is None
+    return places, is_unclear
+
+
+_HALVES = {"GPSLatitude": "NS", "GPSLongitude": "EW"}
+_PLACES = ("Iptc4xmpExt:LocationCreated", "Iptc4xmpExt:LocationShown")
+
+
+def _structures(values: Iterable[object]) -> Iterator[Structure]:
+    """The structures in some values, at any depth."""
+    for value in values:
+        if isinstance(value, LongStructure):
+            value = value.value
+        if isinstance(value, Array):
+            yield from _structures(value.members)
+        elif isinstance(value, Structure):
+            yield value
+            yield from _structures(member for _, member in value.members)
 
 
 def position_of(fields: Iterable[Field]) -> Optional[Place]:

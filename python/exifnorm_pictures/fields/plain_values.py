@@ -17,12 +17,12 @@ from .places import direction
 from .plain_texts import EMPTY, guessed, plain_comment, plain_xmp, text_of
 
 # Words for numbers: TIFF 6.0 and CIPA DC-008 (Exif 2.32), 4.6
-_WORDS: Dict[str, Dict[str, str]] = {}
+WORDS: Dict[str, Dict[str, str]] = {}
 
 
 def _words(keys: str, text: str) -> None:
     rows = dict(row.strip().split(" ", 1) for row in text.split(";"))
-    _WORDS.update({key: rows for key in keys.split()})
+    WORDS.update({key: rows for key in keys.split()})
 
 
 _words(
@@ -88,7 +88,7 @@ def _byte(*words: str) -> Rule:
 
 
 _EXIF: Dict[str, Rule] = {
-    **{key: _table(words) for key, words in _WORDS.items()},
+    **{key: _table(words) for key, words in WORDS.items()},
     **dict.fromkeys(("0132", "9003", "9004"), numbers.date),
     **dict.fromkeys(("9202", "9205"), numbers.aperture_value),
     "829a": numbers.exposure_time,

@@ -5,7 +5,8 @@
     factor      "not" factor | "(" question ")" | ("with" | "without") label | label comparison value
     comparison  "=" | "!=" | "has" | "like" | "<" | "<=" | ">" | ">="
 
-A value with `and`, `or`, `not`, brackets or quotes in it stands in quotes. Capitals don't matter in any of the words.
+A value with `and`, `or`, `not`, brackets or quotes in it stands in quotes. Capitals don't matter in any of the words. A value of a field may be
+as `show`, ExifTool or exiv2 print it; a date is also `today` or `today + 30 days`.
 """
 
 from __future__ import annotations
@@ -17,7 +18,10 @@ from typing import Callable, Iterable, Iterator, List, NamedTuple, NoReturn, Opt
 
 from ..model.errors import WrongUse
 from ..model.texts import safe
-from .labels import DAMAGE, DATE, fields_by_label, label_of
+from . import dates
+from .forms import clock_of, number_of
+from .labels import CODED, DAMAGE, DATED, POSITION, fields_by_label, label_of
+from .places import place_of
 
 COMPARISONS = ("=", "!=", "has", "like", "<", "<=", ">", ">=")
 ORDERED = ("<", "<=", ">", ">=")
@@ -31,6 +35,12 @@ MOST = 400  # conditions, of which SQLite makes one expression
 
 class WrongQuestion(WrongUse):
     """A question that can't be understood. Its lines show where."""
+
+
+class Unsure(str):
+    """A name that is no label and of no field by the standards, as one of a namespace that nobody has heard of: pictures may have it."""
+
+    why: WrongQuestion  # if none has
 
 
 @dataclass(frozen=True)
@@ -91,6 +101,11 @@ def _leaves(question: Question) -> Iterator[Union[With, Condition]]:
             yield from _leaves(part)
 
 
+def conditions_of(question: Question) -> List[Condition]:
+    """The comparisons of a question."""
+    return [leaf for leaf in _leaves(question) if isinstance(leaf, Condition)]
+
+
 def all_of(questions: Sequence[Question]) -> Question:
     """The question whether each of some holds. Raises `WrongQuestion` if they have too many conditions together."""
     if sum(1 for question in questions for _ in _leaves(question)) > MOST:
@@ -117,8 +132,17 @@ def given_label(text: str) -> str:
     """
     _check_text(text)
     label = _label_or_field(text.strip())
-    if label is None:
-        raise WrongQuestion(f"{text!r} is no label and no field{_nearest(text)}")
+    return _unsure(text.strip(), f"{text!r} is no label and no field") if label is None else label
+
+
+def _unsure(text: str, why: str, *lines: str) -> Unsure:
+    """A name that is no known one. Raises `WrongQuestion` if it can be none, or looks like one that is mistyped."""
+    near = _nearest(text)
+    problem = WrongQuestion(why + near, *lines)
+    if not re.fullmatch(r"[A-Za-z_][\w:.-]*", text) or near.startswith(" ("):
+        raise problem
+    label = Unsure(text)
+    label.why = problem
     return label
 
 
@@ -166,7 +190,7 @@ class Token(NamedTuple):
         return "" if self.is_quoted else self.text.lower()
 
 
-_TOKEN = re.compile(r'"([^"]*)"|(?<![^\s(=<>])\'([^\']*)\'(?![^\s)])|(!=|<=|>=|[=<>()])|((?:[^\s()=<>!"]|!(?!=))+)')
+_TOKEN = re.compile(r'"([^"]*)"|(?<![^\s(=<>])\'([^\']*)\'(?![^\s)])|(!=|<=|>=|[=<>()])|((?:[^\s()=<>!"]|!(?!=)|(?<=\d)")+)')
 _JOINING = ("and", "or", ")", "")
 
 
@@ -200,8 +224,12 @@ class _Reader:
             at = match.end()
 
     def _fail(self, token: Token, why: str) -> NoReturn:
+        raise WrongQuestion(why, *self._shown(token))
+
+    def _shown(self, token: Token) -> Tuple[str, str]:
+        """The question with a mark below a part."""
         mark = " " * token.start + "^" * max(1, token.end - token.start)
-        raise WrongQuestion(why, f"  {' '.join(self._text.splitlines())}", f"  {mark}")
+        return f"  {' '.join(self._text.splitlines())}", f"  {mark}"
 
     @property
     def _next(self) -> Token:
@@ -269,7 +297,7 @@ class _Reader:
         label = _label_or_field(name)
         if label is None:
             self._refuse_after_label(tokens)
-            self._fail(whole, f"{name!r} is no label and no field{_nearest(name)}")
+            return _unsure(name, f"{name!r} is no label and no field", *self._shown(whole))
         return label
 
     def _refuse_after_label(self, tokens: List[Token]) -> None:
@@ -286,13 +314,11 @@ class _Reader:
             self._fail(token, _AFTER_LABEL.format(label))
         self._at += 1
         value = self._read_value()
-        if label == DATE and token.word in ("=", "!=", *ORDERED):
-            self._check(value, r"\d{4}(-\d\d(-\d\d( \d\d(:\d\d(:\d\d(\.\d+)?)?)?)?)?)?", "a date, such as 1950, 1950-03 or 1950-03-21")
-        elif token.word in ORDERED:
-            self._check(value, r"[+-]?\d+(\.\d+)?", "a number")
-        elif token.word == "like" and len(value.text) > LONGEST_PATTERN:
+        if token.word in ("=", "!=", *ORDERED):
+            value = self._checked(label, token.word, value)
+        if token.word == "like" and len(value.text) > LONGEST_PATTERN:
             self._fail(value._replace(end=value.start + 1), f"a pattern has at most {LONGEST_PATTERN:,} characters")
-        elif token.word in ("=", "!=", "has") and "*" in value.text and not value.is_quoted:
+        if token.word in ("=", "!=", "has") and "*" in value.text and not value.is_quoted:
             self._fail(value, "* is a wildcard only after like; put a text that has this character in quotes")
         if token.word == "!=":
             return Not(Condition(label, "=", value.text))
@@ -314,6 +340,25 @@ class _Reader:
             self._fail(self._next, "expected: a value; in quotes if it has brackets, and, or")
         return Token(self._text[tokens[0].start : tokens[-1].end], tokens[0].start, tokens[-1].end)
 
-    def _check(self, value: Token, pattern: str, expected: str) -> None:
-        if not re.fullmatch(pattern, value.text):
-            self._fail(value, f"expected: {expected}")
+    def _checked(self, label: str, comparison: str, value: Token) -> Token:
+        """A value as texts of a label are kept. Fails for one with which none of them can be compared."""
+        is_of_field = label not in fields_by_label() and label != DAMAGE
+        if label in DATED:
+            day = dates.asked_date(value.text)
+            if not day and comparison in ("=", "!=") and re.search(r"\d", value.text):  # what a picture has needn't be a date
+                day = dates.plain_date(value.text) or value.text
+            if not day:
+                self._fail(value, f"expected: {dates.EXPECTED}")
+            return value._replace(text=day)
+        if comparison in ORDERED:
+            can_be = number_of(value.text) or (is_of_field and (dates.asked_date(value.text) or clock_of(value.text)))
+            if not can_be or not (is_of_field or re.fullmatch(r"[+-]?\d+(\.\d+)?", value.text)):
+                self._fail(value, "expected: a number" + f", or {dates.EXPECTED}" * is_of_field)
+        elif label == POSITION:
+            place = place_of(value.text)
+            if place is None:
+                self._fail(value, "expected: a latitude and a longitude, such as 46.5, -7.2 or 46.5° N, 7.2° W")
+            return value._replace(text=place.text)
+        elif label in CODED:
+            return value._replace(text=value.text.rstrip("/").rpartition("/")[2])
+        return value

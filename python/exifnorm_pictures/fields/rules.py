@@ -9,23 +9,26 @@
     caption at most 2000 characters
     date created not after today
 
-A rule but `needs` is about the texts that are there. Texts are compared exactly, but for how accents are composed. `like` has the wildcards *
+A label is one of `captions`, or the name of a field as `show` or ExifTool has it (IPTC:ExpirationDate). A rule but `needs` is about the texts
+that are there. Texts are compared exactly, but for how accents are composed. `like` has the wildcards *
 and ?, and # for a digit. A folder with a slash inside lies at the top of what was indexed, and any other one anywhere below it.
 """
 
 from __future__ import annotations
 
+import contextlib
 import difflib
 import fnmatch
 import os
 import re
-import time
 from dataclasses import dataclass
 from typing import Callable, Dict, Iterable, Iterator, List, NoReturn, Optional, Sequence, Tuple
 
 from ..model.errors import WrongUse
-from .labels import DATE, fields_by_label, label_of
-from .questions import LONGEST_PATTERN, Token
+from . import dates
+from .choosing import hint
+from .labels import DATED, fields_by_label, label_of
+from .questions import LONGEST_PATTERN, Token, WrongQuestion, given_label
 
 NEEDS, VALUES, LIKE, NEVER, LENGTH, AFTER, BEFORE = "needs", "values", "like", "never", "length", "after", "before"
 _EVERY = ("every", "picture")
@@ -137,7 +140,7 @@ def _meant_label(name: str) -> str:
     """
     fields = fields_by_label()
     near = [label for label in fields if len(name) > 2 and label.startswith(name)] or difflib.get_close_matches(name, fields, 1, 0.6)
-    groups = ((label, one.casefold().split(":")) for label, of_label in fields.items() for one in of_label)
+    groups = ((label, one.casefold().partition(":")[::2]) for label, of_label in fields.items() for one in of_label)
     return next(iter([*near, *(label for label, (group, field) in groups if name in (group, field))]), "")
 
 
@@ -228,9 +231,12 @@ class _Reader:
             self._fail("expected: a label, such as credit")
         name = " ".join(token.text for token in tokens)
         label = label_of(name)
-        if label is None:
-            self._fail_at_label(name[:_SHOWN], tokens)
-        return label
+        if label is not None:
+            return label
+        with contextlib.suppress(WrongQuestion):
+            if not any(it.startswith(f"{name.casefold()} ") for it in fields_by_label()):  # as date, which is a field of few pictures
+                return given_label(name)
+        self._fail_at_label(name[:_SHOWN], tokens)
 
     def _fail_at_label(self, name: str, tokens: Sequence[Token]) -> NoReturn:
         """Says what is wrong with words that are no label, and what may be meant."""
@@ -240,7 +246,7 @@ class _Reader:
             if token.word in _MEANT and label_of(" ".join(before.text for before in tokens[:at])):
                 self._fail(f"{token.text!r} is no word of a rule (perhaps {_MEANT[token.word]} is meant)", token)
         meant = _meant_label(name.casefold())
-        self._fail(f"{name!r} is no label" + (f" (perhaps {meant} is meant)" if meant else ""), *tokens)
+        self._fail(f"{name!r} is no label and no field" + (f" (perhaps {meant} is meant)" if meant else hint(name)), *tokens)
 
     def _predicate(self, labels: Sequence[str]) -> Tuple[str, Tuple[str, ...]]:
         for words, kind in _PREDICATES.items():
@@ -297,13 +303,17 @@ class _Reader:
         return number.text
 
     def _date(self, labels: Sequence[str]) -> str:
-        if list(labels) != [DATE]:
-            self._fail(f"only {DATE} is compared with a date", *self._tokens[:1])
-        date = self._next
-        if date.word != "today" and not re.fullmatch(r"\d{4}(-\d\d(-\d\d)?)?", date.text):
-            self._fail("expected: a date, such as today, 1950 or 1950-03-21")
-        self._at += 1
-        return time.strftime("%Y-%m-%d") if date.word == "today" else date.text
+        for label in labels:
+            if label not in DATED and label in fields_by_label():
+                self._fail(f"only {', '.join(DATED)} and fields are compared with a date", *self._tokens[:1])
+        first = self._at
+        while not (self._is_at_end or self._next.word in _PLACES):
+            self._at += 1
+        day = dates.asked_date(self._line[self._tokens[first].start : self._tokens[max(first, self._at - 1)].end])
+        if not day:
+            self._at = first
+            self._fail(f"expected: {dates.EXPECTED}")
+        return day
 
     def _places(self) -> Tuple[Tuple[str, ...], Tuple[str, ...]]:
         folders: Dict[str, List[str]] = {word: [] for word in _PLACES}

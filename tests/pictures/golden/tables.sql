@@ -80,7 +80,7 @@ CREATE TABLE runs (
 );
 CREATE INDEX short_texts ON texts (label, head, text) WHERE long = 0;
 CREATE TABLE texts (
-    label TEXT NOT NULL,            -- a label of captions; position, serial or owner; empty: some texts are too many or too long to be kept
+    label TEXT NOT NULL,            -- a label of captions; position, serial, owner, rights end ..; empty: some texts are too many or too long to be kept
     long INTEGER NOT NULL,          -- 1: the head isn't all of the text
     picture INTEGER NOT NULL REFERENCES pictures(id) ON DELETE CASCADE,
     number INTEGER NOT NULL,        -- the order of the texts of a picture

@@ -1,0 +1,76 @@
+"""Dates as they are compared: `1950`, `1950-03`, `1950-03-21 14:30:00`. Each program writes them in another form."""
+
+from __future__ import annotations
+
+import re
+import time
+from datetime import date, timedelta
+
+_ANY = re.compile(r"(\d{4})(?:([-:/.]?)(\d\d)(?:\2(\d\d)(?:[ T]?(\d\d)(?::?(\d\d)(?::?(\d\d(?:\.\d+)?))?)?)?(?: ?(Z|[+-]\d\d:?\d\d))?)?)?")
+_TODAY = re.compile(r"(?:in (\d{1,5}) (day|week|month|year)s?|today(?: ?([+-]) ?(\d{1,5}) (day|week|month|year)s?)?)", re.I)
+_DAYS = {"day": 1, "week": 7}
+
+
+def plain_date(text: str) -> str:
+    """A date in the form in which it is compared, whatever separators it has; empty of another text. A number of four digits is a year, and one
+    of six is none.
+
+    >>> plain_date("2019:03:12 11:20:45"), plain_date("20261203"), plain_date("2019-03-12T11:20:45+01:00"), plain_date("201903")
+    ('2019-03-12 11:20:45', '2026-12-03', '2019-03-12 11:20:45+01:00', '')
+    """
+    match = _ANY.fullmatch(text.strip())
+    if match is None or (match[3] and not match[2] and not match[4]):
+        return ""
+    day = "-".join(filter(None, match.group(1, 3, 4)))
+    clock = ":".join(filter(None, match.group(5, 6, 7)))
+    return day + f" {clock}" * bool(clock) + (match[8] or "") * bool(clock)
+
+
+def asked_date(text: str) -> str:
+    """The same of what somebody types: also `today`, `today + 30 days`, `in 2 weeks`. A part of a date that no calendar has makes it none.
+
+    >>> asked_date("1950:03"), asked_date("2023-02-30"), len(asked_date("today - 1 year"))
+    ('1950-03', '', 10)
+    """
+    match = _TODAY.fullmatch(" ".join(text.split()))
+    if match is None:
+        day = plain_date(text)
+        return "" if is_impossible(day) else day
+    number = int(match[1] or match[4] or 0) * (-1 if match[3] == "-" else 1)
+    return _shifted(date(*time.localtime()[:3]), number, (match[2] or match[5] or "day").lower())
+
+
+def _shifted(day: date, number: int, unit: str) -> str:
+    """A day some days, weeks, months or years later; of a shorter month its last day. Empty if no calendar has it."""
+    try:
+        if unit in _DAYS:
+            return (day + timedelta(number * _DAYS[unit])).isoformat()
+        months = day.year * 12 + day.month - 1 + number * (12 if unit == "year" else 1)
+        first = date(months // 12, months % 12 + 1, 1)
+        return (first + timedelta(min(day.day, ((first + timedelta(31)).replace(day=1) - first).days) - 1)).isoformat()
+    except (OverflowError, ValueError):
+        return ""
+
+
+_WHOLE = re.compile(r"(\d{4})(?:-(\d\d)(?:-(\d\d)(?: (\d\d)(?::(\d\d)(?::(\d\d)(?:\.\d+)?)?)?)?)?)?(?:Z|[+-]\d\d:?\d\d)?")
+
+
+def is_impossible(day: str) -> bool:
+    """Whether a date in this form is none of the calendar or of the clock. A month or a day of 00 is one that isn't known.
+
+    >>> [is_impossible(it) for it in ("2023-02-30", "2024-02-29", "2023-13", "2023-00-00", "2023-01-01 25:00", "about 1900")]
+    [True, False, True, False, True, False]
+    """
+    match = _WHOLE.fullmatch(day.replace("T", " "))
+    if match is None:
+        return False
+    year, month, number, hour, minute, second = (int(it or 0) for it in match.groups())
+    if month > 12 or hour > 23 or minute > 59 or second > 60:  # a leap second
+        return True
+    return bool(number) and number > (29 if month == 2 and (year % 4 or (not year % 100 and year % 400)) == 0 else 31 - _SHORTER[month])
+
+
+_SHORTER = (0, 0, 3, 0, 1, 0, 1, 0, 0, 1, 0, 1, 0)  # by how many days a month is shorter than 31
+
+
+EXPECTED = "a date, such as 1950, 1950-03, 1950-03-21, today or today + 30 days"  # for a sentence

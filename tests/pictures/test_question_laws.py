@@ -1,0 +1,178 @@
+"""Laws of questions: whatever name and value a command prints of a field, a question with it finds the picture; a question that fits no value is
+refused; and no answer is nothing where something fits."""
+
+import collections
+import json
+import shutil
+
+import pytest
+from exifnorm_pictures.catalogue.asking import Answer
+from exifnorm_pictures.catalogue.store import Catalogue
+from exifnorm_pictures.fields.listing import is_rest
+from exifnorm_pictures.fields.questions import Condition, WrongQuestion, question_of
+from exifnorm_pictures.model.texts import escaped
+from studio import SMALL_JPEG, TOP, needs, put, tool
+
+pytestmark = [pytest.mark.xdist_group("museum")]
+
+
+def printed(catalogue):
+    """The values that `show` prints of each name, in plain words and exactly, and the pictures that have them."""
+    values = collections.defaultdict(lambda: collections.defaultdict(set))
+    for picture in catalogue.pictures():
+        for _, fields in catalogue.blocks_with_fields(picture):
+            for field in fields:
+                for text in (escaped(field.text), field.exact.strip('"')) if not is_rest(field.directory, field.tag) else ():
+                    values[field.name][text].add(picture.id)
+    return values
+
+
+@needs("exiftool")
+def test_each_value_that_is_printed_is_found(museum):
+    with Catalogue(str(museum / "full")) as catalogue, catalogue.reading(is_answer=True):
+        values = printed(catalogue)
+        assert len(values) > 40
+        answer = Answer(catalogue, None, shown=list(values))
+        for name, texts in values.items():
+            for text, pictures in texts.items():
+                found = answer._finder.of(Condition(name, "=", text)).sure
+                assert all(number in found for number in pictures), (name, text)
+
+
+@pytest.fixture
+def asked(folder, called):
+    """The pictures of the samples that fit a question, or the message of one that is refused."""
+    shutil.copytree(f"{TOP}/samples/before", folder / "p")
+    called("index", "p", "--catalogue", "c", "--quiet")
+
+    def ask(question):
+        status, lines, messages = called("list", "c", "--json", "--where", question)
+        if status == 3:
+            return messages
+        *listed, last = map(json.loads, lines.splitlines())
+        assert last["listed"] == len(listed)
+        return len(listed)
+
+    return ask
+
+
+# What a registrar typed, and how many of the samples it is true of
+SHOWN = {
+    "Orientation = upright": 6,
+    "Orientation = 1": 6,
+    "Orientation = 'Horizontal (normal)'": 6,
+    "not Orientation = upright": 2,
+    "FNumber = 'f/11'": 6,
+    "FNumber = f/11": 6,
+    "FNumber > f/8": 6,
+    "ExposureTime = 1/60": 6,
+    "ExposureTime = '1/60 s'": 6,
+    "ExposureTime < 1/50": 6,
+    "FocalLength = '60 mm'": 6,
+    "ExifIFD:DateTimeOriginal = '2019-03-12 11:20:45'": 1,
+    "ExifIFD:DateTimeOriginal = '2019:03:12 11:20:45'": 1,
+    "ExifIFD:DateTimeOriginal = 2019-03": 3,
+    "ExifIFD:DateTimeOriginal < 2020": 3,
+    "date created < 2020": 3,
+    "DateTimeOriginal < today": 6,
+    "DateTimeOriginal > today - 1 day": 0,
+    "EXIF:Model has canon": 2,
+    "Exif.Photo.FNumber = 11": 6,
+    "DateTimeDigitized < 2020": 3,
+    "Iptc.Application2.Byline = 'Lena Brandt'": 3,
+}
+
+
+@pytest.mark.parametrize("question", SHOWN)
+def test_questions_of_a_registrar(asked, question):
+    assert asked(question) == SHOWN[question]
+
+
+@pytest.mark.parametrize(
+    "question, why",
+    [
+        ("Orientation = upwards", "Orientation is never 'upwards': it is one of 1 upright; 2 "),
+        ("Orientation != upwards", "Orientation is never 'upwards'"),
+        ("FNumber = wide", "FNumber is never 'wide': pictures have 'f/11'"),
+        ("FNumber < wide", "expected: a number, or a date, such as 1950"),
+        ("DateTimeOriginal = yesterday", "DateTimeOriginal is never 'yesterday'"),
+        ("date created < 2023-02-30", "expected: a date"),
+        ("position = here", "expected: a latitude and a longitude"),
+        ("Artst = x", "'Artst' is no label and no field (perhaps Artist is meant)"),
+        ("AbsoluteHeight = 3", "'AbsoluteHeight' is no label and no field. The labels are"),
+    ],
+)
+def test_what_fits_no_value_is_refused(asked, question, why):
+    assert why in asked(question)
+
+
+def test_names_of_no_field_and_of_several(asked, called):
+    """The answer says so."""
+    assert asked("DNGVersion = 1") == 0
+    for question, end in (
+        ("DNGVersion = 1", "none has DNGVersion"),
+        ("XResolution = 72", "XResolution stands for IFD0:XResolution, IFD1:XResolution"),
+    ):
+        assert called("list", "c", "--where", question)[1].splitlines()[-1].endswith(f"; {end}")
+
+
+def test_dates_of_today():
+    later = question_of("rights end < today + 30 days").value
+    assert later == question_of("rights end < in 30 days").value > question_of("rights end < today").value
+    with pytest.raises(WrongQuestion):
+        question_of("rights end < today + 30 moons")
+
+
+RIGHTS = """-IPTC:ExpirationDate=2026:12:03 -IPTC:ReleaseDate=2026:12:01 -XMP-plus:LicenseEndDate=2026:12:03
+-XMP-iptcExt:DigitalSourceType=http://cv.iptc.org/newscodes/digitalsourcetype/trainedAlgorithmicMedia
+-XMP-iptcExt:LocationCreatedGPSLatitude=51.5 -XMP-iptcExt:LocationCreatedGPSLongitude=0.1"""
+
+
+@needs("exiftool")
+def test_rights_embargoes_sources_and_places(folder, called):
+    put(folder / "p", {"a.jpg": SMALL_JPEG, "b.jpg": SMALL_JPEG, "c.jpg": SMALL_JPEG})
+    tool(folder / "p", "exiftool", "-q", "-overwrite_original", *RIGHTS.split(), "a.jpg")
+    tool(folder / "p", "exiftool", "-q", "-overwrite_original", "-GPSLatitude=51.5", "b.jpg")
+    called("index", "p", "--catalogue", "c", "--quiet")
+    for question in (
+        "rights end = 2026-12-03",
+        "rights end < 2027",
+        "IPTC:ExpirationDate = 20261203 and IPTC:ExpirationDate = '2026-12-03' and LicenseEndDate >= 2026-12",
+        "embargo > 2026-11-29",
+        "IPTC:ReleaseDate > 2026-11-29",
+        "digital source = trainedAlgorithmicMedia",
+        "DigitalSourceType like '*trainedAlgorithmicMedia'",
+        "LocationCreatedGPSLatitude = 51.5",
+    ):
+        assert called("list", "c", "-0", "--where", question)[1].count("\0") == 1, question
+    status, lines, _ = called("list", "c", "--with", "position", "--columns", "position")
+    assert status == 2 and "  position  51.500000, 0.100000\nmay fit:\n" in lines
+    assert lines.splitlines()[-2].endswith("/b.jpg") and lines.splitlines()[-1].startswith("1 of 3 pictures; 1 more may fit: ")
+    (folder / "rules").write_text("position never\nrights end not after 2026-12-02\nIPTC:ReleaseDate is 2026-12-02\n")
+    assert called("check", "rules", "c", "--csv")[1].count("/a.jpg,") == 3
+
+
+@needs("exiftool")
+def test_impossible_dates_break_each_rule_of_dates(folder, called):
+    for number, date in enumerate(("2023:02:30 10:00:00", "2023:13:01 10:00:00", "2023:01:01 25:00:00", "2023:01:01 10:00:00")):
+        put(folder / "p", {f"{number}.jpg": SMALL_JPEG})
+        tool(folder / "p", "exiftool", "-q", "-overwrite_original", f"-DateTimeOriginal#={date}", f"{number}.jpg")
+    (folder / "rules").write_text("date created not before 1826\n")
+    lines = called("check", "rules", "p")[1].splitlines()
+    assert lines[-1] == "1 of 1 rule broken, by 3 of 4 pictures"
+
+
+def test_a_refused_block_may_not_have_what_its_standard_has_not(folder, called):
+    """Exif has no credit, and IPTC no serial number."""
+    from made_files import app1, app13, iim, jpeg, resource
+
+    files = {
+        "exif.jpg": jpeg(app1(b"II*\0\xff\xff\0\0"), base=SMALL_JPEG),
+        "iptc.jpg": jpeg(app13(resource(0x0404, iim(b"clay")[:-2])), base=SMALL_JPEG),
+    }
+    put(folder / "p", files)
+    called("index", "p", "--catalogue", "c", "--quiet")
+    listed = {it: called("list", "c", "--without", it)[1].splitlines() for it in ("credit", "serial", "creator")}
+    assert listed["credit"][-1].startswith("1 of 2 pictures; 1 more may fit: ") and listed["credit"][0].endswith("/exif.jpg")
+    assert listed["serial"][-1].startswith("1 of 2 pictures; 1 more may fit: ") and listed["serial"][0].endswith("/iptc.jpg")
+    assert listed["creator"][-1].startswith("0 of 2 pictures; 2 more may fit: ")
