@@ -9,6 +9,7 @@ from typing import Iterator, List, NamedTuple, Optional
 from ..catalogue.store import Known
 from ..comparison import changed
 from ..comparison.coded import Coded, sentence_of_coded
+from ..comparison.marking import Marker, Pieces
 from ..comparison.moved_folders import MovedFolder, MovedFolders
 from ..comparison.pairs import AFTER, BEFORE, heads_of
 from ..comparison.summary import Summary
@@ -19,7 +20,6 @@ from ..model.records import Stamp, is_as_before
 from ..model.results import Result
 from .contents import About
 from .entries import Entry, chunks
-from .marking import Marker, Pieces
 
 _RESULTS = sorted(Result, key=lambda result: result not in (Result.DAMAGED, Result.DAMAGED_DIFFERENT))  # which somebody has to look after
 _NUL = b"\0"  # which no name has
