@@ -121,6 +121,12 @@ def fields_by_label() -> Dict[str, Tuple[str, ...]]:
     return {word: tuple(group_name(*it) for it in fields) for word, fields in by_label.items()}
 
 
+@functools.lru_cache(maxsize=1)
+def label_of_fields() -> Dict[str, str]:
+    """The label of each field that has one, by the names that are printed."""
+    return {name: label for label, names in fields_by_label().items() for name in names}
+
+
 def label_of(word: str) -> Optional[str]:
     """The label that somebody has typed: upper and lower case, hyphens and the apostrophe don't matter.
 

@@ -4,9 +4,9 @@ from __future__ import annotations
 
 import functools
 import json
-from typing import Callable, Dict, Iterable, List, Optional, Sequence, Tuple
+from typing import Callable, Iterable, List, Optional, Sequence, Tuple
 
-from ..fields.labels import fields_by_label
+from ..fields.labels import label_of_fields
 from ..model.texts import safe, shown_path
 from .changes import ChangedPicture, Difference, Row
 from .entries import Entry
@@ -84,15 +84,10 @@ def _row(row: Row) -> str:
     return f"{row.name}: {row.note or ' -> '.join(sides)};"
 
 
-@functools.lru_cache(maxsize=1)
-def _labels() -> Dict[str, str]:
-    """The label of each field that has one."""
-    return {name: label for label, names in fields_by_label().items() for name in names}
-
-
 def labels_of(rows: Sequence[Row]) -> str:
     """The labels of the fields of some rows, by which people look for them."""
-    return " ".join(dict.fromkeys(_labels()[row.name] for row in rows if row.name in _labels()))
+    labels = label_of_fields()
+    return " ".join(dict.fromkeys(labels[row.name] for row in rows if row.name in labels))
 
 
 def kinds_of(lists: Sequence[Tuple[str, str]], results: Iterable[str]) -> List[Tuple[str, str]]:

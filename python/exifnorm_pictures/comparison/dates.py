@@ -1,0 +1,71 @@
+"""Dates that moved: by how much, as after the clock of a camera was corrected."""
+
+from __future__ import annotations
+
+import re
+from datetime import datetime, timedelta
+from typing import Dict, List, Optional, Sequence, Tuple
+
+from ..fields.field import Field
+from ..fields.plain_texts import text_of, xmp_texts
+from .differing import FieldDifference
+
+_DATE = re.compile(r"(\d{4})[:-](\d\d)[:-](\d\d)[ T](\d\d):(\d\d)(?::(\d\d))?(.*)", re.S)
+_IPTC_DATE, _IPTC_TIME = re.compile(r"(\d{4})(\d\d)(\d\d)()()()()"), re.compile(r"()()()(\d\d)(\d\d)(\d\d)(.*)", re.S)
+_IPTC = {"2:55": _IPTC_DATE, "2:60": _IPTC_TIME, "2:62": _IPTC_DATE, "2:63": _IPTC_TIME}
+_TIME_OF = {"2:55": "2:60", "2:62": "2:63"}  # the DataSet of the time of a date
+
+
+def shifts(changes: Sequence[FieldDifference]) -> Dict[timedelta, List[FieldDifference]]:
+    """The dates that moved, by how much later they are. The date and the time of IPTC move together, as over midnight."""
+    found: Dict[timedelta, List[FieldDifference]] = {}
+    by_tag = {(it.tag, it.block): it for it in changes if it.directory == "iptc"}
+    for change in changes:
+        of_time = by_tag.get((_TIME_OF.get(change.tag, ""), change.block)) if change.directory == "iptc" else None
+        is_time = change.directory == "iptc" and any(
+            (date, change.block) in by_tag for date, time in _TIME_OF.items() if time == change.tag
+        )
+        moved = None if is_time else _shift(change)
+        if of_time and moved is not None:
+            of_day = _shift(of_time)
+            moved = None if of_day is None else moved + of_day
+        if moved:
+            found.setdefault(moved, []).extend([change, of_time] if of_time else [change])
+    return found
+
+
+def _shift(change: FieldDifference) -> Optional[timedelta]:
+    """How much later a date is, if it is one on both sides, with the same time zone: with another one that isn't known."""
+    if len(change.before) != 1 or len(change.after) != 1 or change.note:
+        return None
+    first, second = (_date_of(it[0]) for it in (change.before, change.after))
+    return second[0] - first[0] if first and second and first[1] == second[1] else None
+
+
+def _date_of(field: Field) -> Optional[Tuple[datetime, str]]:
+    """The time of a date, and what follows it; None for a field that is none, or for a date that isn't in the calendar."""
+    if field.directory == "xmp":
+        texts = xmp_texts(field) or []
+        text = texts[0][0] if len(texts) == 1 else ""
+    else:
+        text = text_of(field) or ""
+    match = (_IPTC.get(field.tag, _DATE) if field.directory == "iptc" else _DATE).fullmatch(text)
+    if not match:
+        return None
+    year, month, day, hour, minute, second = (int(it or 0) for it in match.groups()[:6])
+    try:
+        return datetime(year or 2000, month or 1, day or 1, hour, minute, second), match[7]
+    except ValueError:
+        return None
+
+
+def in_words(shift: timedelta) -> str:
+    """How much later or earlier.
+
+    >>> in_words(timedelta(hours=1)), in_words(timedelta(days=-2, seconds=-1))
+    ('1 h later', '2 days 1 s earlier')
+    """
+    time = abs(shift)
+    rest = time.seconds
+    parts = [(time.days, "day" if time.days == 1 else "days"), (rest // 3600, "h"), (rest // 60 % 60, "min"), (rest % 60, "s")]
+    return f"{' '.join(f'{number:,} {word}' for number, word in parts if number)} {'later' if shift > timedelta() else 'earlier'}"

@@ -1,0 +1,229 @@
+"""Edits: what was taken out and put in, and the groups of pictures that were edited alike."""
+
+import pytest
+from hypothesis import given
+from hypothesis import strategies as st
+from exact_fields import field
+
+from exifnorm_pictures.comparison import edit_groups
+from exifnorm_pictures.comparison.differing import differences
+from exifnorm_pictures.comparison.edit_groups import Kinds
+from exifnorm_pictures.comparison.edit_words import line_of
+from exifnorm_pictures.comparison.edits import edits_of
+from exifnorm_pictures.comparison.marking import Marker
+
+
+def one(where, key, kind, *values):
+    return [field(where, key, kind, len(it), f'"{it}"') for it in values]
+
+
+def caption(text):
+    return one("iptc", "2:120", "octets", text) + one("xmp", "dc:description", "text", text) if text else []
+
+
+def keywords(*texts):
+    return one("iptc", "2:25", "octets", *texts)
+
+
+def taken(*times):
+    return [
+        it
+        for where, key, text in times
+        for it in one(where, key, "octets" if where == "iptc" else "text" if where == "xmp" else "ASCII", text)
+    ]
+
+
+def lines(before, after, has_parts=True):
+    """The edits in words. A field that both have keeps a block from being one that came or went."""
+    beside = one("iptc", "2:0", "octets", "x") + one("xmp", "x:y", "text", "x") + one("main", "010f", "ASCII", "x")
+    beside += one("exif", "9000", "ASCII", "x") + one("gps", "0000", "ASCII", "x")
+    return [line_of(it, True) for it in edits_of(differences(before + beside, after + beside), has_parts)]
+
+
+@pytest.mark.parametrize(
+    "before, after, text",
+    [
+        ("a vase, signed", "a vase, signed, recto", "caption (IPTC, XMP): a vase, signed{+, recto+}"),
+        ("vase of 1943", "vase of 1093", "caption (IPTC, XMP): vase of [-1943-]{+1093+}"),
+        ("a vase", "", "caption (IPTC, XMP) removed: [-a vase-]"),
+        ("", "a vase", "caption (IPTC, XMP): {+a vase+}"),
+        ("青花瓷瓶", "青花瓷瓶正面", "caption (IPTC, XMP): 青花瓷瓶{+正面+}"),
+        ("Anna Wirth in Rome", "Mei Lin in Rome", "caption (IPTC, XMP): [-Anna Wirth-]{+Mei Lin+} in Rome"),
+    ],
+)
+def test_a_text_is_one_edit_in_all_standards(before, after, text):
+    assert lines(caption(before), caption(after)) == [text]
+
+
+def test_lists_are_sets_of_members():
+    assert lines(keywords("a", "b"), keywords("b", "c", "d")) == ["keywords (IPTC): [-a-], {+c+}, {+d+}"]
+    assert lines(keywords("a", "b"), keywords("b", "a")) == ["keywords (IPTC): the same list in another order"]
+
+
+EARLIER = [
+    ("exif", "9003", "2020:01:31 23:10:00"),
+    ("exif", "9004", "2020:01:31 23:10:00"),
+    ("xmp", "xmp:CreateDate", "2020-01-31T23:10:00+01:00"),
+]
+LATER = [
+    ("exif", "9003", "2020:02:01 00:10:00"),
+    ("exif", "9004", "2020:02:01 00:10:00"),
+    ("xmp", "xmp:CreateDate", "2020-02-01T00:10:00+01:00"),
+]
+IPTC = [("iptc", "2:55", "20200131"), ("iptc", "2:60", "231000+0100")], [("iptc", "2:55", "20200201"), ("iptc", "2:60", "001000+0100")]
+
+
+def test_all_dates_that_move_alike_are_one_edit():
+    """Over midnight, too, where IPTC has the day and the time in two DataSets."""
+    (line,) = lines(taken(*EARLIER, *IPTC[0]), taken(*LATER, *IPTC[1]))
+    assert (
+        line.startswith("dates (")
+        and "1 h later: " in line
+        and {"DateTimeOriginal", "CreateDate", "TimeCreated"} <= set(line.partition("(")[2].partition(")")[0].split(", "))
+    )
+    (line,) = lines(taken(("iptc", "2:60", "101000+0100")), taken(("iptc", "2:60", "111000+0100")))
+    assert "1 h later" in line
+    (line,) = lines(taken(("iptc", "2:60", "101000+0100")), taken(("iptc", "2:60", "111000+0200")))
+    assert "later" not in line, "with another zone the difference isn't known"
+
+
+def test_a_block_that_went_is_one_edit():
+    record = keywords("a") + caption("vase")[:1]
+    assert [line_of(it) for it in edits_of(differences(record, []))] == ["IPTC (caption, keywords) removed"]
+    assert [line_of(it) for it in edits_of(differences(record, []), False)] == ["caption (IPTC) removed", "keywords (IPTC) removed"]
+
+
+def test_a_position_is_one_edit():
+    """Unless all of Exif went with it: then that is the edit."""
+    place = [field("gps", tag, "ASCII", 2, f'"{text}"') for tag, text in (("0001", "N"), ("0002", "48"), ("0003", "E"), ("0004", "2"))]
+    other = [field("gps", tag, "ASCII", 2, f'"{text}"') for tag, text in (("0001", "S"), ("0002", "48"), ("0003", "E"), ("0004", "3"))]
+    (line,) = lines(place, other)
+    assert line.startswith("position (Exif): [-") and line.endswith("+}")
+    assert lines([], place)[0].startswith("position (Exif): {+")
+    whole = [*place, *one("gps", "0007", "ASCII", "x"), *one("main", "010f", "ASCII", "x"), *one("main", "013b", "ASCII", "x")]
+    assert [line_of(it) for it in edits_of([it._replace(part="Exif") for it in differences(whole, [])])] == [
+        "Exif (creator, position) removed"
+    ]
+
+
+def test_what_programs_write_by_themselves_counts_only_if_nothing_else_was_edited():
+    saved = one("xmp", "xmp:MetadataDate", "text", "2020"), one("xmp", "xmp:MetadataDate", "text", "2021")
+    assert lines(saved[0], saved[1]) == ["what programs write by themselves (XMP) changed"]
+    both = lines(saved[0] + caption("a"), saved[1] + caption("b"))
+    assert both == ["caption (IPTC, XMP): [-a-]{+b+}", "what programs write by themselves (XMP) changed"]
+    kinds = Kinds()
+    for before, after in ((caption("a"), caption("b")), (saved[0] + caption("a"), saved[1] + caption("b"))):
+        kinds.add(b"p", differences(before, after))
+    assert [it.pictures for it in kinds.groups()] == [2]
+
+
+# Laws
+
+TEXTS = st.text("ab ,1é京\u0301", max_size=12)
+
+
+@given(TEXTS, TEXTS)
+def test_an_edit_of_the_earlier_text_gives_the_later_one(before, after):
+    steps = Marker().script(before, after)
+    assert "".join(it.text for it in steps if it.sign != "+") == before
+    assert "".join(it.text for it in steps if it.sign != "-") == after
+    assert all(it.text for it in steps) and all(one.sign != other.sign for one, other in zip(steps, steps[1:]))
+
+
+MEMBERS = st.lists(st.text("ab1é", min_size=1, max_size=4), max_size=6)
+
+
+@given(MEMBERS, MEMBERS)
+def test_an_edit_of_the_earlier_list_gives_the_later_one(before, after):
+    edits = [it for it in edits_of(differences(keywords(*before), keywords(*after)), False) if it.is_list and not it.note]
+    for edit in edits:
+        out, put = ([it.text for it in edit.steps if it.sign == sign] for sign in "-+")
+        left = list(before)
+        for it in out:
+            left.remove(it)
+        assert sorted(left + put) == sorted(after)
+
+
+CHANGES = st.lists(
+    st.tuples(st.sampled_from(["", "a vase", "a bowl, 1820"]), st.sampled_from(["", "a vase, recto", "a bowl, 1280", "x"])),
+    min_size=1,
+    max_size=40,
+)
+
+
+def grouped(pictures):
+    """The pictures of each group, by the kinds that `add` returns."""
+    kinds, of_kind = Kinds(), {}
+    for name, (before, after) in pictures:
+        of_kind.setdefault(kinds.add(name, differences(caption(before), caption(after))), []).append(name)
+    groups = kinds.groups()
+    assert kinds.further == 0 and [it.pictures for it in groups] == sorted(it.pictures for it in groups)
+    found = [sorted(name for kind in group.kinds for name in of_kind[kind]) for group in groups]
+    assert [len(it) for it in found] == [it.pictures for it in groups]
+    return sorted(found), sorted(of_kind.get(0, []))
+
+
+@given(CHANGES, st.randoms(use_true_random=False))
+def test_each_picture_is_in_one_group_in_any_order(changes, by_chance):
+    pictures = [(b"%02d.jpg" % number, it) for number, it in enumerate(changes)]
+    groups, unchanged = grouped(pictures)
+    assert sorted([name for group in groups for name in group] + unchanged) == [name for name, _ in pictures]
+    by_chance.shuffle(pictures)
+    assert grouped(pictures) == (groups, unchanged)
+
+
+def groups_of(*changes):
+    kinds = Kinds()
+    for number, (before, after) in enumerate(changes):
+        kinds.add(b"%04d.jpg" % number, differences(caption(before), caption(after)))
+    return [(it.pictures, [line_of(one) for one in it.edits]) for it in kinds.groups()]
+
+
+def test_one_value_for_all_is_one_edit_whatever_was_there():
+    earlier = ["", "Museum", "River Museum, 1820", "Museum of the river"]
+    assert groups_of(*((it, "Riverside Museum") for it in earlier)) == [(4, ["caption (IPTC, XMP): {+Riverside Museum+}"])]
+
+
+def test_many_texts_of_their_own_are_one_group():
+    """But what was removed isn't hidden among them."""
+    changes = [("", f"plate {number}") for number in range(50)] + [(f"plate {number}", "") for number in range(2)] + [("a vase", "a bowl")]
+    assert groups_of(*changes) == [
+        (1, ["caption (IPTC, XMP): [-vase-]{+bowl+}"]),
+        (2, ["caption (IPTC, XMP) removed"]),
+        (50, ["caption (IPTC, XMP): added, different words in each"]),
+    ]
+
+
+def test_a_day_of_keywords():
+    """Twenty pictures get a keyword, whatever they had, and six lose their rating; three went wrong."""
+    rating = one("xmp", "xmp:Rating", "text", "3")
+    days = [(keywords(*"abc"[: number % 3]), keywords(*"abc"[: number % 3], "digitised")) for number in range(20)]
+    days += [(one("xmp", "xmp:Rating", "text", str(number % 2)) + caption("a"), caption("a")) for number in range(6)]
+    days += [(caption("a bowl, 1820") + keywords("a"), caption("a bowl, 1280") + keywords("a", "digitised"))]
+    days += [(one("iptc", "2:80", "octets", "Lena"), one("iptc", "2:80", "octets", "Unknown"))]
+    days += [(taken(("exif", "9003", "2016:09:28 18:18:05")) + rating, taken(("exif", "9003", "2031:01:01 00:00:00")) + rating)]
+    kinds = Kinds()
+    for number, (before, after) in enumerate(days):
+        kinds.add(b"%02d" % number, differences(before, after))
+    groups = kinds.groups()
+    assert [(it.pictures, it.names) for it in groups if it.is_odd] == [(1, [b"26"]), (1, [b"27"]), (1, [b"28"])]
+    assert [(it.pictures, line_of(it.edits[0])) for it in groups if not it.is_odd] == [
+        (6, "XMP-xmp:Rating removed"),
+        (20, "keywords (IPTC): {+digitised+}"),
+    ]
+
+
+def test_memory_has_a_limit(monkeypatch):
+    monkeypatch.setattr(edit_groups, "KINDS", 20)
+    kinds = Kinds(most_names=3)
+    for number in range(100):
+        for text in (f"{number} {'x' * 10_000}", f"{number} {'y ' * 10_000}"):
+            kinds.add(b"%d" % number, differences(caption("a vase"), caption(text)))
+    assert len(kinds.kinds) == 20 and kinds.further == 180
+    assert max(len(step.text) for kind in kinds.kinds for edit in kind.edits for step in edit.steps) < 400
+    assert sum(it.pictures for it in kinds.groups()) == 20
+
+
+def test_a_strangers_fields_are_limited():
+    changes = differences([], [one("xmp", f"x:f{number}", "text", "a")[0] for number in range(2000)])
+    assert len(edits_of(changes, False)) <= 101
