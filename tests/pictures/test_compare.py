@@ -11,7 +11,7 @@ import unicodedata
 from collections import Counter
 
 import pytest
-from hypothesis import assume, example, given, strategies as st
+from hypothesis import example, given, strategies as st
 from made_blocks import ASCII, BLOCKS, LONG, SHORT, block, entry, segment, table, with_exif
 from made_files import app1, app1_xmp, app13, chunk, exif, iim, jpeg, png, resource, title, xmp
 from studio import SMALL_JPEG, needs, tool
@@ -20,10 +20,8 @@ from test_list import record
 from test_never_the_same import damages, parts, reached, segments, texts
 
 from exifnorm_pictures.comparison import proved
-from exifnorm_pictures.comparison.differing import FieldDifference
 from exifnorm_pictures.comparison.two_pictures import compare, read
-from exifnorm_pictures.comparison.wording import told_apart, what
-from exifnorm_pictures.fields.field import Field
+from exifnorm_pictures.comparison.wording import told_apart
 from exifnorm_pictures.files import opening
 from exifnorm_pictures.files.session import Session
 from exifnorm_pictures.model.found import EXIF, IPTC
@@ -371,27 +369,6 @@ def test_different_texts_never_look_alike(before, after):
 def test_no_invisible_character_is_forgotten():
     shown = {character: told_apart("a", f"a{character}")[1] for character in ignorable()}
     assert len(shown) > 4000 and not [it for it, text in shown.items() if text != f"a<U+{ord(it):04X}>"]
-
-
-def keywords(texts):
-    """DataSets of IPTC, whose text may be in another character set too."""
-    return tuple([Field("iptc", "2:25", "octets", len(it), it) for it in texts])
-
-
-WORD = st.tuples(st.text(LETTERS, max_size=2), st.sampled_from(["utf-8", "windows-1252"])).map(lambda it: it[0].encode(it[1], "ignore"))
-
-
-@needs("perl")
-@given(*[st.lists(WORD, max_size=3)] * 2)
-@example(["Z\u00fcrich".encode()], ["Zu\u0308rich".encode()])
-@example([b"Z\xfcrich"], ["Z\u00fcrich".encode()])
-def test_members_of_lists_never_look_alike(before, after):
-    """What was added to a list and removed; and a list is in another order only if that is all."""
-    assume(before != after)
-    told = what(FieldDifference("iptc", "2:25", keywords(before), keywords(after))).text
-    added, _, removed = told.removeprefix(": added ").partition(", removed ")
-    assert not removed or look(added) != look(removed)
-    assert ("the same list in another order" in told) == (sorted(before) == sorted(after)), told
 
 
 def test_contradictions_never_look_alike(folder, called):

@@ -81,7 +81,7 @@ class Documents(WithPictures):
             )
             self.assertEqual(ran.returncode, 1 if "pictures changed" in line else 0, (line, ran.stderr))
             printed.append(ran.stdout.decode())
-        self.assertIn("IFD0:Copyright", printed[2])
+        self.assertIn("copyright (Exif): {+The Museum+}", printed[2])
         pages = [read(self.path("report", it)).decode() for it in os.listdir(self.path("report")) if it.endswith(".html")]
         self.assertIn("IFD0:Copyright", "".join(pages))
         self.assertEqual(printed[-1].count('"label"'), 4, "three artists and a copyright")

@@ -1,16 +1,25 @@
 """Edits: what was taken out and put in, and the groups of pictures that were edited alike."""
 
+import csv
+import json
+import re
+from collections import Counter
+
 import pytest
 from hypothesis import given
 from hypothesis import strategies as st
 from exact_fields import field
+from made_files import jpeg, with_record
 
-from exifnorm_pictures.comparison import edit_groups
+from exifnorm_pictures.cli import summary as page
+from exifnorm_pictures.comparison import edit_groups, summary
+from exifnorm_pictures.comparison.changed import Compared
 from exifnorm_pictures.comparison.differing import differences
 from exifnorm_pictures.comparison.edit_groups import Kinds
 from exifnorm_pictures.comparison.edit_words import line_of
 from exifnorm_pictures.comparison.edits import edits_of
 from exifnorm_pictures.comparison.marking import Marker
+from exifnorm_pictures.model.results import Result
 
 
 def one(where, key, kind, *values):
@@ -227,3 +236,82 @@ def test_memory_has_a_limit(monkeypatch):
 def test_a_strangers_fields_are_limited():
     changes = differences([], [one("xmp", f"x:f{number}", "text", "a")[0] for number in range(2000)])
     assert len(edits_of(changes, False)) <= 101
+
+
+# An archive's day: each caption gets the same words, and three pictures get something else
+
+
+def record(text, *words):
+    octets = b"".join(
+        b"\x1c\2" + bytes((tag,)) + len(it).to_bytes(2, "big") + it for tag, it in [(120, text), *((25, one) for one in words)] if it
+    )
+    return jpeg(with_record(octets)) if octets else jpeg()
+
+
+@pytest.fixture
+def day(folder):
+    for side in ("before", "after"):
+        (folder / side).mkdir()
+    for number in range(30):
+        text = b"Plate %d: the market, %d, signed on the back" % (number, 1900 + number)
+        later = text + b", recto"
+        later = {7: b"Plate 8: the market, 1908, signed on the back, recto", 12: b"", 16: later.replace(b"1916", b"1196")}.get(
+            number, later
+        )
+        (folder / f"before/{number:02}.jpg").write_bytes(record(text, b"loan"))
+        (folder / f"after/{number:02}.jpg").write_bytes(record(later, b"loan"))
+    return folder
+
+
+def test_the_odd_ones_come_first(day, called):
+    status, out, _ = called("changed", "before", "after")
+    assert status == 1
+    assert out.splitlines()[2:12] == [
+        "3 pictures changed like no other:",
+        "  07.jpg",
+        "    caption (IPTC): Plate [-7-]{+8+}: the market, [-1907-]{+1908+}, signed on the back{+, recto+}",
+        "  12.jpg",
+        "    caption (IPTC) removed: [-Plate 12: the market, 1912, signed on the back-]",
+        "  16.jpg",
+        "    caption (IPTC): Plate 16: the market, [-1916-]{+1196+}, signed on the back{+, recto+}",
+        "",
+        "27 pictures: caption (IPTC): .. {+, recto+}",
+        "  00.jpg, 01.jpg, 02.jpg ..",
+    ]
+
+
+def test_words_are_coloured_if_that_is_asked_for():
+    """Otherwise brackets mark them. A line is as wide as the screen, and no text of a picture reaches the terminal as it is."""
+    found = summary.Summary()
+    found.add(
+        Compared(
+            b"a\x1b.jpg", Result.DIFFERENT, changes=differences(caption("a \x1b[31m vase of 1943"), caption("a \x1b[31m vase of 1093"))
+        )
+    )
+    for colours in (False, True):
+        page_lines = list(page.lines(found, Counter({Result.DIFFERENT: 1}), (), 40, colours))
+        bare = [re.sub("\x1b\\[(31;9|32;4)?m", "", it) for it in page_lines]
+        assert "\x1b" not in "".join(bare) and max(map(len, bare)) <= 60
+        assert ("\x1b[31;9m1943\x1b[m\x1b[32;4m1093\x1b[m" in "".join(page_lines)) == colours
+        assert ("[-1943-]{+1093+}" in "".join(page_lines)) != colours
+
+
+def test_json_and_csv_have_the_groups(day, called):
+    objects = [json.loads(it) for it in called("changed", "before", "after", "--json")[1].splitlines()]
+    groups = [it for it in objects if it["record"] == "edits"]
+    assert [it["pictures"] for it in groups] == [1, 1, 1, 27]
+    numbers = [it["edit"] for it in objects if it["record"] == "picture"]
+    assert all(sum(numbers.count(one) for one in it["edit"]) == it["pictures"] for it in groups)
+    rows = list(csv.DictReader(called("changed", "before", "after", "--csv")[1].splitlines()))
+    assert sum(it["edit"] == "caption (IPTC): .. {+, recto+}" for it in rows) == 27
+
+
+def test_the_report_begins_with_the_odd_ones(day, called):
+    for side in ("before", "after"):
+        called("index", side, "--catalogue", f"{side}.catalogue", "--quiet")
+    called("report", "after.catalogue", "--since", "before.catalogue", "--html", "page.html")
+    page = (day / "page.html").read_text(encoding="utf-8")
+    summary = page[page.index('id="summary"') : page.index('id="glance"')]
+    places = [summary.index(it) for it in (">07.jpg<", ">12.jpg<", ">16.jpg<", "<h4>27 pictures")]
+    assert places == sorted(places) and summary.count('<rect class="odd"') == 3
+    assert "#find=edit:4;&amp;kind=changed" in summary and page.count("edit:4;") == 28

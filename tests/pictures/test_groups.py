@@ -323,7 +323,7 @@ def test_maker_notes(asked, folder, other, result, status, basis):
     for side, octets in (("before", one), ("after", other)):
         (folder / side).mkdir()
         (folder / side / "a.jpg").write_bytes(octets)
-    (found, _) = asked("changed", "before", "after", "--all", status=status)
+    (found, *_) = asked("changed", "before", "after", "--all", status=status)
     assert found["result"] == result or (status == 1 and found["result"] in ("different", "only MakerNote differs"))
     values = [(it["before"], it["after"]) for it in (found["maker_note"] or {"values": []})["values"]]
     assert (("Annette", "Ottilie") in values) is (b"Ottilie" in other)
@@ -357,7 +357,7 @@ def test_what_exiftool_reads_is_kept(asked, folder):
     (folder / "p/a.jpg").write_bytes(with_note(b"Annette", 64))
     asked("index", "p", "--catalogue", "now", "--quiet")
     assert asked("changed", "with", "now", status=2)[0]["result"] == "the same but for a MakerNote that moved"
-    (found, _) = asked("changed", "without", "now", status=1)
+    (found, *_) = asked("changed", "without", "now", status=1)
     assert "the earlier picture" in found["fields"][0]["note"]
 
 

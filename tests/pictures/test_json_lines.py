@@ -196,7 +196,7 @@ def test_structures_are_those_of_exiftool(objects, folder):
     fields = {it["name"].rpartition(":")[2].casefold(): it for block in objects("show", "@/a.jpg")[0]["blocks"] for it in block["fields"]}
     assert {name: as_exiftool_prints(it["value"]) for name, it in fields.items()} == theirs
     objects("index", "@/a.jpg", "--catalogue", "@/after.sqlite")
-    (picture, _) = objects("changed", "@/before.sqlite", "@/after.sqlite")
+    (picture, *_) = objects("changed", "@/before.sqlite", "@/after.sqlite")
     after = {it["name"].rpartition(":")[2].casefold(): it["after"]["value"] for it in picture["fields"]}
     assert set(after.pop("history")) == {"sha256", "count"}
     assert after == {name: it["value"] for name, it in fields.items() if name != "history"}

@@ -36,7 +36,7 @@ def test_changed(name, folder, called):
         (["--pixels"], result, coded, statuses[1]),
     ):
         found, printed, _ = called("changed", "a", "b", "--all", "--json", "--no-exiftool", *words)
-        (it, summary) = map(json.loads, printed.splitlines())
+        (it, *_, summary) = map(json.loads, printed.splitlines())
         assert (found, it["result"], it["coded_picture"]) == (status, expected, picture), it["note"]
         assert summary["coded_pictures"] == {picture: 1}
         text = called("changed", "a", "b", "--no-exiftool", *words)[1]

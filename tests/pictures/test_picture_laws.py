@@ -4,13 +4,13 @@ that are merged are one; what has changed there has changed back; and each edit 
 import contextlib
 import csv
 import json
-import re
 import shutil
 from collections import Counter
 
 import pytest
 from exifnorm_pictures.extract import extraction
 from exifnorm_pictures.extract.formats.streams import File
+from exifnorm_pictures.fields.labels import label_of_fields
 from exifnorm_pictures.files import opening
 from exifnorm_pictures.model.budgets import Budget
 from growing import FORMATS, Parts
@@ -37,7 +37,6 @@ XMP = {"XMP-dc:title": "Alt", "XMP-dc:creator": "Seq", "XMP-dc:subject": "Bag", 
 NAMES = (*EXIF, *IPTC, *XMP)
 WORDS = ("Anna Moor", "Zoë", "a bowl", "東", "=1+2", "x" * 33, "one; two", "SANYO DIGITAL CAMERA", "Ä" * 200)
 WITH_ALL = ("jpg", "png", "tif", "psd")  # the formats that have blocks of all kinds
-SUMMARY = re.compile(r"  (\w[\w-]*:[\w-]+):? .*?(\d+) pictures?(?:,.*)?")
 FAULTS = ("", "", "", "trailer", "cut", "refused")
 TEXTS = st.dictionaries(st.sampled_from(NAMES), st.sampled_from(WORDS), min_size=1)
 MAKE = ((0x010F, ASCII, b"Leica\0"),)
@@ -122,10 +121,8 @@ def test_what_is_kept_prints_as_what_is_read(before, after, in_archive):
         assert [it.replace(": --pixels compares", ": index --pixels compares") for it in read] == changes, words
     forms = counts_of_fields(archive)
     assert all(counts == forms["--json"] for counts in forms.values()), forms
-    page, is_full = on_page(archive)  # of 30 lines, on which a block that came or went is one; but all texts by label have their own
-    assert page == {name: count for name, count in forms["--json"].items() if name in NAMES and (page[name] or not is_full)}, forms
     *changes, summary = archive.objects("changed p.c q.c --all")
-    both = Counter(it["coded_picture"] for it in changes if not (it["moved_to"] or it["result"].startswith("missing")))
+    both = Counter(it["coded_picture"] for it in changes if "path" in it and not (it["moved_to"] or it["result"].startswith("missing")))
     assert both == summary["coded_pictures"], (changes, summary)
     there, back = by_name(changes), by_name(archive.objects("changed q.c p.c --all"))
     for name in {*there} & {*back}:
@@ -142,16 +139,7 @@ def counts_of_fields(archive):
     found = {"--csv": Counter(row["field"] for row in csv.DictReader(lines["--csv"]) if row["field"])}
     found["--json"] = Counter(field["name"] for it in map(json.loads, lines["--json"]) for field in it.get("fields", ()))
     found["report"] = Counter(next(it for it in archive.objects("report q.c --since p.c") if it["record"] == "changes")["fields"])
-    found["--only"] = sum((on_page(archive, f"--only '{name}'", [name])[0] for name in found["--json"]), Counter())
     return found
-
-
-def on_page(archive, words="", names=NAMES):
-    """The numbers of pictures on the page, whose lines have a field first, and its number last; and whether there is no room for some."""
-    lines, counts = archive.lines(f"changed p.c q.c {words}"), Counter()
-    for line in filter(None, map(SUMMARY.fullmatch, lines)):
-        counts[line[1]] += int(line[2]) * (line[1] in names)
-    return +counts, any("further fields" in it for it in lines)
 
 
 def both_ways(there, back):
@@ -215,7 +203,8 @@ def test_an_edit_is_named_by_its_field_in_every_form(texts, name, words, ending,
     (change,) = by_name(archive.objects("changed p.c q.c")).values()
     assert change["result"] == "different" and {it["name"] for it in change["fields"]} == {name}
     assert {row["field"] for row in csv.DictReader(archive.lines("changed p.c q.c --csv", 1)) if row["picture"]} == {name}
-    for line in ("changed p.c q.c", "changed p.c q.c --each", f"compare p/a.{ending} q/a.{ending}"):
+    assert label_of_fields().get(name, name) in "\n".join(archive.lines("changed p.c q.c", 1))
+    for line in ("changed p.c q.c --each", f"compare p/a.{ending} q/a.{ending}"):
         text = "\n".join(archive.lines(line, 1))
         assert name in text and not any(it in text for it in NAMES if it != name), line
     changes = [it for it in archive.objects("report q.c --since p.c") if it["record"] == "change"]

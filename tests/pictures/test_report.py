@@ -86,7 +86,11 @@ class Report(WithPictures):
         linked = {os.fsdecode(unquote_to_bytes(it[7:])) for it in page.links if it.startswith("file://")}
         self.assertEqual(linked, files, "one that is gone has no link")
         self.assertEqual({it for it in page.texts("small") if it.endswith(".jpg")}, {os.path.basename(it) for it in files})
-        self.assertEqual([it for it in page.links if it.startswith("#") and f' id="{it[1:]}"' not in self.page], [], "they lead nowhere")
+        self.assertEqual(
+            [it for it in page.links if it.startswith("#") and not it.startswith("#find=") and f' id="{it[1:]}"' not in self.page],
+            [],
+            "they lead nowhere",
+        )
         self.assertNotIn("--json", self.page)
 
     def test_long_lists_are_whole(self):

@@ -195,7 +195,8 @@ def test_contents_lead_to_each_section(browser: Browser, report: Path) -> None:
 @pytest.mark.parametrize("page, steps", [("page.html", 40), ("many/unread-1.html", 24), ("many/problems-1.html", 3)])
 def test_everything_is_reached_by_the_keyboard_in_the_order_of_the_page(page: str, steps: int, browser: Browser, report: Path) -> None:
     browser.open(f"file://{report}/{page}")
-    wanted = browser.ask("[...document.querySelectorAll('a, input, select')].map((it, at) => (it.dataset.at = at)).length")
+    reached = "[...document.querySelectorAll('a, input, select, summary')].filter((it) => it.checkVisibility())"
+    wanted = browser.ask(f"{reached}.map((it, at) => (it.dataset.at = at)).length")
     seen = []
     for _ in range(steps):
         browser.press("Tab", 9)
@@ -298,7 +299,7 @@ def test_without_scripts_everything_is_there(page: str, browser: Browser, report
         browser.open(f"file://{report}/{page}")
         assert browser.ask("[...document.querySelectorAll('[hidden]')].map((it) => it.id)") in (["search"], ["search", "found"])
         assert browser.ask(
-            "[...document.querySelectorAll('main, section, article, li:not(#found li), tr')].every((it) => it.checkVisibility())"
+            "[...document.querySelectorAll('main, section, article, li:not(#found li, details li), tr, summary')].every((it) => it.checkVisibility())"
         )
     finally:
         browser.call("Emulation.setScriptExecutionDisabled", value=False)
@@ -396,6 +397,9 @@ def test_what_changed_isnt_told_by_colour_alone(browser: Browser, report: Path) 
     opened(browser, report)
     lines = "['ins', 'del'].map((it) => getComputedStyle(document.querySelector(`td ${it}`)).textDecorationLine)"
     assert browser.ask(lines) == ["underline", "line-through"]
-    bars = "[...document.querySelectorAll('svg')].every((it) => it.closest('tr').querySelector('.number').textContent.trim())"
+    bars = "[...document.querySelectorAll('tr svg')].every((it) => it.closest('tr').querySelector('.number').textContent.trim())"
     assert browser.ask(bars), "a bar without its number"
+    assert browser.ask(
+        "[...document.querySelectorAll('.ways a')].every((it) => it.getAttribute('aria-label'))"
+    ), "a part of the bar without words"
     assert json.loads(browser.ask("JSON.stringify([...document.querySelectorAll('.tag')].filter((it) => !it.textContent.trim()))")) == []

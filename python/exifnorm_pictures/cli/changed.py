@@ -110,8 +110,11 @@ def _print_summary(comparisons: Comparisons, counts: "Counter[Result]", choice: 
     counted = Summary(choice)
     for comparison in comparisons:
         counted.add(comparison)
-    screen = shutil.get_terminal_size().columns if sys.stdout.isatty() else None
-    print_lines(lines(counted, counts, [*notes.of_pictures(), *lines_of_choice(choice, True)], screen))
+    is_terminal = sys.stdout.isatty()
+    screen = shutil.get_terminal_size().columns if is_terminal else None
+    colours = is_terminal and not os.environ.get("NO_COLOR") and os.environ.get("TERM", "dumb") != "dumb"
+    for line in lines(counted, counts, [*notes.of_pictures(), *lines_of_choice(choice, True)], screen, colours):
+        print(line) if "\x1b" in line else print_line(line)  # all texts in it were made safe
 
 
 def _knows(*sides: Catalogue) -> Callable[[bytes], bool]:

@@ -8,6 +8,9 @@ from typing import TYPE_CHECKING, Iterable, Optional, Sequence, Tuple
 from ..comparison.changed import Compared
 from ..comparison.coded import Coded
 from ..comparison.differing import FieldDifference, exact_side
+from ..comparison.edit_groups import Group, Kinds
+from ..comparison.edit_words import line_of
+from ..comparison.edits import edit_of
 from ..comparison.wording import plain_sides
 from ..fields.choosing import Choice
 from ..fields.left_out import lines, members_of
@@ -26,7 +29,7 @@ if TYPE_CHECKING:
 Comparisons = Iterable[Compared]
 
 _MAKER_NOTE = group_name(*MAKER_NOTE)
-HEADS = ("picture", "result", "moved to", "field", "before", "after", "exact before", "exact after", "note", "coded picture")
+HEADS = ("picture", "result", "moved to", "field", "before", "after", "exact before", "exact after", "note", "coded picture", "edit")
 
 
 def print_table(table: Table, comparisons: Comparisons, choice: Choice) -> None:
@@ -35,22 +38,33 @@ def print_table(table: Table, comparisons: Comparisons, choice: Choice) -> None:
         about = (comparison.name, comparison.result, comparison.moved_to)
         for change in comparison.changes:
             values = (None,) * 4 if change.note else (*plain_sides(change), exact_side(change.before), exact_side(change.after))
-            table.row(*about, change.name, *values, change.note or comparison.note, comparison.picture)
+            table.row(*about, change.name, *values, change.note or comparison.note, comparison.picture, line_of(edit_of(change)))
         for value in comparison.maker_note or ():
             sides = (value.before, value.after, None, None)
-            table.row(*about, f"{_MAKER_NOTE} {value.name}", *sides, "as ExifTool reads it", comparison.picture)
+            table.row(*about, f"{_MAKER_NOTE} {value.name}", *sides, "as ExifTool reads it", comparison.picture, None)
         if not comparison.changes:
-            table.row(*about, *(None,) * 5, comparison.note, comparison.picture)
+            table.row(*about, *(None,) * 5, comparison.note, comparison.picture, None)
     for text in lines(choice, True):
-        table.row(*(None,) * 8, text, None)
+        table.row(*(None,) * 8, text, None, None)
 
 
 def print_objects(comparisons: Comparisons, counts: "Counter[Result]", choice: Choice, pictures: "Counter[Coded]") -> None:
-    """An object for each picture, and one for all."""
+    """An object for each picture, one for each group of pictures that were edited alike, and one for all."""
+    kinds = Kinds(not choice.only)
     for comparison in comparisons:
-        print_object("changed", "picture", _members(comparison))
+        print_object("changed", "picture", {**_members(comparison), "edit": kinds.add(comparison.name, comparison.changes) or None})
+    for group in kinds.groups():
+        print_object("changed", "edits", _group_members(group))
     known = {"counts": dict(counts), "left_out": dict(choice.left_out), "labels": choice.labels(), "coded_pictures": dict(pictures)}
-    print_object("changed", "summary", {**known, **members_of(choice)})
+    print_object("changed", "summary", {**known, "edits_not_grouped": kinds.further, **members_of(choice)})
+
+
+def _group_members(group: Group) -> Members:
+    edits = [
+        {"name": it.name, "fields": it.fields, "note": it.note or None, "words": [{"sign": one.sign, "text": one.text} for one in it.core]}
+        for it in group.edits
+    ]
+    return {"pictures": group.pictures, "first": path_members(group.names[0]), "edit": group.kinds, "edits": edits}
 
 
 def _members(comparison: Compared) -> Members:

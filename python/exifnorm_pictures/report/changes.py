@@ -4,7 +4,7 @@ from __future__ import annotations
 
 import json
 from collections import Counter
-from typing import Iterator, List, NamedTuple, Optional
+from typing import Dict, Iterator, List, NamedTuple, Optional, Tuple
 
 from ..catalogue.store import Known
 from ..comparison import changed
@@ -12,17 +12,23 @@ from ..comparison.coded import Coded, sentence_of_coded
 from ..comparison.marking import Marker, Pieces
 from ..comparison.moved_folders import MovedFolder, MovedFolders
 from ..comparison.pairs import AFTER, BEFORE, heads_of
-from ..comparison.summary import Summary
-from ..comparison.summary_lines import Line, results_of, rows_of, sentence
+from ..comparison.edit_groups import KINDS, Group
+from ..comparison.edit_words import head_of
+from ..comparison.edits import Edit
+from ..comparison.summary import NOW, Summary
+from ..comparison.summary_lines import results_of, sentence
 from ..comparison.wording import sides
 from ..fields.left_out import lines
 from ..model.records import Stamp, is_as_before
 from ..model.results import Result
+from ..model.texts import pictures_in_words
 from .contents import About
 from .entries import Entry, chunks
 
 _RESULTS = sorted(Result, key=lambda result: result not in (Result.DAMAGED, Result.DAMAGED_DIFFERENT))  # which somebody has to look after
-_NUL = b"\0"  # which no name has
+SHEET = 60  # pictures of a group that are shown beside its edits
+GROUPS = 40  # groups that are shown by themselves, and pictures that changed like no other
+BAR, THINNEST = 1000, 8  # the length of the bar, and of its shortest part
 
 
 class Row(NamedTuple):
@@ -54,6 +60,19 @@ class Difference(NamedTuple):
     total: int  # of all its pictures
     pictures: List[ChangedPicture]
     is_first: bool  # False: more pictures with the difference before
+    group: int = 0  # of pictures that were edited alike
+
+
+class ShownGroup(NamedTuple):
+    """Pictures that were edited alike, with the first of them; each with its own edits if these differ."""
+
+    number: int
+    edits: List[Edit]
+    heads: List[str]  # what each edit is about
+    total: int
+    pictures: List[Tuple[ChangedPicture, List[Edit]]]
+    start: float  # of its part of the bar
+    length: float
 
 
 class Changes:
@@ -63,7 +82,7 @@ class Changes:
         assert about.old is not None
         self.results: "Counter[Result]" = Counter()
         self.coded: "Counter[Coded]" = Counter()  # what is known of the coded pictures of both catalogues
-        self.summary = Summary(about.choice)
+        self.summary = Summary(about.choice, SHEET)
         self._folders = MovedFolders()
         self._old = about.old
         self._heads = heads_of((about.old, about.catalogue))
@@ -79,23 +98,25 @@ class Changes:
             self.close()
             raise
         self.left_out = list(lines(about.choice, True))
+        self._groups = self.summary.kinds.groups()
+        self._group_of: Dict[int, int] = {kind: number for number, group in enumerate(self._groups, 1) for kind in group.kinds}
 
     def close(self) -> None:
         """Removes the temporary database."""
         self._equal.close()
 
     def _add(self, comparison: changed.Compared) -> None:
-        self.summary.add(comparison)
+        kind = self.summary.add(comparison)
         if comparison.result.has_changed is False:
             return
         rows = [(one.name, *sides(one), one.note) for one in comparison.changes]
         place, note = comparison.moved_to, comparison.note
         if place is not None:
             self._folders.add(comparison.name, place)
-        name = comparison.name if place is None else comparison.name + _NUL + place
+        name = comparison.name if place is None else comparison.name + NOW + place
         rank = _RESULTS.index(comparison.result)
         is_other = comparison.picture == Coded.OTHER or comparison.picture.is_damaged
-        self._equal.add(json.dumps([rank, note, rows, is_other]), name, False, rank)
+        self._equal.add(json.dumps([rank, note, rows, is_other, kind]), name, False, rank)
 
     @property
     def number_changed(self) -> int:
@@ -117,13 +138,41 @@ class Changes:
         """How many pictures were compared, and how many changed."""
         return sentence(self.results)
 
-    def lines(self) -> List[Line]:
-        """Which field got which value, and in how many pictures, as the terminal has it."""
-        return rows_of(self.summary)
+    def groups(self) -> List[ShownGroup]:
+        """The groups of pictures that were edited alike, the smallest first: so many of one picture, and the largest ones."""
+        odd = [number for number, it in enumerate(self._groups) if it.is_odd]
+        shown = [*odd[:GROUPS], *range(max(len(odd), len(self._groups) - GROUPS), len(self._groups))]
+        lengths = [
+            max(THINNEST, BAR * self._groups[it].pictures / max(1, sum(self._groups[one].pictures for one in shown))) for it in shown
+        ]
+        scale, start, groups = BAR / max(1, sum(lengths)), 0.0, []
+        for at, length in zip(shown, lengths):
+            group = self._groups[at]
+            heads = [head_of(edit, places, group.pictures) for edit, places in zip(group.edits, group.places)]
+            groups.append(ShownGroup(at + 1, group.edits, heads, group.pictures, self._shown(group), start, length * scale))
+            start += length * scale
+        return groups
+
+    @property
+    def number_odd(self) -> int:
+        """How many pictures changed like no other."""
+        return sum(it.is_odd for it in self._groups)
+
+    @property
+    def number_alike(self) -> int:
+        """How many groups of several pictures there are."""
+        return len(self._groups) - self.number_odd
+
+    def _shown(self, group: Group) -> List[Tuple[ChangedPicture, List[Edit]]]:
+        """The first pictures of a group, with their own edits if each has others."""
+        if group.is_odd or len(group.kinds) > 1:
+            return [(self._picture(Result.DIFFERENT, name, False), edits) for name, edits in group.firsts[:SHEET]]
+        return [(self._picture(Result.DIFFERENT, name, False), []) for name in group.names]
 
     def notes(self) -> List[str]:
         """The results, what was compared of the pictures, and what is left out."""
-        more = ["Further fields aren't counted."] * self.summary.has_more
+        further = self.summary.kinds.further
+        more = [f"More than {KINDS:,} kinds of edit: {pictures_in_words(further)} more, which aren't grouped"] * bool(further)
         return [*more, *results_of(self.summary, self.results), *filter(None, [sentence_of_coded(self.coded)]), *self.left_out]
 
     def folders(self) -> List[MovedFolder]:
@@ -133,7 +182,7 @@ class Changes:
     def entries(self) -> Iterator[Entry]:
         """Each difference with its pictures, by what happened and by their number, damaged ones first; of many pictures so many as a page has."""
         for text, count, names in self._equal.all(by_rank=True):
-            rank, note, all_rows, is_other = json.loads(text)
+            rank, note, all_rows, is_other, kind = json.loads(text)
             result = _RESULTS[rank]
             marker = Marker()
             rows = [Row(name, *marker.marked(before, after), what) for name, before, after, what in all_rows]
@@ -141,11 +190,12 @@ class Changes:
             for chunk in chunks(names, lambda name: name):
                 pictures = [self._picture(result, name, is_other) for name in chunk]
                 paths = tuple(it.after or it.before or b"" for it in pictures)
-                yield Entry(Difference(result, note, rows, is_other, count, pictures, is_first), paths, 1 + len(rows), is_first, len(text))
+                difference = Difference(result, note, rows, is_other, count, pictures, is_first, self._group_of.get(kind, 0))
+                yield Entry(difference, paths, 1 + len(rows), is_first, len(text))
                 is_first = False
 
     def _picture(self, result: Result, name: bytes, is_other: bool) -> ChangedPicture:
-        before, _, place = name.partition(_NUL)
+        before, _, place = name.partition(NOW)
         old = None if result == Result.MISSING_BEFORE else _path(self._heads[BEFORE], before)
         new = None if result == Result.MISSING_AFTER else _path(self._heads[AFTER], place or before)
         known = self._old.known(old) if is_other and old else None

@@ -87,8 +87,10 @@ class Renderer:
         """The first page, or the only one, whose search box looks into the index if that has files."""
         results = [it for it in Result if changes and changes.results[it] and it.has_changed is not False]
         kinds = kinds_of([(it.section.key, it.section.title) for it in lists if it.entries], results)
-        values = {**self._shared, "counts": counts, "lists": lists, "changes": changes, "rules": rules, "pictures": {}, "files": files}
-        values["kinds"] = kinds
+        values = {**self._shared, "counts": counts, "lists": lists, "changes": changes, "rules": rules, "files": files, "kinds": kinds}
+        groups = changes.groups() if changes else []
+        paths = [one.after for group in groups for one, _ in group.pictures if one.after]
+        values.update(groups=groups, pictures=self.small_pictures.of(paths, []) if self._look else {})
         return str(self._templates.get_template("index.html").render(values))
 
     def joined(self, parts: Sequence[Any]) -> Any:

@@ -63,7 +63,7 @@ def _changed(picture: ChangedPicture, name: Callable[[bytes], str]) -> str:
 def _words(data: object) -> Iterable[Optional[str]]:
     """What the page says of an entry, besides the names of its pictures."""
     if isinstance(data, Difference):
-        return [*map(_row, data.rows), *(f"{it};" for it in (data.note, labels_of(data.rows)) if it), data.result]
+        return [*map(_row, data.rows), *(f"{it};" for it in (data.note, labels_of(data.rows)) if it), data.result, f"edit:{data.group};"]
     if isinstance(data, Contradicting):
         return [text for one in data.conflicts for text in (one.label, one.detail, *(it.line for it in one.texts))]
     if isinstance(data, Breaking):

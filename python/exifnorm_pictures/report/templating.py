@@ -6,6 +6,7 @@ from collections import Counter
 from pathlib import Path
 from typing import TYPE_CHECKING, Any, Callable, Dict
 
+from ..comparison.edit_words import head_of, steps_of
 from ..comparison.readings import of_unknown
 from ..fields.left_out import of_maker_notes
 from ..model.errors import Failure
@@ -84,6 +85,8 @@ _FILTERS: Dict[str, Callable[..., Any]] = {
     "problem": lambda problem: TEXTS.get(problem, ""),
     "texts": texts_by_standard,
     "labels": labels_of,
+    "head": head_of,
+    "words": steps_of,
     "cause": CAUSES.get,
     "words_of_cause": words_of,
 }

@@ -107,9 +107,14 @@
     search();
   });
   form.hidden = false;
-  const asked = new URLSearchParams(location.hash.slice(1));
-  if (!asked.has("find")) return;
-  box.value = asked.get("find");
-  if (choice) choice.value = asked.get("kind");
-  search();
+  const readAddress = () => {
+    const asked = new URLSearchParams(location.hash.slice(1));
+    if (!asked.has("find")) return;
+    box.value = asked.get("find");
+    if (choice) choice.value = asked.get("kind");
+    search();
+  };
+  addEventListener("hashchange", readAddress);
+  addEventListener("beforeprint", () => { for (const it of document.querySelectorAll("details")) it.open = true; });
+  readAddress();
 })();
