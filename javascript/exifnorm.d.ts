@@ -135,6 +135,83 @@ export class TooMany extends Error {
 /** There is not enough memory for the call. Nothing is known of the block. */
 export class OutOfMemory extends Error {}
 
+/** Done when the calls are there: in node, Deno and Bun at once. In a browser every call before throws an Error. */
+export const ready: Promise<void>;
+
+/**
+ * The value of a field: a number, a text, bytes, or several as an array; null for a fraction with the denominator 0. A date is a text as
+ * ISO 8601 has it, without a zone where the field has none. A structure of XMP is an object.
+ */
+export type Value = string | number | boolean | null | Uint8Array | Value[] | { [name: string]: Value };
+
+/** A text by label, such as a caption, and the names of the fields that have it. */
+export interface Caption {
+  text: string;
+  fields: string[];
+}
+
+/** Why a block has no meaning: its first fault. */
+export interface Refusal {
+  /** Which one, as "Exif", "second Exif", "Exif of page 2". */
+  block: string;
+  kind: Kind | "xmp";
+  cause: string;
+  /** The byte of the fault in the block. */
+  offset: number;
+  /** The fault, and what helps, for people. */
+  sentence: string;
+  remedy: string;
+}
+
+/** A picture that was read. */
+export interface Picture {
+  /** "JPEG", "PNG", "WebP", "TIFF", "DNG", "HEIC", "AVIF", or "XMP" of a packet by itself; of other files what is known, or "". */
+  format: string;
+  /** Values by the names that ExifTool and exifnorm_pictures have, such as "IFD0:Make": of the first block that has the field. */
+  fields: Record<string, Value>;
+  /** The same in plain words, such as "1/125 s". */
+  texts: Record<string, string>;
+  /** Texts by label: title, caption, creator, keywords .. Each text once; if a label that is no list has several, the standards contradict. */
+  captions: Record<string, Caption[]>;
+  /** When it was taken, as "2019-03-12T11:20:45", with its part of a second and its zone if they are there. */
+  taken: string | null;
+  /** Where, in degrees (north and east are positive) and metres. */
+  position: { latitude: number; longitude: number; altitude: number | null } | null;
+  /** The blocks as they are in the file, also those that are refused. */
+  blocks: { kind: Kind | "xmp"; name: string; data: Uint8Array }[];
+  refusals: Refusal[];
+  /** What may have metadata and wasn't read, or why nothing could be read. What follows the head of a JPEG is never read. */
+  notRead: string[];
+}
+
+/** A field that differs, in plain words; null where the picture doesn't have it. `label` is such as "caption", or null. */
+export interface Difference {
+  name: string;
+  label: string | null;
+  before: string | null;
+  after: string | null;
+}
+
+/** How two pictures compare. */
+export interface Comparison {
+  /**
+   * "same"; "different", also if a block of another kind is refused; "partly": the same as far as they are read; "refused": a block has no
+   * meaning, and nothing else differs; "unread": one of the pictures can't be read.
+   */
+  verdict: "same" | "different" | "partly" | "refused" | "unread";
+  differences: Difference[];
+  /** Whether the verdict is that of jpegSame alone, which is proved: of two JPEGs without extended XMP. */
+  proved: boolean;
+  refusals: (Refusal & { side: 1 | 2 })[];
+  notRead: { side: 1 | 2; what: string }[];
+}
+
+/** A picture, of its bytes. Of a JPEG the first ones are enough if they have the whole head. Throws OutOfMemory, and never for a picture. */
+export function read(picture: Uint8Array): Picture;
+
+/** Whether two pictures have the same Exif, IPTC and XMP, and what differs. Throws OutOfMemory, and never for a picture. */
+export function compare(first: Uint8Array, second: Uint8Array): Comparison;
+
 /** The kind of a block. Throws Refused, OutOfMemory. */
 export function check(block: Uint8Array): Kind;
 
@@ -148,7 +225,7 @@ export function show(block: Uint8Array): string;
 export function captions(block: Uint8Array): string;
 
 /** Whether two blocks mean the same. Throws Refused, with the `side`, and OutOfMemory. */
-export function compare(first: Uint8Array, second: Uint8Array): boolean;
+export function same(first: Uint8Array, second: Uint8Array): boolean;
 
 /**
  * The Exif and IPTC blocks of a JPEG in their order. The bytes may be a whole file, or only its first bytes if they have the whole head,

@@ -8,26 +8,43 @@ WASM is exifnorm.wasm, SECONDS the time of the files since 1970, and TARGET the 
 
 from __future__ import annotations
 
-import base64
 import gzip
 import io
+import re
 import sys
 import tarfile
 from pathlib import Path
 from typing import Iterator
 
 TOP = Path(__file__).resolve().parent.parent
-sys.path.insert(0, str(TOP / "build"))
+sys.path[:0] = [str(TOP / "build"), str(TOP / "packaging")]
 
 import guard
+import words as words_of
+from scripts import READING, joined
 
 FOLDER = TOP / "javascript"
 LICENCES = ("LICENSE-APACHE", "LICENSE-MIT")
 
 
-def module(wasm: bytes) -> bytes:
-    """The source of wasm.js: exifnorm.wasm as a string in base64, which every host and bundler can load without a request."""
-    return b'/** exifnorm.wasm in base64. @module */\nexport default "' + base64.b64encode(wasm) + b'";\n'
+def exported() -> str:
+    """The names that the package exports, but for `ready`."""
+    text = (FOLDER / "node.js").read_text(encoding="utf-8")
+    return ", ".join(re.findall(r"(?m)^export \{ (.*?) \} from", text))
+
+
+def tables() -> str:
+    """The tables of exifnorm_pictures as an object of JavaScript, in JSON."""
+    return words_of.json_of({**words_of.tables(), "types": words_of.types()})
+
+
+def required() -> str:
+    """The source of exifnorm.cjs, for `require`: the modules as one script, which reads the same exifnorm.wasm."""
+    strict, _, script = joined([*READING, "javascript/picture.js", "javascript/calls.js"]).partition("\n")
+    wasm = 'require("node:fs").readFileSync(`${__dirname}/exifnorm.wasm`)'
+    names = exported()
+    last = f"begin(new Engine(new WebAssembly.Module({wasm})));\nmodule.exports = {{ {names}, ready: Promise.resolve() }};\n"
+    return f"{strict}\nconst tables = {tables()};\n{script}\n{last}"
 
 
 def files(wasm: bytes, version: str) -> Iterator[tuple[str, bytes]]:
@@ -39,7 +56,9 @@ def files(wasm: bytes, version: str) -> Iterator[tuple[str, bytes]]:
     for name in LICENCES:
         yield name, (TOP / name).read_bytes()
     yield "exifnorm.wasm", wasm
-    yield "wasm.js", module(wasm)
+    yield "exifnorm.d.cts", (FOLDER / "exifnorm.d.ts").read_bytes()
+    yield "tables.js", f"/** The tables of exifnorm_pictures. @module */\nexport default {tables()};\n".encode()
+    yield "exifnorm.cjs", required().encode()
 
 
 def archive(wasm: bytes, version: str, seconds: int) -> bytes:

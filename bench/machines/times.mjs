@@ -4,7 +4,7 @@ import { performance } from "node:perf_hooks";
 import { pathToFileURL } from "node:url";
 
 const [folder, mode, seconds, name] = process.argv.slice(2);
-const exifnorm = await import(pathToFileURL(`${folder}/exifnorm.js`));
+const exifnorm = await import(pathToFileURL(`${folder}/node.js`));
 const call = mode === "write" ? exifnorm.normalise : exifnorm.check, block = new Uint8Array(readFileSync(name));
 const LEAST = 0.1; // milliseconds of the calls that are timed at once
 

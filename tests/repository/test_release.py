@@ -326,8 +326,6 @@ def code_in(path):
     octets = path.read_bytes()
     if octets[:4] in (b"\x7fELF", b"\0asm") or octets[:8] == b"!<arch>\n" or path.name == "module.c":
         return octets
-    if path.name == "wasm.js":
-        return base64.b64decode(re.search(rb'"([A-Za-z0-9+/=]+)"', octets)[1])
     module_in_page = re.search(rb'id="module">([^<]+)<', octets) if path.suffix == ".html" else None
     return gzip.decompress(base64.b64decode(module_in_page[1])) if module_in_page else b""
 

@@ -1,8 +1,8 @@
 // The answers of the module to requests, for a comparison with those of the native library. In node: answers.mjs FOLDER, which has blocks
 // and requests.json; in a browser: import(".. /answers.mjs"), below an address that serves the folder.
-import * as exifnorm from "./exifnorm.js";
-
 const isNode = typeof process !== "undefined" && process.versions?.node;
+const exifnorm = await import(isNode ? "./node.js" : "./exifnorm.js");
+await exifnorm.ready;
 const read = isNode
   ? async (name) => new Uint8Array(await (await import("node:fs/promises")).readFile(new URL(name, import.meta.url)))
   : async (name) => new Uint8Array(await (await fetch(new URL(name, import.meta.url))).arrayBuffer());

@@ -1,10 +1,10 @@
 // Uses each declaration of exifnorm.d.ts as it is meant to be used. tsc checks it.
-import * as exifnorm from "./exifnorm.js";
+import * as exifnorm from "exifnorm";
 import { Engine, load } from "./engine.js";
 
 const bytes: Uint8Array = new Uint8Array(2), kind: "exif" | "iptc" = exifnorm.check(bytes), limit: 16777216 = exifnorm.LIMIT;
 const texts: string[] = [exifnorm.show(bytes), exifnorm.captions(bytes), exifnorm.version()], form: Uint8Array = exifnorm.normalise(bytes);
-const same: boolean = exifnorm.compare(bytes, form) && exifnorm.jpegSame(bytes, form) && exifnorm.jpegSameBlocks(bytes, form);
+const same: boolean = exifnorm.same(bytes, form) && exifnorm.jpegSame(bytes, form) && exifnorm.jpegSameBlocks(bytes, form);
 const numbers: number[] = exifnorm.jpegParts(bytes, 5).map((part) => part.marker + part.start + part.size);
 numbers.push(...exifnorm.photoshopResources(bytes).map((resource) => resource.number), exifnorm.jpegUnread(bytes)?.start ?? limit);
 const blocks: [exifnorm.Kind, Uint8Array][] = exifnorm.jpegBlocks(bytes).map(({ kind, data }) => [kind, data]);
@@ -14,6 +14,12 @@ function textsOf(value: exifnorm.XmpValue): string[] {
   return value.kind === "structure" ? value.properties.flatMap((property) => textsOf(property.value)) : value.members.flatMap(textsOf);
 }
 exifnorm.xmpCheck(bytes);
+await exifnorm.ready;
+const { captions, fields, position, refusals, notRead }: exifnorm.Picture = exifnorm.read(bytes), value: exifnorm.Value | undefined = fields["IFD0:Make"];
+texts.push(...(captions.caption ?? []).map(({ text }) => text), ...refusals.map(({ sentence }) => sentence), ...notRead, typeof value === "string" ? value : "");
+numbers.push(position?.latitude ?? 0);
+const found: exifnorm.Comparison = exifnorm.compare(bytes, form), isSame: boolean = found.verdict === "same" && found.proved;
+texts.push(...found.differences.map(({ name, before }) => `${name} ${before ?? ""}`), ...found.notRead.map(({ side, what }) => `${side} ${what}`));
 const packet: Uint8Array = exifnorm.xmpNormalise(exifnorm.jpegXmp(bytes) ?? bytes);
 texts.push(...exifnorm.xmpProperties(packet).flatMap(({ namespace, name, value }) => [namespace, name, ...textsOf(value)]));
 try {
@@ -29,4 +35,4 @@ try {
   else if (error instanceof exifnorm.TooMany) numbers.push(error.most);
   else if (error instanceof exifnorm.NormalTooLong || error instanceof exifnorm.OutOfMemory) texts.push(error.message);
 }
-export { blocks, kind, same };
+export { blocks, isSame, kind, same };

@@ -1,6 +1,6 @@
 // Prints what the module has: of each export its kind, the number of parameters of a function, and the members of a class.
 import * as engine from "./engine.js";
-import * as exifnorm from "./exifnorm.js";
+import * as exifnorm from "exifnorm";
 
 const membersOf = (found) => Object.getOwnPropertyNames(found.prototype).filter((name) => name !== "constructor");
 function described(found) {

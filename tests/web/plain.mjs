@@ -5,7 +5,7 @@ import { fieldsOf, nameOf } from "./listing.js";
 import { md5 } from "./md5.js";
 import { sha256 } from "./sha256.js";
 import { plain, toldApart } from "./values.js";
-import { inOrder, keyOf, plainXmp, shownExactly, shownName, textsIn } from "./xmp.js";
+import { inOrder, keyOf, plainXmp, shownExactly, shownName, textsIn } from "./xmp_values.js";
 
 const [tables, listings, packets, pairs] = process.argv.slice(2).map((name) => JSON.parse(readFileSync(name, "utf8")));
 const digestsOf = (octets) => [sha256(octets), md5(octets)];

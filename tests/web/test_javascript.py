@@ -16,6 +16,7 @@ import npm
 import pytest
 
 import exifnorm
+import exifnorm_pictures
 from changed import changed
 from commands import TOP, run
 from judged import LARGE, blocks_of_cases
@@ -31,6 +32,7 @@ HERE = Path(__file__).resolve().parent
 pytestmark = pytest.mark.xdist_group("web")
 SEED = 7
 MOST_WASM = 250_000
+RUSSIAN = "Ваза с двумя полосами".encode()  # the caption of the package's first example
 
 
 def digest(octets):
@@ -69,7 +71,7 @@ CALLS = {
     "normalise": lambda block: digest(exifnorm.normal(block)),
     "show": lambda block: digest(exifnorm.show(block).encode()),
     "captions": lambda block: digest(exifnorm._calls.captions_text(block).encode()),
-    "compare": exifnorm.same,
+    "same": exifnorm.same,
     "jpegParts": lambda bytes_: [list(part) for part in exifnorm.jpeg_parts(bytes_)],
     "jpegBlocks": lambda bytes_: digests(exifnorm.jpeg_blocks(bytes_)),
     "jpegUnread": lambda bytes_: exifnorm.jpeg_unread(bytes_) and list(exifnorm.jpeg_unread(bytes_)),
@@ -82,7 +84,7 @@ CALLS = {
     "xmpUnsorted": lambda packet: digest(exifnorm._xmp.form_of(packet, sort=False)),
     "xmpProperties": properties,
 }
-OF_BLOCK, OF_BLOCKS = ("check", "normalise", "show", "captions"), ("compare",)
+OF_BLOCK, OF_BLOCKS = ("check", "normalise", "show", "captions"), ("same",)
 OF_PICTURE, OF_PICTURES = ("jpegParts", "jpegBlocks", "jpegUnread", "jpegXmp"), ("jpegSame", "jpegSameBlocks")
 OF_PACKET = ("xmpCheck", "xmpNormalise", "xmpUnsorted", "xmpProperties")
 
@@ -216,11 +218,33 @@ def test_the_declared_types_are_those_of_the_module(node, module):
         shutil.copyfile(HERE / name, module / name)
     there = json.loads(node("declared.mjs", folder=module))
     texts = {name: (module / f"{name}.d.ts").read_text(encoding="utf-8") for name in there}
-    assert declared(texts["exifnorm"]) == there["exifnorm"]
+    assert declared(texts["exifnorm"]) == {name: found for name, found in there["exifnorm"].items() if name != "ready"}
     again = re.search(r"export \{ (.*?) \} from", texts["engine"])[1].split(", ")
     assert {**{name: there["exifnorm"][name] for name in again}, **declared(texts["engine"])} == there["engine"]
     if shutil.which("tsc"):
         run("tsc", "--noEmit", "--strict", "--target", "es2022", "--module", "node16", "--lib", "es2022,dom", "client.mts", folder=module)
+
+
+READ = """import { readFileSync } from "node:fs"; import { read } from "./node.js";
+console.log(JSON.stringify(process.argv.slice(1).map((name) => read(readFileSync(name)))));"""
+
+
+def test_pictures_are_those_of_exifnorm_pictures(node, module, checks):
+    """The samples in each format: texts by name, captions by label, when they were taken, and what is refused."""
+    files = sorted(path for path in TOP.glob("samples/*/*/*") if path.is_file())
+    for path, found in zip(files, json.loads(node("--input-type=module", "-e", READ, *files, folder=module))):
+        picture, texts = exifnorm_pictures.read(path), {}
+        for field in picture.fields:
+            texts.setdefault(field.name, []).append(field.text)
+        due = {name: "; ".join(some) for name, some in texts.items()}
+        refused = [(one.block, one.cause, one.offset) for one in picture.refusals]
+        checks.equal(path.name, [(one["block"], one["cause"], one["offset"]) for one in found["refusals"]], refused)
+        checks.equal(path.name, found["texts"], {name: due[name] for name in found["texts"]} if refused else due)
+        checks.equal(path.name, found["taken"], picture.taken and (None if refused else picture.taken.isoformat()))
+        for label, captions in found["captions"].items():
+            if label in ("title", "caption", "keywords"):
+                checks.check(f"{path.name} {label}", {*picture.texts(label)} <= {caption["text"] for caption in captions})
+    checks.check("some", len(files) > 10)
 
 
 def test_the_module_imports_nothing_and_is_small(wasm, node):
@@ -247,11 +271,18 @@ def test_a_package_that_npm_installs(wasm, node, folder):
     readme = (TOP / "javascript" / "README.md").read_text(encoding="utf-8")
     for name in ("before", "after"):
         shutil.copyfile(TOP / "samples" / name / "ceramics" / "2003-12-bowl.jpg", user / f"{name}.jpg")
-    shutil.copyfile(TOP / "samples" / "before" / "ceramics" / "1998-7-vase.jpg", user / "vase.jpg")
+    packet = exifnorm.jpeg_xmp((TOP / "samples" / "before" / "ceramics" / "1998-7-vase.jpg").read_bytes())
+    (user / "vase.jpg").write_bytes(
+        picture(iptc(b"\x1c\1\x5a\0\3\x1b%G\x1c\2\x78" + len(RUSSIAN).to_bytes(2, "big") + RUSSIAN), xmp_segment(packet))
+    )
     said = []
     for example in re.findall(r"(?s)```js\n(.*?)```", readme):
         (user / "example.mjs").write_text(example, encoding="utf-8")
         said.append(node("example.mjs", folder=user))
-    assert said[0].startswith("different\n") and "caption: Bowl, celadon glaze, 1820\n" in said[0]
+        required = re.sub(r'import (\{[^}]*\}) from ("[^"]*");', r"const \1 = require(\2);", example)
+        (user / "example.cjs").write_text(required, encoding="utf-8")
+        assert node("example.cjs", folder=user) == said[-1]
+    assert "different true\n" in said[0] and "IPTC:Caption-Abstract: Bowl, celadon glaze, 1820 -> Bowl, celadon glaze, 1280\n" in said[0]
+    assert said[0].startswith(RUSSIAN.decode() + "\n")
     title = '{"kind":"Alt","members":[{"kind":"text","text":"Vase with two bands","language":"x-default"}]}'
     assert f"http://purl.org/dc/elements/1.1/title {title}\n" in said[1] and "wrong" not in said[1]

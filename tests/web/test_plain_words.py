@@ -5,7 +5,7 @@ import json
 import shutil
 from random import Random
 
-import page
+import words
 import pytest
 
 import exifnorm
@@ -107,7 +107,7 @@ def directory(where, chance):
     """A directory with some of its known tags, and unknown ones, each with a value of any type."""
     known = [int(key, 16) for table in names.TABLES[where] for key in table]
     tags = {*chance.sample(known, min(len(known), 25)), chance.randrange(0xFE00, 0xFFFF)} - NOT_PLAIN - {0x83BB}
-    ruled = {int(key, 16) for rules in (page.plain_values._EXIF, page.plain_values._GPS) for key in rules if ":" not in key}
+    ruled = {int(key, 16) for rules in (words.plain_values._EXIF, words.plain_values._GPS) for key in rules if ":" not in key}
     likely = {RATIONAL: 4, ASCII: 3, UNDEFINED: 3}
     found = {}
     for tag in tags | ({*chance.sample(sorted(ruled & {*known}), 5)} if len(ruled & {*known}) > 4 else set()):
@@ -212,11 +212,11 @@ def blocks(library):
 
 
 def test_names_and_values(blocks, node, folder, checks):
-    for source in (TOP / "page").glob("*.js"):
+    for source in (TOP / "javascript").glob("*.js"):
         shutil.copyfile(source, folder / source.name)
     shutil.copyfile(HERE / "plain.mjs", folder / "plain.mjs")
     (folder / "package.json").write_text('{"type": "module"}', encoding="ascii")
-    (folder / "tables").write_text(page.json_of(page.tables()), encoding="utf-8")
+    (folder / "tables").write_text(words.json_of(words.tables()), encoding="utf-8")
     (folder / "listings").write_text(json.dumps([exifnorm.show(block) for block in blocks]), encoding="ascii")
     of_xmp = packets()
     (folder / "properties").write_text(json.dumps([properties(packet) for packet in of_xmp]), encoding="ascii")

@@ -404,3 +404,44 @@ export function fieldOf(where, key, type, raw) {
 export function plain(words, field) {
   return inWords(words, field) || asText(field) || withoutWords(field);
 }
+
+// ---- values for programs
+
+const float32 = (digits) => new DataView(octetsOf(digits).buffer).getFloat32(0), float64 = (digits) => new DataView(octetsOf(digits).buffer).getFloat64(0);
+const FLOATS = { FLOAT: float32, DOUBLE: float64 }, VERSIONS = ["exif 9000", "exif a000", "interop 0002"], DATES = ["main 0132", "exif 9003", "exif 9004"];
+const oneOrAll = (values) => values.length === 1 ? values[0] : values;
+const withoutNul = (octets) => withoutEnd(octets, (octet) => octet === 0);
+
+/** The number of a word of a listing; null for a fraction with the denominator 0. */
+function numberOfWord(word) {
+  const [above, below = "1"] = word.split("/").map(Number);
+  return Number(below) ? above / below : null;
+}
+
+function datasetValue(field) {
+  const { key, octets } = field;
+  if (IIM[key] === iptcNumber) return octets.length === 2 ? octets[0] * 256 + octets[1] : octets;
+  if (IIM[key] === iptcDate || IIM[key] === iptcTime) return RULES.iptc[key](field)?.replace(UNKNOWN, "") || guessedWhole(octets);
+  return isText(field) && key !== "1:90" ? guessedWhole(octets) : octets;
+}
+
+/** A text whose character set isn't declared, with the blanks at its end. */
+const guessedWhole = (octets) => decoded(utf8, withoutNul(octets)) ?? windows(withoutNul(octets));
+
+/**
+ * The value of a field for a program: a number, a text, bytes, or several numbers as an array; a date is a text as ISO 8601 has it, without a
+ * zone where the field has none.
+ */
+export function valueOf(field) {
+  const { where, key, type, octets, raw } = field, place = `${where} ${key}`;
+  if (!octets) return oneOrAll(raw === "" ? [] : raw.split(" ").map(FLOATS[type] ?? numberOfWord));
+  if (where === "iptc") return datasetValue(field);
+  if (type === "ASCII" || type === "UTF8" || type === "UNDEFINED" && VERSIONS.includes(place)) {
+    const moment = DATES.includes(place) ? /^(\d{4}):(\d\d):(\d\d) (\d\d:\d\d:\d\d)$/.exec(guessed(octets)) : null;
+    return moment ? `${moment[1]}-${moment[2]}-${moment[3]}T${moment[4]}` : guessedWhole(octets);
+  }
+  if (isComment(field)) return textOfComment(field) ?? guessedWhole(octets);
+  if (isWideText(field)) return wide[1].decode(octets.subarray(0, octets.length & ~1)).replace(/\0+$/, "");
+  if (type === "BYTE") return oneOrAll([...octets]);
+  return type === "SBYTE" ? oneOrAll([...new Int8Array(octets)]) : octets;
+}

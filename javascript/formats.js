@@ -1,0 +1,42 @@
+/** Formats other than JPEG: the blocks in a file, and what of it isn't read, by name. @module */
+import { Broken, Parts } from "./parts.js";
+import { readHeif } from "./heif.js";
+import { readPng } from "./png.js";
+import { readTiff } from "./tiff.js";
+import { readWebp } from "./webp.js";
+
+const HEAD = 4096, MOST_PACKET = 1 << 24;
+const BRANDS = /^ftyp(?:hei[cxms]|hev[cxms]|mif[123]|msf1|miaf|avi[fs]|avc[is]|jpeg|jpgs|j2k[i]|j2is|vvi[cs]|evb[is])/;
+// by how a file begins: the name of its format, and its reader, if there is one
+const FORMATS = [
+  [/^\x89PNG\r\n\x1a\n/, "PNG", readPng], [/^RIFF[^]{4}WEBP/, "WebP", readWebp], [/^(?:II\*\0[^]{4}CR)/, "CR2", null],
+  [/^(?:II\*\0|MM\0\*)/, "TIFF", readTiff], [/^(?:II\+\0|MM\0\+)/, "BigTIFF", null], [/^GIF8/, "GIF", null], [/^8BPS/, "Photoshop", null],
+  [/^[^]{4}ftypcrx/, "CR3", null], [/^(?:\0\0\0\x0cJXL|\xff\x0a)/, "JPEG XL", null], [/^\0\0\0\x0cjP/, "JPEG 2000", null], [/^BM/, "BMP", null],
+  [/^(?:IIRO|IIRS|MMOR|IIU\0|FUJIFILM)/, "raw", null],
+];
+
+/** Whether a file is a packet of XMP by itself, in UTF-8: a sidecar. */
+function isSidecar(parts) {
+  const text = new TextDecoder().decode(parts.some(0, HEAD)).replace(/^[\s\0\ufeff]+/, "");
+  return /^<\?xpacket\s/.test(text) || /^(?:<\?[^]*?\?>\s*|<!-{2}[^]*?-{2}>\s*)*<(?:[^\s<>/:!?]+:)?(?:RDF|xmpmeta|xapmeta)[\s/>]/.test(text);
+}
+
+function readSidecar(parts) {
+  if (parts.size > MOST_PACKET) throw new Broken("it has more than 16,777,216 bytes of XMP");
+  return { format: "XMP", blocks: [{ kind: "xmp", data: parts.at(0, parts.size) }], notRead: [] };
+}
+
+/** What a file has: its format, its blocks, and what isn't read of it. Without `blocks` it has a format that isn't read; null for none. */
+export function readFormat(engine, source) {
+  const parts = new Parts(source), start = String.fromCharCode(...parts.some(0, 16));
+  const [, format, read] = FORMATS.find(([pattern]) => pattern.test(start)) ?? (BRANDS.test(start.slice(4)) ? ["", start.startsWith("avi", 8) ? "AVIF" : "HEIC", readHeif] : [null, "", isSidecar(parts) ? readSidecar : null]);
+  if (!read) return format ? { format } : null;
+  try {
+    const found = { format, blocks: [], notRead: [], ...read(parts, engine) };
+    found.blocks = found.blocks.filter(({ data }) => data.length);
+    return found;
+  } catch (error) {
+    if (error instanceof Broken) error.format = format;
+    throw error;
+  }
+}

@@ -1,0 +1,157 @@
+/** A picture as one object, and what differs between two. A `kit` has an `engine` and the `tables` of exifnorm_pictures. @module */
+import { headOf, verdict } from "./head.js";
+import { NotRead } from "./engine.js";
+import { nameOf } from "./listing.js";
+import { byPlace, captionsOf, firstFields, isValid, pairsOf, plainOf, rowsOf, valuesOf } from "./rows.js";
+import { valueOf } from "./values.js";
+import { plainXmp, shownName } from "./xmp_values.js";
+
+const PROBLEMS = {
+  format: "a format that isn't read", empty: "an empty file", many: "a head with too many segments", xmp: "a head with too much XMP", unreadable: "a file that can't be read", long: "a head that is too long",
+};
+
+// ---- values of XMP
+
+const RATIONAL = /^([+-]?\d{1,300})\/([+-]?\d{1,300})$/, COORDINATE = /^(\d{1,3}),(\d{1,2}(?:\.\d{1,20})?)(?:,(\d{1,2}(?:\.\d{1,20})?))?([NSEW])$/;
+
+const integer = (text) => /^[+-]?\d{1,300}$/.test(text) ? Number(text) : text;
+function rational(text) {
+  const match = RATIONAL.exec(text);
+  return match ? Number(match[2]) ? match[1] / match[2] : null : text;
+}
+function coordinate(text) {
+  const [, degrees, minutes, seconds = 0, letter] = COORDINATE.exec(text) ?? [];
+  return letter ? (Number(degrees) + minutes / 60 + seconds / 3600) * ("SW".includes(letter) ? -1 : 1) : text;
+}
+const MADE = {
+  Integer: integer, Rational: rational, Coordinate: coordinate, Number: (text) => integer(text) === text ? rational(text) : integer(text),
+  Real: (text) => /^[+-]?(?:\d{1,300}(?:\.\d{0,300})?|\.\d{1,300})$/.test(text) ? Number(text) : text,
+  Boolean: (text) => ({ True: true, False: false })[text] ?? text,
+};
+
+/** The value of a property: by the type that its standard gives it, otherwise a text; of alternatives the default one; an array; or an object. */
+function xmpValue({ tables }, key, value) {
+  const { kind, text, language, uri, members, properties } = value, inner = (some) => xmpValue({ tables }, key, some);
+  if (kind === "text") return language ? text : (MADE[tables.types?.[key]] ?? String)(text);
+  if (kind === "resource") return uri;
+  if (kind === "structure") return Object.fromEntries(properties.map(({ namespace, name, value: member }) => [nameOfMember(tables, namespace, name), xmpValue({ tables }, nameOfMember(tables, namespace, name), member)]));
+  if (kind !== "Alt") return members.map(inner);
+  const chosen = members.find((member) => member.language === "x-default") ?? members[0];
+  return chosen ? inner(chosen) : [];
+}
+
+const nameOfMember = ({ spaces }, namespace, name) => Object.hasOwn(spaces, namespace) ? `${spaces[namespace]}:${name}` : `<${namespace}${name}>`;
+
+// ---- where and when
+
+/** The degrees of a value of GPS, with its direction. */
+function degrees(values, letter) {
+  if (!Array.isArray(values) || values.length !== 3 || values.includes(null) || typeof letter !== "string") return null;
+  const sign = { N: 1, E: 1, S: -1, W: -1 }[letter[0]?.toUpperCase()];
+  return sign ? sign * (values[0] + values[1] / 60 + values[2] / 3600) : null;
+}
+
+function positionOf(fields) {
+  let latitude = degrees(fields["GPS:GPSLatitude"], fields["GPS:GPSLatitudeRef"]), longitude = degrees(fields["GPS:GPSLongitude"], fields["GPS:GPSLongitudeRef"]);
+  let altitude = fields["GPS:GPSAltitude"], below = fields["GPS:GPSAltitudeRef"];
+  if (latitude === null || longitude === null) {
+    [latitude, longitude, altitude, below] = ["Latitude", "Longitude", "Altitude", "AltitudeRef"].map((name) => fields[`XMP-exif:GPS${name}`]);
+  }
+  if (typeof latitude !== "number" || typeof longitude !== "number" || Math.abs(latitude) > 90 || Math.abs(longitude) > 180) return null;
+  return { latitude, longitude, altitude: typeof altitude === "number" ? Number(below) === 1 ? -altitude : altitude : null };
+}
+
+/** When a picture was taken, as ISO 8601 has it. */
+function takenOf(fields) {
+  const when = fields["ExifIFD:DateTimeOriginal"], part = fields["ExifIFD:SubSecTimeOriginal"], zone = fields["ExifIFD:OffsetTimeOriginal"];
+  if (typeof when !== "string" || !/^\d{4}-\d\d-\d\dT/.test(when)) return null;
+  const isZone = typeof zone === "string" && /^(?:Z|[+-](?:[01]\d|2[0-3]):[0-5]\d)$/.test(zone.trim());
+  return when + (typeof part === "string" && /^\d+$/.test(part.trim()) ? `.${part.trim()}` : "") + (isZone ? zone.trim() : "");
+}
+
+// ---- one picture
+
+/** Why a head can't be read. */
+const problemText = ({ problem: { name, cause, offset, why }, format }) =>
+  name === "head" ? `a damaged JPEG: ${cause} at ${offset}` : name === "broken" ? `a damaged ${format}: ${why}` : name === "format" && format ? `the format ${format} isn't read` : PROBLEMS[name];
+
+/** What of a head isn't read, by name. */
+export function notReadOf(head) {
+  if (head.problem) return [problemText(head)];
+  const rare = head.blocks.filter(({ refusal }) => refusal?.isRare).map(({ refusal }) => `a packet of XMP in a rare form (${refusal.cause} at ${refusal.offset})`);
+  const more = [
+    head.unread && `more metadata at ${head.unread.start}`, head.further.extended.length && "extended XMP, missing or not joined to a packet",
+    head.further.resources.length && "XMP in Photoshop's resources", head.others.length && "a segment APP1 of an unknown kind",
+  ];
+  return [...rare, ...more.filter(Boolean), ...head.notRead];
+}
+
+/** Why blocks have no meaning. */
+export const refusalsOf = ({ tables }, { blocks }) => blocks.filter(({ refusal }) => refusal && !refusal.isRare).map(({ kind, name, refusal: { cause, offset } }) => {
+  const [sentence, , remedy] = tables.causes[cause] ?? tables.packets[cause] ?? ["", "", ""];
+  return { block: name, kind, cause, offset, sentence, remedy };
+});
+
+/** The captions of a head by label: each text once, with the names of the fields that have it. */
+function allCaptions(kit, head) {
+  const captions = Object.create(null);
+  for (const block of head.blocks) {
+    for (const { label, text, name } of captionsOf(kit, block)) {
+      const all = captions[label] ??= [], same = all.find((one) => one.text === text);
+      if (!same) all.push({ text, fields: [name] }); else if (!same.fields.includes(name)) same.fields.push(name);
+    }
+  }
+  return { ...captions };
+}
+
+/** The picture of a head. */
+function ofHead(kit, head) {
+  const fields = Object.create(null), texts = Object.create(null), set = (name, value, text) => {
+    if (name in fields) return; // of an earlier block
+    fields[name] = value;
+    texts[name] = text;
+  };
+  for (const block of head.blocks.filter(isValid)) {
+    if (block.kind === "xmp") for (const [key, value] of valuesOf(kit, block)) set(shownName(key), xmpValue(kit, key, value), plainXmp(kit.tables.spaces, value));
+    else for (const group of byPlace(firstFields(kit, block)).values()) set(nameOf(kit.tables, group[0]), group.length > 1 ? group.map(valueOf) : valueOf(group[0]), plainOf(kit, group));
+  }
+  const blocks = head.blocks.map(({ kind, name, data }) => ({ kind, name, data: data.slice() }));
+  return { format: head.format, fields: { ...fields }, texts: { ...texts }, captions: allCaptions(kit, head), taken: takenOf(fields), position: positionOf(fields), blocks, refusals: refusalsOf(kit, head), notRead: notReadOf(head) };
+}
+
+/** The head of a picture of its bytes. */
+function headOfBytes({ engine }, bytes) {
+  if (!(bytes instanceof Uint8Array)) throw new TypeError("exifnorm takes a Uint8Array");
+  return headOf(engine, new Uint8Array(bytes.buffer, bytes.byteOffset, bytes.length)); // a Buffer of node has another `slice`
+}
+
+/** A picture of its bytes, or of the first of them. */
+export const pictureOf = (kit, bytes) => ofHead(kit, headOfBytes(kit, bytes));
+
+// ---- two pictures
+
+/** Whether the verdict is that of calls which are proved: of two JPEGs without extended XMP, whose comparison the engine answers by itself. */
+function isProved({ engine }, heads, found) {
+  if (!heads.every(({ bytes, pieces }) => bytes && !pieces.length) || !["same", "different"].includes(found)) return false;
+  try {
+    return engine.jpegSame(...heads.map(({ bytes }) => bytes)) === (found === "same");
+  } catch (error) {
+    if (error instanceof NotRead || error.name === "PictureRefused") return false;
+    throw error;
+  }
+}
+
+/** Whether two pictures have the same metadata, and the fields that differ. */
+export function comparisonOf(kit, first, second) {
+  const heads = [first, second].map((bytes) => headOfBytes(kit, bytes)), found = verdict(kit.engine, ...heads);
+  const rows = pairsOf(heads).flatMap((pair) => rowsOf(kit, ...pair).rows).filter((row) => !row.isEqual && !row.isOpen);
+  const differences = found === "unread" ? [] : rows.map(({ name, label, cells }) => {
+    const [before, after] = cells.map((cell) => cell && cell.text + (cell.exact ? ` (${cell.exact})` : ""));
+    return { name, label: label ?? null, before, after };
+  });
+  const ofSides = (list) => heads.flatMap((head, i) => list(head).map((one) => ({ side: i + 1, ...one })));
+  return {
+    verdict: found, differences, proved: isProved(kit, heads, found),
+    refusals: ofSides((head) => refusalsOf(kit, head)), notRead: ofSides((head) => notReadOf(head).map((what) => ({ what }))),
+  };
+}

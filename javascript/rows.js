@@ -1,0 +1,160 @@
+/**
+ * The fields and captions of blocks, and of two blocks side by side: with their names, and with their values in plain words. A `kit` has an
+ * `engine` and the `tables` of exifnorm_pictures.
+ * @module
+ */
+import { KINDS, KIND_NAMES } from "./head.js";
+import { fieldsOf, nameOf, orderOf } from "./listing.js";
+import { plain, toldApart } from "./values.js";
+import { inOrder, keyOf, plainXmp, shownExactly, shownName, textsIn } from "./xmp_values.js";
+
+export const MOST_FIELDS = 20_000; // of a block, that are listed; so many captions, too
+const LONGEST = 2_000, MOST_MEMBERS = 200; // characters of a value, and members of a list of IPTC
+const LISTS = ["2:12", "2:20", "2:25", "2:26", "2:27", "2:80", "2:85", "2:118", "2:122"]; // DataSets that IPTC-NAA IIM 4.2 allows to be repeated
+const EMPTY = "(empty)", DATE = "date created";
+
+/** The start of a text that is too long to be shown. */
+export const shortened = (text) => text.length > LONGEST ? `${text.slice(0, LONGEST)} ..` : text;
+
+const UNREAD = { isUnread: true }; // in place of a block of a picture that isn't read
+export const isValid = (block) => !!block && !block.refusal && !block.isUnread;
+
+/** The first fields of a valid block. */
+export const firstFields = ({ engine }, block) => isValid(block) ? fieldsOf(engine.show(block.data), MOST_FIELDS) : [];
+
+/** Fields by their places: a DataSet that is repeated is one field with several values. */
+export function byPlace(fields) {
+  const places = new Map();
+  for (const field of fields) {
+    const place = `${field.where} ${field.key}`, group = places.get(place);
+    if (group) group.push(field); else places.set(place, [field]);
+  }
+  return places;
+}
+
+const isSame = (first, second) => first.type === second.type && first.raw === second.raw && first.elements === second.elements;
+
+/** The plain values of a field. */
+export function plainOf({ tables }, group) {
+  const shown = group.slice(0, 200).map((field) => shortened(plain(tables.words, field)) || "(empty)");
+  return shortened(shown.join("; ") + (group.length > shown.length ? `; and ${group.length - shown.length} more` : ""));
+}
+
+const exactOf = ({ raw }) => raw.length > 160 ? `${raw.length.toLocaleString("en")} digits` : raw;
+
+/** What tells two fields apart whose plain values are alike. */
+function apart(first, second) {
+  if (first.length !== second.length) return [first, second].map((group) => `${group.length} values`);
+  const index = first.findIndex((field, i) => !isSame(field, second[i])), [one, other] = [first[index], second[index]];
+  if (one.type !== other.type) return [one.type, other.type];
+  if (one.octets && one.elements !== other.elements) return [one, other].map(({ elements }) => `${elements.toLocaleString("en")} bytes`);
+  if (!one.octets || one.elements <= 40) return [one, other].map(exactOf);
+  const at = one.octets.findIndex((octet, i) => octet !== other.octets[i]), start = Math.max(0, at - 4);
+  return [one, other].map(({ raw }) => `byte ${at.toLocaleString("en")}: .. ${raw.slice(2 * start, 2 * at + 16)} ..`);
+}
+
+/** Lets two values look different that are. What tells them apart otherwise is added if their texts are equal. */
+function tellApart(cells, exactly) {
+  if (cells[0].text === cells[1].text) exactly().forEach((text, i) => { cells[i].exact = text; });
+  else toldApart(cells.map(({ text }) => text)).forEach((text, i) => { cells[i].text = text; });
+}
+
+/** What is shown where a block has no value: nothing, or that it is refused or not read. */
+function absent(block) {
+  if (!block || isValid(block)) return null;
+  return { text: block.isUnread || block.refusal.isRare ? "not read" : "refused", isAbsent: true };
+}
+
+/** Whether one of two blocks is there without a known meaning, so that nobody knows whether a field differs. */
+const isOpen = (blocks) => blocks.some((block) => block && !isValid(block));
+
+/** The properties of a packet by their keys: those that are listed. */
+export function valuesOf({ tables }, block) {
+  const properties = isValid(block) ? block.properties.slice(0, MOST_FIELDS) : [];
+  return new Map(properties.map((property) => [keyOf(tables.spaces, property), property.value]));
+}
+
+/** What tells two exact values apart, also where they differ behind what is shown. */
+function exactlyApart(both) {
+  if (shortened(both[0]) !== shortened(both[1])) return both.map(shortened);
+  const [one, other] = both.map((text) => [...text]), at = one.findIndex((character, i) => character !== other[i]);
+  return [one, other].map((text) => `character ${at.toLocaleString("en")}: .. ${text.slice(Math.max(0, at - 20), at + 60).join("")} ..`);
+}
+
+/** The rows of properties of two packets, or of one and none. A form has one way of writing, so equal values are equal as JSON. */
+function xmpRowsOf(kit, blocks, suffix) {
+  const { tables } = kit, both = blocks.map((block) => valuesOf(kit, block)), keys = [...new Set(both.flatMap((values) => [...values.keys()]))].sort(inOrder);
+  const rows = keys.map((key) => {
+    const values = both.map((side) => side.get(key)), isEqual = JSON.stringify(values[0]) === JSON.stringify(values[1]);
+    const cells = values.map((value, i) => value ? { text: shortened(plainXmp(tables.spaces, value)), exact: "" } : absent(blocks[i]));
+    if (values[0] && values[1] && !isEqual) tellApart(cells, () => exactlyApart(values.map((value) => shownExactly(tables.spaces, value))));
+    const isList = values.every((value) => !value || value.kind === "Bag" || value.kind === "Seq"), members = isList ? values.map((value) => value ? textsIn(value) : []) : null;
+    return { name: shownName(key) + suffix, label: tables.labels[key], isEqual, isXmp: true, isOpen: isOpen(blocks), cells, members };
+  });
+  return { rows, isCut: both.some(({ size }) => size === MOST_FIELDS) };
+}
+
+/** The rows of fields of two blocks, or of one and none; and whether a block may have more fields than are listed. */
+export function rowsOf(kit, first, second, suffix = "") {
+  if ((first?.kind ?? second?.kind) === "xmp") return xmpRowsOf(kit, [first, second], suffix);
+  const fields = [first, second].map((block) => firstFields(kit, block)), both = fields.map(byPlace), groups = [...new Map([...both[0], ...both[1]])];
+  groups.sort(([, [one]], [, [other]]) => orderOf(one) - orderOf(other));
+  const rows = groups.map(([place, [field]]) => {
+    const [one, other] = both.map((places) => places.get(place)), cells = [one, other].map((group, i) => group ? { text: plainOf(kit, group), exact: "" } : absent([first, second][i]));
+    const isEqual = !!one && !!other && one.length === other.length && one.every((value, i) => isSame(value, other[i]));
+    if (one && other && !isEqual) tellApart(cells, () => apart(one, other));
+    const members = field.where === "iptc" && LISTS.includes(field.key) ? [one, other].map((group = []) => group.slice(0, MOST_MEMBERS).map((some) => plain(kit.tables.words, some))) : null;
+    return { name: nameOf(kit.tables, field) + suffix, label: labelOf(kit.tables, field), isEqual, isOpen: isOpen([first, second]), cells, members };
+  });
+  return { rows, isCut: fields.some(({ length }) => length === MOST_FIELDS) };
+}
+
+/** The label of a field of Exif or IPTC, such as `caption`; undefined for one without. */
+export const labelOf = ({ labels }, { where, key }) => labels[`${where} ${key}`];
+
+const octetsBeyond = ({ octets }) => !!octets && octets.some((octet) => octet > 127);
+
+/** The captions of a valid block: each with its label, its text, and the name of its field. */
+export function captionsOf(kit, block) {
+  const { tables } = kit, captions = [];
+  if (!isValid(block)) return captions;
+  if (block.kind === "xmp") {
+    for (const [key, value] of valuesOf(kit, block)) {
+      const label = Object.hasOwn(tables.labels, key) ? tables.labels[key] : "";
+      if (!label) continue;
+      const texts = textsIn(value).map((text) => text.trim() || EMPTY);
+      captions.push(...texts.map((text) => ({ label, text: label === DATE ? text.replaceAll("T", " ") : text, name: shownName(key) })));
+    }
+    return captions;
+  }
+  const fields = firstFields(kit, block), isDeclared = fields.some(({ where, key, raw }) => where === "iptc" && key === "1:90" && raw === "1b2547");
+  for (const field of fields) {
+    const label = labelOf(tables, field);
+    if (!label) continue;
+    const isGuess = field.where === "iptc" && !isDeclared && octetsBeyond(field);
+    captions.push({ label, text: plain(tables.words, field), name: nameOf(tables, field), ...isGuess && { isGuess } });
+  }
+  return captions;
+}
+
+/** The captions of two blocks side by side, or of one and none. */
+export function captionRows(kit, first, second) {
+  const blocks = [first, second], kind = first?.name ?? second?.name, both = blocks.map((block) => {
+    const labels = new Map();
+    for (const { label, text, isGuess } of captionsOf(kit, block)) labels.set(label, [...labels.get(label) ?? [], text + (isGuess ? " (its character set isn't declared)" : "")]);
+    return labels;
+  });
+  return [...new Set(Object.values(kit.tables.labels))].filter((label) => both.some((labels) => labels.has(label))).map((label) => {
+    const cells = both.map((labels, i) => labels.has(label) ? { text: shortened(labels.get(label).join("; ")) } : absent(blocks[i]));
+    if (both.every((labels) => labels.has(label))) tellApart(cells, () => []);
+    return { label: `${label} (${kind})`, cells };
+  });
+}
+
+/** The blocks of two heads, or of one, in pairs of the same name; with a suffix for the fields of those that aren't the first of their kind. */
+export function pairsOf(heads) {
+  const named = heads.map(({ blocks }) => new Map(blocks.map((block) => [block.name, block])));
+  const names = [...new Set(named.flatMap((blocks) => [...blocks.keys()]))], kindOf = (name) => KINDS.indexOf(named.map((blocks) => blocks.get(name)).find(Boolean).kind);
+  const blockOf = (side, name) => heads[side]?.problem ? UNREAD : named[side]?.get(name);
+  return names.sort((first, second) => kindOf(first) - kindOf(second)).map((name) => [blockOf(0, name), blockOf(1, name), Object.values(KIND_NAMES).includes(name) ? "" : ` (${name})`]);
+}
