@@ -4,11 +4,11 @@
 const PATIENCE = 30_000; // milliseconds for one question
 const ROWS = 300; // of a list, that are shown at once
 const MOST_FILES = 500_000, MOST_REFUSALS = 20;
+const TWO = "Choose one or two, please: pictures or folders.";
 const SIDES = ["first", "second"], KINDS = { exif: "Exif", iptc: "IPTC", xmp: "XMP" };
-const PICTURES = /\.(?:jpe?g|jpe|png|tiff?|webp|hei[cf]|avif|dng|nef|cr[23]|arw|orf|rw2|raf|psd|gif|jp2|jxl|bmp)$/i;
+const PICTURES = /\.(?:xmp|jpe?g|jpe|png|tiff?|webp|hei[cf]|avif|dng|nef|cr[23]|arw|orf|rw2|raf|psd|gif|jp2|jxl|bmp)$/i;
 
 const $ = (id) => document.getElementById(id);
-const tables = JSON.parse($("tables").textContent);
 const counted = (number) => number.toLocaleString("en");
 const many = (number, noun) => `${counted(number)} ${noun}${number === 1 ? "" : "s"}`;
 const listed = (words) => words.length < 2 ? words.join("") : `${words.slice(0, -1).join(", ")} and ${words.at(-1)}`;
@@ -177,7 +177,7 @@ async function drop(event) {
   const slot = event.target.closest?.(".slot"), dropped = [];
   if (!items.length) return;
   if (items.length > 2) {
-    say("Drop one or two, please: pictures or folders.");
+    say(TWO);
     return;
   }
   try {
@@ -195,9 +195,15 @@ function leave() {
 
 // ---- tables
 
-function cell(value, head, isPair) {
+/** Steps between two texts: words that were taken out, put in, and kept. */
+const stepNodes = (steps) => steps.map(([sign, text]) => sign === "=" ? safe(text) : element(sign === "-" ? "del" : "ins", "", safe(text)));
+
+/** A cell with a value. `steps` are those to the other value: this one has those of the kept words and of `sign`. */
+function cell(value, head, isPair, steps, sign) {
   const isAbsent = value === null || value.isAbsent, nothing = isPair ? "not there" : "–";
-  const node = isAbsent ? element("td", "none", value?.text ?? nothing) : element("td", "", safe(value.text), value.exact && element("span", "exact", safe(value.exact)));
+  const content = steps ? stepNodes(steps.filter(([one]) => one === "=" || one === sign)) : isAbsent ? [] : [safe(value.text)];
+  const node = isAbsent ? element("td", "none", value?.text ?? nothing) : element("td", "", ...content, value.exact && element("span", "exact", safe(value.exact)));
+  node.dir = "auto";
   node.dataset.head = head;
   node.setAttribute("role", "cell");
   return node;
@@ -250,7 +256,7 @@ function titleOf(look) {
   if (verdict === "same") return hasNone ? none : "Same Exif, IPTC and XMP";
   if (verdict === "valid") return hasNone ? open || none : open ? `Valid, ${open}` : "Valid";
   if (verdict === "partly") {
-    const isXmpAlone = open && !sides.some(({ unread }) => unread);
+    const isXmpAlone = open && !sides.some(({ unread, notRead }) => unread || notRead.length);
     if (isXmpAlone && !sides.some(({ blocks }) => blocks.some(({ kind }) => kind !== "xmp"))) return open;
     return isXmpAlone ? `Same Exif and IPTC, ${open}` : hasNone ? "No Exif, IPTC or XMP that is read" : "Same as far as it is read";
   }
@@ -273,7 +279,8 @@ function meaningOf(look) {
     const names = look.differing.slice(0, 4).map(({ name }) => name);
     if (!differing) return look.isCut ? "The difference is behind the fields that are listed here." : EMPTY;
     const differ = `${fields(differing)} ${differing === 1 ? "differs" : "differ"}: ${listed(differing > 4 ? [...names, many(differing - 4, "other")] : names)}`;
-    return [differ, `${fields(equal, "other field")} ${equal === 1 ? "is" : "are"} equal`].map((text) => `${text[0].toUpperCase()}${text.slice(1)}.`).join(" ");
+    const isOpen = look.sides.some(({ blocks }) => blocks.some(({ refusal }) => refusal && !refusal.isRare)) ? ["a block is refused besides, so more may differ"] : [];
+    return [differ, `${fields(equal, "other field")} ${equal === 1 ? "is" : "are"} equal`, ...isOpen].map((text) => `${text[0].toUpperCase()}${text.slice(1)}.`).join(" ");
   }
   if (look.verdict === "refused") {
     const what = "A block breaks the rules, so it has no certain meaning";
@@ -289,6 +296,7 @@ function meaningOf(look) {
 /** What may make the pictures different although what is read is the same. */
 function doubts({ sides, xmp }, names) {
   const found = sides.flatMap(({ unread }, i) => unread ? `At byte ${counted(unread.start)} of ${unread.joined ? "the joined blocks of " : ""}${names[i]} is something that other programs may read as Exif or IPTC, and that is not read here.` : []);
+  found.push(...sides.flatMap(({ notRead }, i) => notRead.length ? `Of ${names[i]} this isn’t read here: ${safe(listed(notRead.slice(0, 9)))}.` : []));
   if (xmp.verdict === "unread") found.push(`Not all XMP is read here${xmp.sameBytes ? ", but it has the same bytes in both pictures." : ", and its bytes differ: captions or dates in it may differ."}`);
   return found.length > 0 && element("p", "", element("strong", "", "Not decided: "), found.join(" "), ...withCode(" The program `exifnorm-pictures compare` reads more."));
 }
@@ -307,14 +315,16 @@ function unreadOf(look) {
   const kinds = [["a packet of XMP in a rare form", isRare], ["extended XMP, which is missing or can’t be joined to a packet", ({ extended }) => extended], ["XMP in Photoshop’s resources", ({ resources }) => resources], ["a segment APP1 of an unknown kind, in which other programs may find metadata", ({ others }) => others]];
   const found = kinds.map(([what, has]) => [what, look.sides.map(has)]).filter(([, has]) => has.some(Boolean));
   const xmp = found.map(([what, has]) => `${what} (${whose(has)}), `).join("");
-  return `Not read: ${xmp}what is inside a MakerNote, and what follows the head of a JPEG: pixels, previews, trailers.${cut}`;
+  const named = look.sides.flatMap(({ notRead }) => notRead).length ? `${safe([...new Set(look.sides.flatMap(({ notRead }) => notRead))].slice(0, 9).join(", "))}, ` : "";
+  return `Not read: ${xmp}${named}what is inside a MakerNote, pixels, and what follows the head of a JPEG: previews, trailers.${cut}`;
 }
 
 /** Why a picture isn't read, and what helps. */
-function problemOf(name, { name: problem, cause, offset, format }) {
-  const [sentence, remedy] = tables.heads[cause] ?? [], isCut = cause === "JpegCut"; // of which all was given
+function problemOf(name, { name: problem, cause, offset, format, why, about }) {
+  const [sentence, remedy] = about, isCut = cause === "JpegCut"; // of which all was given
   const [what, help] = {
-    format: [`${name} is ${format ? `of the format ${format}` : "no JPEG"}.`, "This page reads JPEG pictures only. `exifnorm-pictures` reads other formats too."],
+    format: [`${name} is ${format ? `of the format ${format}` : "no picture that is known here"}.`, "This page reads JPEG, PNG, WebP, TIFF, DNG, HEIC, AVIF, and XMP beside a picture. `exifnorm-pictures` reads other formats too."],
+    broken: [`${name} is a damaged ${format}: ${why}.`, "Use another copy of the picture."],
     empty: [`${name} is empty.`, "Use another copy of the picture."],
     unreadable: [`${name} can’t be read: the browser gave no bytes of it.`, "Choose it again, or copy it to another folder first."],
     xmp: [`${name} has more XMP than this page reads.`, "No program writes so much: look where the file comes from."],
@@ -322,12 +332,12 @@ function problemOf(name, { name: problem, cause, offset, format }) {
     long: [`The metadata of ${name} are longer than this page reads.`, "`exifnorm-pictures` has no such limit."],
     head: [`${name} is a damaged JPEG. ${sentence} (${cause} at byte ${counted(offset ?? 0)})`, isCut ? "The picture isn’t whole: use another copy." : remedy ?? ""],
   }[problem];
-  return element("p", "", what, " ", ...withCode(help));
+  return element("p", "", `${what[0].toUpperCase()}${what.slice(1)}`, " ", ...withCode(help));
 }
 
 /** Why a block is refused, and what helps. */
-function refusalOf(name, { kind, index, size, refusal: { cause, offset, about: [sentence, meaning, remedy, cost] } }, areSeveral) {
-  return element("div", "refusal", element("h3", "", `${KINDS[kind]}${areSeveral ? ` (block ${index + 1})` : ""} of ${name}: ${sentence}`),
+function refusalOf(name, { name: block, size, refusal: { cause, offset, about: [sentence, meaning, remedy, cost] } }) {
+  return element("div", "refusal", element("h3", "", `${block} of ${name}: ${sentence}`),
     meaning && element("p", "", ...withCode(meaning)), element("p", "", element("strong", "", "What helps: "), ...withCode(remedy)),
     cost && element("p", "", element("strong", "", "What it costs: "), ...withCode(cost)),
     element("p", "small", `${cause} at byte ${counted(offset)} of ${counted(size)}.`));
@@ -335,13 +345,15 @@ function refusalOf(name, { kind, index, size, refusal: { cause, offset, about: [
 
 const WAYS = "The touch: ExifTool adds a field and removes it. The rebuild: ExifTool writes all fields that it knows into a new block. “4 of 6” counts real pictures with this fault.";
 
-/** The problems and refusals of both pictures. If both have the same bytes, they are refused for the same. */
+/** The problems and refusals of both pictures. Blocks that are refused for the same have one text. */
 function faultsOf(look, names) {
-  const isPair = look.sides.length === 2, isOnce = ({ kind }) => isPair && (kind === "xmp" ? look.xmp.sameBytes : look.sameBytes), faults = [];
+  const isPair = look.sides.length === 2, faults = [];
+  const isTwin = (refusal, other) => other?.cause === refusal.cause && other.offset === refusal.offset;
+  const isOnce = ({ name, refusal }) => isPair && look.sides.every(({ blocks }) => isTwin(refusal, blocks.find((block) => block.name === name)?.refusal));
   look.sides.forEach(({ problem, blocks }, i) => {
     if (problem) faults.push(problemOf(names[i], problem));
     for (const block of blocks.filter((some) => some.refusal && !(i && isOnce(some)))) {
-      faults.push(refusalOf(isOnce(block) ? "both" : names[i], block, blocks.filter(({ kind }) => kind === block.kind).length > 1));
+      faults.push(refusalOf(isOnce(block) ? "both" : names[i], block));
     }
   });
   const left = faults.length - MOST_REFUSALS, shown = faults.slice(0, MOST_REFUSALS);
@@ -361,7 +373,7 @@ async function download(file, { kind, index }) {
 
 function downloadsOf(look, names, files) {
   const buttons = look.sides.flatMap(({ blocks }, i) => blocks.filter(({ refusal }) => !refusal).slice(0, MOST_REFUSALS).map((block) =>
-    button(`${KINDS[block.kind]}${block.index ? ` ${block.index + 1}` : ""} of ${names[i]}`, () => download(files[i], block))));
+    button(`${block.name} of ${names[i]}`, () => download(files[i], block))));
   if (!buttons.length) return null;
   const about = "The one form of all blocks that mean the same, for a program or an archive. It is no picture. That of XMP is a packet of XMP.";
   return element("section", "forms", element("h2", "", "Normal forms"), element("p", "small", about), element("div", "downloads", ...buttons));
@@ -376,6 +388,23 @@ function captionsTable({ captions }, heads) {
   return table("Captions", ["Label", ...shown], rows);
 }
 
+/** The pictures themselves, beside each other, as far as the browser can show them. */
+function imagesOf(look, names, files) {
+  const figures = files.map((file, i) => {
+    if (look.sides[i].format === "XMP" || look.sides[i].problem && !look.sides[i].format) return null;
+    const image = element("img", ""), address = URL.createObjectURL(file), done = () => URL.revokeObjectURL(address);
+    image.alt = `The picture ${names[i]}`;
+    image.onload = done;
+    image.onerror = () => {
+      done();
+      image.replaceWith(element("p", "small", "This browser can’t show it."));
+    };
+    image.src = address;
+    return element("figure", "", image, element("figcaption", "small", names[i]));
+  }).filter(Boolean);
+  return figures.length > 0 && element("div", "images", ...figures);
+}
+
 /** Shows the result, which names the pictures if they are of folders, and returns its heading. */
 function show(look, names, files, areOfFolders) {
   const isOne = look.sides.length === 1, alike = !isOne && names[0] === names[1];
@@ -383,22 +412,23 @@ function show(look, names, files, areOfFolders) {
   const verdict = haveNone(look) && (look.verdict === "same" || look.verdict === "valid") ? "none" : look.verdict;
   const isUnread = look.sides.every(({ problem }) => problem), main = card(verdict, SIGNS[verdict], titleOf(look), areOfFolders && element("p", "small", [...new Set(names)].join(" and ")), element("p", "", meaningOf(look)),
     !isOne && look.verdict === "partly" && doubts(look, called), ...faultsOf(look, called), !isUnread && element("p", "small", unreadOf(look)));
-  const [differing, equal] = look.counts, isDifferent = look.verdict === "different";
-  const cells = (row) => isOne ? [cell(row.cells[0], heads[0])] : row.cells.map((value, i) => cell(value, heads[i], true));
+  const [differing, equal, open] = look.counts, isDifferent = look.verdict === "different";
+  const cells = (row) => isOne ? [cell(row.cells[0], heads[0])] : row.cells.map((value, i) => cell(value, heads[i], true, row.steps, "-+"[i]));
   const title = isOne ? "Fields" : isDifferent ? "What differs" : "Fields that could be read";
   const fields = differing > 0 && table(title + ofAll(differing, look.differing), ["Field", ...heads], look.differing.map((row) => [safe(row.name), cells(row)]));
   const same = equal > 0 && element("details", "", element("summary", "", many(equal, "equal field") + ofAll(equal, look.equal)),
     table("", ["Field", "Both"], look.equal.map((row) => [safe(row.name), [cell(row.cells[0], "")]])));
   if (same) same.open = !isDifferent && equal <= 12;
+  const others = open > 0 && table("Fields that could be read" + ofAll(open, look.open), ["Field", ...heads], look.open.map((row) => [safe(row.name), cells(row)]));
   const captions = look.captions.length > 0 && captionsTable(look, heads);
-  const parts = [main, isDifferent && fields, captions, !isDifferent && fields, same, downloadsOf(look, called, files)];
+  const parts = [main, imagesOf(look, called, files), isDifferent && fields, captions, !isDifferent && fields, others, same, downloadsOf(look, called, files)];
   $("result").replaceChildren(...parts.filter(Boolean));
   $("result").hidden = false;
   return main.firstChild;
 }
 
-/** Compares two pictures, or looks at one. Of pictures of folders the result is below the list, and gets the focus. */
-async function pictures(files, names, areOfFolders = false) {
+/** Compares two pictures, or looks at one. Of pictures of folders the result is below their line in the list, and gets the focus. */
+async function pictures(files, names, line = null) {
   const mine = turn, shown = names.map(safeName);
   let look;
   say("Reading ..");
@@ -409,14 +439,52 @@ async function pictures(files, names, areOfFolders = false) {
     return;
   }
   if (mine !== turn) return;
-  const heading = show(look, shown, files, areOfFolders);
+  const heading = show(look, shown, files, !!line);
   say(`${titleOf(look)}: ${shown.join(" and ")}.`, false);
   document.body.dataset.state = "done";
-  if (areOfFolders) {
-    heading.focus();
-    heading.scrollIntoView?.();
-  }
+  if (line) openBelow(line, heading);
 }
+
+// ---- the result of a line of a list, which is below it
+
+/** Puts the result back behind the list. Returns the button of the line that it was below. */
+function closeResult() {
+  const holder = $("result").closest("tr"), line = holder?.previousElementSibling?.querySelector("button");
+  if (!holder) return null;
+  document.querySelector("main").append($("result"));
+  $("result").hidden = true;
+  $("result").replaceChildren();
+  holder.remove();
+  line?.setAttribute("aria-expanded", "false");
+  return line;
+}
+
+/** Opens the line after the open one, or before it. */
+function step(by) {
+  const lines = [...document.querySelectorAll(".list > tbody > tr:not(.opened) > th button")], now = $("result").closest("tr")?.previousElementSibling?.querySelector("button");
+  lines[lines.indexOf(now) + by]?.click();
+}
+
+const leaveResult = () => closeResult()?.focus();
+
+function openBelow(line, heading) {
+  const place = element("td", "", element("p", "steps", button("Back to the list (Esc)", leaveResult), button("Next (j)", () => step(1)), button("Previous (k)", () => step(-1))), $("result"));
+  const holder = element("tr", "opened", place);
+  place.colSpan = 3;
+  place.setAttribute("role", "cell");
+  holder.setAttribute("role", "row");
+  line.closest("tr").after(holder);
+  line.setAttribute("aria-expanded", "true");
+  heading.focus({ preventScroll: true });
+  line.scrollIntoView?.({ block: "start" });
+}
+
+document.onkeydown = (event) => {
+  const act = { Escape: leaveResult, j: () => step(1), k: () => step(-1) }[event.key];
+  if (!act || event.ctrlKey || event.altKey || event.metaKey || !$("result").closest("tr")) return;
+  event.preventDefault();
+  act();
+};
 
 // ---- folders
 
@@ -432,7 +500,8 @@ function detailOf(row) {
   if (row.verdict === "moved") return `to ${row.to}`;
   if (row.verdict === "different" && !row.count) return row.isCut ? "behind the first 20,000 fields" : EMPTY;
   if (row.verdict === "different") return `${many(row.count, "field")}: ${row.names.join(", ")}${row.count > row.names.length ? " .." : ""}`;
-  const also = row.verdict === "missing" && row.candidates ? `the same Exif, IPTC and XMP as ${many(row.candidates, "picture")} only in the ${SIDES[1 - row.side]}` : "";
+  const twin = row.verdict === "missing" && row.twins?.find((path) => path !== row.path), asTwin = twin ? `the same Exif, IPTC and XMP as ${safeName(twin)}` : "";
+  const also = row.verdict === "missing" && row.candidates ? `the same Exif, IPTC and XMP as ${many(row.candidates, "picture")} only in the ${SIDES[1 - row.side]}` : asTwin;
   const bytes = row.verdict === "refused" && row.sameBytes ? "both pictures have the same bytes of Exif and IPTC" : "";
   const xmp = row.verdict === "partly" && row.xmp.verdict === "unread" ? `not all XMP is read, ${row.xmp.sameBytes ? "but its bytes are the same" : "and its bytes differ"}` : "";
   return [row.why, bytes, also, xmp].filter(Boolean).join("; ");
@@ -513,8 +582,19 @@ async function folders(both) {
 /** A cell of CSV that no spreadsheet takes for a formula, whatever separates its cells. */
 const csvCell = (text) => `"${safe(text).replace(/^(?=[=+\-@\t\n＝＋－＠])|(?<=[;\t\n])(?=[=+\-@＝＋－＠])/g, "'").replaceAll('"', '""')}"`;
 
+// the words of `exifnorm-pictures changed --csv`
+const RESULTS = { different: "different", refused: "refused", moved: "moved", partly: "not wholly read", unread: "not read", same: "same", valid: "valid" };
+
+/** A row for each field that differs, and one for each other picture. */
+function csvRows(row) {
+  const about = [safeName(row.path), row.verdict === "missing" ? `missing ${["after", "before"][row.side]}` : RESULTS[row.verdict], row.to ?? ""];
+  if (row.verdict !== "different" || !row.changes.length) return [[...about, "", "", "", detailOf(row)]];
+  const more = row.count - row.changes.length;
+  return [...row.changes.map(([name, before, after]) => [...about, name, before ?? "", after ?? "", ""]), ...more > 0 ? [[...about, "", "", "", `and ${many(more, "other field")}`]] : []];
+}
+
 function saveCsv(rows) {
-  const lines = [["path", "verdict", "details"], ...rows.map((row) => [safeName(row.path), wordOf(row), detailOf(row)])];
+  const lines = [["picture", "result", "moved to", "field", "before", "after", "note"], ...rows.flatMap(csvRows)];
   save("pictures.csv", lines.map((cells) => `${cells.map(csvCell).join(",")}\r\n`).join(""), "text/csv");
 }
 
@@ -527,7 +607,7 @@ function summaryCard(rows, counts, others, isPair, stoppedOf) {
   const open = rows.filter((row) => row.xmp?.verdict === "unread" && row.verdict !== "unread").length;
   const isWhole = there.length === 1 && ["same", "valid"].includes(worst) && !stoppedOf && !isPartial && !open;
   const look = isWhole ? worst : ["different", "refused"].includes(worst) ? worst : "unread";
-  const heads = words.filter((_, i) => i < 2 || there[i] === "unread").join(", ");
+  const heads = words.filter((_, i) => there[i] !== "same" || there.length < 3).join(", ");
   const title = !rows.length ? "No pictures" : isWhole ? (isPair ? "All have the same Exif, IPTC and XMP" : "All valid") : heads;
   const rest = `${words.length > 1 ? `: ${listed(words)}` : ""}${others ? `; ${many(others, "other file")} left out` : ""}.`;
   const stopped = stoppedOf ? ` Stopped before the end: there are ${many(stoppedOf, "file")}.` : "";
@@ -535,35 +615,127 @@ function summaryCard(rows, counts, others, isPair, stoppedOf) {
     element("p", "", `${many(rows.length, "picture")}${isPair ? ", paired by path" : ""}${rest}${stopped}`),
     isPartial && element("p", "small", element("strong", "", "Perhaps not all: "), PARTIAL),
     counts.moved > 0 && element("p", "small", "Moved: the same Exif, IPTC and XMP are at another path. Pixels are not compared."),
-    element("p", "small", `Not read: ${open ? `some XMP (of ${many(open, "picture")}), ` : ""}other formats than JPEG, what is inside a MakerNote, and what follows the head of a JPEG.`));
+    element("p", "small", `Not read: ${open ? `some XMP (of ${many(open, "picture")}), ` : ""}some formats, what is inside a MakerNote, and what follows the head of a JPEG.`));
 }
 
 /** The link of a row to the comparison of its pictures. */
 function linkOf(row) {
   const files = row.files.filter(Boolean), name = safeName(row.path);
   if (row.files.includes(null)) return name;
-  return button(name, () => pictures(files, row.verdict === "moved" ? [row.path, row.to] : files.map(() => row.path), true));
+  const node = button(name, () => {
+    const isOpen = closeResult() === node;
+    if (!isOpen) pictures(files, row.verdict === "moved" ? [row.path, row.to] : files.map(() => row.path), node);
+  });
+  node.setAttribute("aria-expanded", "false");
+  return node;
 }
+
+// ---- what changed, by edits
+
+const MOST_WAYS = 60, AROUND = 40; // ways that are listed; characters of kept text on each side of a change
+const standardOf = (name) => name.startsWith("IPTC") ? "IPTC" : name.startsWith("XMP") ? "XMP" : "Exif";
+
+/** Kept words, without those that are far from what changed. */
+function around(text, isFirst, isLast) {
+  const head = isFirst ? "" : text.slice(0, AROUND), tail = isLast ? "" : text.slice(-AROUND);
+  return text.length <= head.length + tail.length + 4 ? text : `${head}${head && " "}..${tail && " "}${tail}`;
+}
+
+/** An edit in words: `caption (IPTC, XMP): a bowl, 1820 1280`, of which the old word is struck through. */
+function editLine({ name, fields, note, steps, isList }) {
+  const where = fields[0] === name || !fields.length ? "" : ` (${[...new Set(name === "dates" ? fields.map((field) => field.split(":").at(-1)) : fields.map(standardOf))].join(", ")})`;
+  const shown = isList ? steps.flatMap((one, i) => i ? [["=", ", "], one] : [one]) : steps.map(([sign, text], i) => [sign, sign === "=" ? around(text, i === 0, i === steps.length - 1) : text]);
+  const head = `${name}${where}${note ? `${["removed", "added", "changed"].includes(note) ? "" : ":"} ${note}` : ""}`, line = element("p", "edit", element("span", "label", safe(head) + (shown.length ? ": " : "")), ...stepNodes(shown));
+  line.dir = "auto";
+  return line;
+}
+
+/** The pictures that differ by their edits: the groups of those that were edited alike, the smallest first. */
+function waysOf(rows) {
+  const groups = new Map();
+  for (const row of rows.filter(({ verdict }) => verdict === "different")) {
+    if (!groups.has(row.key)) groups.set(row.key, []);
+    groups.get(row.key).push(row);
+  }
+  return [...groups.values()].sort((first, second) => first.length - second.length);
+}
+
+/** What changed: those that changed like no other first. `open` shows a group in the list. */
+function waysSection(ways, open) {
+  const total = ways.reduce((sum, group) => sum + group.length, 0), odd = ways.filter(({ length }) => length === 1).length, alike = ways.length - odd;
+  if (total < 2) return null;
+  const bar = element("div", "bar");
+  bar.setAttribute("aria-hidden", "true");
+  const lines = ways.slice(0, MOST_WAYS).map((group) => {
+    const isOdd = group.length === 1, part = element("span", isOdd ? "odd" : ""), edits = isOdd ? group[0].edits : group[0].shared;
+    part.style.flexGrow = group.length;
+    bar.append(part);
+    return element("li", "", button(isOdd ? safeName(group[0].path) : many(group.length, "picture"), () => open(group)), ...edits.slice(0, 9).map(editLine));
+  });
+  const others = alike ? ` ${odd ? "The others" : "All"} changed in ${many(alike, "way")}.` : "";
+  return element("section", "ways", element("h2", "", `${many(total, "picture")} changed, in ${many(ways.length, "way")}`),
+    element("p", "", `${odd ? many(odd, "picture") : "No picture"} changed like no other${odd ? ": look here first" : ""}.${others} `, "Words that were left out are ", element("del", "", "struck through"), ", new ones are ", element("ins", "", "underlined"), "."),
+    bar, element("ul", "", ...lines), ways.length > MOST_WAYS && element("p", "small", `And ${many(ways.length - MOST_WAYS, "further way")}: see the list.`));
+}
+
+/** Pictures of one folder with the same metadata: for each side, the paths of each group. Rows learn the others of their group. */
+function copiesOf(rows) {
+  const groups = [new Map(), new Map()];
+  for (const row of rows) {
+    (row.identities ?? []).forEach((identity, i) => {
+      const side = row.verdict === "missing" ? row.side : i, path = side && row.verdict === "moved" ? row.to : row.path;
+      if (identity) groups[side].set(identity, [...groups[side].get(identity) ?? [], path]);
+    });
+  }
+  for (const row of rows.filter(({ verdict }) => verdict === "missing")) row.twins = groups[row.side].get(row.identities?.[0]);
+  return groups.map((side) => [...side.values()].filter(({ length }) => length > 1));
+}
+
+function copiesSection(copies, isPair) {
+  const all = copies.flatMap((groups, side) => groups.map((paths) => [side, paths])), total = all.reduce((sum, [, paths]) => sum + paths.length, 0);
+  if (!all.length) return null;
+  const lines = all.slice(0, ROWS).map(([side, paths]) => element("li", "", isPair && `in the ${SIDES[side]}: `, listed(paths.slice(0, 20).map(safeName)), paths.length > 20 && ` and ${counted(paths.length - 20)} more`));
+  return element("details", "copies", element("summary", "", `The same metadata inside a folder: ${many(total, "picture")} in ${many(all.length, "group")}`),
+    element("p", "small", "Pixels are not compared: pictures of a group may differ in what they show."), element("ul", "", ...lines), all.length > ROWS && element("p", "small", `And ${many(all.length - ROWS, "further group")}.`));
+}
+
+let drawAll = () => {}; // shows all rows of the list, for printing, or no more than before
 
 function summarise(rows, others, isPair, stoppedOf) {
   const counts = Object.fromEntries(VERDICTS.map((verdict) => [verdict, rows.filter((row) => row.verdict === verdict).length]));
   const holder = element("div", ""), choices = element("div", "counts");
-  let filter = VERDICTS.find((verdict) => counts[verdict]), shown = ROWS;
+  const ways = waysOf(rows), copies = copiesOf(rows), byWay = new Map(ways.flat().map((row, i) => [row, i]));
+  let filter = VERDICTS.find((verdict) => counts[verdict]), shown = ROWS, group = null;
   const draw = () => {
-    const chosenRows = rows.filter((row) => filter === "all" || row.verdict === filter);
+    closeResult();
+    const chosenRows = rows.filter((row) => group ? group.includes(row) : filter === "all" || row.verdict === filter);
+    if (filter === "different") chosenRows.sort((first, second) => byWay.get(first) - byWay.get(second));
     const lines = chosenRows.slice(0, shown).map((row) => {
       const cells = [element("td", "verb", element("span", `word ${row.verdict}`, wordOf(row))), element("td", "", safe(detailOf(row)))];
       for (const node of cells) node.setAttribute("role", "cell");
       return [linkOf(row), cells];
     });
-    const label = filter === "all" ? "All pictures" : LABELS[filter][0].toUpperCase() + LABELS[filter].slice(1), left = chosenRows.length - shown;
+    const label = group ? "Changed alike" : filter === "all" ? "All pictures" : LABELS[filter][0].toUpperCase() + LABELS[filter].slice(1), left = chosenRows.length - shown;
     const more = left > 0 && button(`Show ${counted(Math.min(ROWS, left))} more`, () => { shown += ROWS; draw(); }, "more");
     holder.replaceChildren(...[table(`${label}: ${counted(chosenRows.length)}`, ["Path", "Verdict", "Details"], lines, "list"), more].filter(Boolean));
-    for (const node of choices.querySelectorAll("[aria-pressed]")) node.setAttribute("aria-pressed", String(node.dataset.filter === filter));
+    for (const node of choices.querySelectorAll("[aria-pressed]")) node.setAttribute("aria-pressed", String(node.dataset.filter === filter && !group));
+  };
+  const openWay = (some) => {
+    filter = "different";
+    group = some.length > 1 ? some : null;
+    shown = ROWS;
+    draw();
+    const lines = [...holder.querySelectorAll(".list > tbody > tr > th button")], line = group ? lines[0] : lines.find((node) => node.textContent === safeName(some[0].path));
+    if (group) line?.focus(); else line?.click();
+  };
+  drawAll = (isAll) => {
+    if (isAll === (shown === Infinity) || !isAll && shown !== Infinity) return;
+    shown = isAll ? Infinity : ROWS;
+    if (!$("result").closest("tr")) draw();
   };
   for (const verdict of [...VERDICTS.filter((word) => counts[word]), "all"]) {
     const text = verdict === "all" ? `all ${counted(rows.length)}` : `${counted(counts[verdict])} ${LABELS[verdict]}`;
-    const node = button(text, () => { filter = verdict; shown = ROWS; draw(); });
+    const node = button(text, () => { filter = verdict; group = null; shown = ROWS; draw(); });
     node.dataset.filter = verdict;
     node.setAttribute("aria-pressed", "false");
     choices.append(node);
@@ -572,7 +744,7 @@ function summarise(rows, others, isPair, stoppedOf) {
   choices.setAttribute("role", "group");
   choices.setAttribute("aria-label", "Shown in the list");
   const heading = summaryCard(rows, counts, others, isPair, stoppedOf);
-  $("summary").replaceChildren(...rows.length ? [heading, choices, holder] : [heading]);
+  $("summary").replaceChildren(...rows.length ? [heading, waysSection(ways, openWay), choices, holder, copiesSection(copies, isPair)].filter(Boolean) : [heading]);
   $("summary").hidden = false;
   if (rows.length) draw();
   say(`${heading.firstChild.lastChild.textContent}.`, false);
@@ -582,6 +754,8 @@ function summarise(rows, others, isPair, stoppedOf) {
 
 function compare() {
   turn++;
+  closeResult();
+  drawAll = () => {};
   for (const id of ["summary", "result"]) {
     $(id).hidden = true;
     $(id).replaceChildren();
@@ -598,9 +772,9 @@ function compare() {
 
 for (const side of [0, 1]) {
   $(`file-${side}`).onchange = ({ target }) => {
-    const items = [...target.files].slice(0, 2).map((file) => ({ name: file.name, file }));
+    const items = [...target.files].map((file) => ({ name: file.name, file }));
     target.value = "";
-    if (items.length) put(items, side);
+    if (items.length > 2) say(TWO); else if (items.length) put(items, side);
   };
   $(`folder-${side}`).onchange = ({ target }) => {
     const item = folderOf(target);
@@ -623,12 +797,24 @@ document.ondragover = (event) => {
 document.ondragleave = (event) => { if (!event.relatedTarget) leave(); };
 document.ondrop = drop;
 
+/** Two pictures to try the page with, which it has as gzip in base64: the length of the first one, and both. */
+$("samples").onclick = async () => {
+  const [length, text] = $("sample-pictures").textContent.split(" "), octets = Uint8Array.from(atob(text), (character) => character.charCodeAt(0));
+  const both = await new Response(new Blob([octets]).stream().pipeThrough(new DecompressionStream("gzip"))).blob();
+  const named = [["bowl, before.jpg", both.slice(0, length)], ["bowl, after.jpg", both.slice(length)]];
+  put(named.map(([name, some]) => ({ name, file: new File([some], name, { type: "image/jpeg" }) })), null);
+};
+
 let closed = [];
 self.addEventListener("beforeprint", () => {
+  drawAll(true);
   closed = [...document.querySelectorAll("details:not([open])")];
   for (const node of closed) node.open = true;
 });
-self.addEventListener("afterprint", () => { for (const node of closed) node.open = false; });
+self.addEventListener("afterprint", () => {
+  for (const node of closed) node.open = false;
+  drawAll(false);
+});
 
 /** What the foot of the page says of its engine. */
 function about(version) {
