@@ -7,6 +7,7 @@ from functools import lru_cache
 from pathlib import Path
 from typing import Dict, Iterator, List, Set, Tuple
 
+import crates_page
 import pytest
 
 TOP = Path(__file__).resolve().parent.parent.parent
@@ -160,32 +161,47 @@ def test_a_row_of_the_table_of_changes(row: List[str]) -> None:
             assert f"\n## {it}." in (TOP / "docs" / "FORMAT.md").read_text(encoding="utf-8"), it
 
 
-def definition_files(name: str) -> List[Tuple[str, str]]:
-    """The files of definitions that a document's table lists, in its order, as (crate, file)."""
-    rows = re.findall(r"(?m)^\| (px_\w+) \| ([^|]*) \|(?: \d+ \|)?$", (TOP / "docs" / f"{name}.md").read_text(encoding="utf-8"))
-    return [(crate, file) for crate, files in rows for file in re.findall(r"`(\w+)`", files)]
+def definition_files() -> List[Tuple[str, str]]:
+    """The files of definitions that the page of the crates lists, in its order, as (crate, file)."""
+    text = (TOP / "crates" / "README.md").read_text(encoding="utf-8")
+    rows = re.findall(r"(?ms)^## (px_\w+)$(?:(?!^## ).)*?^- Definitions, \d+ lines: (.*?)$", text)
+    return [(crate, file) for crate, files in rows for file in quoted(files)]
 
 
-def test_the_headline_is_quoted_as_it_is() -> None:
-    """READING quotes definitions of px_engine, and lists files of definitions in the order of PROOFS."""
+def used_definitions(crate: str, name: str) -> Set[Tuple[str, str]]:
+    """The files of definitions that one uses."""
+    text = (TOP / "crates" / crate / "specs" / f"{name}.antt").read_text(encoding="utf-8")
+    assert not re.search(r"Rattle\.px_\w+\.specs\.calls", text), f"{crate}: {name}"
+    return set(re.findall(r"(?m)^(?:pub )?use Rattle\.(px_\w+)\.specs\.([A-Z]\w*)\b", text))
+
+
+def test_promises_are_quoted_as_they_are() -> None:
+    """READING quotes definitions as they are, and lists files of definitions, each after those of the list that it uses."""
     text = (TOP / "docs" / "READING.md").read_text(encoding="utf-8")
-    definitions = (TOP / "crates" / "px_engine" / "specs" / "Headline.antt").read_text(encoding="utf-8")
+    quoted_files = ("px_engine/specs/Headline", "px_xmp_pictures/specs/Same", "px_xmp_pictures/specs/Xmp")
+    definitions = "".join((TOP / "crates" / f"{it}.antt").read_text(encoding="utf-8") for it in quoted_files)
     quotes = re.findall(r"(?ms)^```\n(.*?)^```$", text)
     assert quotes and all(quote in definitions for quote in quotes)
-    listed = definition_files("READING")
-    assert [name for name in definition_files("PROOFS") if name in listed] == listed
+    rows = re.findall(r"(?m)^\| (px_\w+) \| ([^|]*) \|$", text)
+    listed = [(crate, file) for crate, files in rows for file in re.findall(r"`(\w+)`", files)]
+    assert listed
+    for i, (crate, name) in enumerate(listed):
+        assert not used_definitions(crate, name) & set(listed[i + 1 :]), f"{crate}: {name}"
 
 
 def test_what_must_be_read_is_all_and_in_order() -> None:
-    """PROOFS lists the definitions of each crate; each follows those that it uses, and none uses the words of single calls."""
-    listed = definition_files("PROOFS")
+    """The page of the crates lists all definitions; each follows those that it uses, and none uses the words of single calls."""
+    assert crates_page.main(["--check"]) == 0
+    listed = definition_files()
     there = {(it.parent.parent.name, it.stem) for it in TOP.glob("crates/px_*/specs/[A-Z]*.antt")} - {
         (it.name, "Lib") for it in TOP.glob("crates/*")
     }
     assert set(listed) == there
     seen: Set[Tuple[str, str]] = set()
     for crate, name in listed:
-        text = (TOP / "crates" / crate / "specs" / f"{name}.antt").read_text(encoding="utf-8")
-        assert not re.search(r"Rattle\.px_\w+\.specs\.calls", text), f"{crate}: {name}"
-        assert set(re.findall(r"(?m)^(?:pub )?use Rattle\.(px_\w+)\.specs\.([A-Z]\w*)\b", text)) <= seen, f"{crate}: {name}"
+        assert used_definitions(crate, name) <= seen, f"{crate}: {name}"
         seen.add((crate, name))
+
+
+def test_examples_of_the_page_of_the_crates() -> None:
+    assert not doctest.testmod(crates_page).failed
