@@ -23,6 +23,7 @@ WIDTH, HEIGHT, COLOURS, MARGIN = 920, 2600, 96, 12
 # the name of each picture, and the titles of the sections that it shows
 PICTURES = {
     "report.png": ["What changed", "At a glance", "Changed pictures"],
+    "report-changed.png": ["Changed pictures"],
     "report-same.png": ["Pictures with the same metadata"],
     "report-refused.png": ["Refused blocks and what helps"],
 }
@@ -32,7 +33,7 @@ def report(command: str, folder: Path) -> str:
     """The page of the tutorial: pictures of one day, and what was changed on the next."""
     words = ["--catalogue", "museum.catalogue", "--quiet"]
     shutil.copytree(SAMPLES / "before", folder / "museum")
-    subprocess.run([command, "index", "museum", *words], cwd=folder, check=True, stdout=subprocess.DEVNULL)
+    subprocess.run([command, "index", "museum", "--pixels", *words], cwd=folder, check=True, stdout=subprocess.DEVNULL)
     shutil.rmtree(folder / "museum")
     shutil.copytree(SAMPLES / "after", folder / "museum")
     subprocess.run(

@@ -1,4 +1,4 @@
-"""What docs/exifnorm-pictures.1, README.md and the last section of docs/RECIPES.md promise, each by runs of the commands."""
+"""What docs/exifnorm-pictures.1, README.md and docs/COMPARED.md promise, each by runs of the commands."""
 
 import contextlib
 import hashlib

@@ -1,24 +1,21 @@
-"""The table of statuses in RECIPES: each of its cells is made to happen, and no other status is."""
+"""The statuses of each command in its help: each of them is made to happen, and no other status is."""
 
-import os
 import re
 import shutil
 
 import pytest
 from made_blocks import BLOCKS
 from made_files import A, B, app1, app1_xmp, app13, jpeg, resource, xmp
-from studio import TOP, needs, put
+from studio import needs, put
 from test_list import record
 from test_maker_notes import noted
 from test_nights import CUT
 from test_repairs import REFUSED
 
 from exifnorm_pictures.cli.parser import parsers
+from exifnorm_pictures.cli.statuses import STATUSES
 
-with open(os.path.join(TOP, "docs", "RECIPES.md"), encoding="utf-8") as page:
-    SECTION = page.read().partition("## Statuses")[2].partition("\n## ")[0]
-ROWS = [[cell.strip(" `") for cell in line.split("|")[1:-1]] for line in SECTION.splitlines() if line.startswith("| `")]
-CELLS = {(row[0], status) for row in ROWS for status, text in enumerate(row[1:]) if text}
+CELLS = {(command, status) for command, texts in STATUSES.items() for status in texts}
 
 GOOD, OTHER = (jpeg(app1(block), app13(resource(0x0404, record([("title", "A"), ("credit", "Museum")])))) for block in (A, B))
 REFUSED_BLOCK = jpeg(app1(b"II*\0\xff\xff\0\0"))

@@ -26,7 +26,7 @@ from proved import bounds
 TOP = Path(__file__).resolve().parent.parent.parent
 DOCUMENTS = sorted([*TOP.glob("*.md"), *TOP.glob("docs/*.md"), *TOP.glob("*/README.md"), *TOP.glob("crates/*/*.md")])
 WHOLE = ("README.md", "docs/TUTORIAL.md", "docs/CATALOGUE.md", "docs/JSON.md", "docs/PYTHON.md")  # whose sections build on one another
-BY_SECTION = ("docs/RECIPES.md", "docs/REFUSALS.md")
+BY_SECTION = ("docs/RECIPES.md", "docs/REFUSALS.md", "docs/BLOCKS.md", "docs/LARGE-ARCHIVES.md")
 HEADER = "crates/px_c/include/exifnorm.h"
 TOOLS = ("exiftool", "exiv2", "convert", "parallel", "sqlite3", "perl")
 PERIOD = 64 * 5 * 8  # a number of bytes for which each division in a bound is exact

@@ -1,4 +1,4 @@
-"""What the exit statuses of each command mean: for `--help`, and for the table of docs/RECIPES.md."""
+"""What the exit statuses of each command mean: for `--help`."""
 
 from __future__ import annotations
 
@@ -102,9 +102,3 @@ def _lines(texts: Mapping[int, str], command: str) -> Iterator[str]:
     }
     for status, text in {**texts, **more}.items():
         yield from textwrap.wrap(text, 80, initial_indent=f"  {status:<3}  ", subsequent_indent=" " * 7)
-
-
-def table() -> str:
-    """The table of the page: a row for each command."""
-    rows = [f"| `{command}` | {' | '.join(texts.get(it, '') for it in range(3))} |" for command, texts in STATUSES.items()]
-    return "\n".join(["| Command | 0 | 1 | 2 |", "|---|---|---|---|", *rows]).replace("|  |", "| |")

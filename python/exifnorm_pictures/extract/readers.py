@@ -1,6 +1,6 @@
 """The formats that are read here: how a file of each begins, its reader, where its blocks are, and what else it has.
 
-The tables in docs/RECIPES.md are made of `FORMATS`.
+The tables in docs/COMPARED.md are made of `FORMATS`.
 """
 
 from __future__ import annotations
@@ -112,7 +112,7 @@ FORMATS: Tuple[Format, ...] = (
         heif.read,
         exif="Exif items of each picture",
         xmp="items of each picture with the type `application/rdf+xml`; box uuid",
-        by_bytes="other items, such as compressed XMP; unknown boxes; names of pictures (`udes`); `moov` of sequences; trailers",
+        by_bytes="other items, such as XMP that is compressed otherwise than by deflate; unknown boxes; names of pictures (`udes`); `moov` of sequences; trailers",
         not_read="items that are protected, in another file, or made of other items",
         not_compared="pixels, size, rotation, ICC profiles; bytes that no item has",
     ),
@@ -198,12 +198,12 @@ def _lines(*rows: Tuple[str, ...]) -> str:
 
 
 def table() -> str:
-    """The table of blocks for docs/RECIPES.md."""
+    """The table of blocks for docs/COMPARED.md."""
     return _lines(("Format", "Exif", "IPTC", "XMP"), *((it.name, it.exif, it.iptc, it.xmp) for it in FORMATS), _OTHERS)
 
 
 def table_of_parts() -> str:
-    """The table of other parts for docs/RECIPES.md."""
+    """The table of other parts for docs/COMPARED.md."""
     rows = ((it.name, it.by_bytes, it.not_read, it.not_compared) for it in FORMATS)
     return _lines(("Format", "Compared by its bytes", "Not read, so never the same", "Not compared"), *(it for it in rows if any(it[1:])))
 

@@ -17,7 +17,7 @@ END_MARK = bytes((0xFF, EOI))
 APP0, APP1, APP2, APP3, APP13, APP14, APP15 = 0xE0, 0xE1, 0xE2, 0xE3, 0xED, 0xEE, 0xEF
 
 # The segments of applications that contain no Exif, IPTC or XMP, and are compared only as the rest of a file: the marker, how the segment
-# begins, the name of the part, and its name in docs/RECIPES.md, whose list is made of this table.
+# begins, the name of the part, and its name in docs/COMPARED.md, whose list is made of this table.
 NOT_COMPARED = (
     (0xE0, b"JFIF\0", "JFIF", "JFIF (APP0)"),
     (0xE0, b"JFXX\0", "thumbnail of JFIF", "the thumbnail of JFIF (APP0)"),
