@@ -239,8 +239,7 @@ export function jpegBlocks(picture: Uint8Array, most?: number): JpegBlock[];
  * XMP, or one packet each, with equal normal forms together with its extended XMP. So two JPEGs without metadata are the same. Pixels, and
  * what follows the head, are not compared. Throws NotRead if they are the same as far as both are read, but one has more that other programs
  * may read: a place that jpegUnread returns, XMP in another place, a packet that xmpNormalise refuses, a second packet, or extended XMP that
- * is missing or can't be joined to the packet. Also throws PictureRefused, OutOfMemory. Which extended XMP is joined is tested and, unlike
- * the rest, not proved.
+ * is missing or can't be joined to the packet. Also throws PictureRefused, OutOfMemory.
  */
 export function jpegSame(first: Uint8Array, second: Uint8Array): boolean;
 
