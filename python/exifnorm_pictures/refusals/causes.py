@@ -279,33 +279,14 @@ def words_of(cause: str, kind: str = "") -> Optional[Tuple[str, str]]:
     return OTHER_REMEDIES.get(cause)
 
 
-# What tools do to a block, of 175 accepted ones: same bytes, another block with the same meaning, a different meaning, a refused block.
-TOOLS = (
-    ("ExifTool: an edit of XMP, or the block copied", "175", "", "", "", ""),
-    ("ExifTool: a field added and removed", "56", "47", "72", "", "67 of the 72: MakerNote alone"),
-    ("ExifTool: full rebuild", "1", "9", "165", "", "fractions reduced, tags added, MakerNote"),
-    ("exiv2: a field set and deleted", "58", "50", "67", "", "60 of the 67: MakerNote alone"),
-    ("exiv2: extracted, removed, inserted", "29", "73", "73", "", "71 of the 73: MakerNote alone"),
-    ("exiv2: dates adjusted by nothing (`-a 0:0:0 ad`)", "132", "", "31", "12 Overlap", "its MakerNote extends into the values after it"),
-    ("jhead -te: the thumbnail and the rest of another picture", "159", "", "16", "", "UserComment changed"),
-    ("exif: a description set", "8", "", "164", "3", "58 MakerNotes changed, 4 thumbnails lost"),
-    ("piexif: loaded and dumped", "", "2", "1", "139", "leaves out the four bytes after a directory; 33 failed in piexif"),
-    ("Pillow: saved with `exif=info['exif']`", "175", "", "", "", ""),
-    ("Pillow: saved with `getexif()`", "3", "2", "170", "", "types changed, thumbnail lost"),
-    ("ImageMagick: saved again", "154", "", "21", "", "resolution 3000000/10000 becomes 300/1"),
-)
-
 _INTRODUCTION = f"""# Refusals
 
-Find out here why a block was refused, and what to do. For each of the 19 causes this page has its meaning, who writes such blocks, what
-other readers make of them, and what helps. `exifnorm-pictures explain PICTURE` prints the same texts with the bytes of the picture. A
-block that breaks the rules is refused with its first fault and the byte offset of that fault, and its file is never changed. `show`,
-`changed` and `same` also read it after a repair in memory, and name each step; that is tested, and not proved. The rules are in
-`FORMAT.md`, section 5.
+Find out here why a block was refused, and what to do. `exifnorm-pictures explain PICTURE` prints the same texts with the bytes of the
+picture. A block that breaks the rules (`FORMAT.md`, section 5) is refused with its first fault and the byte offset of that fault, and its
+file is never changed. `show`, `changed` and `same` also read it after a repair in memory, which is tested, and not proved.
 
-Counts of cameras and programs were {MEASURED}: 232 of them have an Exif block, and 35 real pictures had a refused one. The
-camera or program is that of the picture's own Make and Software. Readers were tried on the smallest block that has the fault:
-{READERS}.
+Counts of cameras and programs, by the pictures' own Make and Software, were {MEASURED}: 232 of them have an Exif block, and 35 real
+pictures had a refused one. Readers were tried on the smallest block that has the fault: {READERS}.
 
 ## What helps, the least invasive first
 
@@ -316,11 +297,9 @@ exifnorm-pictures explain refused.jpg || test $? -eq 2
 exifnorm-pictures mend refused.jpg mended.jpg
 ```
 
-`mend` tries four steps on a copy. The first repairs an Exif block of a JPEG, PNG or WebP file: entries are sorted, shared values copied,
-the second of two equal entries left out. The rest of the file stays as it is, and no other program is needed if nothing is lost. In other
-files, such as TIFF, the other steps are tried. The other steps let programs write the block again. `mend` uses the first step whose block
-is accepted and that changes no printed value, and otherwise the step that loses fewest values. It lists the values that were lost and those
-that are new. By hand the other steps are:
+`mend` tries four steps on a copy, and uses the first whose block is accepted and that changes no printed value, otherwise the one that
+loses fewest values; it lists what was lost. The first step repairs an Exif block of a JPEG, PNG or WebP file, and leaves the rest of the
+file as it is. The others let programs write the block again. They mended 32 of the 35 refused blocks, 24 of them without loss. By hand:
 
 *Touch*: ExifTool adds a field and removes it, and so lays the block out again.
 
@@ -345,21 +324,7 @@ printed values: fractions are reduced, mandatory tags added, unknown fields drop
 cp refused.jpg rebuilt.jpg
 exiftool -m -overwrite_original -all= -tagsfromfile @ -all:all -unsafe rebuilt.jpg
 ```
-
-The last three steps mended 32 of the 35 refused blocks, 24 of them without loss of a printed value.
-
-## What tools do to a block
-
-Each tool ran on 175 accepted blocks. The table counts the blocks that afterwards had the same bytes, other bytes with the same meaning,
-a different meaning, or were refused ({MEASURED}):
-
 """
-
-
-def _tools_table() -> str:
-    lines = ["| Tool and what it did | Same bytes | Same meaning | Different | Refused | Why |", "|---|---|---|---|---|---|"]
-    lines += ["| " + " | ".join(it) + " |" for it in TOOLS]
-    return "\n".join(line.replace("|  |", "| |").replace("|  |", "| |") for line in lines) + "\n"
 
 
 def section(cause: Cause) -> str:
@@ -376,7 +341,7 @@ def section(cause: Cause) -> str:
 
 def page() -> str:
     """The whole of docs/REFUSALS.md."""
-    return _wrapped(_INTRODUCTION) + "\n\n" + _tools_table() + "\n" + "\n".join(section(it) for it in _CAUSES) + "\n" + _heads()
+    return _wrapped(_INTRODUCTION) + "\n\n" + "\n".join(section(it) for it in _CAUSES) + "\n" + _heads()
 
 
 def _heads() -> str:
