@@ -28,8 +28,9 @@ from ..model.columns import Damaged
 from ..model.errors import Failure
 from ..model.found import NotRead
 from ..model.numbers import Numbers
-from ..model.problems import GONE, NO_BYTES
+from ..model.problems import GONE, NO_BYTES, Problem
 from ..model.records import BLOCKS, PICTURES, BlockRecord, PictureRecord, Stamp, block_of_row, has_short, not_read_of_row, picture_of_row
+from ..model.sides import Status
 
 APPLICATION = 0x45584E50  # 'EXNP', which distinguishes a catalogue from other SQLite files
 VERSION = 9
@@ -109,6 +110,13 @@ CREATE INDEX pictures_by_other_exif ON pictures (other_exif) WHERE other_exif !=
 
 PICTURE_COLUMNS, _BUT_ID = PICTURES.listed, PICTURES.listed.partition(", ")[2]
 BLOCK_COLUMNS = BLOCKS.listed
+# Of each None, each bytes and each word of an enumeration that is bound, Python before 3.12 looks for an adapter, and fails to find one by an
+# error: that takes as long as all else of binding it. These leave a value as it is, so other programs in this process see no difference.
+sqlite3.register_adapter(type(None), {}.get)
+sqlite3.register_adapter(bytes, bytes)
+for _words in (Status, Problem):
+    sqlite3.register_adapter(_words, str.__str__)
+
 # A row that replaces another of the same path takes the other's blocks and parts with it, by ON DELETE CASCADE.
 _PUT_PICTURE = f"INSERT OR REPLACE INTO pictures ({PICTURE_COLUMNS}, run) VALUES (?{', ?' * PICTURES.width})"
 _PUT_BLOCK = f"INSERT INTO blocks (picture, number, {BLOCK_COLUMNS}) VALUES (?, ?{', ?' * BLOCKS.width})"
