@@ -178,7 +178,7 @@ ARGUMENTS = {
     "exifnorm_cause_name": [ctypes.c_uint32, *_OUT],
     "exifnorm_version": _OUT,
 }
-_OF_EXTENSION = list(ARGUMENTS)[:10]
+_OF_EXTENSION = [*list(ARGUMENTS)[:10], "exifnorm_xmp_normalise", "exifnorm_xmp_unsorted"]
 _NEWER = {
     "exifnorm_jpeg_xmp",
     "exifnorm_jpeg_same_blocks",
@@ -361,21 +361,27 @@ class Library:
     jpeg_same: Callable[[bytes, bytes], Pair]
     jpeg_same_blocks: Callable[[bytes, bytes], Pair]
     jpeg_blocks: Callable[[bytes], Places]
+    xmp_normalise: Callable[[bytes], Text]
+    xmp_unsorted: Callable[[bytes], Text]
 
     def __init__(self, place: str) -> None:
         self._library = _opened(place)
         self.by_ctypes = calls = ByCtypes(self._library)
         blocks: Any = calls.check, calls.normalise, calls.compare, calls.show, calls.captions
         jpegs: Any = calls.jpeg_parts, calls.photoshop_resources, calls.jpeg_same, calls.jpeg_same_blocks, calls.jpeg_blocks
+        self.xmp_normalise, self.xmp_unsorted = calls.xmp_normalise, calls.xmp_unsorted
         if _native:
-            functions = _native.functions(*(_address(getattr(self._library, _name_of(name, self._library))) for name in _OF_EXTENSION))
-            blocks, jpegs = functions[:5], functions[5:]
+            functions = _native.functions(
+                *(_address(getattr(self._library, _name_of(name, self._library), None)) for name in _OF_EXTENSION)
+            )
+            blocks, jpegs, self.xmp_normalise = functions[:5], functions[5:10], functions[10]
+            if hasattr(self._library, "exifnorm_xmp_unsorted"):
+                self.xmp_unsorted = functions[11]
         self.check, self.normalise, self.compare, self.show, self.captions = blocks
         self.jpeg_parts, self.photoshop_resources, self.jpeg_same, self.jpeg_same_blocks, self.jpeg_blocks = jpegs
         if not hasattr(self._library, "exifnorm_jpeg_same_blocks"):
             self.jpeg_same = _without_xmp
         self.jpeg_unread, self.jpeg_xmp = calls.jpeg_unread, calls.jpeg_xmp  # these take longer
-        self.xmp_normalise, self.xmp_unsorted = calls.xmp_normalise, calls.xmp_unsorted
 
     def cause_name(self, cause: int) -> str:
         """The name of a cause."""
@@ -403,8 +409,8 @@ def _without_xmp(first: bytes, second: bytes) -> Pair:
 
 
 def _address(function: Any) -> int:
-    """The address of a function of a library."""
-    return ctypes.cast(function, ctypes.c_void_p).value or 0
+    """The address of a function of a library; 0 of one that it lacks."""
+    return 0 if function is None else ctypes.cast(function, ctypes.c_void_p).value or 0
 
 
 def _opened(place: str) -> ctypes.CDLL:

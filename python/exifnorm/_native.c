@@ -45,6 +45,8 @@ struct calls {
     same_call jpeg_same;
     same_call jpeg_same_blocks;
     blocks_call jpeg_blocks;
+    text_call xmp_normalise;
+    text_call xmp_unsorted; /* NULL of a library that is older than this package */
 };
 
 /* The bytes of a bytes object. They can't change or move while a call reads them without Python's lock. */
@@ -225,6 +227,33 @@ static PyObject *captions(PyObject *capsule, PyObject *argument)
     return text(calls->captions, &block, 2 * length_of(&block) + 1024);
 }
 
+/* A form of a packet, which repeats each namespace, has seldom more than twice as many bytes as its packet. */
+static PyObject *xmp_form(text_call call, PyObject *argument)
+{
+    struct bytes packet;
+    size_t length;
+
+    if (get_bytes(argument, &packet) < 0) {
+        return NULL;
+    }
+    length = packet.length < EXIFNORM_LIMIT / 2 ? 2 * packet.length + 1024 : EXIFNORM_LIMIT;
+    return text(call, &packet, length < EXIFNORM_LIMIT ? length : EXIFNORM_LIMIT);
+}
+
+static PyObject *xmp_normalise(PyObject *capsule, PyObject *argument)
+{
+    const struct calls *calls = PyCapsule_GetPointer(capsule, NULL);
+
+    return calls == NULL ? NULL : xmp_form(calls->xmp_normalise, argument);
+}
+
+static PyObject *xmp_unsorted(PyObject *capsule, PyObject *argument)
+{
+    const struct calls *calls = PyCapsule_GetPointer(capsule, NULL);
+
+    return calls == NULL ? NULL : xmp_form(calls->xmp_unsorted, argument);
+}
+
 /* A call that returns rows, which takes them as bytes of any kind. */
 typedef uint32_t (*rows_call)(const struct calls *, const struct bytes *, void *, size_t, size_t *, struct exifnorm_jpeg_fault *);
 
@@ -400,6 +429,8 @@ static PyMethodDef of_library[] = {
     {"jpeg_same", jpeg_same, METH_VARARGS, "1 if two JPEGs have the same Exif, IPTC and XMP, 0 if not, or a place that isn't read."},
     {"jpeg_same_blocks", jpeg_same_blocks, METH_VARARGS, "1 if two JPEGs have the same Exif and IPTC, 0 if not, or a place that isn't read."},
     {"jpeg_blocks", jpeg_blocks, METH_O, "Where the blocks of a JPEG are, and the bytes of those in several pieces."},
+    {"xmp_normalise", xmp_normalise, METH_O, "The normal form of a packet of XMP."},
+    {"xmp_unsorted", xmp_unsorted, METH_O, "The form of a packet for showing."},
 };
 #define COUNT ((Py_ssize_t)(sizeof of_library / sizeof of_library[0]))
 
@@ -427,6 +458,8 @@ static PyObject *capsule_of(const Py_ssize_t *at)
     calls->jpeg_same = (same_call)at[7];
     calls->jpeg_same_blocks = (same_call)at[8];
     calls->jpeg_blocks = (blocks_call)at[9];
+    calls->xmp_normalise = (text_call)at[10];
+    calls->xmp_unsorted = (text_call)at[11];
     capsule = PyCapsule_New(calls, NULL, free_calls);
     if (capsule == NULL) {
         PyMem_Free(calls);
@@ -455,12 +488,12 @@ static PyObject *functions(PyObject *module, PyObject *arguments)
     Py_ssize_t at[COUNT];
     PyObject *capsule, *made;
 
-    if (!PyArg_ParseTuple(arguments, "nnnnnnnnnn:functions", &at[0], &at[1], &at[2], &at[3], &at[4], &at[5], &at[6], &at[7], &at[8],
-                          &at[9])) {
+    if (!PyArg_ParseTuple(arguments, "nnnnnnnnnnnn:functions", &at[0], &at[1], &at[2], &at[3], &at[4], &at[5], &at[6], &at[7], &at[8],
+                          &at[9], &at[10], &at[11])) {
         return NULL;
     }
     for (Py_ssize_t i = 0; i < COUNT; i++) {
-        if (at[i] == 0) {
+        if (at[i] == 0 && i < COUNT - 1) { /* the last one may be missing: Python then doesn't call it */
             PyErr_SetString(PyExc_ValueError, "an address is null");
             return NULL;
         }
@@ -504,8 +537,8 @@ static PyObject *normal(PyObject *module, PyObject *arguments, PyObject *named)
 
 static PyMethodDef methods[] = {
     {"functions", functions, METH_VARARGS,
-     "The functions check, normalise, compare, show, captions, jpeg_parts, photoshop_resources, jpeg_same, jpeg_same_blocks and jpeg_blocks "
-     "that call the library's functions at these ten addresses. Each takes bytes, jpeg_parts and photoshop_resources also the most rows, and returns its result, "
+     "The functions check, normalise, compare, show, captions, jpeg_parts, photoshop_resources, jpeg_same, jpeg_same_blocks, "
+     "jpeg_blocks, xmp_normalise and xmp_unsorted that call the library's functions at these twelve addresses, of which the last one may be 0. Each takes bytes, jpeg_parts and photoshop_resources also the most rows, and returns its result, "
      "or a tuple of the status, the number of the cause and the offset, with jpeg_parts also the rows before the fault, and with the two "
      "comparisons of JPEGs the kind and the index of the block before the offset. For a place that isn't read that is the status, 0, whether it is in the joined "
      "bytes, 0, and the offset."},

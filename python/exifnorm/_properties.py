@@ -2,6 +2,7 @@
 
 from __future__ import annotations
 
+import functools
 import re
 from typing import Any, Callable, List, NamedTuple, Tuple, Union
 
@@ -97,6 +98,12 @@ class Makers(NamedTuple):
 PROPERTIES = Makers(XmpText, XmpResource, XmpContainer, XmpStructure, XmpProperty)
 
 
+@functools.lru_cache(maxsize=None)
+def _items() -> "re.Pattern[str]":
+    """The parts of a form, by an expression that is compiled when it is first needed: that takes longer than to import the package."""
+    return re.compile(_ITEM)
+
+
 def made_of_form(form: bytes, make: Makers) -> List[Any]:
     """The properties of a normal form, as they are made of it.
 
@@ -106,8 +113,7 @@ def made_of_form(form: bytes, make: Makers) -> List[Any]:
     octets = form.decode("utf-8")
     inside: List[Any] = []  # what the innermost structure or container has
     outside: List[Tuple[Any, ...]] = []  # of each that is open the name, the namespace and the kind, and what was read around it
-    items = re.compile(_ITEM)  # only now: to compile it takes longer than to import the package
-    for item in items.finditer(octets, len(_HEAD), len(octets) - len(_TAIL)):
+    for item in _items().finditer(octets, len(_HEAD), len(octets) - len(_TAIL)):
         name, space, uri, structure, language, kind, text = item.groups()
         if text is not None:
             value = make.text(_decoded(text), language or "")

@@ -18,6 +18,7 @@ from compiling import HERE
 from exifnorm import _calls, _library
 from meanings import ASCII, SHORT, Exif, Layout, Record, Value, laid
 from small_blocks import CAPTION, LOOP, ONE, long_form, outcome
+from small_packets import small_packets
 
 OF_ONE_BLOCK = ("check", "normalise", "show", "captions")
 OF_JPEGS = ("jpeg_parts", "photoshop_resources")
@@ -127,6 +128,12 @@ def test_rows_are_those_of_ctypes(loaded, octets, most):
         assert unpacked(name, getattr(loaded, name)(octets, most)) == unpacked(name, getattr(loaded.by_ctypes, name)(octets, most)), name
 
 
+@pytest.mark.parametrize("packet", [*small_packets(), b"", b"x", b"<a>", small_packets()[0] + 20_000 * b" "])
+def test_forms_of_packets_are_those_of_ctypes(loaded, packet):
+    for name in ("xmp_normalise", "xmp_unsorted"):
+        assert getattr(loaded, name)(packet) == getattr(loaded.by_ctypes, name)(packet), name
+
+
 @pytest.mark.parametrize("first", PICTURES.values(), ids=PICTURES)
 def test_comparisons_of_pictures_are_those_of_ctypes(loaded, first):
     for second in PICTURES.values():
@@ -151,12 +158,12 @@ def test_arguments_of_calls(loaded, wrong):
 @pytest.mark.parametrize(
     "wrong, error",
     [
-        ((0, 1, 1, 1, 1, 1, 1, 1, 1, 1), "ValueError"),
-        ((1, 1, 1, 1, 1, 1, 1, 1, 1, 0), "ValueError"),
-        ((1, 1, 1, 1, 1, 1, 1, 1, 1), "TypeError"),
-        ((1, 1, 1, 1, 1, 1, 1, 1, 1, None), "TypeError"),
-        ((1, 1, 1, 1, 1, 1, 1, 1, 1, 1.5), "TypeError"),
-        ((1, 1, 1, 1, 1, 1, 1, 1, 1, 1 << 70), "OverflowError"),
+        ((0, 1, 1, 1, 1, 1, 1, 1, 1, 1, 1, 1), "ValueError"),
+        ((1, 1, 1, 1, 1, 1, 1, 1, 1, 1, 0, 1), "ValueError"),
+        ((1, 1, 1, 1, 1, 1, 1, 1, 1, 1, 1), "TypeError"),
+        ((1, 1, 1, 1, 1, 1, 1, 1, 1, 1, 1, None), "TypeError"),
+        ((1, 1, 1, 1, 1, 1, 1, 1, 1, 1, 1, 1.5), "TypeError"),
+        ((1, 1, 1, 1, 1, 1, 1, 1, 1, 1, 1, 1 << 70), "OverflowError"),
     ],
 )
 def test_addresses(native, wrong, error):
@@ -245,7 +252,7 @@ def test_memory_after_many_comparisons_of_pictures(loaded, second):
 
 def addresses(loaded):
     """Those of the library's functions, as the extension module takes them."""
-    names = ("check", "normalise", "compare", "show", "captions", *OF_JPEGS, *PAIRS, "jpeg_blocks")
+    names = ("check", "normalise", "compare", "show", "captions", *OF_JPEGS, *PAIRS, "jpeg_blocks", "xmp_normalise", "xmp_unsorted")
     return [ctypes.cast(getattr(loaded._library, f"exifnorm_{it}"), ctypes.c_void_p).value for it in names]
 
 

@@ -488,7 +488,7 @@ def test_version(version):
 
 ODD = laid(Exif({0x9999: Value(7, bytes(99_999))}), Layout("<"))
 SPACES = f"xmlns:r='http://www.w3.org/1999/02/22-rdf-syntax-ns#' xmlns:n='http://{'n' * 240}/'"
-NAMES = " ".join(f"n:a{it}='1'" for it in range(20))  # the form has their namespace twenty times
+NAMES = " ".join(f"n:a{it}='1'" for it in range(100))  # the form has their namespace a hundred times
 LONG_NAMES = f"<r:RDF {SPACES}><r:Description {NAMES}/></r:RDF>".encode()
 ATTRIBUTES = " ".join(f"e:Name{it}='0'" for it in range(40))  # as Lightroom writes its settings: the form is almost twice as long
 SETTINGS = f"<r:RDF {SPACES.split()[0]} xmlns:e='http://e/'><r:Description {ATTRIBUTES}/></r:RDF>".encode()

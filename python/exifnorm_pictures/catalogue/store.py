@@ -112,7 +112,8 @@ PICTURE_COLUMNS, _BUT_ID = PICTURES.listed, PICTURES.listed.partition(", ")[2]
 BLOCK_COLUMNS = BLOCKS.listed
 # Of each None, each bytes and each word of an enumeration that is bound, Python before 3.12 looks for an adapter, and fails to find one by an
 # error: that takes as long as all else of binding it. These leave a value as it is, so other programs in this process see no difference.
-sqlite3.register_adapter(type(None), {}.get)
+_NOTHING: Any = {}  # whose method `get` returns None, and is called without a frame of Python
+sqlite3.register_adapter(type(None), _NOTHING.get)
 sqlite3.register_adapter(bytes, bytes)
 for _words in (Status, Problem):
     sqlite3.register_adapter(_words, str.__str__)
