@@ -22,7 +22,7 @@ from __future__ import annotations
 
 TYPE_CHECKING = False  # that of `typing`, which isn't imported here: a program may yet have the current folder in its search path
 if TYPE_CHECKING:
-    from typing import Any, List
+    from typing import List
 
     from .api import Comparison, Difference, NoPicture, NotReadable, compare, read, read_bytes
     from .fields.field import Field
@@ -48,14 +48,25 @@ __all__ = [
 ]
 
 
-def __getattr__(name: str) -> Any:
-    """What a program asks for is imported then, which the commands need not wait for."""
-    if name not in __all__:
-        raise AttributeError(f"module {__name__!r} has no attribute {name!r}")
-    from . import api, many, picture
-    from .fields import field, labels
+_HOMES = {
+    "api": ("Comparison", "Difference", "NoPicture", "NotReadable", "compare", "read", "read_bytes"),
+    "many": ("read_all",),
+    "picture": ("Block", "Picture", "Position", "Refusal"),
+    "fields.field": ("Field",),
+    "fields.labels": ("Caption",),
+}
 
-    return next(vars(module)[name] for module in (api, many, picture, field, labels) if name in vars(module))
+if not TYPE_CHECKING:  # a checker of types finds a name that isn't there
+
+    def __getattr__(name):
+        """What a program asks for is imported then, which the commands need not wait for."""
+        from importlib import import_module
+
+        for module, names in _HOMES.items():
+            if name in names:
+                globals()[name] = found = getattr(import_module("." + module, __name__), name)
+                return found
+        raise AttributeError(f"module {__name__!r} has no attribute {name!r}")
 
 
 def __dir__() -> List[str]:

@@ -5,7 +5,7 @@ from __future__ import annotations
 
 import os
 import re
-from typing import TYPE_CHECKING, Dict, Iterable, Iterator, List, NamedTuple, Optional, Sequence, Tuple
+from typing import TYPE_CHECKING, Any, Dict, Iterable, Iterator, List, NamedTuple, Optional, Sequence, Tuple
 
 from .comparison.origin import Origin
 from .extract.extraction import too_much
@@ -38,6 +38,9 @@ class NoField(KeyError):
 
         name = self.args[0]
         return f"{repr(name)[:100]}: the picture has no such field" + (meant(name, self._names) if isinstance(name, str) else "")
+
+
+_NO_FIELD: Any = object()
 
 
 class Refusal(NamedTuple):
@@ -334,9 +337,10 @@ class Picture:
         return next((fields[0].value for _, fields in self._own(name)), None)
 
     def __getitem__(self, name: str) -> Value:
-        if name not in self:
+        found = self.get(name, _NO_FIELD) if isinstance(name, str) else _NO_FIELD
+        if found is _NO_FIELD:
             raise NoField(name, self.names)
-        return self.get(name)
+        return found
 
     def __contains__(self, name: object) -> bool:
         return isinstance(name, str) and any(self._named(name))

@@ -2,6 +2,7 @@
 
 from __future__ import annotations
 
+from functools import lru_cache
 from typing import TYPE_CHECKING, Any, Dict, NoReturn, Tuple, Union
 
 from ..model.found import EXIF, NAMES
@@ -14,6 +15,8 @@ if TYPE_CHECKING:
 Ratio = Tuple[int, int]  # numerator and denominator; `exifnorm.Ratio` is one too, whose package loads the library
 Content = Union[bytes, Tuple[int, ...], Tuple[Ratio, ...], Tuple[XmpValue, ...], Long]
 Identity = Tuple[str, str, str, int, Content]  # the directory, the tag, the type, the number of elements, and the content
+
+_name = lru_cache(4096)(group_name)  # a picture's fields are asked for their names again and again
 
 
 class Field:
@@ -102,7 +105,7 @@ class Field:
     @property
     def name(self) -> str:
         """The name with its group, as ExifTool has it: "IFD0:Artist", "IPTC:Keywords", "XMP-dc:title"."""
-        return group_name(self.directory, self.tag)
+        return _name(self.directory, self.tag)
 
     @property
     def key(self) -> str:
