@@ -6,6 +6,7 @@ import re
 import shutil
 import signal
 import sqlite3
+import struct
 import subprocess
 import sys
 import tempfile
@@ -16,7 +17,7 @@ import pytest
 from attacks import FILES
 from made_blocks import BLOCKS, with_exif
 from made_files import app1, app1_xmp, exif, jpeg, packed_zeros, png, png_xmp, title, xmp
-from studio import SMALL_JPEG, TOP, Studio, write
+from studio import SMALL_JPEG, TOP, Studio, put, write
 
 SECONDS, MEMORY = 50, 256 << 20  # none takes a tenth of this time; one that goes through its data again and again takes far more
 GUARD = 120, 3 << 30  # what ends a process, so that a fault harms nothing else
@@ -236,6 +237,37 @@ class TestCurrentFolder:
             [*command, "same", "--catalogue", "nothing"], cwd=folder, capture_output=True, env={**Studio.environment(), "PYTHONPATH": path}
         )
         assert (done.returncode, done.stderr) == (4, b"exifnorm-pictures: there is no catalogue nothing\n"), done
+
+
+def journal_that_names(path, catalogue):
+    """A rollback journal without pages, after which SQLite removes the file that it names."""
+    octets, name, magic = catalogue.read_bytes(), os.fsencode(path), bytes.fromhex("d9d505f920a163d7")
+    size = int.from_bytes(octets[16:18], "big")
+    head = magic + struct.pack(">IIIII", 0, 0x1234, len(octets) // size, 512, size)
+    return head.ljust(512, b"\0") + struct.pack(">I", 0x40000000 // size + 1) + name + struct.pack(">II", len(name), sum(name)) + magic
+
+
+@pytest.mark.parametrize("is_link", (False, True))
+@pytest.mark.parametrize(
+    "words",
+    ("index p --catalogue c", "merge k --catalogue c", "forget p --catalogue c", "relocate c p q", "nightly c p", "list c --with title"),
+)
+def test_a_journal_that_names_a_file(words, is_link, folder, called):
+    """The file stays, and so does the catalogue."""
+    (folder / "q").mkdir()
+    put(folder, {"p/a.jpg": SMALL_JPEG, "mine": b"mine"})
+    for name in "kc":
+        called("index", "p", "--catalogue", name, "--quiet")
+    beside = folder / ("d" if is_link else "c")
+    if is_link:
+        (folder / "c").rename(beside)
+        (folder / "c").symlink_to("d")
+    journal = folder / f"{beside.name}-journal"
+    journal.write_bytes(journal_that_names(folder / "mine", beside))
+    before = beside.read_bytes()
+    status, _, messages = called(*words.split())
+    assert status == 4 and (str(journal) in messages or "list" in words or "readonly" in messages), messages
+    assert (folder / "mine").read_bytes() == b"mine" and beside.read_bytes() == before
 
 
 COMMANDS = (

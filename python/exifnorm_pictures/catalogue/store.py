@@ -246,6 +246,22 @@ def _check_head(name: str, make: bool) -> None:
         raise NoCatalogue(f"{name} is a catalogue of a later release (version {version}, here {VERSION})")
 
 
+_NAMES_OTHERS = bytes.fromhex("d9d505f920a163d7")  # the end of a journal that names a file, which SQLite removes after a rollback
+
+
+def _check_journal(name: str) -> None:
+    """Raises `NoCatalogue` if the journal beside a catalogue names a further file. None of a catalogue does: no transaction is of two files."""
+    journal = f"{os.path.realpath(name)}-journal"
+    try:
+        with files.reading(journal) as file:
+            file.seek(max(0, file.seek(0, os.SEEK_END) - len(_NAMES_OTHERS)))
+            end = file.read()
+    except OSError:  # as if there is none; SQLite says what is wrong with it
+        return
+    if end == _NAMES_OTHERS:
+        raise NoCatalogue(f"{name} isn't written to: the journal beside it, {journal}, names another file, and none of a catalogue does")
+
+
 class Earlier(NamedTuple):
     """What is known of a catalogue of an earlier release, which can't be compared."""
 
@@ -394,6 +410,8 @@ class Catalogue:
         self._is_written = make or adds
         self._was_cut = False
         _check_head(name, make)
+        if make or adds:
+            _check_journal(name)
         with self.guarded():
             self.base = connect(address(name, "rwc" if make else "rw" if adds else "ro"))
             try:
