@@ -217,6 +217,28 @@ def test_a_catalogue_that_is_not_listed_is_said(archive, called_lines):
     assert "without the catalogue shards/two.catalogue, which its list doesn't name" in messages and "notes" not in messages
 
 
+@pytest.mark.parametrize("way", ("../v", "sub/v", "{folder}/v", "link", "the list"))
+def test_a_catalogue_that_lies_elsewhere_is_read_alone(archive, called_lines, way):
+    """A list of a stranger can name it: a command that writes refuses the folder, and one that asks keeps no texts there."""
+    other = archive / "shards" / "sub" / "v" if way == "sub/v" else archive / "v"
+    other.parent.mkdir(exist_ok=True)
+    (archive / "shards" / "one.catalogue").rename(other)
+    names = ["two.catalogue", way.format(folder=archive)]
+    if way == "the list":
+        names.pop()
+    shards.put_list(str(archive / "shards"), names)
+    if way == "link":
+        (archive / "shards" / "link").symlink_to(other)
+    elif way == "the list":
+        (archive / "shards" / "catalogues").rename(archive / "list")
+        (archive / "shards" / "catalogues").symlink_to(archive / "list")
+    before = other.read_bytes(), (archive / "shards" / "two.catalogue").read_bytes()
+    for words, due in (("forget one two --catalogue shards", 4), ("index one --shards shards", 3), ("list shards --with title", 0)):
+        status, _, messages = called_lines(*words.split())
+        assert status == due and ("lies elsewhere" in messages or not due), (words, messages)
+        assert (other.read_bytes(), (archive / "shards" / "two.catalogue").read_bytes()) == before, words
+
+
 @pytest.mark.parametrize("are_apart", (True, False))
 def test_a_picture_in_two_catalogues_is_refused(archive, called_lines, are_apart):
     """Whichever of them is right, an answer would count it twice or leave one out."""

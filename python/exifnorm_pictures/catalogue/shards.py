@@ -79,6 +79,11 @@ def listing(folder: str) -> Iterator[None]:
         os.close(lock)
 
 
+def elsewhere(folder: str) -> List[str]:
+    """The names in a folder of catalogues that lead out of it, of which each may be a stranger's word: no command writes to what they name."""
+    return [it for it in (LIST, *listed(folder)) if os.path.basename(it) != it or os.path.islink(os.path.join(folder, it))]
+
+
 def put_list(folder: str, names: Sequence[str]) -> None:
     """Names the catalogues of a folder, of which an earlier list is replaced as a whole."""
     octets = LIST_HEAD + b"".join(os.fsencode(name) + b"\n" for name in names)

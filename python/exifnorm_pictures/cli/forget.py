@@ -7,7 +7,7 @@ import os
 from ..catalogue.store import Catalogue
 from ..model.texts import path_members, shown_path
 from .exit_codes import SUCCESS
-from .looking import files_of
+from .looking import written_files_of
 from .names import named
 from .objects import print_object
 from .options import Options
@@ -20,7 +20,7 @@ def run(arguments: Options) -> int:
     arguments = settle_first(arguments)
     name = arguments.catalogue
     names = named(arguments, arguments.folders)
-    files = files_of(name) or [name]
+    files = written_files_of(name) or [name]
     for file in files:
         with Catalogue(file):  # it is one; a missing one isn't made
             pass

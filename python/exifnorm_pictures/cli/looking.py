@@ -53,6 +53,13 @@ def files_of(name: str) -> List[str]:
     return shards.shards_of(name).there if shards.is_folder(name) else [name] * (not os.path.isdir(name))
 
 
+def written_files_of(name: str) -> List[str]:
+    """The same of a command that writes to them. Raises `NoCatalogue` if the folder names one that lies elsewhere."""
+    for other in shards.elsewhere(name):
+        raise NoCatalogue(f"{name} isn't written to: {shown_path(os.fsencode(os.path.join(name, other)))} lies elsewhere")
+    return files_of(name)
+
+
 def is_of_pictures(name: str) -> bool:
     """Whether a name is that of a folder of pictures, and not of catalogues."""
     return os.path.isdir(name) and not shards.is_folder(name)
@@ -113,7 +120,7 @@ def keep_texts(name: str, arguments: argparse.Namespace) -> None:
     """Lets a catalogue, or each of a folder of catalogues, keep the texts of its pictures, if it can be written."""
     from ..catalogue import kept_texts  # which takes long to import
 
-    for file in files_of(name):
+    for file in [] if shards.elsewhere(name) else files_of(name):
         kept_texts.keep(file, Preparing(arguments).report)
 
 

@@ -114,6 +114,8 @@ def _check(where: str, tops: Sequence[bytes]) -> List[str]:
     if not os.path.isdir(where) or (not shards.is_folder(where) and any(not name.startswith(".") for name in os.listdir(where))):
         raise WrongFolder(f"{shown} is no folder of catalogues: give a new folder to --shards")
     listed = shards.listed(where)
+    for name in shards.elsewhere(where):
+        raise WrongFolder(f"{shown} isn't written to: {shown_path(os.fsencode(os.path.join(where, name)))} lies elsewhere")
     for name in listed:
         if not re.fullmatch(r"[0-9]{5,}-.*-[0-9a-f]{16}\.catalogue", name):
             raise WrongFolder(f"{shown} lists {shown_path(os.fsencode(name))}, which isn't of index --shards: give a new folder")
