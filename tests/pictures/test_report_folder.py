@@ -6,6 +6,7 @@ import os
 import re
 import shutil
 import signal
+from hashlib import sha256
 from html import unescape
 from pathlib import Path
 from typing import Any, Callable, Dict, Iterator, List, Set
@@ -168,13 +169,28 @@ def test_an_earlier_report_is_replaced(small: Path, called: Called) -> None:
     assert called("report", "c", "--html", "empty")[0] == 0
 
 
-@pytest.mark.parametrize("what", ["a file", "a folder of others", "a note in a report", "a folder in a report", "the pictures"])
+LISTED = ("notes.txt", "notes.html", "mine/notes.html", "link.html", "index.html")  # that a list has, and that no report has written
+
+
+@pytest.mark.parametrize("what", ["a file", "a folder of others", "a note in a report", "a folder in a report", "the pictures", *LISTED])
 def test_nothing_else_is_replaced(what: str, small: Path, called: Called) -> None:
     out = small / ("p" if what == "the pictures" else "out")
     if what == "a file":
         out.write_text("mine")
     elif what == "a folder of others":
         put(str(out), {"index.html": b"<!DOCTYPE html>mine"})
+    elif what in LISTED:
+        called("report", "c", "--html", "out/")
+        (out / what).parent.mkdir(exist_ok=True)
+        if what == "link.html":
+            (out / what).symlink_to("index.html")
+        else:
+            (out / what).write_bytes(b"<!DOCTYPE html>mine")
+        with (out / "exifnorm-report").open("a") as lists:
+            lists.write(
+                f"{what}\n{sha256((out / 'index.html').read_bytes()).hexdigest()}  {os.path.dirname(what) or what}\n"
+                * (what != "index.html")
+            )
     elif "report" in what:
         called("report", "c", "--html", "out/")
         put(str(out), {"notes.txt" if "note" in what else "mine/notes.txt": b"mine"})

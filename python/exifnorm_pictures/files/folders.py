@@ -10,6 +10,7 @@ import contextlib
 import ctypes
 import errno
 import fcntl
+import hashlib
 import os
 import re
 import stat
@@ -29,6 +30,8 @@ _NAME = re.compile(re.escape(_PREFIX) + rb"[a-z0-9_]{8}" + re.escape(_SUFFIX))  
 _PAGE = re.compile(r"[a-z]+(-\d+)?\.(html|js)")  # of a report
 _PICTURE = re.compile(r"small-[0-9a-f]{64}-[1-8]\.jpg")  # of a report that has many: the list doesn't name them
 _LARGEST_PICTURE = 10_000  # bytes
+_DIGEST = 66  # characters of a line of the list before the name
+_PIECE = 1 << 20
 
 
 class NewFolder:
@@ -36,7 +39,7 @@ class NewFolder:
 
     def __init__(self, path: bytes, earlier: bytes, allowed: Optional[rights.Rights], sources: Sequence[str]) -> None:
         self.path, self._earlier, self._allowed, self._sources = path, earlier, allowed, sources
-        self.names: List[str] = []
+        self.lines: List[str] = []  # of the list: the SHA-256 and the name of each file, as sha256sum has them
 
     def write(self, name: str, octets: bytes) -> None:
         """Writes a file, with the rights of the one that it replaces, or those of the sources and umask. Raises `OSError`."""
@@ -50,7 +53,7 @@ class NewFolder:
             file.flush()
             os.fsync(number)
         if not _PICTURE.fullmatch(name):
-            self.names.append(name)
+            self.lines.append(f"{hashlib.sha256(octets).hexdigest()}  {name}")
 
     def has(self, picture: str) -> bool:
         """Whether it has a small picture, which is taken from the folder that it replaces, if that has one. Raises `OSError`."""
@@ -82,7 +85,7 @@ class NewFolder:
 @contextlib.contextmanager
 def replaced(out: bytes, mark: str, sources: Sequence[str]) -> Iterator[NewFolder]:
     """A new folder, which gets the name `out` in the end. `mark` is the name of the list of its files: an earlier folder is replaced only if it
-    has such a list, and no other files. It is made from the files `sources`. Raises `NotReplaced`."""
+    has such a list, and no other files than the list has, byte for byte. It is made from the files `sources`. Raises `NotReplaced`."""
     there = os.path.realpath(out)
     try:
         before = _rights_of_earlier(there, mark)
@@ -94,7 +97,7 @@ def replaced(out: bytes, mark: str, sources: Sequence[str]) -> Iterator[NewFolde
         try:
             folder = NewFolder(room, there, before and before[1], sources)
             yield folder
-            folder.write(mark, "".join(f"{name}\n" for name in [_FIRST, *folder.names]).encode())
+            folder.write(mark, "".join(f"{name}\n" for name in [_FIRST, *folder.lines]).encode())
             _give(room, mark, before and before[0])
             _rights_of_earlier(there, mark)  # something may have been put there meanwhile
             _put(room, there)
@@ -174,10 +177,25 @@ def _rights_of_earlier(there: bytes, mark: str) -> Optional[Tuple[rights.Rights,
         lines = []
     if lines[:1] != [_FIRST]:
         raise NotReplaced(f"it is a folder with other files, such as {shown_path(min(names))}")
-    others = sorted(names - {os.fsencode(line) for line in [mark, *lines]})
-    if others:
-        raise NotReplaced(f"the earlier report has files that are none of its pages, such as {shown_path(others[0])}")
+    known = {os.fsencode(line[_DIGEST:]): line[:_DIGEST] for line in lines}
+    for name in sorted(names - {os.fsencode(mark)}):
+        if not _is_as_written(os.path.join(there, name), known.get(name, "")):
+            raise NotReplaced(
+                f"the earlier report has files that are none of its pages, or not as it wrote them, such as {shown_path(name)}"
+            )
     return rights.rights_of(there), rights.rights_of(listed)
+
+
+def _is_as_written(path: bytes, due: str) -> bool:
+    """Whether a file is a page of a report that has a SHA-256, which a line of the list begins with."""
+    name = os.path.basename(os.fsdecode(path))
+    if not due or not _PAGE.fullmatch(name) or os.path.islink(path) or not os.path.isfile(path):
+        return False
+    digest = hashlib.sha256()
+    with opening.reading(path) as file:
+        for octets in iter(lambda: file.read(_PIECE), b""):
+            digest.update(octets)
+    return f"{digest.hexdigest()}  " == due
 
 
 def _give(room: bytes, mark: str, before: Optional[rights.Rights]) -> None:
