@@ -1,6 +1,7 @@
 """`verify`: files read again, against a catalogue of index --pixels. What happens to a file is done by other programs, or byte by byte."""
 
 import hashlib
+import itertools
 import json
 import os
 import re
@@ -475,6 +476,29 @@ def test_what_is_no_bag(manifest, folder, called):
         (folder / "bag/manifest-sha256.txt").write_bytes(manifest.replace(b"%s", b"0" * 64))
     status, printed, messages = called("verify", "--bag", "bag")
     assert (status, printed) == (3, "") and "manifest-sha256.txt" in messages
+
+
+@pytest.mark.parametrize("end", ["", "\n"])
+def test_a_manifest_that_lost_lines(end, folder, called):
+    """As on a full disk: whichever lines are left, none or some, the bag isn't verified."""
+    files = [b"a.jpg", b".hidden", b"d.txt", b"sub/b.jpg"]
+    bagged(folder / "bag", {name: PICTURE + name for name in files})
+    manifest = folder / "bag/manifest-sha256.txt"
+    lines = manifest.read_text().splitlines()
+    assert called("verify", "--bag", "bag")[0] == 0 and len(lines) == len(files)
+    for chosen in itertools.product((False, True), repeat=len(lines)):
+        left = [line for line, is_left in zip(lines, chosen) if is_left]
+        manifest.write_text("\n".join(left) + end * bool(left))
+        status, printed, _ = called("verify", "--bag", "bag")
+        assert status == (not all(chosen)), (left, printed)
+    for length in range(len("\n".join(lines)) - len(lines[-1]), len("\n".join(lines)), 7):
+        manifest.write_text("\n".join(lines)[:length])
+        assert called("verify", "--bag", "bag")[0] in (1, 3)
+    shutil.rmtree(folder / "bag/data")
+    manifest.write_text("")
+    assert called("verify", "--bag", "bag")[0] == 3
+    (folder / "bag/data").mkdir()
+    assert called("verify", "--bag", "bag")[0] == 3
 
 
 def test_a_manifest_of_many_files_is_no_list_in_memory(folder, called, monkeypatch):

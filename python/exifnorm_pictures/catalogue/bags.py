@@ -26,10 +26,15 @@ class NoBag(WrongUse):
     """A folder is no bag with a manifest of SHA-256."""
 
 
+def payload(bag: str) -> bytes:
+    """The folder of the files of a bag, which may have files that its manifest lacks, or all if that is empty."""
+    return os.path.join(os.fsencode(os.path.abspath(bag)), PAYLOAD.rstrip(b"/"))
+
+
 def fill(catalogue: Catalogue, bag: str) -> None:
     """Puts the files of a bag's manifest into a new catalogue. Raises `NoBag` and `OSError`."""
     run, count, manifest = catalogue.begin_run(""), 0, os.path.join(bag, MANIFEST)
-    files = _files(os.fsencode(os.path.abspath(bag)), manifest)
+    files = _files(payload(bag), manifest)
     while pictures := list(itertools.islice(files, _AT_ONCE)):
         catalogue.put(run, pictures)
         count += len(pictures)
@@ -37,11 +42,10 @@ def fill(catalogue: Catalogue, bag: str) -> None:
         raise NoBag(f"{manifest} lists a file twice, perhaps with two digests")
 
 
-def _files(top: bytes, manifest: str) -> Iterator[PictureRecord]:
+def _files(root: bytes, manifest: str) -> Iterator[PictureRecord]:
     """The files of a manifest: each lies below the folder of the payload."""
     if not os.path.lexists(manifest):
         raise NoBag(f"{manifest} isn't there: a bag is verified by its manifest of SHA-256")
-    root = os.path.join(top, PAYLOAD.rstrip(b"/"))
     # a line ends with LF, CR or both; each character stands for a byte
     with opening.reading(os.fsencode(manifest)) as octets, io.TextIOWrapper(octets, encoding="latin-1") as file:
         for number in range(1, _LONGEST):
@@ -50,7 +54,7 @@ def _files(top: bytes, manifest: str) -> Iterator[PictureRecord]:
                 return
             match = _LINE.fullmatch(line.rstrip("\n").encode("latin-1"))
             name = _ENCODED.sub(lambda code: bytes.fromhex(code[1].decode()), match[2]) if match else b""
-            path = os.path.normpath(os.path.join(top, name))
+            path = os.path.normpath(os.path.join(os.path.dirname(root), name))
             if not match or not name.startswith(PAYLOAD) or not path.startswith(root + b"/"):
                 raise NoBag(f"{manifest}: line {number} is no SHA-256 of a file below data/")
             yield PictureRecord.of(path, root, sha256=match[1].decode().lower())

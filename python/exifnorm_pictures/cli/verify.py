@@ -49,20 +49,23 @@ def run(arguments: Options) -> int:
     with contextlib.ExitStack() as open_:
         before = open_.enter_context(_of_bag(arguments)) if arguments.bag else open_.enter_context(opened(arguments.catalogue, arguments))
         given = bool(arguments.folders or arguments.files_from)
-        folders = _folders(named(arguments, arguments.folders) if given else [], before)
+        names = named(arguments, arguments.folders) if given else []
+        if arguments.bag and not given:
+            names = [bags.payload(arguments.bag)]
+        folders = _folders(names, before)
         now, earlier = open_.enter_context(_read_again(folders, arguments, before))
         for file in verified.verified(before, now, folders):
             told.add(file)
         counts = told.counts
         new = verified.new_files(before, now) - counts[State.MOVED]
         size, files = next(now.rows("SELECT ifnull(sum(size), 0), count(*) FROM pictures WHERE sha256 != ''"))
-        is_nothing = not (files or told.counts or arguments.bag)
+        is_nothing = not (files or told.counts)
         if arguments.evidence and not is_nothing:
             _write_evidence(arguments, now)
     if is_nothing:
         _remove_state(arguments)
         below = f" below {', '.join(map(shown_path, folders))}" if folders else ""
-        raise WrongUse(f"{arguments.catalogue} has no file{below}, and none is there, so nothing is verified")
+        raise WrongUse(f"{arguments.bag or arguments.catalogue} has no file{below}, and none is there, so nothing is verified")
     if arguments.json:
         about = {"counts": dict(counts), "damaged_before": told.old, "new": new}
         print_object("verify", "summary", {**about, "files": files, "bytes": size, "earlier": earlier})
@@ -77,7 +80,7 @@ def run(arguments: Options) -> int:
     _remove_state(arguments)
     if any(it.is_good is None for it in counts):
         return UNKNOWN
-    is_more = bool(arguments.bag and new)  # a bag has no other files than its manifest
+    is_more = bool(arguments.bag and (new or counts[State.MOVED]))  # a bag has no other files than its manifest, nor other names
     return DIFFERENCE if is_more or any(it.is_good is False for it in counts) else SUCCESS
 
 
