@@ -5,12 +5,13 @@ from __future__ import annotations
 import errno
 import io
 import os
+import re
 from typing import NamedTuple, Optional, Tuple, Union
 
 from .comparison import differing
 from .comparison.origin import Origin, Whole
 from .extract import extraction, programs
-from .extract.file_objects import BinaryFile, FileObject, seekable
+from .extract.file_objects import BinaryFile, FileObject, own_errors, seekable
 from .extract.formats.streams import File, Parts
 from .fields.field import Field
 from .files import opening
@@ -79,11 +80,14 @@ def read_bytes(data: bytes, *, name: str = "", whole: bool = False) -> Picture:
 def _read(source: Source, whole: bool, session: Optional[Session] = None, compares: bool = False) -> Picture:
     """Reads a picture. With `compares` what is compared of a file object besides its metadata is read too."""
     if not isinstance(source, (str, bytes, os.PathLike)):
-        if not hasattr(source, "read"):
+        with own_errors():
+            is_file = hasattr(source, "read")
+        if not is_file:
             raise TypeError(f"a path or a binary file is expected, not {type(source).__name__}; of bytes read_bytes reads a picture")
-        if not isinstance(source.read(0), (bytes, type(None))):
+        with own_errors():
+            nothing, name = source.read(0), getattr(source, "name", "")
+        if not isinstance(nothing, (bytes, type(None))):
             raise TypeError("a binary file is expected: open it in binary mode")
-        name = getattr(source, "name", "")
         return _read_object(source, os.fsdecode(name) if name and isinstance(name, (str, bytes)) else "(file)", whole, compares)
     path = os.fsencode(source)
     try:
@@ -98,7 +102,7 @@ def _read(source: Source, whole: bool, session: Optional[Session] = None, compar
 
 
 def _read_object(source: BinaryFile, name: str, whole: bool, compares: bool) -> Picture:
-    path = os.fsencode(name)
+    path = _octets(name)
     try:
         with seekable(source, Budget(whole)) as file:
             origin = Origin()
@@ -108,6 +112,15 @@ def _read_object(source: BinaryFile, name: str, whole: bool, compares: bool) -> 
             return picture
     except TooMuch as why:
         raise NotReadable(Problem.TOO_MUCH, str(why), name) from None
+
+
+def _octets(name: str) -> bytes:
+    """The name of a file object, or of bytes, as that of a file. What no file's name has is `?`.
+
+    >>> _octets("a\\udcff.jpg"), _octets("a\\ud800.jpg")
+    (b'a\\xff.jpg', b'a?.jpg')
+    """
+    return os.fsencode(re.sub("[\ud800-\udc7f\udd00-\udfff]", "?", name))
 
 
 def _picture(file: Parts, path: bytes, whole: bool, origin: Origin, session: Optional[Session] = None) -> Picture:

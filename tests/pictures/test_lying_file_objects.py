@@ -3,6 +3,7 @@
 import io
 import itertools
 import os
+import struct
 import tempfile
 
 import pytest
@@ -100,6 +101,30 @@ def test_a_call_that_lies(name, call, number, tmp_path, monkeypatch):
 
 
 PICTURE = pictures.read_bytes(PICTURES["jpg"])
+
+
+@pytest.mark.parametrize("error", [ValueError("closed"), KeyError("x"), struct.error("7"), OSError(5, "no"), AttributeError("y")], ids=repr)
+@pytest.mark.parametrize("call", ["read", "name", "fileno"])
+def test_a_call_that_raises_at_once(call, error):
+    """Also where it is only asked whether it is a file object."""
+
+    def fails(*_):
+        raise error
+
+    made = type("Raising", (io.BytesIO,), {call: property(fails) if call == "name" else fails})
+    for ask in (pictures.read, lambda file: pictures.compare(file, PICTURE)):
+        try:
+            assert ask(made(PICTURES["jpg"])) and call != "read"
+        except TypeError:  # a comparison has no truth value
+            assert call != "read"
+        except OSError as raised:
+            assert call != "fileno" and (raised is error or raised.__cause__ is error)
+
+
+@pytest.mark.parametrize("name", ["\ud800.jpg", "\udfff", "\udc7f.xmp", "a\udcff.jpg", "\0.jpg", "", 7, b"\xff.jpg", None, "/" * 5000])
+def test_any_name(name):
+    assert facts(pictures.read(Liar(PICTURES["jpg"], "", None, name))) == facts(PICTURE)
+    assert facts(pictures.read_bytes(PICTURES["jpg"], name=name if isinstance(name, str) else "")) == facts(PICTURE)
 
 
 class Endless(io.BytesIO):

@@ -88,12 +88,12 @@ def _is_read_in_place(source: BinaryFile) -> bool:
     """Whether a file object can seek, and doesn't decompress."""
     if any(module in sys.modules and isinstance(source, getattr(sys.modules[module], name)) for module, name in _DECOMPRESS):
         return False
-    with _own_errors():
+    with own_errors():
         return bool(source.seekable()) if hasattr(source, "seekable") else hasattr(source, "seek") and hasattr(source, "tell")
 
 
 @contextlib.contextmanager
-def _own_errors() -> Iterator[None]:
+def own_errors() -> Iterator[None]:
     """Makes an `OSError` of whatever a file object raises itself."""
     try:
         yield
@@ -104,7 +104,7 @@ def _own_errors() -> Iterator[None]:
 
 
 def _place(source: IO[bytes]) -> int:
-    with _own_errors():
+    with own_errors():
         place = source.tell()
     if not isinstance(place, int) or not 0 <= place < _LONGEST:
         raise OSError(errno.EIO, f"the file object can't be read: tell() returned {place!r:.40}")
@@ -115,13 +115,13 @@ _LONGEST = 1 << 62  # bytes
 
 
 def _seek(source: IO[bytes], place: int, whence: int = os.SEEK_SET) -> None:
-    with _own_errors():
+    with own_errors():
         source.seek(place, whence)
 
 
 def _some(source: BinaryFile, most: int) -> bytes:
     """The next bytes of a file object, `most` at most; none at its end."""
-    with _own_errors():
+    with own_errors():
         data: Union[bytes, bytearray, memoryview, None] = source.read(most)
     if data is None:
         raise BlockingIOError(errno.EAGAIN, "the file object has no bytes yet")
