@@ -5,9 +5,13 @@ import shutil
 import signal
 import subprocess
 import sys
+import tempfile
 
 import pytest
 from studio import TOP, Studio
+
+from exifnorm_pictures.catalogue import store
+from exifnorm_pictures.files import signals, tempdir
 
 INSTALLED = os.path.join(TOP, "packaging", "command.py")
 LATE = os.path.join(
@@ -35,3 +39,37 @@ def test_the_keyboard_while_modules_are_imported(call, folder):
     done = subprocess.run(words, capture_output=True, env=Studio.environment(), stdin=subprocess.DEVNULL)
     assert "SIGINT" in (folder / "log").read_text(), "the signal was not sent"
     assert (done.returncode, done.stdout, done.stderr) == (-signal.SIGINT, b"", b"")
+
+
+def test_a_signal_when_the_temporary_folder_was_just_made(folder, monkeypatch):
+    """It comes once the run knows the folder, and removes it."""
+
+    def made(*words, **more):
+        name = mkdtemp(*words, **more)
+        os.kill(os.getpid(), signal.SIGHUP)
+        return name
+
+    def stop(*_):
+        raise signals.Stopped(signal.SIGHUP)
+
+    mkdtemp = tempfile.mkdtemp
+    monkeypatch.setattr(tempfile, "tempdir", str(folder))
+    monkeypatch.setattr(tempfile, "mkdtemp", made)
+    before = signal.signal(signal.SIGHUP, stop)
+    try:
+        with pytest.raises(signals.Stopped), tempdir.room():
+            pass
+    finally:
+        signal.signal(signal.SIGHUP, before)
+    assert list(folder.iterdir()) == []
+
+
+def test_a_query_that_is_open_when_python_ends(folder, monkeypatch):
+    """Python has removed the names of the module by then."""
+    with store.Catalogue(str(folder / "c"), make=True) as catalogue:
+        rows = catalogue.rows("SELECT 1 UNION SELECT 2")
+        assert next(rows) == (1,)
+        with monkeypatch.context() as patched:
+            for name in ("sqlite3", "Damaged"):
+                patched.setattr(store, name, None)
+            rows.close()

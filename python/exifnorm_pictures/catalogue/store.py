@@ -389,9 +389,16 @@ class _Guard:
     def __enter__(self) -> None:
         pass
 
-    def __exit__(self, kind: Optional[Type[BaseException]], error: Optional[BaseException], *_: object) -> None:
-        is_wrong_call = isinstance(error, sqlite3.ProgrammingError)  # of SQLite, which says nothing about the catalogue
-        if isinstance(error, (sqlite3.DatabaseError, Damaged, UnicodeDecodeError)) and not is_wrong_call:
+    def __exit__(
+        self,
+        kind: Optional[Type[BaseException]],
+        error: Optional[BaseException],
+        *_: object,
+        # bound here, because a query can be open until Python has removed the names of this module
+        damaged: Tuple[Type[Exception], ...] = (sqlite3.DatabaseError, Damaged, UnicodeDecodeError),
+        wrong_call: Type[Exception] = sqlite3.ProgrammingError,  # of SQLite, which says nothing about the catalogue
+    ) -> None:
+        if error is not None and isinstance(error, damaged) and not isinstance(error, wrong_call):
             raise self._catalogue.failure(error) from error
 
 

@@ -26,9 +26,10 @@ def room() -> Iterator[str]:
     with signals.signals_held():  # to find a place for temporary files Python makes one there
         base = tempfile.gettempdir()
     sweep(base, _NAME, _remove_dead)
-    name = tempfile.mkdtemp(prefix=PREFIX)
-    lock = -1
+    name, lock = "", -1
     try:
+        with signals.signals_held():  # a signal after mkdtemp has made the folder, and before it has its name here, would leave it
+            name = tempfile.mkdtemp(prefix=PREFIX)
         # locked before it has its name, so that no other run takes the folder for a dead one
         lock = os.open(os.path.join(name, "new"), os.O_RDWR | os.O_CREAT | os.O_CLOEXEC, 0o600)
         os.write(lock, _MARK)
@@ -37,7 +38,8 @@ def room() -> Iterator[str]:
         yield name
     finally:
         with signals.signals_held():
-            shutil.rmtree(name, ignore_errors=True)
+            if name:
+                shutil.rmtree(name, ignore_errors=True)
         if lock >= 0:
             os.close(lock)
 
