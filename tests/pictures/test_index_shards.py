@@ -1,6 +1,7 @@
 """`index --shards`: each folder directly in the archive has a catalogue of its own, and all together know what one catalogue would."""
 
 import os
+import shutil
 import signal
 import subprocess
 import sys
@@ -253,6 +254,29 @@ def test_killed_at_any_picture_nothing_is_lost(archive, called_lines, before):
     assert called_lines("index", "p", "--catalogue", "all", "--quiet")[0] == 0
     assert [row[:2] for row in rows(archive)] == [row[:2] for row in rows(archive, "all")]
     assert rows(archive) == rows(archive, "all")
+
+
+@pytest.mark.skipif(not shutil.which("strace"), reason="not installed: strace")
+@pytest.mark.parametrize("call", ("fdatasync", "pwrite64", "unlink", "openat"))
+def test_killed_at_any_call_the_same_command_goes_on(archive, called_lines, call):
+    """Also when a catalogue is only begun: at each time that a run waits for the disk, and at some of its other calls with the first catalogue."""
+    index = [sys.executable, "-m", "exifnorm_pictures", "index", "p", "--shards", "shards", "--quiet", "--jobs", "1"]
+    assert called_lines("index", "p", "--catalogue", "all", "--quiet")[0] == called_lines(*index[3:])[0] == 0
+    due, first, number, step = rows(archive, "all"), archive / "shards" / names(archive)[0], 1, 1 if call == "fdatasync" else 4
+    while True:
+        shutil.rmtree(archive / "shards", ignore_errors=True)
+        about = ["-f", "-qq", "-o", "trace", "-e", f"trace={call}", "-e", f"inject={call}:signal=SIGKILL:when={number}"]
+        paths = [] if call == "fdatasync" else [it for end in ("", "-journal", "-wal") for it in ("-P", f"{first}{end}")]
+        done = subprocess.run(["strace", *about, *paths, *index], cwd=archive, env=Studio.environment(), capture_output=True)
+        if not done.returncode:
+            break
+        status, _, messages = called_lines("list", "shards", "--with", "title")
+        assert status in (0, 2, 4) and "readonly" not in messages, (number, messages)
+        status, lines, messages = called_lines(*index[3:])
+        assert status == 0 and rows(archive) == due, (number, lines, messages)
+        assert sorted(os.listdir(archive / "shards")) == sorted([".lock", "catalogues", *names(archive)]), number
+        number += step
+    assert number > 4 or call == "unlink"
 
 
 def test_runs_that_begin_at_once_list_the_catalogues_of_all(archive):

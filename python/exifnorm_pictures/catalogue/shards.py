@@ -57,10 +57,15 @@ def is_of_folder(name: str) -> bool:
 def shards_of(folder: str) -> Shards:
     """The catalogues of a folder. Raises `NoCatalogue` if none is there."""
     names = [os.path.join(folder, name) for name in listed(folder)]
-    there = [name for name in names if os.path.exists(name)]
+    there = list(filter(is_made, names))
     if not there:
         raise NoCatalogue(f"{folder}: none of its {in_words(len(names), 'catalogue')} is there")
     return Shards(folder, there, [name for name in names if name not in there], list(_unlisted(folder, there)))
+
+
+def is_made(name: str) -> bool:
+    """Whether a catalogue is there. One that another run begins just now, or in which a run was killed at once, is empty."""
+    return os.path.exists(name) and os.path.getsize(name) > 0
 
 
 def listed(folder: str) -> List[str]:

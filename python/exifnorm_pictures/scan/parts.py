@@ -11,7 +11,7 @@ from collections import Counter
 from typing import Dict, FrozenSet, Iterator, List, NamedTuple, Optional, Sequence, Set
 
 from ..catalogue import shards
-from ..catalogue.store import NUMBERS, Catalogue
+from ..catalogue.store import NUMBERS, Catalogue, NoCatalogue
 from ..model.errors import WrongUse
 from ..model.problems import Problem
 from ..model.records import PictureRecord
@@ -73,7 +73,7 @@ def plan(where: str, names: Sequence[bytes], patterns: Sequence[str]) -> Plan:
     tops = list(outermost(names))
     listed = _check(where, tops)
     known = {_key_of(name): name for name in listed}
-    kept = {key: _kept(os.path.join(where, name)) for key, name in known.items() if _is_made(os.path.join(where, name))}
+    kept = {key: _kept(os.path.join(where, name)) for key, name in known.items() if shards.is_made(os.path.join(where, name))}
     roots = {one.part.top for one in kept.values() if one.part}
     excluded = Excluded(patterns)
     now = {_key(part): part for top in tops for part in _parts(top, excluded, known, roots)}
@@ -168,12 +168,19 @@ def _number_of(name: str) -> int:
     return int(name.partition("-")[0])
 
 
-def _is_made(name: str) -> bool:
-    """Whether a catalogue is there. One that another run begins just now is empty."""
-    return os.path.exists(name) and os.path.getsize(name) > 0
-
-
 def _kept(name: str) -> _Kept:
+    """What a catalogue has, also if a run was killed while it wrote to it: then it has a journal, which only one that writes can roll back."""
+    try:
+        return _read(name)
+    except NoCatalogue:
+        if not os.path.exists(f"{name}-journal"):
+            raise
+    with Catalogue(name, make=True):
+        pass
+    return _read(name)
+
+
+def _read(name: str) -> _Kept:
     with Catalogue(name) as catalogue:
         row = next(catalogue.rows("SELECT root, path FROM pictures LIMIT 1"), None)
         part = None
@@ -203,7 +210,7 @@ def indexed(where: str, shard: Shard, options: IndexOptions, patterns: Sequence[
 
 def _unmounted(file: str, shard: Shard) -> int:
     """How many pictures a catalogue has of a folder that is gone, or in which nothing is."""
-    if not os.path.exists(file) or (shard.is_there and _has_some(shard.part.folder)):
+    if not shards.is_made(file) or (shard.is_there and _has_some(shard.part.folder)):
         return 0
     with Catalogue(file) as catalogue:
         return catalogue.count_below(shard.part.folder)
