@@ -17,7 +17,7 @@ import pytest
 from attacks import FILES
 from made_blocks import BLOCKS, with_exif
 from made_files import app1, app1_xmp, exif, jpeg, packed_zeros, png, png_xmp, title, xmp
-from studio import SMALL_JPEG, TOP, Studio, put, write
+from studio import SMALL_JPEG, TOP, Studio, interpreter_with, put, write
 
 SECONDS, MEMORY = 50, 256 << 20  # none takes a tenth of this time; one that goes through its data again and again takes far more
 GUARD = 120, 3 << 30  # what ends a process, so that a fault harms nothing else
@@ -231,6 +231,26 @@ class TestCurrentFolder:
             [*WAYS[way](folder), "--version"], cwd=folder, capture_output=True, env={**Studio.environment(), "PYTHONPATH": path}
         )
         assert b"a file of the current folder was taken" in done.stderr, done
+
+    @pytest.mark.skipif(not shutil.which("strace") or not interpreter_with("PIL"), reason="not installed: strace, python3-pil")
+    @pytest.mark.parametrize("path", ("", ":/x", ".", "/x:"))
+    def test_the_python_that_makes_small_pictures(self, folder, path):
+        """report starts another Python, for which PYTHONPATH isn't: neither a package nor what Python imports by itself is taken."""
+        (folder / "p").mkdir()
+        write(folder / "p" / "a.jpg", SMALL_JPEG)
+        words = [sys.executable, "-m", "exifnorm_pictures"]
+        python = os.path.join(TOP, "python")
+        environment = {**Studio.environment(), "PYTHONPATH": os.pathsep.join((python, path))}
+        index = subprocess.run([*words, "index", "p", "--catalogue", "c", "--quiet"], cwd=folder, capture_output=True, env=environment)
+        for name in ("PIL", "struct", "resource", "sitecustomize", "usercustomize"):
+            (folder / f"{name}.py").write_text("import os\nopen(f'taken {os.getpid()}', 'w').close()\n")
+        traced = ["strace", "-f", "-qq", "-s", "1000", "-e", "trace=execve", "-o", "trace"]
+        report = subprocess.run([*traced, *words, "report", "c", "--html", "r/"], cwd=folder, capture_output=True, env=environment)
+        assert index.returncode == report.returncode == 0, (index, report)
+        taken = [name.name.split()[1] for name in folder.glob("taken *")]
+        started = re.findall(r"^(\d+) +execve\(.*shrinking\.py.* = 0$", (folder / "trace").read_text(), re.M)
+        assert len(started) == 1 and not set(started) & set(taken), (started, taken)
+        assert list((folder / "r").glob("small-*.jpg")), "no small picture was made, or this test shows nothing"
 
     def see_that_it_runs(self, command, folder, path):
         done = subprocess.run(
