@@ -1,0 +1,271 @@
+"""The law of writes: whatever a stranger has put into a folder tree, a command creates, changes, renames and removes nothing but the outputs
+that its command line names, and its own temporary files.
+
+strace sees each call of the system, also those of SQLite, which a library that is preloaded wouldn't see if SQLite were part of Python, and
+those of other programs. Each path is judged as the kernel has it: of a file that is open where a link led, of another one below its folder.
+"""
+
+import fnmatch
+import os
+import re
+import shutil
+import subprocess
+import sys
+from pathlib import Path
+
+import pytest
+from made_blocks import BLOCKS, with_exif
+from made_files import app1_xmp, jpeg, title
+from studio import SMALL_JPEG, Studio, put
+from test_attacks import journal_that_names
+
+from exifnorm_pictures.catalogue.store import LIST_HEAD
+from exifnorm_pictures.cli import parser
+
+pytestmark = pytest.mark.skipif(not shutil.which("strace"), reason="not installed: strace")
+
+OPEN = ("open", "openat", "openat2", "creat")
+NAMED = "mkdir mkdirat mknod mknodat unlink unlinkat rmdir rename renameat renameat2 link linkat symlink symlinkat truncate".split()
+RIGHTS = "chmod fchmodat chown lchown fchownat utime utimes utimensat setxattr lsetxattr removexattr lremovexattr".split()
+OF_OPEN = "ftruncate fallocate fchmod fchown fsetxattr fremovexattr".split()
+CALLS = (*OPEN, *NAMED, *RIGHTS, *OF_OPEN)
+WRITES = re.compile(r"O_WRONLY|O_RDWR|O_CREAT|O_TRUNC")
+# a folder that is open or the current one, and a name in it; or a name
+NAME = re.compile(r'(?:(?:AT_FDCWD|\d+)<((?:\\x..)*)>(?:\(deleted\))?, )?"((?:\\x..)*)"')
+OPENED = re.compile(r"<((?:\\x..)*)>")
+FREE = ("/dev/null", "/dev/tty", "/dev/shm/*", "/proc/self/*")  # which are no files of anybody
+
+
+def plain(text):
+    return os.fsdecode(bytes.fromhex(text.replace("\\x", "")))
+
+
+def written(folder, traces):
+    """The paths that the calls of a run wrote to, each with its call. A file has none before it gets its name, or if it was removed."""
+    for trace in traces.iterdir():
+        for line in trace.read_text().splitlines():
+            call, _, rest = line.partition("(")
+            if call in OPEN:
+                number = rest.rpartition(" = ")[2]
+                if WRITES.search(rest) and not number.endswith("(deleted)"):
+                    yield call, plain(OPENED.findall(number)[0])
+            elif call in OF_OPEN:
+                number, _, words = rest.partition(">")
+                path = plain(number.partition("<")[2])
+                # SQLite gives a journal the owner of its catalogue, if root asks
+                if not words.startswith("(deleted)") and not (call == "fchown" and path.endswith("-journal")):
+                    yield call, path
+            elif call in CALLS:
+                for below, name in NAME.findall(rest):
+                    path = os.path.join(plain(below) or folder, plain(name))
+                    if not path.startswith("/proc/"):  # a file without a name, which a link gives one
+                        yield call, os.path.join(os.path.realpath(os.path.dirname(path)), os.path.basename(path))
+
+
+# The tree
+
+
+def archive(top):
+    """What the user has at home, and a disk of a stranger."""
+    caption = app1_xmp(title("one"))
+    files = {
+        f"disk/{side}/{name}": jpeg(caption) for side in "pq" for name in ("a.jpg", "sub/b.jpg", "line\nend.jpg", "-dash.jpg", "<b>.jpg")
+    }
+    files.update(
+        {
+            "disk/p/refused.jpg": with_exif(SMALL_JPEG, BLOCKS["Overlap"]),
+            "disk/p/a.xmp": title("side"),
+            "disk/bag/data/a.jpg": jpeg(caption),
+        }
+    )
+    files.update({f"home/{name}": b"mine " + name.encode() for name in ("thesis.txt", "notes.html", "holiday.jpg")})
+    put(str(top), files)
+    (top / "tmp").mkdir()
+    (top / "disk" / "rules").write_text("every picture needs title\n")
+    (top / "disk" / "bag" / "manifest-sha256.txt").write_text("")
+    (top / "disk" / "p" / "link.jpg").symlink_to(top / "home" / "holiday.jpg")
+    (top / "disk" / "p" / "out").symlink_to(top / "home")
+    for words in (
+        "index p --catalogue c --pixels --quiet",
+        "index p --catalogue old --quiet",
+        "index q --catalogue ../home/mine --quiet",
+        "index p --shards d --quiet",
+        "report c --html r/",
+        "export c tables",
+        "nightly p --catalogue n",
+    ):
+        done = run(top, words.split())
+        assert done.returncode < 3, (words, done)
+
+
+def run(top, words, *before):
+    environment = {
+        **Studio.environment(EXIFNORM_DEBUG=""),
+        "TMPDIR": str(top / "tmp"),
+        "HOME": str(top / "home"),
+        "PYTHONDONTWRITEBYTECODE": "1",
+    }
+    words = [*before, sys.executable, "-m", "exifnorm_pictures", *words]
+    return subprocess.run(words, cwd=top / "disk", capture_output=True, stdin=subprocess.DEVNULL, env=environment, timeout=300)
+
+
+def journals(top):
+    """Each catalogue has a journal that names a file of the user."""
+    for name in ("c", "old", "n", *(os.path.relpath(it, top / "disk") for it in (top / "disk" / "d").glob("*.catalogue"))):
+        (top / "disk" / f"{name}-journal").write_bytes(journal_that_names(top / "home" / "thesis.txt", top / "disk" / name))
+
+
+def beside(top):
+    """What SQLite keeps beside a catalogue are links to files of the user."""
+    for name in ("c", "old", "n", "new", "tables"):
+        for ending in ("-wal", "-shm", "-journal"):
+            (top / "disk" / f"{name}{ending}").symlink_to(top / "home" / "thesis.txt")
+
+
+def lists(top):
+    """The list of a folder of catalogues names one of the user, and that of a report files of the user which lie there."""
+    (top / "disk" / "d" / "catalogues").write_bytes(LIST_HEAD + b"../../home/mine\n")
+    for name in ("notes.html", "holiday.jpg"):
+        shutil.copy(top / "home" / name, top / "disk" / "r" / name)
+    with open(top / "disk" / "r" / "exifnorm-report", "a") as names:
+        names.write("notes.html\nholiday.jpg\n")
+
+
+def links(top):
+    """The catalogues of a folder are links, and so is its list."""
+    for name in (top / "disk" / "d").glob("*.catalogue"):
+        name.unlink()
+        name.symlink_to(top / "home" / "mine")
+    (top / "disk" / "d" / "catalogues").rename(top / "home" / "list")
+    (top / "disk" / "d" / "catalogues").symlink_to(top / "home" / "list")
+
+
+def left(top):
+    """What killed runs seem to have left: folders and files of the user under such names."""
+    for folder in (top / "disk", top / "tmp"):
+        for name in (".exifnorm-abcdefgh.part", "exifnorm-abcdefgh"):
+            put(str(folder / name), {"notes.txt": b"mine"})
+        put(str(folder), {".exifnorm-1-0123456789ab.part": b"mine"})
+
+
+STRANGERS = (journals, beside, lists, links, left)
+SQLITES = ("", "-wal", "-shm", "-journal")
+LISTED = (".lock", "catalogues", ".exifnorm-*.part", *(f"[0-9]*.catalogue{it}" for it in SQLITES))
+PAGES = (
+    "exifnorm-report",
+    "index.html",
+    "search*.js",
+    "small-*.jpg",
+    *(f"{it}-[0-9]*.html" for it in ("folders", "changed", "same", "refused")),
+)
+PART = ".exifnorm-????????.part"  # a folder that is written, before it has its name, and then the earlier one
+
+
+def catalogue(*names):
+    return [f"{name}{ending}" for name in names for ending in SQLITES]
+
+
+def folder_of_report(name):
+    return [name, PART, *(f"{it}/{page}" for it in (name, PART) for page in PAGES)]
+
+
+FILE = ".exifnorm-*-*.part"  # a file that is written, where the file system has none without a name
+SHARDS = ["d", *(f"d/{it}" for it in LISTED)]
+ASKED = catalogue("c", "old")  # the first question keeps texts in a catalogue
+COMMANDS = {
+    "index p --catalogue c --jobs 1": catalogue("c"),
+    "index p q --catalogue c --jobs 2 --pixels --sidecars --maker-notes": catalogue("c"),
+    "index p --catalogue new": catalogue("new"),
+    "index p --catalogue c --keep-old kept": [*catalogue("c", "kept"), FILE],
+    "index p --shards d --jobs 1": SHARDS,
+    "merge c old --catalogue new": catalogue("new"),
+    "merge d --catalogue c": catalogue("c"),
+    "forget p --catalogue c": catalogue("c"),
+    "forget p q --catalogue d": SHARDS,
+    "relocate c p q": catalogue("c"),
+    "verify c": [],
+    "verify --bag bag": [],
+    "verify c --evidence sums --state state": ["sums", FILE, "state", *catalogue("state/verified.catalogue")],
+    "same c": [],
+    "same p --xlsx same.xlsx": ["same.xlsx", FILE],
+    "changed old c": [],
+    "changed p q --csv": [],
+    "history p/a.jpg old c": [],
+    "compare p/a.jpg q/a.jpg": [],
+    "list c --with title": ASKED,
+    "list d --with title": SHARDS,
+    "check rules c": ASKED,
+    "check rules d": SHARDS,
+    "nightly p --catalogue n": [*catalogue("n", "n.tonight", "n.before"), "n.lock", FILE],
+    "show p": [],
+    "captions p": [],
+    "captions c": ASKED,
+    "conflicts c": ASKED,
+    "explain p": [],
+    "report c --since old --html r/": [*folder_of_report("r"), *ASKED],
+    "report c --html page.html --rules rules": ["page.html", FILE, *ASKED],
+    "report d --html r/": [*folder_of_report("r"), *SHARDS],
+    "export c tables": ["tables", FILE, *ASKED],
+    "mend p/refused.jpg copy.jpg": ["copy.jpg", FILE],
+    "mend p out": ["out", "out/*"],
+    "mend --catalogue c p out": ["out", "out/*"],
+}
+
+
+@pytest.fixture(scope="module")
+def saved(session_folder):
+    top = Path(session_folder) / "writes"
+    top.mkdir()
+    archive(top)
+    shutil.copytree(top, f"{top}.saved", symlinks=True)
+    return top
+
+
+def tree(top):
+    """The files at home, and those in the folder of a report that no report writes."""
+    mine = [it for it in (top / "home").rglob("*") if it.is_file()]
+    mine += [it for it in (top / "disk").rglob("*") if it.name in ("notes.html", "holiday.jpg", "notes.txt")]
+    return {str(it.relative_to(top)): (it.read_bytes(), it.lstat().st_ino) for it in mine}
+
+
+def test_each_command_is_there():
+    assert {words.split()[0] for words in COMMANDS} == {name for name, *_ in parser._COMMANDS}
+
+
+@pytest.mark.parametrize("stranger", STRANGERS, ids=lambda it: it.__name__)
+def test_nothing_else_is_written(stranger, saved, tmp_path):
+    wrong = []
+    for words, outputs in COMMANDS.items():
+        shutil.rmtree(saved)
+        shutil.copytree(f"{saved}.saved", saved, symlinks=True)
+        stranger(saved)
+        before = tree(saved)
+        traces = tmp_path / "traces"
+        shutil.rmtree(traces, ignore_errors=True)
+        traces.mkdir()
+        strace = [
+            "strace",
+            "-ff",
+            "-z",
+            "-y",
+            "-xx",
+            "-s",
+            "5000",
+            "-qq",
+            "--seccomp-bpf",
+            "-o",
+            traces / "t",
+            "-e",
+            f"trace={','.join(CALLS)}",
+        ]
+        done = run(saved, words.split(), *strace)
+        if b"Traceback" in done.stderr or b"internal error" in done.stderr or done.returncode not in range(5):
+            wrong.append((words, done.returncode, done.stderr[-300:]))
+        allowed = [*(str(saved / "disk" / it) for it in outputs), str(saved / "tmp" / "*"), *FREE]
+        others = {it for it in written(str(saved / "disk"), traces) if not any(fnmatch.fnmatchcase(it[1], due) for due in allowed)}
+        wrong += [
+            (words, call, path.replace(str(saved), "")) for call, path in sorted(others) if os.path.realpath(path) != str(saved / "disk")
+        ]
+        after = tree(saved)
+        wrong += [(words, "is gone or changed", name) for name in before if after.get(name) != before[name]]
+    assert not wrong, "\n".join(map(str, wrong))
