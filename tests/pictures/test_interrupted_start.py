@@ -11,7 +11,7 @@ import pytest
 from studio import TOP, Studio
 
 from exifnorm_pictures.catalogue import store
-from exifnorm_pictures.files import signals, tempdir
+from exifnorm_pictures.files import folders, signals, tempdir
 
 INSTALLED = os.path.join(TOP, "packaging", "command.py")
 LATE = os.path.join(
@@ -41,12 +41,13 @@ def test_the_keyboard_while_modules_are_imported(call, folder):
     assert (done.returncode, done.stdout, done.stderr) == (-signal.SIGINT, b"", b"")
 
 
-def test_a_signal_when_the_temporary_folder_was_just_made(folder, monkeypatch):
+@pytest.mark.parametrize("opened", [lambda _: tempdir.room(), lambda it: folders.replaced(os.fsencode(it / "r"), "list", [])])
+def test_a_signal_when_a_folder_was_just_made(opened, folder, monkeypatch):
     """It comes once the run knows the folder, and removes it."""
 
     def made(*words, **more):
         name = mkdtemp(*words, **more)
-        os.kill(os.getpid(), signal.SIGHUP)
+        signal.raise_signal(signal.SIGHUP)  # to this thread, as a process with one has it
         return name
 
     def stop(*_):
@@ -57,7 +58,7 @@ def test_a_signal_when_the_temporary_folder_was_just_made(folder, monkeypatch):
     monkeypatch.setattr(tempfile, "mkdtemp", made)
     before = signal.signal(signal.SIGHUP, stop)
     try:
-        with pytest.raises(signals.Stopped), tempdir.room():
+        with pytest.raises(signals.Stopped), opened(folder):
             pass
     finally:
         signal.signal(signal.SIGHUP, before)

@@ -87,14 +87,13 @@ def replaced(out: bytes, mark: str, sources: Sequence[str]) -> Iterator[NewFolde
     """A new folder, which gets the name `out` in the end. `mark` is the name of the list of its files: an earlier folder is replaced only if it
     has such a list, and no other files than the list has, byte for byte. It is made from the files `sources`. Raises `NotReplaced`."""
     there = os.path.realpath(out)
-    try:
-        before = _rights_of_earlier(there, mark)
-        sweep(os.path.dirname(there), _NAME, lambda entry: _remove_dead(entry.path, mark))
-        room, lock = _locked(os.path.dirname(there))
-    except OSError as error:
-        raise NotReplaced(reason(error)) from None
+    room, lock = b"", -1
     try:
         try:
+            before = _rights_of_earlier(there, mark)
+            sweep(os.path.dirname(there), _NAME, lambda entry: _remove_dead(entry.path, mark))
+            with signals.signals_held():  # a signal before the new folder has its name here would leave it
+                room, lock = _locked(os.path.dirname(there))
             folder = NewFolder(room, there, before and before[1], sources)
             yield folder
             folder.write(mark, "".join(f"{name}\n" for name in [_FIRST, *folder.lines]).encode())
@@ -105,8 +104,10 @@ def replaced(out: bytes, mark: str, sources: Sequence[str]) -> Iterator[NewFolde
             raise NotReplaced(reason(error)) from None
     finally:
         with signals.signals_held():
-            _remove(room, mark)  # an earlier one, if all went well
-        os.close(lock)
+            if room:
+                _remove(room, mark)  # an earlier one, if all went well
+        if lock >= 0:
+            os.close(lock)
 
 
 def _locked(beside: bytes) -> Tuple[bytes, int]:
