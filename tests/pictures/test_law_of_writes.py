@@ -110,8 +110,12 @@ def run(top, words, *before):
 
 
 def journals(top):
-    """Each catalogue has a journal that names a file of the user."""
-    for name in ("c", "old", "n", *(os.path.relpath(it, top / "disk") for it in (top / "disk" / "d").glob("*.catalogue"))):
+    """Each catalogue has a journal that names a file of the user, also those that a command seems to have made before."""
+    (top / "disk" / "state").mkdir()
+    made = ("new", "kept", "n.tonight", "n.before", "state/verified.catalogue")
+    for name in made:
+        shutil.copy(top / "disk" / "c", top / "disk" / name)
+    for name in ("c", "old", "n", "tables", *made, *(os.path.relpath(it, top / "disk") for it in (top / "disk" / "d").glob("*.catalogue"))):
         (top / "disk" / f"{name}-journal").write_bytes(journal_that_names(top / "home" / "thesis.txt", top / "disk" / name))
 
 
