@@ -9,8 +9,9 @@ import struct
 from typing import Dict, NamedTuple, Union
 
 import made_raw
-from growing import FORMATS, Parts
+from growing import FORMATS, Parts, big_tiff
 from made_blocks import ASCII, BLOCKS, LONG, UNDEFINED, segment, with_exif, with_iptc
+from made_boxes import PICTURE, Item, heif, item_exif
 from made_files import (
     RATIONAL,
     app1,
@@ -191,12 +192,75 @@ def texts() -> Files:
     }
 
 
+# A name in each character set that a by-line is tried in: what is kept is decoded, and said beside the right one in XMP
+CHARACTER_SETS = {
+    "Zoë": "cp1252 mac_roman cp437",
+    "São": "cp850",
+    "Łódź": "cp1250 iso8859_2 mac_latin2",
+    "Киев": "cp1251 koi8_r",
+    "Αθήνα": "cp1253",
+    "Işık": "cp1254",
+    "Rīga": "cp1257",
+    "Žofie Œ": "iso8859_15",
+    "東京": "shift_jis euc_jp",
+    "北京汉": "gb18030",
+    "臺北": "big5",
+    "서울": "euc_kr",
+}
+
+
+def character_sets() -> Files:
+    """A picture for each character set, in which IPTC doesn't name it, and whose XMP has the same creator."""
+    sets = [(codec, name) for name, codecs in CHARACTER_SETS.items() for codec in codecs.split()]
+    return {
+        f"sets/{codec}.jpg": jpeg(
+            app13(resource(0x0404, dataset(80, name.encode(codec)))),
+            app1_xmp(xmp(members("creator", "Seq", name))),
+            base=picture(160 + number),
+        )
+        for number, (codec, name) in enumerate(sets)
+    }
+
+
+def rare() -> Files:
+    """What few pictures have, and only one reader or repair looks at."""
+    shared = struct.pack("<2sHIH", b"II", 42, 8, 9) + b"".join(struct.pack("<HHII", 0xA500 + it, ASCII, 60, 122) for it in range(9))
+    whole = made_raw.whole_raf()
+    second = made_raw.fuji(pixels=b"\x88" * 50)
+    raf = whole[:0x80] + struct.pack(">II", len(whole), len(second)) + whole[0x88:] + second
+    blocks = [Item(b"Exif", item_exif(small_tiff(*camera(artist=artist))), b"", (it,)) for it, artist in ((2, b"Anna"), (4, b"Ben"))]
+    tile = (Item(b"grid", bytes(8), references=((b"dimg", (2, 3)),)), PICTURE, PICTURE, PICTURE, *blocks)
+    kinds = "<dc:subject><rdf:Bag><rdf:type rdf:resource='http://www.w3.org/1999/02/22-rdf-syntax-ns#Seq'/><rdf:li>clay</rdf:li></rdf:Bag></dc:subject>"
+    return {
+        "rare/empty-directories.jpg": jpeg(
+            app1(small_tiff((0x010F, ASCII, b"Leica\0"), (0x8769, LONG, []), (0x8825, LONG, []))), base=picture(190)
+        ),
+        "rare/main-tile.heic": heif(*tile, primary=2),
+        "rare/no-directory.tif": b"MM\0*" + bytes(4),
+        "rare/second-type.jpg": jpeg(app1_xmp(xmp(kinds)), base=picture(191)),
+        "rare/shared-by-nine.jpg": jpeg(app1(shared + bytes(4) + b"A" * 59 + b"\0"), base=picture(192)),
+        "rare/two-frames.raf": raf,
+        "rare/unknown-type.btf": big_tiff(Parts(((0x013B, ASCII, b"Anna\0"), (0xA500, 99, b"abcdefgh")))),
+    }
+
+
 def contradictions() -> Files:
     other = app1_xmp(xmp(members("creator", "Seq", "Ben Salt") + languages("title", x_default="A vase")))
     block = app1(small_tiff(*camera(position(51, 11))))
     there = xmp("", "xmlns:exif='http://ns.adobe.com/exif/1.0/' exif:GPSLatitude='51,29.5N' exif:GPSLongitude='11,58.5E'")
     return {
         "contradictions/creator.jpg": jpeg(block, with_record(record(creator="Anna Moor", title="A bowl")), other, base=picture(80)),
+        "contradictions/keywords.jpg": jpeg(
+            with_record(record(keywords=["clay"])), app1_xmp(xmp(members("subject", "Bag", "clay", "salt"))), base=picture(83)
+        ),
+        "contradictions/keywords-of-iptc.jpg": jpeg(
+            with_record(record(keywords=["clay", "salt"])), app1_xmp(xmp(members("subject", "Bag", "clay"))), base=picture(84)
+        ),
+        "contradictions/languages.jpg": jpeg(
+            app1(small_tiff((0x010E, ASCII, b"Ein Krug\0"))),
+            app1_xmp(xmp(languages("description", de="Ein Krug", fr="Un pot"))),
+            base=picture(85),
+        ),
         "contradictions/place.jpg": jpeg(block, app1_xmp(there), base=picture(81)),
         "contradictions/south.jpg": jpeg(app1(small_tiff(*camera(position(33, 18, b"S")))), base=picture(82)),
     }
@@ -205,6 +269,7 @@ def contradictions() -> Files:
 def notes() -> Files:
     """MakerNotes: of one picture with other bytes, moved, and one that leads out of the file."""
     return {
+        "notes/goes.jpg": noted(artist=b"Eva"),
         "notes/inside.jpg": noted(inside=b"other bytes"),
         "notes/moved.jpg": noted(moved=6),
         "notes/note.jpg": noted(),
@@ -261,6 +326,11 @@ def desk(folder: str) -> Files:
     return {f"{folder}/{number}.jpg": captioned(130 + number, title=f"Salt {number}") for number in range(4)}
 
 
+def dated(number: int, text: str) -> bytes:
+    """A picture whose date of the last change is written so."""
+    return jpeg(app1(small_tiff((0x0132, ASCII, text.encode() + b"\0"))), base=picture(number))
+
+
 def first_night() -> Files:
     pages = tiff(page((0x013B, ASCII, b"Anna\0")), page((0x013B, ASCII, b"Ben\0")))
     return {
@@ -268,15 +338,21 @@ def first_night() -> Files:
         **refused(),
         **states(),
         **texts(),
+        **character_sets(),
+        **rare(),
         **contradictions(),
         **notes(),
         **beside("Anna Moor"),
         **copies(),
         **odd_names(),
         **desk("desk"),
+        "work/dated.jpg": dated(86, "2025:03:31 14:30"),
+        "work/dated-too.jpg": dated(87, "2025:03:31 14:31"),
         "work/deleted.jpg": captioned(150),
+        "work/gets-cut.jpg": captioned(158),
         "work/loses-copyright.jpg": captioned(151),
         "work/loses-profile.jpg": jpeg(segment(0xE2, b"ICC_PROFILE\0\1\1" + bytes(140)), app1(small_tiff(*camera())), base=picture(152)),
+        "work/moves-and-changes.jpg": captioned(159),
         "work/pages.tif": pages,
         "work/published.jpg": captioned(153),
         "work/renamed.jpg": captioned(154),
@@ -292,14 +368,19 @@ def second_night() -> Files:
         del files[f"desk/{number}.jpg"]
     rotten = bytearray(captioned(46))
     rotten[-20] ^= 4
-    del files["work/deleted.jpg"]
+    del files["work/deleted.jpg"], files["work/moves-and-changes.jpg"]
     files["work/new-name.jpg"] = files.pop("work/renamed.jpg")
     return {
         **files,
         "copies/first.jpg": captioned(100, title="A dish"),
+        "drawer/changed.jpg": captioned(159, title="A jug"),
+        "notes/goes.jpg": jpeg(app1(small_tiff((0x010F, ASCII, b"Canon\0"), (0x013B, ASCII, b"Eva\0"), order=">"))),
         "refused/Doubled.jpg": with_exif(picture(300 + [*BLOCKS].index("Doubled")), BLOCKS["Unsorted"]),
         "states/rots.jpg": bytes(rotten),
         "states/trailer.jpg": captioned(40) + b"other bytes..",
+        "work/dated.jpg": dated(86, "2025:03:31 14:30:00"),
+        "work/dated-too.jpg": dated(87, "2025:03:31 14:31:00"),
+        "work/gets-cut.jpg": captioned(158)[:-5],
         "work/loses-copyright.jpg": captioned(151, copyright=""),
         "work/loses-profile.jpg": jpeg(app1(small_tiff(*camera())), base=picture(152)),
         "work/new.jpg": captioned(157),

@@ -50,6 +50,9 @@ CALLS = {
         merge few plain --catalogue all2 --json --debug
         same --catalogue all --no-look --kind iptc
         merge few full --catalogue all3
+        index one/notes --catalogue other --sidecars --pixels --maker-notes --jobs 1 --quiet
+        index archive/notes --catalogue another --sidecars --pixels --maker-notes --jobs 1 --quiet
+        merge other another --catalogue all4
     """,
     "forget": """
         forget archive/desk archive/refused --catalogue plain
@@ -99,6 +102,9 @@ CALLS = {
         changed full.before full --exact --only '*:Artist'
         changed full.before full --all --ignore-file fields --ignore 'XMP-*'
         changed full.before full --csv
+        changed full.before full --only 'IPTC:*'
+        changed full.before full --only IFD0:ModifyDate
+        changed full.before full --ignore 'IPTC:*' --ignore 'XMP*'
         changed full.before full --json --no-exiftool
         changed full.before full --only caption --only title
         changed full.before full --only-file fields
@@ -176,6 +182,7 @@ CALLS = {
         show --files-from some
         show --files-from some0 -0 --csv
         show archive/states/*
+        show archive/rare/* --exact
         show archive/work/retitled.jpg --xlsx shown.xlsx
     """,
     "captions": """

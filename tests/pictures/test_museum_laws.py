@@ -1,6 +1,7 @@
 """Laws over the made museum: what one command or form of output says, the others say too, and what must not matter doesn't."""
 
 import collections
+import contextlib
 import csv
 import json
 import os
@@ -8,13 +9,18 @@ import pathlib
 import random
 import re
 import shutil
+import sqlite3
 
 import pytest
-from made_museum import TIME
+from made_museum import TIME, captioned, put
 from museum import WHOLE, done, run
 from studio import needs
 
+from exifnorm_pictures.model import budgets
+from exifnorm_pictures.scan import looking
+
 pytestmark = [pytest.mark.xdist_group("museum")]
+TOP = pathlib.Path(__file__).resolve().parents[2]
 GOLDEN = pathlib.Path(__file__).parent / "golden" / "museum"
 # What is counted, in the outputs of commands
 NOUNS = "picture file group field row rule block folder catalogue text value line name label byte list copy contradiction".split()
@@ -181,3 +187,49 @@ def test_each_number_agrees_with_its_noun():
     wrong = re.compile(rf"(?<![\w.,:/-])(?:1 (?:{nouns})s|(?:0|[2-9]|[\d,]*\d\d) (?:{nouns}))(?![\w-])")
     lines = [line for path in sorted(GOLDEN.iterdir()) for line in path.read_text(encoding="utf-8", errors="replace").splitlines()]
     assert len(lines) > 1000 and not [line for line in lines if wrong.search(line)]
+
+
+@needs("exiftool")
+def test_processes_keep_what_one_keeps(museum):
+    """Many pictures with parts that aren't read, indexed by two processes, which write them in batches, and by one."""
+    kept = []
+    for number in range(600):
+        (museum / "many").mkdir(exist_ok=True)
+        (museum / f"many/{number}.jpg").write_bytes(captioned(number) + b"unknown bytes %03d" % number)
+    for jobs in (1, 2):
+        done(f"index many --jobs {jobs} --catalogue by{jobs} --quiet", museum)
+        with contextlib.closing(sqlite3.connect(f"by{jobs}")) as base:
+            kept.append(sorted(base.execute("SELECT path, what, digest FROM not_read JOIN pictures ON id = picture")))
+    assert len(kept[0]) == 600 and kept[0] == kept[1]
+
+
+def test_a_limit_is_named_by_each_command(museum, monkeypatch):
+    """A picture that takes too long while its packets are judged: no command says that it has no metadata."""
+    monkeypatch.setattr(budgets, "SECONDS", -1)
+    for words in ("show", "captions", "conflicts", "explain", "index --catalogue new --jobs 1"):
+        _, lines, messages = run(f"{words} archive/states/extended.jpg", museum)
+        assert "more than -1 seconds of a processor" in "\n".join(lines + messages), (words, lines, messages)
+
+
+@needs("PIL")
+def test_nothing_of_the_current_folder_is_run(museum, monkeypatch):
+    """Modules of the current folder that have the names of packages, with an empty part in PYTHONPATH, as many people have it."""
+    monkeypatch.setenv("PYTHONPATH", str(TOP / "python") + os.pathsep)
+    for name in ("PIL", "json", "jinja2", "rdflib", "struct"):
+        (museum / f"{name}.py").write_text(f"open({str(museum / 'was-run')!r}, 'w')", encoding="utf-8")
+    (museum / "rules").write_text("every picture needs creator\n", encoding="utf-8")
+    run("report full --html page.html", museum)
+    run("index archive/work --catalogue new --jobs 2 --quiet", museum)
+    assert not (museum / "was-run").exists()
+
+
+@pytest.mark.parametrize("is_fresh", [False, True])
+def test_a_replaced_file_is_not_the_one_that_was_looked_at(is_fresh, museum, monkeypatch):
+    """Another file of the same size and time has another inode, also if the first one was looked at in the tick in which it was written."""
+    monkeypatch.setattr(looking, "FINE", looking.COARSE if is_fresh else 0)
+    put("two", {name: captioned(155, title="A cup") for name in ("first.jpg", "second.jpg")})
+    done("index two --catalogue new --jobs 1 --quiet", museum)
+    os.rename("two/second.jpg", "kept")  # so that its inode is taken
+    put("two", {"second.jpg": captioned(155, title="A jug")})
+    assert "2 pictures" in done("same new --no-look", museum)[0]
+    assert run("same new", museum)[1][1].endswith("because its files are gone or have changed since they were indexed")
