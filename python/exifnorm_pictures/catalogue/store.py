@@ -467,10 +467,8 @@ class Catalogue:
         """The error of this catalogue for one of SQLite, or for a value. Only a file that SQLite can't read is damaged, not a full disk. Raises
         what a signal raised meanwhile."""
         signals.go_on_stopping()
-        if "readonly database" in str(error) and not self._is_written:
-            return NoCatalogue(
-                f"{self.name} has the journal of a run that was killed, after which it is read once a run has written to it again"
-            )
+        if "readonly database" in str(error) and not self._is_written and os.path.exists(f"{os.path.realpath(self.name)}-journal"):
+            return NoCatalogue(f"{self.name} has the journal of a run that was killed: index, or another command that writes to it, mends that")
         is_damaged = isinstance(error, (Damaged, UnicodeDecodeError)) or type(error) is sqlite3.DatabaseError
         return NoCatalogue(f"{self.name}{' is damaged' * is_damaged}: {error}")
 
