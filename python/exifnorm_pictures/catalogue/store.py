@@ -468,7 +468,9 @@ class Catalogue:
         what a signal raised meanwhile."""
         signals.go_on_stopping()
         if "readonly database" in str(error) and not self._is_written and os.path.exists(f"{os.path.realpath(self.name)}-journal"):
-            return NoCatalogue(f"{self.name} has the journal of a run that was killed: index, or another command that writes to it, mends that")
+            return NoCatalogue(
+                f"{self.name} has the journal of a run that was killed: index, or another command that writes to it, mends that"
+            )
         is_damaged = isinstance(error, (Damaged, UnicodeDecodeError)) or type(error) is sqlite3.DatabaseError
         return NoCatalogue(f"{self.name}{' is damaged' * is_damaged}: {error}")
 
