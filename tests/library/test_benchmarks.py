@@ -281,8 +281,7 @@ def test_costs_of_shards(library, tmp_path, monkeypatch):
     rows = dict(costs.over_rows(folders, counts, environment))
     assert len(rows) == 8 and sum(result.count("microseconds a picture") == 2 for result in rows.values()) == 6
     rows = dict(costs.over_files(tmp_path / "files", 40, environment))
-    shipped = [int(rows[f"bytes through the scheduler, {which}"].split()[0]) for which in ("with --shards", "without")]
-    assert 100 < shipped[0] < 2000 and 300 < shipped[1] < 2000
+    assert 100 < int(rows["bytes through the scheduler"].split()[0]) < 2000
 
 
 def test_a_page_opens_later_than_an_empty_one(of_pictures, monkeypatch):

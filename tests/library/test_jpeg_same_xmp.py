@@ -12,7 +12,23 @@ import jpegs
 from exifnorm import NotRead, Unread
 from small_blocks import CAPTION, ONE
 from small_packets import small_packets
-from test_jpeg_same import COMMENT, TURNED, UPRIGHT, URN, compared, exif, iptc, name, photoshop, picture, resource, see, segment
+from test_jpeg_same import (
+    COMMENT,
+    END,
+    NOT_ALL,
+    TURNED,
+    UPRIGHT,
+    URN,
+    compared,
+    exif,
+    iptc,
+    name,
+    photoshop,
+    picture,
+    resource,
+    see,
+    segment,
+)
 from test_jpeg_xmp import EXTENSION, MARK, SPACES, extended, packet
 
 __all__ = ["compared", "name", "see"]  # fixtures
@@ -101,6 +117,21 @@ def test_xmp_that_is_not_read(see, some, data):
         see(some, other, NotRead(1, place))
         see(other, some, NotRead(2, place))
     see(some, picture(exif(ONE)), False)
+
+
+BEHIND_DAMAGE = picture(photoshop(resource(0x03ED, bytes(16)) + b"\1" + resource(0x0424, VASE)))
+MAY_HAVE_XMP = {**NOT_ALL, "XMP behind damage": (BEHIND_DAMAGE, picture(), (False, BEHIND_DAMAGE.index(b"\x018BIM")))}
+
+
+@pytest.mark.parametrize("name", ["jpeg_same"], indirect=True)
+@pytest.mark.parametrize("some, all_read, place", MAY_HAVE_XMP.values(), ids=MAY_HAVE_XMP)
+def test_xmp_that_only_one_has_may_be_in_a_place_of_the_other(see, some, all_read, place):
+    """Whatever stands there. If the one with the place has more, they are different."""
+    some_more, more = (it.replace(END, packet(VASE) + END) for it in (some, all_read))
+    see(some, more, NotRead(1, Unread(*place)))
+    see(more, some, NotRead(2, Unread(*place)))
+    see(some_more, all_read, False)
+    see(all_read, some_more, False)
 
 
 @pytest.mark.parametrize("name", ["jpeg_same"], indirect=True)

@@ -12,8 +12,10 @@ import hashlib
 import importlib
 import json
 import mmap
+import os
 import pickle
 import pkgutil
+import subprocess
 import sys
 import tracemalloc
 import warnings
@@ -22,6 +24,8 @@ from concurrent.futures import ThreadPoolExecutor
 import pytest
 
 import exifnorm
+import exifnorm_pictures
+from exifnorm import blocks, pictures
 import made_by_tools
 from exifnorm import Caption, Field, _calls, _jpeg, _library, _listings
 from kinds import small_kinds
@@ -475,8 +479,29 @@ def test_examples(module):
 
 
 def test_public_names_are_exported():
-    public = {name for name, it in vars(exifnorm).items() if not name.startswith("_") and not hasattr(it, "__path__")}
-    assert public == {*exifnorm.__all__}
+    """What has two meanings, for a block and for a picture, is in neither list."""
+    public = {name for name, it in vars(blocks).items() if not name.startswith("_") and not hasattr(it, "__path__")}
+    assert public == {*blocks.__all__} and all(hasattr(exifnorm, name) for name in public)
+    both = {*blocks.__all__} & {*pictures.__all__}
+    assert both == {"Block", "Caption", "Field"}
+    assert {*exifnorm.__all__} == ({*blocks.__all__} | {*pictures.__all__} | {"blocks", "pictures"}) - both
+    assert {*pictures.__all__} == {*exifnorm_pictures.__all__} and {*exifnorm.__all__} <= {*dir(exifnorm)}
+    assert all(getattr(exifnorm, name) is getattr(exifnorm_pictures, name) for name in {*pictures.__all__} - both)
+    assert all(getattr(pictures, name) is getattr(exifnorm_pictures, name) for name in pictures.__all__)
+    for module in (exifnorm, pictures):
+        with pytest.raises(AttributeError, match="nothing"):
+            module.nothing
+
+
+def test_blocks_need_nothing_of_pictures():
+    code = "import sys, exifnorm; exifnorm.kind(b'\\x1c\\x02\\x78\\0\\4Vase'); print([it for it in sys.modules if 'pictures' in it])"
+    words = [sys.executable, "-c", code]
+    assert (
+        subprocess.run(
+            words, stdout=subprocess.PIPE, text=True, check=True, env=dict(os.environ, PYTHONPATH=os.pathsep.join(sys.path))
+        ).stdout
+        == "[]\n"
+    )
 
 
 def test_version(version):

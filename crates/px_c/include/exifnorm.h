@@ -298,7 +298,8 @@ struct exifnorm_unread_part {
  * those of what they mean. It is also proved that one packet which is all XMP of a picture is read, unless it has no meaning within the limits
  * of exifnorm_xmp_normalise or names extended XMP, and that a packet and extended XMP are joined, unless they can't be within these limits.
  *
- * A known difference comes first: in Exif or IPTC, as for exifnorm_jpeg_same_blocks; or in XMP, if all XMP of both pictures is read and one has none, or the forms differ.
+ * A known difference comes first: in Exif or IPTC, as for exifnorm_jpeg_same_blocks; or in XMP, if all XMP of both pictures is read, and the
+ * forms differ, or one has none and no place that exifnorm_jpeg_unread returns, where XMP may be too.
  * Otherwise, if something is not read, the pictures may differ there. Then the status is NOT_READ or SECOND_NOT_READ, and same is unchanged.
  * In each picture, the first of these places counts:
  *

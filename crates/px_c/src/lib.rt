@@ -266,9 +266,9 @@ pub extern "C" fn exifnorm_jpeg_blocks(
 
 /// Stores in `same` whether two pictures have the same Exif, IPTC and XMP: 1 if `exifnorm_jpeg_same_blocks` stores 1, and neither has XMP
 /// or both have one packet, and these, joined with their extended XMP, have equal normal forms; 0 if `exifnorm_jpeg_same_blocks` stores 0,
-/// or all XMP of both is read and is different: only one has a packet, or the forms differ. A packet that is refused as wrong has
-/// no meaning; which others have no form is tested, and no contract states it. Allocates what `compare_all_in` of
-/// px_xmp_pictures does.
+/// or all XMP of both is read and is different: the forms differ, or only one has a packet, and `exifnorm_jpeg_unread` finds nothing in the
+/// other. A packet that is refused as wrong has no meaning; which others have no form is tested, and no contract states it. Allocates what
+/// `compare_all_in` of px_xmp_pictures does.
 ///
 /// `NOT_READ`: what is read is the same, and `unread` is a place of the first picture that isn't read: as `exifnorm_jpeg_same_blocks`
 /// stores it, or else of XMP in an APP1 segment by another mark or in Photoshop's resource 0x0424, of a packet that is wrong or

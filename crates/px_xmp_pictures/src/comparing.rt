@@ -6,13 +6,13 @@ ghost use Rattle.px_pictures.specs.Faults.{IsHeadFault, IsPictureFault, CountsAl
 ghost use Rattle.px_pictures.specs.declared.faults.PictureSide.TheVariants.{Second};
 ghost use Rattle.px_pictures.specs.Metadata.{Blocks, HasBlocks};
 ghost use Rattle.px_xmp_pictures.specs.Asking.{HasNoXmp, AsksForNoXmp, AsksWithoutXmp};
-ghost use Rattle.px_xmp_pictures.specs.Xmp.{HasXmp, IsFormAnswer, IsXmpAnswer, IsXmpComparison};
+ghost use Rattle.px_xmp_pictures.specs.Xmp.{HasXmp, absent_answer, IsFormAnswer, IsXmpAnswer, IsXmpComparison};
 ghost use Rattle.px_xmp_pictures.specs.Same.{joint, IsComparisonOfAll};
 ghost use Rattle.px_xmp_pictures.specs.declared.reading.ReadXmp.{ReadXmp};
 
 use crate::reading::{ReadXmp, read_xmp};
 use px_bytes::Memory;
-use px_pictures::{Comparison, PictureFault, PictureSide, compare_metadata_in};
+use px_pictures::{Comparison, PictureFault, PictureSide, Unread, compare_metadata_in};
 
 // Whether two forms have the same bytes.
 fn are_equal(first: &[u8], second: &[u8]) -> bool
@@ -31,6 +31,16 @@ fn forms_answer(first: &[u8], second: &[u8]) -> Comparison
     Comparison::Different
 }
 
+// The answer for XMP that only the other picture has. If there is a place, it is the first of this picture that isn't read.
+fn absent_answer(side: PictureSide, unread: Option<Unread>) -> Comparison
+    ensures { result ≡ absent_answer side unread }
+{
+    match unread {
+        Some(place) => Comparison::NotRead(side, place),
+        None => Comparison::Different,
+    }
+}
+
 // The answer for the XMP of two pictures.
 fn xmp_answer(first: &ReadXmp, second: &ReadXmp) -> Comparison
     ensures { IsXmpAnswer first.now second.now result }
@@ -38,12 +48,12 @@ fn xmp_answer(first: &ReadXmp, second: &ReadXmp) -> Comparison
     match (first, second) {
         (ReadXmp::NotRead(place), _) => Comparison::NotRead(PictureSide::First, *place),
         (_, ReadXmp::NotRead(place)) => Comparison::NotRead(PictureSide::Second, *place),
-        (ReadXmp::Absent, ReadXmp::Absent) => Comparison::Same,
+        (ReadXmp::Absent(_), ReadXmp::Absent(_)) => Comparison::Same,
         (ReadXmp::Form(form), ReadXmp::Form(other)) => {
             forms_answer(form.as_slice(), other.as_slice())
         }
-        (ReadXmp::Absent, ReadXmp::Form(_)) => Comparison::Different,
-        (ReadXmp::Form(_), ReadXmp::Absent) => Comparison::Different,
+        (ReadXmp::Absent(unread), ReadXmp::Form(_)) => absent_answer(PictureSide::First, *unread),
+        (ReadXmp::Form(_), ReadXmp::Absent(unread)) => absent_answer(PictureSide::Second, *unread),
     }
 }
 
@@ -98,10 +108,11 @@ fn joint(blocks: Comparison, xmp: Comparison) -> Comparison
 }
 
 /// Compares the Exif, IPTC and XMP of two pictures. `Different`: their Exif or IPTC is different by `compare_metadata_in`, or the XMP of
-/// both is read, and only one has any, or their packets, joined with their extended XMP, have different normal forms. `Same`: none of
-/// this, and all is read. Otherwise `NotRead`, with a place of the first picture, or of the second if all of the first is read: that of
-/// `compare_metadata_in`, or else that of XMP in another place (`other_xmp`), or of a packet that is wrong or rare or whose extended
-/// XMP is missing, or, if there is a second packet or extended XMP that isn't joined, of whichever comes first.
+/// both is read, and their packets, joined with their extended XMP, have different normal forms, or only one has any, and the other has no
+/// place that `compare_metadata_in` doesn't read. `Same`: none of this, and all is read. Otherwise `NotRead`, with a place of the first
+/// picture, or of the second if all of the first is read: that of `compare_metadata_in`, or else that of XMP in another place
+/// (`other_xmp`), or of a packet that is wrong or rare or whose extended XMP is missing, or, if there is a second packet or extended XMP
+/// that isn't joined, of whichever comes first.
 ///
 /// Allocates what `compare_metadata_in` does, the joined bytes of one picture at a time again, and two forms; and of a picture with
 /// extended XMP 32 bytes for each piece, the joined pieces, and the forms of both packets and of both together. Errors as for

@@ -23,8 +23,8 @@ use px_pictures::{Metadata, MetadataFault, PictureFault, PictureSide, Unread, me
 // What is known of the XMP of a picture.
 #[derive(Drop)]
 pub(crate) enum ReadXmp {
-    // There is none.
-    Absent,
+    // There is none where it is looked for. It may be in this place, the first that a comparison of blocks doesn't read, if there is one.
+    Absent(Option<Unread>),
     // There is one packet. With the extended XMP, if there is any, it has this normal form.
     Form(Vec<u8>),
     // At this place is XMP that isn't read.
@@ -66,7 +66,7 @@ fn xmp_in(memory: &mut Memory, found: &Metadata, front: &Front) -> Result<ReadXm
         return Ok(ReadXmp::NotRead(place));
     }
     match find_xmp(front) {
-        FoundXmp::Absent => Ok(ReadXmp::Absent),
+        FoundXmp::Absent => Ok(ReadXmp::Absent(found.unread())),
         FoundXmp::NotRead { start } => match joined_form(memory, front) {
             Ok(form) => Ok(ReadXmp::Form(form)),
             Err(why) => left_at(why, start),

@@ -119,11 +119,11 @@ static int is_result(struct result one, struct result other) {
     return one.status == other.status && one.same == other.same && is_place(one.unread, other.unread) && is_fault(one.fault, other.fault);
 }
 
-/* The result for two pictures whose blocks are accepted. */
-static struct result result_of(struct picture one, struct picture two, uint32_t same) {
-    if (same && one.unread.found)
+/* The result for two pictures whose blocks are accepted: `alike` says whether each block that both have means the same in both. */
+static struct result result_of(struct picture one, struct picture two, uint32_t same, uint32_t alike) {
+    if (alike && one.unread.found)
         return (struct result){EXIFNORM_NOT_READ, UNSET, one.unread, NO_FAULT};
-    if (same && two.unread.found)
+    if (alike && two.unread.found)
         return (struct result){EXIFNORM_SECOND_NOT_READ, UNSET, two.unread, NO_FAULT};
     return (struct result){EXIFNORM_DONE, same, NO_PLACE, NO_FAULT};
 }
@@ -136,10 +136,11 @@ static void judge_refused(struct picture it, struct picture other, Fault fault) 
 }
 
 /* Both ways round, and each picture beside itself. */
-static void judge_accepted(struct picture it, struct picture other, uint32_t same) {
+static void judge_accepted(struct picture it, struct picture other, uint32_t same, uint32_t alike) {
     int law = it.unread.found || other.unread.found ? LAW_NOT_READ : LAW_PICTURES;
-    holds(law, is_result(compared(it, other), result_of(it, other, same)) && is_result(compared(other, it), result_of(other, it, same)));
-    holds(law, is_result(compared(it, it), result_of(it, it, 1)));
+    holds(law, is_result(compared(it, other), result_of(it, other, same, alike)));
+    holds(law, is_result(compared(other, it), result_of(other, it, same, alike)));
+    holds(law, is_result(compared(it, it), result_of(it, it, 1, 1)));
 }
 
 /* The places that aren't read, by the call for one picture. */
@@ -178,11 +179,11 @@ static void judge_beside(const unsigned char *block, size_t length, int is_recor
     if (cause)
         judge_refused(it, other, (Fault){cause, is_record ? EXIFNORM_IIM : EXIFNORM_EXIF, copies, place});
     else if (holds(LAW_ANSWERS, exifnorm_compare(block, length, before->bytes, before->length, &same, &none) == EXIFNORM_DONE))
-        judge_accepted(it, other, same);
+        judge_accepted(it, other, same, same);
     judge_memory(it, other);
     holds(LAW_SAME_XMP, is_result(compared_with_xmp(it, other), compared(it, other)));
-    if (!cause) /* a block more */
-        judge_accepted(it, made(1, is_record, copies + 1, block, length, segment_of(seen.blocks / 4)), 0);
+    if (!cause) /* a block more: the pictures are alike if the block means the same as the one before */
+        judge_accepted(it, made(1, is_record, copies + 1, block, length, segment_of(seen.blocks / 4)), 0, same);
 }
 
 void judge_pictures(const unsigned char *block, size_t length, uint32_t cause, uint32_t place) {

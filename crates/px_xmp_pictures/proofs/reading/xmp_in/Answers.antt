@@ -1,11 +1,19 @@
 use Rattle.std.specs.Prelude.{⊤}
 use Rattle.std.proofs.Common.{subst, sym, None, inl, inr, ◌∙◌}
 use Rattle.px_jpeg.specs.Pieces.{range}
+use Rattle.px_pictures.specs.Unread.{IsUnread}
 use Rattle.px_pictures.specs.Xmp.{IsOtherXmp}
 use Rattle.px_xmp_pictures.specs.Joined.{IsLeftPacket, IsNotJoined}
 use Rattle.px_xmp_pictures.specs.Xmp.{IsLeft}
 use Rattle.px_xmp_pictures.proofs.LeftLaws.{left_map, left_read}
 use Rattle.px_xmp_pictures.proofs.reading.xmp_in.Goals as goal
+
+pub returns-in-Absent-clause-read : goal.returns-in-Absent-clause-read
+returns-in-Absent-clause-read c = (
+  subst (λ y. IsOtherXmp y None) c.requires c.in_default.ensures,
+  sym c.find_xmp.ensures ∙ c.in-Absent.is,
+  subst (λ y. IsUnread y c.unread.result) c.requires c.unread.ensures,
+)
 
 pub returns-in-Ok-clause-read : goal.returns-in-Ok-clause-read
 returns-in-Ok-clause-read c =
