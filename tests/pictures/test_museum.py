@@ -1,6 +1,7 @@
 """Every command with every option over the made museum: what it prints is in golden/museum/COMMAND.txt, which a reviewer reads."""
 
 import argparse
+import collections
 import contextlib
 import os
 import re
@@ -30,40 +31,41 @@ creator is "Anna Moor" except texts/
 """
 LISTS = {"rules": RULES, "some": "archive/desk\narchive/work/pages.tif\n", "fields": "# not these\nIFD0:Artist\nIPTC:Keywords\n"}
 
-# What is called, one line each, in the folder that the fixture `museum` describes
+# What is called, one line each, in the folder that the fixture `museum` describes, each time as it was made; an indented line goes on with
+# what the calls before it left. No line is there twice in a command.
 CALLS = {
     "index": """
         index archive --catalogue new --jobs 1
-        index archive --catalogue new --json --quiet
-        index archive --catalogue new --again --exclude 'odd' --exclude '*.tif' --keep-old older --pixels --quiet
+            index archive --catalogue new --json --quiet
+            index archive --catalogue new --again --exclude 'odd' --exclude '*.tif' --keep-old older --pixels --quiet
         index archive/sidecars archive/notes --catalogue two --sidecars --maker-notes --whole --limit 50 --debug --jobs 1
         index --files-from some --catalogue three --jobs 1
-        index --files-from some0 -0 --catalogue three --json
+            index --files-from some0 -0 --catalogue three --json
         index nowhere --catalogue four
         index archive/work archive/texts --shards parts --jobs 1 --quiet
-        list parts --where 'title = "A vase"'
-        same parts --kind iptc
-        changed parts parts
+            list parts --where 'title = "A vase"'
+            same parts --kind iptc
+            changed parts parts
     """,
     "merge": """
         merge few plain --catalogue all
-        merge few plain --catalogue all2 --json --debug
-        same --catalogue all --no-look --kind iptc
+            merge few plain --catalogue all2 --json --debug
+            same --catalogue all --no-look --kind iptc
         merge few full --catalogue all3
         index one/notes --catalogue other --sidecars --pixels --maker-notes --jobs 1 --quiet
-        index archive/notes --catalogue another --sidecars --pixels --maker-notes --jobs 1 --quiet
-        merge other another --catalogue all4
+            index archive/notes --catalogue another --sidecars --pixels --maker-notes --jobs 1 --quiet
+            merge other another --catalogue all4
     """,
     "forget": """
         forget archive/desk archive/refused --catalogue plain
-        forget plain archive/work --json --debug
+            forget plain archive/work --json --debug
         forget --files-from some --catalogue full
-        forget --files-from some0 -0 --catalogue full --json
+            forget --files-from some0 -0 --catalogue full --json
         forget nowhere --catalogue full
     """,
     "relocate": """
         relocate few one/desk moved
-        relocate --catalogue few moved one/desk --json --debug
+            relocate --catalogue few moved one/desk --json --debug
         relocate few nowhere one
         relocate few one/desk nowhere
     """,
@@ -114,6 +116,7 @@ CALLS = {
         changed one archive --quiet --equal-numbers --debug --files-from some
         changed one archive --quiet --files-from some0 -0
         changed before plain --xlsx changed.xlsx
+        changed one/desk archive/copies --match stem
     """,
     "history": """
         history archive/work/retitled.jpg full.before full
@@ -167,11 +170,11 @@ CALLS = {
     """,
     "nightly": """
         nightly archive --catalogue night --rules rules --jobs 1
-        nightly archive --catalogue night --rules rules --jobs 1
-        nightly nowhere --catalogue night
+            nightly archive --rules rules --catalogue night --jobs 1
+            nightly nowhere --catalogue night
         nightly archive --catalogue night2 --exclude odd --maker-notes --sidecars --pixels --whole --limit 50 --debug --json
         nightly archive --catalogue before --html letter.html --jobs 1 --json
-        nightly archive --catalogue full.before --html letter/ --jobs 1
+        nightly archive --catalogue full.before --html letter/ --jobs 1 --nights 1
     """,
     "show": """
         show archive/texts/*.jpg
@@ -238,41 +241,50 @@ CALLS = {
         mend --catalogue full mended --lossless
         mend one/refused/Doubled.jpg mended.jpg3 --lossless --json --limit 50 --debug
         mend --files-from some mended --json
-        mend --files-from some0 -0 mended
+            mend --files-from some0 -0 mended
         mend one/refused mended4
     """,
 }
 # Options that no call can have here, and why
-ELSEWHERE = {"--scheduler": "needs a cluster: test_dask.py", "--elsewhere": "needs a cluster: test_dask.py", "--help": "help.txt has it"}
+ELSEWHERE = {"--scheduler": "needs a cluster: test_shard_tasks.py", "--help": "help.txt has it"}
+
+
+def chains_of(command):
+    """The calls of a command, each with those that go on with it."""
+    chains = []
+    for line in CALLS[command].strip("\n").splitlines():
+        chains += [[]] if not line.startswith(" " * 12) else []
+        chains[-1] += [line.strip()] if line.strip() else []
+    return [it for it in chains if it]
 
 
 def lines_of(command):
-    return [line.strip() for line in CALLS[command].strip().splitlines()]
+    return [line for chain in chains_of(command) for line in chain]
 
 
-def transcript(lines, folder):
-    parts = []
-    for line in lines:
-        status, printed, messages = run(line, folder)
-        messages = [
-            f"(stderr) {message}" for message in messages if not re.match(r"[\d,]+ of (at least )?[\d,]+ pictures", message)
-        ]  # progress
-        parts += [f"$ exifnorm-pictures {line}", *printed, *messages, f"(status {status})", ""]
-    text = "\n".join(parts).replace(str(folder), "F").replace(os.fsencode(folder).hex(), "F".encode().hex())
+def transcript(line, folder):
+    """A call with what it prints and its status."""
+    status, printed, messages = run(line, folder)
+    progress = re.compile(r"[\d,]+ of (at least )?[\d,]+ pictures")
+    messages = [f"(stderr) {message}" for message in messages if not progress.match(message)]
+    lines = [f"$ exifnorm-pictures {line}", *printed, *messages, f"(status {status})", ""]
+    text = "\n".join(lines).replace(str(folder), "F").replace(os.fsencode(folder).hex(), "F".encode().hex())
     text = re.sub(r', "unproved": \["[^"]*"\]', "", text)  # of a quick build
     return text.replace("\0", "\\0\n")
 
 
-@needs("exiftool", "exiv2", "PIL", "rdflib")
-@pytest.mark.parametrize("command", CALLS)
-def test_what_a_command_prints(command, museum, golden):
+@needs("exiftool", "exiv2", "PIL")
+@pytest.mark.parametrize("command, chain", [pytest.param(it, chain, id=chain[0]) for it in CALLS for chain in chains_of(it)])
+def test_what_a_command_prints(command, chain, museum, golden):
     for name, text in LISTS.items():
         (museum / name).write_text(text, encoding="utf-8")
     (museum / "some0").write_text(LISTS["some"].replace("\n", "\0"), encoding="utf-8")
     (museum / "block").write_bytes(made_museum.BLOCKS["Overlap"])
     shutil.copytree("one/desk", "moved", dirs_exist_ok=True)
     os.makedirs("mended", exist_ok=True)
-    golden(f"museum/{command}.txt", transcript(lines_of(command), museum))
+    heads = [f"$ exifnorm-pictures {line}\n" for line in lines_of(command)]
+    for line in chain:
+        golden.part(f"museum/{command}.txt", transcript(line, museum), heads)
 
 
 def cell(column, value):
@@ -312,11 +324,14 @@ def test_what_a_page_says(museum, golden):
     """The texts of a report: its contents with their counts, and each list."""
     (museum / "rules").write_text(RULES, encoding="utf-8")
     run("report full --since full.before --rules rules --html page.html", museum)
-    page = Text((museum / "page.html").read_text(encoding="utf-8"))
+    html = (museum / "page.html").read_text(encoding="utf-8")
+    page = Text(html)
     assert (page.wrong, page.open) == ([], [])
     lines = []
     for name, texts in {"contents": page.found["nav"], **page.sections, "footer": page.found["footer"]}.items():
         lines += ["", f"[{name}]", *filter(None, (" ".join(it.split()) for it in " ".join(texts).split("\n")))] if name else []
+    lines += ["", "[classes, which the colours are for]"]
+    lines += [f"{name}: {count}" for name, count in sorted(collections.Counter(re.findall(r' class="([^"]*)"', html)).items())]
     golden("museum/page.txt", "\n".join(lines[1:]).replace(str(museum), "F") + "\n")
 
 

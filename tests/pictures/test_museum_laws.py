@@ -10,6 +10,7 @@ import random
 import re
 import shutil
 import sqlite3
+import time
 
 import pytest
 from made_museum import TIME, captioned, put
@@ -215,7 +216,7 @@ def test_a_limit_is_named_by_each_command(museum, monkeypatch):
 def test_nothing_of_the_current_folder_is_run(museum, monkeypatch):
     """Modules of the current folder that have the names of packages, with an empty part in PYTHONPATH, as many people have it."""
     monkeypatch.setenv("PYTHONPATH", str(TOP / "python") + os.pathsep)
-    for name in ("PIL", "json", "jinja2", "rdflib", "struct"):
+    for name in ("PIL", "json", "jinja2", "struct"):
         (museum / f"{name}.py").write_text(f"open({str(museum / 'was-run')!r}, 'w')", encoding="utf-8")
     (museum / "rules").write_text("every picture needs creator\n", encoding="utf-8")
     run("report full --html page.html", museum)
@@ -232,4 +233,16 @@ def test_a_replaced_file_is_not_the_one_that_was_looked_at(is_fresh, museum, mon
     os.rename("two/second.jpg", "kept")  # so that its inode is taken
     put("two", {"second.jpg": captioned(155, title="A jug")})
     assert "2 pictures" in done("same new --no-look", museum)[0]
+    assert run("same new", museum)[1][1].endswith("because its files are gone or have changed since they were indexed")
+
+
+def test_an_edit_that_keeps_the_size_and_the_time_is_noticed(museum, monkeypatch):
+    """As of a tool that writes into the file, and sets its time back: only the time of the last change of its marks is another one."""
+    monkeypatch.setattr(looking, "FINE", 0)
+    put("two", {name: captioned(155, title="A cup") for name in ("first.jpg", "second.jpg")})
+    done("index two --catalogue new --jobs 1 --quiet", museum)
+    time.sleep(0.02)  # the next tick
+    with open("two/second.jpg", "r+b") as file:
+        file.write(captioned(155, title="A jug"))
+    os.utime("two/second.jpg", (TIME, TIME))
     assert run("same new", museum)[1][1].endswith("because its files are gone or have changed since they were indexed")
