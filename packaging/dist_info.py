@@ -19,8 +19,8 @@ from typing import Any, Iterator
 def extras(table: dict[str, list[str]]) -> Iterator[tuple[str, str]]:
     """The fields of optional dependencies.
 
-    >>> list(extras({"xmp": ["rdflib"]}))
-    [('Provides-Extra', 'xmp'), ('Requires-Dist', "rdflib ; extra == 'xmp'")]
+    >>> list(extras({"xlsx": ["XlsxWriter"]}))
+    [('Provides-Extra', 'xlsx'), ('Requires-Dist', "XlsxWriter ; extra == 'xlsx'")]
     """
     for name in sorted(table):
         yield "Provides-Extra", name

@@ -1,4 +1,12 @@
-"""The meaning of a picture's metadata block, its normal form, and whether two blocks mean the same.
+"""Reads the metadata of pictures, and compares them by what they mean.
+
+    >>> import exifnorm
+    >>> bowl = exifnorm.read("samples/before/ceramics/2003-12-bowl.jpg")  # doctest: +SKIP
+    >>> bowl["IFD0:Model"], bowl.texts("keywords")  # doctest: +SKIP
+    ('Canon EOS 5D Mark II', ('bowl', 'celadon'))
+
+`read`, `read_bytes`, `read_all`, `compare` and `Reader` are about whole pictures; `exifnorm.pictures` has them too, with all of their classes. What
+follows is about single blocks, which `exifnorm.blocks` has too: the meaning of a block, its normal form, and whether two mean the same.
 
 A block is an Exif block, perhaps after the six bytes ``Exif\\0\\0`` that precede it in a JPEG file, or a block of IPTC-NAA IIM
 DataSets. `jpeg_blocks` takes the blocks out of a JPEG's bytes, and `jpeg_xmp` the packet of XMP; `jpeg_same` compares the Exif, IPTC and XMP
@@ -6,8 +14,8 @@ of two. `xmp_normal` returns the normal form of a packet, and `xmp_properties` i
 picture file is opened. Two blocks have the same normal form, byte for byte, exactly if they mean the same. A block that breaks the
 rules raises `Refused`, with the first fault and its byte offset; it is never repaired.
 
-A block is best given as bytes. A bytearray, a memoryview, an mmap, or any other object with contiguous bytes is copied first. Calls
-can run in several threads at once.
+A block is best given as bytes. A bytearray, a memoryview, an mmap, or any other object with contiguous bytes is copied first; one
+whose bytes are apart, as `memoryview(block)[::2]`, raises BufferError. Calls can run in several threads at once.
 
     >>> import exifnorm
     >>> block = bytes.fromhex("4d4d002a00000008 0001 0112 0003 00000001 00060000 00000000")
@@ -24,6 +32,25 @@ JPEGs have the same Exif, IPTC and XMP (`jpeg_same`), that the normal form of a 
 packet with a meaning has a form, within the limits of `xmp_normal`. The Python code that makes these calls, and objects of what they return,
 is tested.
 """
+
+TYPE_CHECKING = False  # that of `typing`, which takes long to import
+if TYPE_CHECKING:
+    from . import blocks as blocks, pictures as pictures
+    from exifnorm_pictures import (
+        Comparison as Comparison,
+        Conflict as Conflict,
+        Difference as Difference,
+        NoPicture as NoPicture,
+        NotReadable as NotReadable,
+        Picture as Picture,
+        Position as Position,
+        Reader as Reader,
+        Refusal as Refusal,
+        compare as compare,
+        read as read,
+        read_all as read_all,
+        read_bytes as read_bytes,
+    )
 
 from ._calls import Block, digest, kind, normal, same, show, version
 from ._captions import Caption, captions
@@ -51,18 +78,24 @@ from ._xmp import xmp_normal, xmp_properties
 __version__ = "1.0.0"
 
 __all__ = [
-    "Block",
-    "Caption",
-    "Field",
+    "Comparison",
+    "Conflict",
+    "Difference",
     "HeadRefused",
     "JpegBlock",
     "JpegPart",
     "LIMIT",
     "LibraryMissing",
+    "NoPicture",
     "NormalTooLong",
     "NotRead",
+    "NotReadable",
+    "Picture",
     "PictureRefused",
+    "Position",
     "Ratio",
+    "Reader",
+    "Refusal",
     "Refused",
     "Resource",
     "Status",
@@ -77,7 +110,9 @@ __all__ = [
     "XmpStructure",
     "XmpText",
     "XmpValue",
+    "blocks",
     "captions",
+    "compare",
     "digest",
     "fields",
     "jpeg_blocks",
@@ -89,9 +124,47 @@ __all__ = [
     "kind",
     "normal",
     "photoshop_resources",
+    "pictures",
+    "read",
+    "read_all",
+    "read_bytes",
     "same",
     "show",
     "version",
     "xmp_normal",
     "xmp_properties",
 ]
+
+_OF_BLOCKS = Block, Caption, Field  # which are there as before, and not among the names above: a picture has others
+_OF_PICTURES = (
+    "Comparison",
+    "Conflict",
+    "Difference",
+    "NoPicture",
+    "NotReadable",
+    "Picture",
+    "Position",
+    "Reader",
+    "Refusal",
+    "compare",
+    "read",
+    "read_all",
+    "read_bytes",
+)
+
+if not TYPE_CHECKING:  # a type checker would take any name for one of these
+
+    def __getattr__(name):
+        """The calls for whole pictures are imported when a program asks for one: their package takes longer than this one."""
+        from importlib import import_module
+
+        if name in ("blocks", "pictures"):
+            return import_module(f".{name}", __name__)
+        if name in _OF_PICTURES:
+            found = globals()[name] = getattr(import_module("exifnorm_pictures"), name)
+            return found
+        raise AttributeError(f"module {__name__!r} has no attribute {name!r}")
+
+
+def __dir__() -> "list[str]":
+    return sorted({*globals(), *__all__})

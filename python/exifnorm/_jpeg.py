@@ -300,8 +300,8 @@ def jpeg_same(first: Block, second: Block) -> Union[bool, NotRead]:
 
     If they are the same as far as both are read, and something in one of them isn't read, the result is its place, a `NotRead`, which has no
     truth value: `if` raises TypeError, so nobody takes it for the same. Ask `is True` or `is False` where that may be. It is a place that
-    `jpeg_unread` returns; or XMP by another mark or in Photoshop's resource 0424; a packet that `xmp_normal` refuses; a second packet; or extended
-    XMP that is missing, or that can't be joined to the packet.
+    `jpeg_unread` returns, which may have what only the other picture has, XMP too; or XMP by another mark or in Photoshop's resource 0424; a
+    packet that `xmp_normal` refuses; a second packet; or extended XMP that is missing, or that can't be joined to the packet.
 
     The bytes may be whole files or only their first bytes. Raises PictureRefused, with the first fault, if one of them doesn't begin with
     the whole head of a JPEG, or has a block that breaks the rules; MemoryError and LibraryMissing.

@@ -12,6 +12,7 @@ In a program:
     ('Canon EOS 5D Mark II', Fraction(1, 60), ('bowl', 'celadon'))
 
 - `read` and `read_bytes` return a `Picture`, whose fields are found by name; `read_all` reads many in several processes
+- `Reader` reads one after another within limits of time and size, also without starting other programs
 - `compare` returns a `Comparison` of two pictures
 - `NoPicture` and `NotReadable` are raised for what can't be read
 
@@ -24,7 +25,8 @@ TYPE_CHECKING = False  # that of `typing`, which isn't imported here: a program 
 if TYPE_CHECKING:
     from typing import List
 
-    from .api import Comparison, Difference, NoPicture, NotReadable, compare, read, read_bytes
+    from .api import Comparison, Difference, NoPicture, NotReadable, Reader, compare, read, read_bytes
+    from .comparison.conflicts import Conflict
     from .fields.field import Field
     from .fields.labels import Caption
     from .many import read_all
@@ -34,12 +36,14 @@ __all__ = [
     "Block",
     "Caption",
     "Comparison",
+    "Conflict",
     "Difference",
     "Field",
     "NoPicture",
     "NotReadable",
     "Picture",
     "Position",
+    "Reader",
     "Refusal",
     "compare",
     "read",
@@ -48,23 +52,24 @@ __all__ = [
 ]
 
 
-_HOMES = {
-    "api": ("Comparison", "Difference", "NoPicture", "NotReadable", "compare", "read", "read_bytes"),
-    "many": ("read_all",),
-    "picture": ("Block", "Picture", "Position", "Refusal"),
+_MODULES = {  # of the names
+    "api": ("Comparison", "Difference", "NoPicture", "NotReadable", "Reader", "compare", "read", "read_bytes"),
+    "comparison.conflicts": ("Conflict",),
     "fields.field": ("Field",),
     "fields.labels": ("Caption",),
+    "many": ("read_all",),
+    "picture": ("Block", "Picture", "Position", "Refusal"),
 }
 
-if not TYPE_CHECKING:  # a checker of types finds a name that isn't there
+if not TYPE_CHECKING:  # a type checker would take any name for one of these
 
     def __getattr__(name):
         """What a program asks for is imported then, which the commands need not wait for."""
-        from importlib import import_module
-
-        for module, names in _HOMES.items():
+        for module, names in _MODULES.items():
             if name in names:
-                globals()[name] = found = getattr(import_module("." + module, __name__), name)
+                from importlib import import_module
+
+                found = globals()[name] = getattr(import_module(f".{module}", __name__), name)
                 return found
         raise AttributeError(f"module {__name__!r} has no attribute {name!r}")
 

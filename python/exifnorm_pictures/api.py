@@ -2,28 +2,33 @@
 
 from __future__ import annotations
 
+import contextlib
 import errno
 import io
 import os
 import re
-from typing import NamedTuple, Optional, Tuple, Union
+import threading
+from typing import TYPE_CHECKING, Callable, Iterator, NamedTuple, Optional, Tuple, Union
 
-from .comparison import differing
 from .comparison.origin import Origin, Whole
-from .extract import extraction, programs
+from .extract import extraction
 from .extract.file_objects import BinaryFile, FileObject, own_errors, seekable
 from .extract.formats.streams import File, Parts
 from .fields.field import Field
 from .files import opening
 from .files.session import Session
 from .judge.judge import judge_all
-from .model.budgets import Budget, TooMuch
+from .model.budgets import PROGRAM_SECONDS, Budget, TooMuch
+from .model.errors import Failure
 from .model.found import EXIF, NAMES
 from .model.problems import Problem
 from .model.records import PictureRecord, Stamp
 from .model.results import Result
 from .model.texts import described
 from .picture import Picture
+
+if TYPE_CHECKING:
+    from .comparison import differing
 
 PathLike = Union[str, bytes, "os.PathLike[str]", "os.PathLike[bytes]"]
 Source = Union[PathLike, BinaryFile]
@@ -33,7 +38,7 @@ Source = Union[PathLike, BinaryFile]
 
 
 class NoPicture(ValueError):
-    """The file is no picture that exifnorm or ExifTool knows."""
+    """The file is no picture that exifnorm or ExifTool knows; or, of a reader without programs, in no format that is read here."""
 
 
 class NotReadable(Exception):
@@ -55,16 +60,19 @@ class NotReadable(Exception):
 # Reading
 
 
-def read(source: Source, *, whole: bool = False) -> Picture:
+def read(source: Source, *, name: Optional[str] = None, whole: bool = False) -> Picture:
     """Reads the metadata of a picture from a path, or from a binary file object.
 
     A file object is read from its position to its end. If it can seek, only the needed parts are read, and its position is restored. If it
     can't, or decompresses, it is first copied to a temporary file of at most 1 GB. With `whole` every byte of a JPEG is read, not only its
     head and tail. No file is changed.
 
-    Raises OSError if the file can't be read, `NoPicture`, and `NotReadable`. A refused block raises nothing: see `Picture.refusals`.
+    Give the `name` of an upload, whose ending identifies XMP files and some raw pictures, if its file has another one or none.
+
+    Raises OSError if the file can't be read, `NoPicture`, and `NotReadable`. A refused block raises nothing: see `Picture.refusals`. A `Reader`
+    has limits, and can do without other programs.
     """
-    return _read(source, whole)
+    return _read(source, _Limits(whole), name=name)
 
 
 def read_bytes(data: bytes, *, name: str = "", whole: bool = False) -> Picture:
@@ -72,12 +80,85 @@ def read_bytes(data: bytes, *, name: str = "", whole: bool = False) -> Picture:
 
     Give the name too if you have it: its ending identifies XMP files and some raw pictures.
     """
+    return _read_bytes(data, name, _Limits(whole))
+
+
+class Reader:
+    """Reads pictures one after another with the same limits, and with one process of ExifTool, which starts if a picture needs it. Use it in a
+    `with`, at whose end that process ends.
+
+    - `programs`: whether other programs may be started, ExifTool and exiv2. With False none is, whatever the bytes are: a file in no format that
+      is read here is `NoPicture`, and a damaged one `NotReadable`
+    - `seconds`: of a clock for each picture, in which other programs count too. It is looked at between two steps, so that a read may take
+      somewhat longer; but a file object that doesn't return isn't left
+    - `most`: the bytes of a file or a file object; a longer one isn't read
+    - `whole`: whether each byte of a JPEG is read, as with `read`
+
+    A picture over a limit is `NotReadable`, with the problem "TooMuch", or "TooSlow" if a program took too long. Several threads may use a
+    reader, and wait for each other; another process can't.
+    """
+
+    def __init__(self, *, programs: bool = True, seconds: float = PROGRAM_SECONDS, most: Optional[int] = None, whole: bool = False) -> None:
+        if not seconds > 0 or (most is not None and most < 0):
+            raise ValueError("a limit is above 0")
+        self._limits = _Limits(whole, seconds, most)
+        self._session, self._lock = Session(seconds, programs=programs), threading.Lock()
+        self._is_closed = False
+
+    def read(self, source: Source, *, name: Optional[str] = None) -> Picture:
+        """Reads a picture, as the function `read` does."""
+        with self._reading() as session:
+            return _read(source, self._limits, session, name)
+
+    def read_bytes(self, data: bytes, *, name: str = "") -> Picture:
+        """Reads a picture in memory, as the function `read_bytes` does."""
+        with self._reading() as session:
+            return _read_bytes(data, name, self._limits, session)
+
+    @contextlib.contextmanager
+    def _reading(self) -> Iterator[Session]:
+        with self._lock:
+            if self._is_closed:
+                raise ValueError("the reader is closed")
+            if self._session.pid != os.getpid():
+                raise ValueError("the reader is another process's")
+            with self._session.one_clock():
+                yield self._session
+
+    def close(self) -> None:
+        """Ends ExifTool, if it was started. Then no picture can be read."""
+        with self._lock:
+            self._is_closed = True
+            self._session.close()
+
+    def __enter__(self) -> "Reader":
+        return self
+
+    def __exit__(self, *_: object) -> None:
+        self.close()
+
+
+class _Limits(NamedTuple):
+    """How much of a picture is read: with `seconds` of a clock and `most` bytes, if they are given."""
+
+    whole: bool = False
+    seconds: Optional[float] = None
+    most: Optional[int] = None
+
+    def budget(self) -> Budget:
+        """What a picture may cost from now on."""
+        return Budget(*self)
+
+
+def _read_bytes(data: bytes, name: str, limits: _Limits, session: Optional[Session] = None) -> Picture:
     if not isinstance(data, (bytes, bytearray, memoryview)):
         raise TypeError(f"the bytes of a picture are expected, not {type(data).__name__}")
-    return _read_object(io.BytesIO(data), name or "(bytes)", whole, False)
+    return _read_object(io.BytesIO(bytes(data)), name or "(bytes)", limits, session)
 
 
-def _read(source: Source, whole: bool, session: Optional[Session] = None, compares: bool = False) -> Picture:
+def _read(
+    source: Source, limits: _Limits, session: Optional[Session] = None, name: Optional[str] = None, compares: bool = False
+) -> Picture:
     """Reads a picture. With `compares` what is compared of a file object besides its metadata is read too."""
     if not isinstance(source, (str, bytes, os.PathLike)):
         with own_errors():
@@ -85,11 +166,15 @@ def _read(source: Source, whole: bool, session: Optional[Session] = None, compar
         if not is_file:
             raise TypeError(f"a path or a binary file is expected, not {type(source).__name__}; of bytes read_bytes reads a picture")
         with own_errors():
-            nothing, name = source.read(0), getattr(source, "name", "")
+            nothing, given = source.read(0), getattr(source, "name", "")
+            own = str(os.fsdecode(given)) if isinstance(given, (str, bytes)) else ""
         if not isinstance(nothing, (bytes, type(None))):
             raise TypeError("a binary file is expected: open it in binary mode")
-        return _read_object(source, os.fsdecode(name) if name and isinstance(name, (str, bytes)) else "(file)", whole, compares)
-    path = os.fsencode(source)
+        return _read_object(source, name or own or "(file)", limits, session, compares)
+    try:
+        path = os.fsencode(source)
+    except UnicodeEncodeError:
+        raise OSError(errno.EINVAL, "no file has such a name", source) from None
     try:
         number, size = opening.opened(path)
     except OSError as error:
@@ -98,15 +183,17 @@ def _read(source: Source, whole: bool, session: Optional[Session] = None, compar
         error.filename = os.fspath(source)  # as open() has it
         raise
     origin = Origin(path, Stamp.of(os.fstat(number)))
-    return _picture(File(number, size, Budget(whole)), path, whole, origin, session)
+    called = _octets(name) if name else path
+    return _picture(lambda: File(number, size, limits.budget(), path), called, limits.whole, origin, session)
 
 
-def _read_object(source: BinaryFile, name: str, whole: bool, compares: bool) -> Picture:
+def _read_object(source: BinaryFile, name: str, limits: _Limits, session: Optional[Session], compares: bool = False) -> Picture:
     path = _octets(name)
     try:
-        with seekable(source, Budget(whole)) as file:
+        budget = limits.budget()
+        with seekable(source, budget) as file:
             origin = Origin()
-            picture = _picture(FileObject(file, Budget(whole)), path, whole, origin)
+            picture = _picture(lambda: FileObject(file, budget.again()), path, limits.whole, origin, session)
             if compares:
                 origin.keep(Whole.of(lambda budget: FileObject(file, budget), path))
             return picture
@@ -123,25 +210,38 @@ def _octets(name: str) -> bytes:
     return os.fsencode(re.sub("[\ud800-\udc7f\udd00-\udfff]", "?", name))
 
 
-def _picture(file: Parts, path: bytes, whole: bool, origin: Origin, session: Optional[Session] = None) -> Picture:
+def _picture(opened: Callable[[], Parts], path: bytes, whole: bool, origin: Origin, session: Optional[Session]) -> Picture:
     name = os.fsdecode(path)
     try:
+        file = opened()
         blocks = extraction.blocks_in(file, path, whole, session)
         if blocks.problem == Problem.NO_PICTURE:
             raise NoPicture(f"{name}: {blocks.detail}")
         if blocks.problem:
             raise NotReadable(blocks.problem, blocks.detail, name)
-        return Picture(path, blocks, judge_all(blocks), origin)
+        records = judge_all(blocks)
+        file.budget.stop_clock()
+        return Picture(path, blocks, records, origin)
     except (OSError, MemoryError, NoPicture, NotReadable):
         raise
     except TooMuch as why:
         raise NotReadable(Problem.TOO_MUCH, str(why), name) from None
-    except programs.Missing as why:
-        raise NotReadable(Problem.NEEDS_EXIFTOOL, str(why), name) from None
-    except programs.Failed as why:
-        raise NotReadable(Problem.TOO_SLOW if isinstance(why, programs.TooSlow) else Problem.TOOL_FAILED, str(why), name) from None
-    except Exception as error:  # a mistake of a reader affects only this picture
+    except Exception as error:
+        problem = _of_program(error)
+        if problem:
+            raise NotReadable(problem, str(error), name) from None
+        # a mistake of a reader affects only this picture
         raise NotReadable(Problem.INTERNAL_ERROR, f"{Problem.INTERNAL_ERROR.text}: {described(error)}", name) from error
+
+
+def _of_program(error: Exception) -> Optional[Problem]:
+    """The problem of a picture that another program doesn't read; None for any other error."""
+    if not isinstance(error, Failure):
+        return None
+    from .extract import programs  # which most pictures don't need
+
+    kinds = ((programs.Missing, Problem.NEEDS_EXIFTOOL), (programs.TooSlow, Problem.TOO_SLOW), (programs.Failed, Problem.TOOL_FAILED))
+    return next((problem for kind, problem in kinds if isinstance(error, kind)), None)
 
 
 # Comparing
@@ -211,7 +311,7 @@ def compare(before: Union[Picture, Source], after: Union[Picture, Source], *, as
     from .comparison import two_pictures  # which not every program needs
     from .comparison.coded import Coded
 
-    pair = [it if isinstance(it, Picture) else _read(it, False, compares=True) for it in (before, after)]
+    pair = [it if isinstance(it, Picture) else _read(it, _Limits(), compares=True) for it in (before, after)]
     (first, head), (second, other_head) = ((_with_pixels(it), whole and whole.head) for it in pair for whole in [it.origin.whole()])
     are_files = all(it.origin.path for it in pair)
     with Session() as session:

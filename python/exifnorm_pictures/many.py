@@ -12,7 +12,7 @@ from typing import Deque, Iterable, Iterator, List, Optional, Sequence, Tuple, U
 
 from exifnorm import LibraryMissing
 
-from .api import NoPicture, NotReadable, PathLike, _read
+from .api import NoPicture, NotReadable, PathLike, _Limits, _read
 from .files.session import Session
 from .model.problems import Problem
 from .picture import Picture
@@ -45,7 +45,7 @@ def _here(paths: Iterable[PathLike]) -> Iterator[Tuple[PathLike, Result]]:
 
 def _result(path: PathLike, session: Session) -> Result:
     try:
-        return _read(path, False, session)
+        return _read(path, _Limits(), session)
     except LibraryMissing:  # an OSError too, but not of this file
         raise
     except (OSError, NoPicture, NotReadable) as error:

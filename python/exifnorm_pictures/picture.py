@@ -5,14 +5,31 @@ from __future__ import annotations
 
 import os
 import re
-from typing import TYPE_CHECKING, Any, Dict, Iterable, Iterator, List, NamedTuple, Optional, Sequence, Tuple
+from typing import (
+    TYPE_CHECKING,
+    Any,
+    Dict,
+    Iterable,
+    Iterator,
+    List,
+    Mapping,
+    NamedTuple,
+    Optional,
+    Sequence,
+    Tuple,
+    Type,
+    TypeVar,
+    Union,
+    overload,
+)
 
 from .comparison.origin import Origin
 from .extract.extraction import too_much
 from .fields.block_fields import fields_of
+from .fields.plain_names import spellings
 from .judge.judge import judge_all
 from .model.budgets import TooMuch
-from .model.found import Blocks, cut, not_known
+from .model.found import EXIF, IPTC, NAMES, STANDARDS, XMP, Blocks, cut, not_known
 from .model.records import BlockRecord, PictureRecord
 from .model.steps import loses
 
@@ -20,6 +37,7 @@ if TYPE_CHECKING:
     from datetime import datetime
 
     from .catalogue.texts import PictureTexts
+    from .comparison.conflicts import Conflict
     from .fields.field import Field
     from .fields.labels import Caption
     from .fields.typed import Value
@@ -40,7 +58,9 @@ class NoField(KeyError):
         return f"{repr(name)[:100]}: the picture has no such field" + (meant(name, self._names) if isinstance(name, str) else "")
 
 
-_NO_FIELD: Any = object()
+_NOTHING: Any = object()  # what `get` returns for no field
+D = TypeVar("D")
+T = TypeVar("T")
 
 
 class Refusal(NamedTuple):
@@ -152,9 +172,13 @@ class Block:
         return f"Block(name={self.name!r}, status={self.status!r}, where={self.where!r})"
 
 
-class Picture:
-    """The metadata of a picture, as they were when it was read. `picture[name]` is the value of the first field with this name, `name in picture`
-    tells whether there is one, and a loop over a picture has the names."""
+class Picture(Mapping[str, "Value"]):
+    """The metadata of a picture, as they were when it was read: a mapping of names to values, which doesn't change. `picture[name]` is the value of
+    the first field with this name, `name in picture` tells whether there is one, and a loop over a picture has the names.
+
+    Two pictures are equal if each part of both was read, and their Exif, IPTC and XMP mean the same. A picture without a field is empty, and
+    false as an empty dict is.
+    """
 
     __slots__ = ("_name", "_read", "_records", "_origin", "_blocks", "_fields", "_names", "_texts", "_record")
 
@@ -260,8 +284,8 @@ class Picture:
     def key(self) -> Optional[str]:
         """A text that two pictures share exactly if their Exif, IPTC and XMP mean the same. None if there is no metadata, a block is refused or a
         part was not read, so that two such pictures never seem to be equal."""
-        meanings = self.record.meanings
-        if not self.is_whole or None in meanings or not any(meanings):
+        meanings = self._meaning
+        if meanings is None or not any(meanings):
             return None
         return "+".join(it or "-" for it in meanings)
 
@@ -293,10 +317,6 @@ class Picture:
         """The names of all fields, each once, in the order of the file."""
         return tuple(dict.fromkeys([field.name for fields in self._lists() for field in fields]))
 
-    def keys(self) -> Tuple[str, ...]:
-        """The same, by which `dict(picture)` has all values."""
-        return self.names
-
     def _own(self, name: str) -> Iterator[Tuple[BlockRecord, List[Field]]]:
         """The fields with a name of this program, of each block that has some."""
         if self._names is None:
@@ -325,11 +345,29 @@ class Picture:
         members of structures as ExifTool has them ("XMP-iptcExt:LocationCreatedCity")."""
         return tuple([field.in_block(record.name) for record, fields in self._named(name) for field in fields])
 
-    def get(self, name: str, default: Value = None) -> Value:
-        """The value of the first field with a name; of a DataSet that is repeated a tuple of all its values."""
+    @overload
+    def get(self, name: str) -> Value:
+        ...
+
+    @overload
+    def get(self, name: str, default: Union[Value, D]) -> Union[Value, D]:
+        ...
+
+    @overload
+    def get(self, name: str, default: None = None, *, type: Type[T]) -> Optional[T]:
+        ...
+
+    @overload
+    def get(self, name: str, default: D, *, type: Type[T]) -> Union[T, D]:
+        ...
+
+    def get(self, name: str, default: Any = None, *, type: Optional[Type[Any]] = None) -> Any:
+        """The value of the first field with a name; of a DataSet that is repeated a tuple of all its values. With a `type`, such as int, a value of
+        another type counts as none."""
         for _, fields in self._named(name):
-            same = [it for it in fields if it.name == fields[0].name]
-            return same[0].value if len(same) == 1 else tuple([it.value for it in same])
+            same = fields if len(fields) == 1 else [it for it in fields if it.name == fields[0].name]
+            value = same[0].value if len(same) == 1 else tuple([it.value for it in same])
+            return value if type is None or isinstance(value, type) else default
         return default
 
     def _first(self, name: str) -> Value:
@@ -337,8 +375,8 @@ class Picture:
         return next((fields[0].value for _, fields in self._own(name)), None)
 
     def __getitem__(self, name: str) -> Value:
-        found = self.get(name, _NO_FIELD) if isinstance(name, str) else _NO_FIELD
-        if found is _NO_FIELD:
+        found = self.get(name, _NOTHING) if isinstance(name, str) else _NOTHING
+        if found is _NOTHING:
             raise NoField(name, self.names)
         return found
 
@@ -347,6 +385,23 @@ class Picture:
 
     def __iter__(self) -> Iterator[str]:
         return iter(self.names)
+
+    def __len__(self) -> int:
+        return len(self.names)
+
+    def __eq__(self, other: object) -> bool:
+        if not isinstance(other, Picture):
+            return NotImplemented
+        return self is other or (self._meaning is not None and self._meaning == other._meaning)
+
+    def __hash__(self) -> int:
+        return object.__hash__(self) if self._meaning is None else hash(self._meaning)
+
+    @property
+    def _meaning(self) -> Optional[Tuple[Optional[str], ...]]:
+        """What equal pictures share; None of one that is equal to no other."""
+        meanings = tuple(self.record.meanings)
+        return meanings if self.is_whole and None not in meanings else None
 
     @property
     def captions(self) -> Tuple[Caption, ...]:
@@ -365,8 +420,9 @@ class Picture:
         return self._texts
 
     def texts(self, label: str) -> Tuple[str, ...]:
-        """The texts of a label: of several fields those that `captions --csv` prints, the first that is whole and not a camera's. Raises `ValueError`
-        for a word that is no label."""
+        """The texts of a label. Of several fields those that are whole, on which two standards agree, and that no camera wrote; of such the first in
+        the order Exif, XMP, IPTC, by the guidelines of the Metadata Working Group. IPTC comes before XMP if it was changed after Photoshop noted
+        its digest (resource 0425). `conflicts` has the others. Raises `ValueError` for a word that is no label."""
         from .comparison.conflicts import chosen, conflicts
         from .fields.labels import LABEL_WORDS, label_of
 
@@ -378,8 +434,16 @@ class Picture:
             perhaps = f" (perhaps {near[0]!r} is meant)" if near else ""
             raise ValueError(f"{repr(label)[:100]} is no label{perhaps}; the labels are {', '.join(LABEL_WORDS)}")
         of_label = [it for it in self.labelled.texts if it.label == word]
-        best = chosen(of_label, conflicts(self.labelled.texts) if len(of_label) > 1 else [])
+        order = STANDARDS if self._read.is_iptc_changed() else (NAMES[EXIF], NAMES[XMP], NAMES[IPTC])
+        best = chosen(of_label, conflicts(self.labelled.texts) if len(of_label) > 1 else [], order)
         return best.texts if best else ()
+
+    @property
+    def conflicts(self) -> Tuple[Conflict, ...]:
+        """The labels for which Exif, IPTC and XMP have different texts, and the position if it differs: how, and all texts with their fields."""
+        from .comparison.conflicts import conflicts
+
+        return tuple(it for it in conflicts(self.labelled.texts, self.labelled.located) if not it.is_alike)
 
     @property
     def taken(self) -> Optional[datetime]:
@@ -414,8 +478,7 @@ def _by_name(fields: Sequence[Field]) -> Dict[str, List[Field]]:
     """Fields by all spellings of their names."""
     names: Dict[str, List[Field]] = {}
     for field in fields:
-        folded = field.name.casefold()
-        for spelling in {folded, folded.partition(":")[2], field.key.casefold()}:
+        for spelling in spellings(field.directory, field.tag):
             names.setdefault(spelling, []).append(field)
     return names
 
