@@ -1,9 +1,10 @@
 #!/usr/bin/env python3
-"""Takes the pictures of the report for the tutorial and the README, with Chromium. Needs Pillow.
+"""Takes the pictures of the report and of the page for the tutorial and the README, with Chromium. Needs Pillow.
 
-  docs/screenshots.py [COMMAND]
+  docs/screenshots.py [COMMAND [PAGE]]
 
-COMMAND is exifnorm-pictures; by default it is the one of this clone. The pictures show the report that the tutorial makes.
+COMMAND is exifnorm-pictures; by default it is the one of this clone. The pictures show the report that the tutorial makes. PAGE is the page that
+compares pictures in a browser; by default docs/exifnorm.html. Its picture shows the samples of both days.
 """
 
 from __future__ import annotations
@@ -18,6 +19,10 @@ from pathlib import Path
 from PIL import Image, ImageChops
 
 DOCS = Path(__file__).resolve().parent
+sys.path.insert(0, str(DOCS.parent / "tests" / "web"))
+
+from browser import Browser
+
 SAMPLES = DOCS.parent / "samples"
 WIDTH, HEIGHT, COLOURS, MARGIN = 920, 2600, 96, 12
 # the name of each picture, and the titles of the sections that it shows
@@ -70,22 +75,46 @@ def take(page: str, folder: Path) -> Image.Image:
     own = ["--headless", "--no-sandbox", "--disable-gpu", f"--user-data-dir={folder / 'chromium'}"]
     words = ["chromium", *own, *size, f"--screenshot={folder / 'shown.png'}", f"file://{folder / 'shown.html'}"]
     subprocess.run(words, check=True, stderr=subprocess.DEVNULL, timeout=120)
-    picture = Image.open(folder / "shown.png").convert("RGB")
-    empty = Image.new("RGB", picture.size, picture.getpixel((2, HEIGHT - 2)))
+    return without_empty(Image.open(folder / "shown.png").convert("RGB"))
+
+
+def without_empty(picture: Image.Image) -> Image.Image:
+    """A picture without the empty space below what it shows."""
+    empty = Image.new("RGB", picture.size, picture.getpixel((2, picture.height - 2)))
     box = ImageChops.difference(picture, empty).getbbox()
-    return picture.crop((0, 0, WIDTH, min(HEIGHT, box[3] + MARGIN)))
+    return picture.crop((0, 0, WIDTH, min(picture.height, box[3] + MARGIN)))
+
+
+def keep(picture: Image.Image, file: str) -> None:
+    picture.quantize(COLOURS, method=Image.Quantize.MEDIANCUT, dither=Image.Dither.NONE).save(DOCS / file, "PNG", optimize=True)
+    print(f"docs/{file}: {picture.width} x {picture.height}, {(DOCS / file).stat().st_size} bytes")
+
+
+def take_page(page: Path, folder: Path) -> Image.Image:
+    """A picture of the page that compares two folders, with the result of the first picture that differs."""
+    browser = Browser(folder)
+    try:
+        browser.show(WIDTH, HEIGHT)
+        browser.open(page.as_uri())
+        browser.wait("document.body.dataset.ready")
+        browser.drop("#slot-0", SAMPLES / "before", SAMPLES / "after")
+        browser.wait("document.body.dataset.state === 'done'")
+        browser.ask("document.querySelector('footer').hidden = true")
+        browser.screenshot(folder / "page.png")
+    finally:
+        browser.end()
+    return without_empty(Image.open(folder / "page.png").convert("RGB"))
 
 
 def main(words: list[str]) -> None:
-    if len(words) > 1:
+    if len(words) > 2:
         sys.exit(__doc__)
     command = str(Path(words[0] if words else DOCS.parent / "exifnorm-pictures").resolve())
     with tempfile.TemporaryDirectory() as name:
+        keep(take_page(Path(words[1]) if len(words) > 1 else DOCS / "exifnorm.html", Path(name)), "page.png")
         page = report(command, Path(name))
         for file, titles in PICTURES.items():
-            picture = take(only(page, titles), Path(name))
-            picture.quantize(COLOURS, method=Image.Quantize.MEDIANCUT, dither=Image.Dither.NONE).save(DOCS / file, "PNG", optimize=True)
-            print(f"docs/{file}: {picture.width} x {picture.height}, {(DOCS / file).stat().st_size} bytes")
+            keep(take(only(page, titles), Path(name)), file)
 
 
 if __name__ == "__main__":

@@ -171,7 +171,10 @@ export interface Picture {
   fields: Record<string, Value>;
   /** The same in plain words, such as "1/125 s". */
   texts: Record<string, string>;
-  /** Texts by label: title, caption, creator, keywords .. Each text once; if a label that is no list has several, the standards contradict. */
+  /**
+   * Texts by label: title, caption, creator, keywords .. Each text once; if a label that is no list has several, the standards contradict. A
+   * caption or a comment that the camera or a program writes by itself is in `texts` alone.
+   */
   captions: Record<string, Caption[]>;
   /** When it was taken, as "2019-03-12T11:20:45", with its part of a second and its zone if they are there. */
   taken: string | null;
@@ -203,14 +206,29 @@ export interface Comparison {
   /** Whether the verdict is that of jpegSame alone, which is proved: of two JPEGs without extended XMP. */
   proved: boolean;
   refusals: (Refusal & { side: 1 | 2 })[];
+  /** What wasn't read. Parts with the same bytes in both don't make the verdict "partly". */
   notRead: { side: 1 | 2; what: string }[];
 }
 
-/** A picture, of its bytes. Of a JPEG the first ones are enough if they have the whole head. Throws OutOfMemory, and never for a picture. */
-export function read(picture: Uint8Array): Picture;
+/** Where the bytes of a picture are: how many there are, and a part of them, from an offset up to another. Only parts that are needed are asked for. */
+export interface Source {
+  size: number;
+  part(start: number, end: number): Uint8Array;
+}
 
-/** Whether two pictures have the same Exif, IPTC and XMP, and what differs. Throws OutOfMemory, and never for a picture. */
-export function compare(first: Uint8Array, second: Uint8Array): Comparison;
+/**
+ * A picture, of its bytes or of where they are; of a Blob, such as a File, a promise of it. Of a JPEG the first bytes are enough if they have the
+ * whole head. Throws OutOfMemory, what `part` throws, and nothing for a picture.
+ */
+export function read(picture: Uint8Array | Source): Picture;
+export function read(picture: Blob): Promise<Picture>;
+
+/**
+ * Whether two pictures have the same Exif, IPTC and XMP, and what differs; a promise of it if one is a Blob. Throws OutOfMemory, what `part` throws,
+ * and TypeError for two blocks, which `same` compares; nothing for pictures.
+ */
+export function compare(first: Uint8Array | Source, second: Uint8Array | Source): Comparison;
+export function compare(first: Uint8Array | Source | Blob, second: Uint8Array | Source | Blob): Comparison | Promise<Comparison>;
 
 /** The kind of a block. Throws Refused, OutOfMemory. */
 export function check(block: Uint8Array): Kind;
@@ -238,8 +256,8 @@ export function jpegBlocks(picture: Uint8Array, most?: number): JpegBlock[];
  * Whether two JPEGs have the same Exif, IPTC and XMP: as many blocks of each kind, which mean the same, pair by pair, in their order; and no
  * XMP, or one packet each, with equal normal forms together with its extended XMP. So two JPEGs without metadata are the same. Pixels, and
  * what follows the head, are not compared. Throws NotRead if they are the same as far as both are read, but one has more that other programs
- * may read: a place that jpegUnread returns, XMP in another place, a packet that xmpNormalise refuses, a second packet, or extended XMP that
- * is missing or can't be joined to the packet. Also throws PictureRefused, OutOfMemory.
+ * may read: a place that jpegUnread returns, where XMP may be too, XMP in another place, a packet that xmpNormalise refuses, a second
+ * packet, or extended XMP that is missing or can't be joined to the packet. Also throws PictureRefused, OutOfMemory.
  */
 export function jpegSame(first: Uint8Array, second: Uint8Array): boolean;
 
@@ -292,3 +310,5 @@ export function xmpProperties(form: Uint8Array): XmpProperty[];
 
 /** The version and the build, as "1.0.0 (WebAssembly)". */
 export function version(): string;
+
+export { Engine, load } from "./engine.js";

@@ -4,6 +4,7 @@ import { readHeif } from "./heif.js";
 import { readPng } from "./png.js";
 import { readTiff } from "./tiff.js";
 import { readWebp } from "./webp.js";
+import { inUtf8 } from "./xmp.js";
 
 const HEAD = 4096, MOST_PACKET = 1 << 24;
 const BRANDS = /^ftyp(?:hei[cxms]|hev[cxms]|mif[123]|msf1|miaf|avi[fs]|avc[is]|jpeg|jpgs|j2k[i]|j2is|vvi[cs]|evb[is])/;
@@ -15,9 +16,9 @@ const FORMATS = [
   [/^(?:IIRO|IIRS|MMOR|IIU\0|FUJIFILM)/, "raw", null],
 ];
 
-/** Whether a file is a packet of XMP by itself, in UTF-8: a sidecar. */
+/** Whether a file is a packet of XMP by itself: a sidecar. */
 function isSidecar(parts) {
-  const text = new TextDecoder().decode(parts.some(0, HEAD)).replace(/^[\s\0\ufeff]+/, "");
+  const text = new TextDecoder().decode(inUtf8(parts.some(0, HEAD))).replace(/^[\s\0\ufeff]+/, "");
   return /^<\?xpacket\s/.test(text) || /^(?:<\?[^]*?\?>\s*|<!-{2}[^]*?-{2}>\s*)*<(?:[^\s<>/:!?]+:)?(?:RDF|xmpmeta|xapmeta)[\s/>]/.test(text);
 }
 

@@ -5,13 +5,16 @@
  */
 import { HeadRefused, NormalTooLong, NotRead, PictureRefused, Refused, TooMany } from "./engine.js";
 import { readFormat } from "./formats.js";
+import { besides } from "./jpeg.js";
 import { md5 } from "./md5.js";
+import { notesOf } from "./notes.js";
 import { Broken } from "./parts.js";
 import { sha256 } from "./sha256.js";
-import { xmpProperties } from "./xmp.js";
+import { inUtf8, xmpProperties } from "./xmp.js";
 import { inOrder } from "./xmp_values.js";
 
 const MOST_PARTS = 100_000; // of a head
+const FIRST_READ = 1 << 18, MOST_READ = 1 << 26; // bytes
 const MOST_FORMS = 1 << 25; // bytes of the forms of all XMP in a head: of a packet and the longest extended XMP there are fewer
 export const KINDS = ["exif", "iptc", "xmp"];
 export const KIND_NAMES = { exif: "Exif", iptc: "IPTC", xmp: "XMP" };
@@ -27,14 +30,14 @@ const areEqual = (first, second) => first.length === second.length && first.ever
 class TooMuchXmp extends Error {}
 
 /** A block or a packet with its refusal, if it is refused; and with the form of a packet. A packet in a rare form has a refusal, too. */
-function judged(engine, { kind, data, part = "" }) {
+function judged(engine, { kind, data, part = "", note = null }) {
   try {
-    if (kind === "xmp") return { kind, data, part, form: engine.xmpNormalise(data), refusal: null };
+    if (kind === "xmp") return { kind, data, part, note, form: engine.xmpNormalise(inUtf8(data)), refusal: null };
     engine.check(data);
-    return { kind, data, part, refusal: null };
+    return { kind, data, part, note, refusal: null };
   } catch (error) {
     if (!(error instanceof Refused)) throw error;
-    return { kind, data, part, refusal: { cause: error.cause, offset: error.offset, isRare: error.isRare ?? false } };
+    return { kind, data, part, note, refusal: { cause: error.cause, offset: error.offset, isRare: error.isRare ?? false } };
   }
 }
 
@@ -82,8 +85,8 @@ function extensionsOf(segments, judge) {
 }
 
 /**
- * Gives each packet its properties, with those of its extended XMP, which belongs to the first packet that names it: many packets with one
- * extension would take memory for all of them. Returns whether all extended XMP is read, and none is missing.
+ * Gives each packet its properties, with those of its extended XMP, which belongs to the first packet of the picture itself that names it: many
+ * packets with one extension would take memory for all of them. Returns whether all extended XMP is read, and none is missing.
  */
 function extend(packets, segments, judge) {
   const extensions = extensionsOf(segments, judge), used = new Set(), isNote = ({ namespace, name }) => namespace + name === NOTE;
@@ -91,17 +94,28 @@ function extend(packets, segments, judge) {
   for (const packet of packets.filter(({ form }) => form)) {
     packet.properties = xmpProperties(packet.form);
     const names = packet.properties.filter(isNote).map(({ value }) => value.text?.toUpperCase() ?? "");
-    const added = names.map((name) => used.has(name) ? null : extensions.get(name)), all = [...packet.properties.filter((one) => !isNote(one)), ...added.flat()];
+    const added = names.map((name) => packet.part || used.has(name) ? null : extensions.get(name)), all = [...packet.properties.filter((one) => !isNote(one)), ...added.flat()];
     if (!names.length) continue;
     if (added.every(Boolean) && new Set(all.map(({ namespace, name }) => namespace + name)).size === all.length) packet.properties = all;
     else areRead = false;
-    for (const name of names) used.add(name);
+    if (!packet.part) for (const name of names) used.add(name);
   }
   for (const packet of packets.filter(({ form }) => form)) {
     const keyed = packet.properties.map((property) => [property.namespace + property.name, property]);
     packet.meaning = JSON.stringify(keyed.sort(([first], [second]) => inOrder(first, second)));
   }
   return areRead && [...extensions.keys()].every((name) => used.has(name));
+}
+
+/** What of the Exif blocks only a MakerNote can reach; the blocks learn where their MakerNotes are. */
+function reached(blocks) {
+  const notRead = [];
+  for (const block of blocks.filter(({ kind, refusal }) => kind === "exif" && !refusal)) {
+    const found = notesOf(block.data, block.name);
+    block.note ??= found.note;
+    notRead.push(...found.notRead);
+  }
+  return notRead;
 }
 
 /** Blocks with their refusals and numbers, in the order of their kinds; and the judge of further packets. */
@@ -125,15 +139,15 @@ function judgedAll(engine, some) {
 }
 
 /** The head of a JPEG. XMP that isn't read is in `further` by its kind, and in `others` segments that may have XMP in another way. */
-function jpegHead(engine, bytes) {
+function jpegHead(engine, bytes, source) {
   const parts = engine.jpegParts(bytes, MOST_PARTS), dataOf = ({ start, size }) => bytes.subarray(start, start + size);
   const packets = parts.filter(({ kind }) => kind === "xmp").map((part) => ({ kind: "xmp", data: dataOf(part) }));
-  const [blocks, judge] = judgedAll(engine, [...engine.jpegBlocks(bytes, MOST_PARTS), ...packets]);
+  const more = besides(engine, parts, bytes, source), [blocks, judge] = judgedAll(engine, [...engine.jpegBlocks(bytes, MOST_PARTS), ...packets, ...more.blocks]);
   const pieces = parts.filter(({ kind }) => kind === "extended xmp").map(dataOf), inResources = hasXmpResource(engine, parts, dataOf);
   const extended = extend(blocks.filter(({ kind }) => kind === "xmp"), pieces, judge) ? [] : [new Uint8Array(0), ...pieces]; // also if it is missing
   const others = parts.filter(({ kind, marker }) => kind === "" && marker === APP1).map(dataOf);
   const resources = inResources ? parts.filter(({ kind }) => kind === "photoshop").map(dataOf) : [];
-  return { format: "JPEG", bytes, blocks, pieces, further: { extended, resources }, others, unread: engine.jpegUnread(bytes), notRead: [] };
+  return { format: "JPEG", bytes, blocks, pieces, further: { extended, resources }, others, unread: engine.jpegUnread(bytes), notRead: [...more.notRead, ...reached(blocks)] };
 }
 
 const NOTHING = { bytes: null, blocks: [], pieces: [], further: { extended: [], resources: [] }, others: [], unread: null, notRead: [] };
@@ -148,20 +162,17 @@ function otherHead(engine, source) {
     if (!found?.blocks) return problem(source.size ? "format" : "empty", { format: found?.format ?? "" });
     const [blocks] = judgedAll(engine, found.blocks), { format, notRead } = found;
     const areRead = extend(blocks.filter(({ kind }) => kind === "xmp"), [], null);
-    return { ...NOTHING, format, blocks, notRead, further: { extended: areRead ? [] : [new Uint8Array(0)], resources: [] } };
+    return { ...NOTHING, format, blocks, notRead: [...notRead, ...reached(blocks)], further: { extended: areRead ? [] : [new Uint8Array(0)], resources: [] } };
   } catch (error) {
     if (error instanceof Broken) return problem("broken", { format: error.format, why: error.message });
     throw error;
   }
 }
 
-/**
- * The head of a picture of which `bytes` are the first; or why nothing was read, as `problem`. It is `cut` if more bytes may help. `source`
- * has any part of the whole file: its `size`, and `part(start, end)`.
- */
-export function headOf(engine, bytes, source = { size: bytes.length, part: (start, end) => bytes.subarray(start, end) }) {
+/** The head of a picture of which `bytes` are the first; or why nothing was read, as `problem`. */
+function headOf(engine, bytes, source) {
   try {
-    return jpegHead(engine, bytes);
+    return jpegHead(engine, bytes, source);
   } catch (error) {
     if (error instanceof TooMany) return problem("many");
     if (error instanceof TooMuchXmp) return problem("xmp");
@@ -174,6 +185,18 @@ export function headOf(engine, bytes, source = { size: bytes.length, part: (star
     if (error instanceof TooMany) return problem("many");
     if (error instanceof TooMuchXmp) return problem("xmp");
     throw error;
+  }
+}
+
+/**
+ * The head of a file, which has its `size`, and its parts by `part(start, end)`. Of a JPEG more is asked for until the head is whole, so that a
+ * large file costs what its head does.
+ */
+export function headOfFile(engine, source) {
+  for (let size = FIRST_READ; ; size *= 4) {
+    const head = headOf(engine, source.part(0, Math.min(size, source.size)), source);
+    if (head.problem?.cause !== "JpegCut" || size >= source.size) return head;
+    if (size >= MOST_READ) return problem("long");
   }
 }
 
@@ -225,11 +248,24 @@ function blocksVerdict(engine, first, second) {
   return isRefused ? "refused" : "same";
 }
 
-/** Whether two heads have parts that aren't read, other than XMP. */
-function isOpen(engine, first, second) {
-  if (first.notRead.length || second.notRead.length) return true;
-  return Boolean(first.unread || second.unread);
+/** Whether what isn't read of two heads may differ: a part whose bytes aren't known, or that isn't in both. */
+function mayLeftDiffer(first, second) {
+  const keys = [first, second].map(({ notRead }) => notRead.map(({ what, key }) => key && `${key} ${what}`).sort());
+  return keys[0].length !== keys[1].length || keys[0].some((key, i) => !key || key !== keys[1][i]);
 }
+
+const notesIn = ({ blocks }) => blocks.filter(({ kind, note }) => kind === "exif" && note !== null);
+
+/** Why the MakerNotes of two heads may mean something else, although their bytes are equal; empty if they can't. */
+export function noteDoubt([first, second]) {
+  const [ones, others] = [first, second].map(notesIn), placesOf = (blocks) => blocks.map(({ name, note }) => `${name} ${note}`).join();
+  if (!ones.length || !others.length) return "";
+  if (placesOf(ones) !== placesOf(others)) return "a MakerNote that has moved";
+  return ones.some(({ data }, i) => !areEqual(data, others[i].data)) ? "a MakerNote in a block that was written anew" : "";
+}
+
+/** Whether two heads may differ in what isn't read, other than XMP. */
+const isOpen = (first, second) => Boolean(first.unread || second.unread || mayLeftDiffer(first, second) || noteDoubt([first, second]));
 
 /**
  * The verdict on two heads, which is the engine's for Exif and IPTC: `same` if nothing else is there that could differ, `partly` if what is
@@ -238,13 +274,13 @@ function isOpen(engine, first, second) {
  */
 export function verdict(engine, first, second) {
   if (first.problem || second.problem) return "unread";
-  const xmp = xmpVerdict([first, second]);
-  let found = first.bytes && second.bytes ? "" : blocksVerdict(engine, first, second), isPartly = xmp !== "same" || isOpen(engine, first, second);
+  const xmp = xmpVerdict([first, second]), areHeads = first.bytes && second.bytes;
+  let found = areHeads && ![first, second].some(({ blocks }) => blocks.some(({ part }) => part)) ? "" : blocksVerdict(engine, first, second), isPartly = xmp !== "same" || isOpen(first, second);
   try {
-    found ||= engine.jpegSameBlocks(first.bytes, second.bytes) ? "same" : "different";
+    if (areHeads && found !== "different") found = engine.jpegSameBlocks(first.bytes, second.bytes) ? found || "same" : "different";
   } catch (error) {
     if (!(error instanceof NotRead || error instanceof PictureRefused)) throw error;
-    found = error instanceof NotRead ? "same" : blocksVerdict(engine, first, second);
+    found = error instanceof NotRead ? found || "same" : blocksVerdict(engine, first, second);
     isPartly = true;
   }
   if (found === "different" || xmp === "different") return "different";
@@ -271,11 +307,11 @@ export function xmpOf(heads) {
 
 /** What identifies the metadata of a picture that may have been moved; empty if it has none, or not all of it is read. */
 export function identity(engine, head) {
-  if (head.problem || head.unread || head.notRead.length || !head.blocks.length || head.blocks.some(({ kind, refusal }) => refusal && kind !== "xmp")) return "";
+  if (head.problem || head.unread || head.notRead.some(({ key }) => !key) || !head.blocks.length || head.blocks.some(({ kind, refusal }) => refusal && kind !== "xmp")) return "";
   try {
-    const meant = ({ kind, data, meaning }) => kind !== "xmp" ? engine.normalise(data) : meaning ? new TextEncoder().encode(meaning) : data;
+    const meant = ({ kind, data, meaning, note }) => kind !== "xmp" ? note === null ? engine.normalise(data) : data : meaning ? new TextEncoder().encode(meaning) : data;
     const forms = head.blocks.map((block) => `${block.name} ${sha256(meant(block))}`);
-    return [...forms, ...[...furtherOf(head), ...head.others].map(sha256)].join(" ");
+    return [...forms, ...[...furtherOf(head), ...head.others].map(sha256), ...head.notRead.map(({ key }) => key)].join(" ");
   } catch (error) {
     if (error instanceof NormalTooLong) return "";
     throw error;

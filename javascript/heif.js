@@ -1,6 +1,6 @@
 /** HEIF, HEIC and AVIF: the Exif and XMP items of the pictures (ISO/IEC 14496-12, 8.11; ISO/IEC 23008-12, Annex A). @module */
 import { Fields, PICTURES, boxes, itemOf, partOf, placesOf, referencesOf } from "./heif_items.js";
-import { bareExif, Broken, startsWith } from "./parts.js";
+import { bareExif, Broken, left, startsWith } from "./parts.js";
 
 const MOST_ITEM = 1 << 26;
 const WITHOUT = ["ftyp", "mdat", "free", "skip", "wide"], WITHOUT_IN_META = ["hdlr", "pitm", "iinf", "iloc", "idat", "iref", "iprp", "dinf", "grpl", "free", "skip"];
@@ -31,11 +31,11 @@ export function readHeif(parts) {
   if (metas.length > 1) throw new Broken("the file has two meta boxes");
   for (const { kind, start, end } of top.filter(({ kind: one }) => one !== "meta" && !WITHOUT.includes(one))) {
     const isXmp = kind === "uuid" && end - start >= 16 && startsWith(parts.at(start, start + 16), XMP_UUID);
-    if (isXmp) blocks.push({ kind: "xmp", data: parts.at(start + 16, end).slice() }); else notRead.push(`${kind} box`);
+    if (isXmp) blocks.push({ kind: "xmp", data: parts.at(start + 16, end).slice() }); else notRead.push(left(`${kind} box`, parts.short(start, end)));
   }
   if (!metas.length) return { blocks, notRead };
   const inside = [...boxes(parts, metas[0].start + 4, metas[0].end)], of = (kind) => inside.find((box) => box.kind === kind);
-  notRead.push(...inside.filter(({ kind }) => !WITHOUT_IN_META.includes(kind)).map(({ kind }) => `${kind} box in meta`));
+  notRead.push(...inside.filter(({ kind }) => !WITHOUT_IN_META.includes(kind)).map(({ kind, start, end }) => left(`${kind} box in meta`, parts.short(start, end))));
   if (!of("iinf") || !of("iloc")) return { blocks, notRead };
   const list = new Fields(parts, of("iinf"));
   list.number(list.version ? 4 : 2);
@@ -46,7 +46,7 @@ export function readHeif(parts) {
     const data = isProtected ? null : dataOf(parts, places.get(number), of("idat")), exif = kind === "Exif" && data ? exifIn(data) : null;
     if (exif) blocks.push({ kind: "exif", data: exif, part });
     else if (type === "application/rdf+xml" && !encoding && data) blocks.push({ kind: "xmp", data, part });
-    else if (!data || data.length) notRead.push(`${kind} item ${type}`.trim());
+    else if (!data || data.length) notRead.push(left(`${kind} item ${type}`.trim(), data));
   }
   return { blocks, notRead };
 }

@@ -1,9 +1,8 @@
-/** The calls in node, Deno and Bun, which are there at once. @module */
-import { readFileSync } from "node:fs";
-import { begin } from "./calls.js";
-import { Engine } from "./engine.js";
+/** The calls in node, Deno and Bun, which are there at once: those of `require`, so that a program that uses both has the same classes. @module */
+import exifnorm from "./exifnorm.cjs";
 
-export { captions, check, compare, jpegBlocks, jpegParts, jpegSame, jpegSameBlocks, jpegUnread, jpegXmp, normalise, photoshopResources, read, same, show, version, xmpCheck, xmpNormalise, xmpUnsorted } from "./calls.js";
-export { HeadRefused, LIMIT, NormalTooLong, NotRead, OutOfMemory, PictureRefused, Refused, TooMany, XmpNotRead, XmpRefused, xmpProperties } from "./engine.js";
-begin(new Engine(new WebAssembly.Module(readFileSync(new URL("./exifnorm.wasm", import.meta.url)))));
-export const ready = Promise.resolve();
+export const {
+  captions, check, compare, Engine, HeadRefused, jpegBlocks, jpegParts, jpegSame, jpegSameBlocks, jpegUnread, jpegXmp, LIMIT, load, normalise,
+  NormalTooLong, NotRead, OutOfMemory, photoshopResources, PictureRefused, read, ready, Refused, same, show, TooMany, version, xmpCheck, xmpNormalise,
+  XmpNotRead, xmpProperties, XmpRefused, xmpUnsorted,
+} = exifnorm;

@@ -1,6 +1,7 @@
 /** Parts of a file, which is read only where a reader asks for it, and never more than some bytes in all. @module */
+import { sha256 } from "./sha256.js";
 
-const WINDOW = 1 << 16, MOST = 1 << 27, MOST_READS = 200_000;
+const WINDOW = 1 << 16, MOST = 1 << 27, MOST_READS = 200_000, MOST_DIGESTED = 1 << 24;
 const EXIF_MARK = [0x45, 0x78, 0x69, 0x66, 0, 0];
 const IPTC = 0x0404, EXIF = 0x0422, MORE_EXIF = 0x0423, XMP = 0x0424, MOST_RESOURCES = 100_000;
 
@@ -11,6 +12,9 @@ export const startsWith = (bytes, start) => start.every((octet, i) => bytes[i] =
 
 /** An Exif block without the mark that some programs put in front. */
 export const bareExif = (bytes) => startsWith(bytes, EXIF_MARK) ? bytes.subarray(EXIF_MARK.length) : bytes;
+
+/** What of a file isn't read: its name, and a digest of its bytes, by which two are known to be equal; an empty one if they aren't known. */
+export const left = (what, bytes = null) => ({ what, key: bytes && bytes.length <= MOST_DIGESTED ? sha256(bytes) : "" });
 
 /** A text of Latin 1. */
 export const latin = (bytes) => Array.from(bytes, (octet) => String.fromCharCode(octet)).join("");
@@ -54,10 +58,15 @@ export class Parts {
     return latin(this.at(start, start + length));
   }
 
-  /** That there are bytes behind the end of a picture, as a list. */
+  /** Bytes for a digest; null if they are too many. */
+  short(start, end) {
+    return end - start <= MOST_DIGESTED ? this.at(start, end) : null;
+  }
+
+  /** What is behind the end of a picture, as a list. Zeros are nothing. */
   behind(end) {
-    const left = this.size - end;
-    return left > 0 ? [`trailer of ${left.toLocaleString("en")} byte${left === 1 ? "" : "s"}`] : [];
+    const size = this.size - end, bytes = size > 0 ? this.short(end, this.size) : null;
+    return size > 0 && !bytes?.every((octet) => !octet) ? [left(`trailer of ${size.toLocaleString("en")} byte${size === 1 ? "" : "s"}`, bytes)] : [];
   }
 }
 
@@ -71,8 +80,8 @@ export function inResources(engine, bytes) {
     if (number === IPTC) blocks.push({ kind: "iptc", data });
     else if (number === EXIF) blocks.push({ kind: "exif", data: bareExif(data) });
     else if (number === XMP) blocks.push({ kind: "xmp", data });
-    else if (number === MORE_EXIF && size) notRead.push("Photoshop resource 0423");
+    else if (number === MORE_EXIF && size) notRead.push(left("Photoshop resource 0423", data));
   }
-  if (bytes.subarray(end).some((octet) => octet)) notRead.push("bytes behind the Photoshop resources");
+  if (bytes.subarray(end).some((octet) => octet)) notRead.push(left("bytes behind the Photoshop resources", bytes.subarray(end)));
   return { blocks, notRead };
 }

@@ -1,8 +1,9 @@
 /** A picture as one object, and what differs between two. A `kit` has an `engine` and the `tables` of exifnorm_pictures. @module */
-import { headOf, verdict } from "./head.js";
-import { NotRead } from "./engine.js";
+import { headOfFile, noteDoubt, verdict } from "./head.js";
+import { NotRead, Refused } from "./engine.js";
 import { nameOf } from "./listing.js";
-import { byPlace, captionsOf, firstFields, isValid, pairsOf, plainOf, rowsOf, valuesOf } from "./rows.js";
+import { Broken } from "./parts.js";
+import { byPlace, cameraOf, captionsOf, firstFields, isValid, pairsOf, plainOf, rowsOf, valuesOf } from "./rows.js";
 import { valueOf } from "./values.js";
 import { plainXmp, shownName } from "./xmp_values.js";
 
@@ -83,7 +84,7 @@ export function notReadOf(head) {
     head.unread && `more metadata at ${head.unread.start}`, head.further.extended.length && "extended XMP, missing or not joined to a packet",
     head.further.resources.length && "XMP in Photoshop's resources", head.others.length && "a segment APP1 of an unknown kind",
   ];
-  return [...rare, ...more.filter(Boolean), ...head.notRead];
+  return [...rare, ...more.filter(Boolean), ...head.notRead.map(({ what }) => what)];
 }
 
 /** Why blocks have no meaning. */
@@ -94,9 +95,9 @@ export const refusalsOf = ({ tables }, { blocks }) => blocks.filter(({ refusal }
 
 /** The captions of a head by label: each text once, with the names of the fields that have it. */
 function allCaptions(kit, head) {
-  const captions = Object.create(null);
+  const captions = Object.create(null), camera = cameraOf(kit, head);
   for (const block of head.blocks) {
-    for (const { label, text, name } of captionsOf(kit, block)) {
+    for (const { label, text, name } of captionsOf(kit, block, camera)) {
       const all = captions[label] ??= [], same = all.find((one) => one.text === text);
       if (!same) all.push({ text, fields: [name] }); else if (!same.fields.includes(name)) same.fields.push(name);
     }
@@ -119,14 +120,58 @@ function ofHead(kit, head) {
   return { format: head.format, fields: { ...fields }, texts: { ...texts }, captions: allCaptions(kit, head), taken: takenOf(fields), position: positionOf(fields), blocks, refusals: refusalsOf(kit, head), notRead: notReadOf(head) };
 }
 
-/** The head of a picture of its bytes. */
-function headOfBytes({ engine }, bytes) {
-  if (!(bytes instanceof Uint8Array)) throw new TypeError("exifnorm takes a Uint8Array");
-  return headOf(engine, new Uint8Array(bytes.buffer, bytes.byteOffset, bytes.length)); // a Buffer of node has another `slice`
+// ---- where the bytes are
+
+const MOST_PIECES = 4096; // of a Blob
+
+/** A part of a Blob is asked for that isn't there yet. */
+class Missing extends Error {
+  constructor(start, end) {
+    super(`the bytes from ${start} to ${end}`);
+    Object.assign(this, { start, end });
+  }
+}
+
+const isBlob = (picture) => typeof Blob !== "undefined" && picture instanceof Blob;
+
+/** A picture as a source of its bytes. */
+function sourceOf(picture) {
+  if (picture instanceof Uint8Array) {
+    const bytes = new Uint8Array(picture.buffer, picture.byteOffset, picture.length); // a Buffer of node has another `slice`
+    return { size: bytes.length, part: (start, end) => bytes.subarray(start, end) };
+  }
+  if (Number.isSafeInteger(picture?.size) && typeof picture.part === "function") return picture;
+  throw new TypeError("exifnorm takes a picture as a Uint8Array, a Blob, or an object with `size` and `part`");
+}
+
+/** The head of a Blob, of which no more is read than that takes: reading begins anew with each part that it lacked. */
+async function headOfBlob(engine, blob) {
+  const pieces = [], part = (start, end) => {
+    const piece = pieces.find(([from, bytes]) => from <= start && end <= from + bytes.length);
+    if (!piece && pieces.length === MOST_PIECES) throw new Broken("it has more parts than are read here");
+    if (!piece) throw new Missing(start, end);
+    return piece[1].subarray(start - piece[0], end - piece[0]);
+  };
+  for (;;) {
+    try {
+      return headOfFile(engine, { size: blob.size, part });
+    } catch (error) {
+      if (!(error instanceof Missing)) throw error;
+      const bytes = new Uint8Array(await blob.slice(error.start, error.end).arrayBuffer());
+      if (bytes.length < error.end - error.start) throw new Error("the file has changed while it was read");
+      pieces.push([error.start, bytes]);
+    }
+  }
+}
+
+/** What is made of the heads of some pictures: a promise of it if one is a Blob. */
+function withHeads({ engine }, pictures, then) {
+  const heads = pictures.map((picture) => isBlob(picture) ? headOfBlob(engine, picture) : headOfFile(engine, sourceOf(picture)));
+  return pictures.some(isBlob) ? Promise.all(heads).then(then) : then(heads);
 }
 
 /** A picture of its bytes, or of the first of them. */
-export const pictureOf = (kit, bytes) => ofHead(kit, headOfBytes(kit, bytes));
+export const pictureOf = (kit, picture) => withHeads(kit, [picture], ([head]) => ofHead(kit, head));
 
 // ---- two pictures
 
@@ -141,17 +186,34 @@ function isProved({ engine }, heads, found) {
   }
 }
 
+/** Whether bytes are a block by itself, and no picture: of Exif one without pixels. */
+function isBlock({ engine }, bytes) {
+  if (!(bytes instanceof Uint8Array)) return false;
+  try {
+    return engine.check(bytes) === "iptc" || !/^(?:0111|0144|014a) /m.test(engine.show(bytes).split(/^\[(?!main)/m)[0]);
+  } catch (error) {
+    if (error instanceof Refused) return false;
+    throw error;
+  }
+}
+
 /** Whether two pictures have the same metadata, and the fields that differ. */
 export function comparisonOf(kit, first, second) {
-  const heads = [first, second].map((bytes) => headOfBytes(kit, bytes)), found = verdict(kit.engine, ...heads);
+  if (isBlock(kit, first) && isBlock(kit, second)) throw new TypeError("compare takes two pictures; `same` compares two blocks");
+  return withHeads(kit, [first, second], (heads) => comparisonOfHeads(kit, heads));
+}
+
+function comparisonOfHeads(kit, heads) {
+  const found = verdict(kit.engine, ...heads);
   const rows = pairsOf(heads).flatMap((pair) => rowsOf(kit, ...pair).rows).filter((row) => !row.isEqual && !row.isOpen);
   const differences = found === "unread" ? [] : rows.map(({ name, label, cells }) => {
     const [before, after] = cells.map((cell) => cell && cell.text + (cell.exact ? ` (${cell.exact})` : ""));
     return { name, label: label ?? null, before, after };
   });
+  const doubt = found === "partly" ? noteDoubt(heads) : "";
   const ofSides = (list) => heads.flatMap((head, i) => list(head).map((one) => ({ side: i + 1, ...one })));
   return {
     verdict: found, differences, proved: isProved(kit, heads, found),
-    refusals: ofSides((head) => refusalsOf(kit, head)), notRead: ofSides((head) => notReadOf(head).map((what) => ({ what }))),
+    refusals: ofSides((head) => refusalsOf(kit, head)), notRead: [...ofSides((head) => notReadOf(head).map((what) => ({ what }))), ...doubt ? [{ side: 2, what: doubt }] : []],
   };
 }

@@ -1,9 +1,10 @@
 /** PNG: Exif in eXIf chunks, XMP in iTXt chunks, and the raw profiles of other programs in text chunks (exifnorm_pictures' png.py). @module */
 import { inflated } from "./inflate.js";
-import { bareExif, Broken, inResources, latin } from "./parts.js";
+import { bareExif, Broken, inResources, latin, left } from "./parts.js";
 
 const FIRST = 8, XMP_KEYWORD = "xml:com.adobe.xmp", PROFILE = "raw profile type ", XMP_HEAD = "http://ns.adobe.com/xap/1.0/\0";
 const TEXTS = ["tEXt", "zTXt", "iTXt"], MOST_CHUNK = 1 << 26;
+const MOST_TEXT = 36_000_000; // bytes of a text that was compressed: of the longest block in hexadecimal digits, in lines
 const CRC = Int32Array.from({ length: 256 }, (_, number) => {
   for (let i = 0; i < 8; i++) number = number & 1 ? number >>> 1 ^ 0xedb88320 : number >>> 1;
   return number;
@@ -22,9 +23,10 @@ function profileData(text) {
   return Uint8Array.from({ length: match[1] }, (_, i) => parseInt(digits.substr(2 * i, 2), 16));
 }
 
-function addProfile(found, engine, kind, data) {
+function addProfile(found, engine, kind, text) {
+  const data = profileData(latin(text));
   if (!data) {
-    found.notRead.push(`raw profile ${kind} that can't be read`);
+    found.notRead.push(left(`raw profile ${kind} that can't be read`, text));
     return;
   }
   const start = latin(data.subarray(0, XMP_HEAD.length)), add = (...some) => found.blocks.push(...some);
@@ -37,17 +39,17 @@ function addProfile(found, engine, kind, data) {
       add(...blocks);
       found.notRead.push(...notRead);
     }
-  } else if (kind !== "icc" && kind !== "icm") found.notRead.push("raw profile of another kind");
+  } else if (kind !== "icc" && kind !== "icm") found.notRead.push(left("raw profile of another kind", text));
 }
 
 /** The text of a chunk behind its keyword; null if it can't be read. */
 function opened(kind, text) {
   if (kind === "tEXt") return text;
-  if (kind === "zTXt") return text[0] === 0 ? inflated(text.subarray(1), MOST_CHUNK) : null;
+  if (kind === "zTXt") return text[0] === 0 ? inflated(text.subarray(1), MOST_TEXT) : null;
   const language = text.indexOf(0, 2), translated = text.indexOf(0, language + 1);
   if (text.length < 2 || language < 0 || translated < 0) return null;
   const rest = text.subarray(translated + 1);
-  return text[0] === 0 ? rest : text[1] === 0 ? inflated(rest, MOST_CHUNK) : null;
+  return text[0] === 0 ? rest : text[1] === 0 ? inflated(rest, MOST_TEXT) : null;
 }
 
 /** Adds the block of a text chunk. */
@@ -55,9 +57,9 @@ function addText(found, engine, kind, data) {
   const end = data.indexOf(0), keyword = latin(data.subarray(0, Math.max(end, 0))).toLowerCase();
   if (end < 0 || keyword !== XMP_KEYWORD && !keyword.startsWith(PROFILE)) return;
   const text = opened(kind, data.subarray(end + 1));
-  if (!text) found.notRead.push("text chunk that can't be read");
+  if (!text) found.notRead.push(left("text chunk that can't be read", data));
   else if (keyword === XMP_KEYWORD) found.blocks.push({ kind: "xmp", data: text.slice() });
-  else addProfile(found, engine, keyword.slice(PROFILE.length), profileData(latin(text)));
+  else addProfile(found, engine, keyword.slice(PROFILE.length), text);
 }
 
 export function readPng(parts, engine) {
@@ -72,7 +74,7 @@ export function readPng(parts, engine) {
       const chunk = parts.at(at + 4, end), data = chunk.slice(4, 4 + length);
       if (crcOf(chunk.subarray(0, 4 + length)) !== new DataView(chunk.buffer, chunk.byteOffset + 4 + length, 4).getUint32(0)) throw new Broken(`wrong check sum of the chunk at ${at}`);
       if (kind === "eXIf") found.blocks.push({ kind: "exif", data: bareExif(data) });
-      else if (kind === "zxIf") found.notRead.push("compressed Exif chunk");
+      else if (kind === "zxIf") found.notRead.push(left("compressed Exif chunk", data));
       else addText(found, engine, kind, data);
     }
     at = end;

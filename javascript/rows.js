@@ -5,13 +5,14 @@
  */
 import { KINDS, KIND_NAMES } from "./head.js";
 import { fieldsOf, nameOf, orderOf } from "./listing.js";
-import { plain, toldApart } from "./values.js";
+import { isOwn } from "./own.js";
+import { guessed, plain, toldApart } from "./values.js";
 import { inOrder, keyOf, plainXmp, shownExactly, shownName, textsIn } from "./xmp_values.js";
 
 export const MOST_FIELDS = 20_000; // of a block, that are listed; so many captions, too
 const LONGEST = 2_000, MOST_MEMBERS = 200; // characters of a value, and members of a list of IPTC
 const LISTS = ["2:12", "2:20", "2:25", "2:26", "2:27", "2:80", "2:85", "2:118", "2:122"]; // DataSets that IPTC-NAA IIM 4.2 allows to be repeated
-const EMPTY = "(empty)", DATE = "date created";
+const EMPTY = "(empty)", DATE = "date created", CAN_BE_OWN = ["caption", "comment"], GUESS = " (its character set isn't declared)";
 
 /** The start of a text that is too long to be shown. */
 export const shortened = (text) => text.length > LONGEST ? `${text.slice(0, LONGEST)} ..` : text;
@@ -112,10 +113,23 @@ export function rowsOf(kit, first, second, suffix = "") {
 /** The label of a field of Exif or IPTC, such as `caption`; undefined for one without. */
 export const labelOf = ({ labels }, { where, key }) => labels[`${where} ${key}`];
 
+/** The make and the model in a head. */
+export function cameraOf(kit, { blocks }) {
+  const texts = blocks.filter(({ kind }) => kind === "exif").map((block) => {
+    const fields = firstFields(kit, block).filter(({ where }) => where === "main");
+    return ["010f", "0110"].map((tag) => fields.find(({ key }) => key === tag)).map((field) => field?.octets ? guessed(field.octets) : "");
+  });
+  return texts.find(([make, model]) => make || model) ?? ["", ""];
+}
+
+/** The captions of a valid block that a person wrote: each with its label, its text, and the name of its field. */
+export function captionsOf(kit, block, camera) {
+  return allCaptionsOf(kit, block).filter(({ label, text }) => !CAN_BE_OWN.includes(label) || !isOwn(kit.tables.own, text, ...camera));
+}
+
 const octetsBeyond = ({ octets }) => !!octets && octets.some((octet) => octet > 127);
 
-/** The captions of a valid block: each with its label, its text, and the name of its field. */
-export function captionsOf(kit, block) {
+function allCaptionsOf(kit, block) {
   const { tables } = kit, captions = [];
   if (!isValid(block)) return captions;
   if (block.kind === "xmp") {
@@ -137,11 +151,23 @@ export function captionsOf(kit, block) {
   return captions;
 }
 
-/** The captions of two blocks side by side, or of one and none. */
-export function captionRows(kit, first, second) {
-  const blocks = [first, second], kind = first?.name ?? second?.name, both = blocks.map((block) => {
+/** The captions of one head: for each label its texts in Exif, IPTC and XMP, beside each other. */
+export function captionTable(kit, head) {
+  const found = new Map([...new Set(Object.values(kit.tables.labels))].map((label) => [label, [null, null, null]])), camera = cameraOf(kit, head);
+  for (const block of head.blocks) {
+    for (const { label, text, isGuess } of captionsOf(kit, block, camera)) {
+      const cells = found.get(label), at = KINDS.indexOf(block.kind), shown = text + (isGuess ? GUESS : "");
+      cells[at] = { text: shortened(cells[at] ? `${cells[at].text}; ${shown}` : shown) };
+    }
+  }
+  return [...found].filter(([, cells]) => cells.some(Boolean)).map(([label, cells]) => ({ label, cells }));
+}
+
+/** The captions of two blocks side by side, or of one and none, of pictures of these cameras. */
+export function captionRows(kit, first, second, cameras) {
+  const blocks = [first, second], kind = first?.name ?? second?.name, both = blocks.map((block, i) => {
     const labels = new Map();
-    for (const { label, text, isGuess } of captionsOf(kit, block)) labels.set(label, [...labels.get(label) ?? [], text + (isGuess ? " (its character set isn't declared)" : "")]);
+    for (const { label, text, isGuess } of captionsOf(kit, block, cameras[i] ?? cameras[0])) labels.set(label, [...labels.get(label) ?? [], text + (isGuess ? GUESS : "")]);
     return labels;
   });
   return [...new Set(Object.values(kit.tables.labels))].filter((label) => both.some((labels) => labels.has(label))).map((label) => {
@@ -157,4 +183,24 @@ export function pairsOf(heads) {
   const names = [...new Set(named.flatMap((blocks) => [...blocks.keys()]))], kindOf = (name) => KINDS.indexOf(named.map((blocks) => blocks.get(name)).find(Boolean).kind);
   const blockOf = (side, name) => heads[side]?.problem ? UNREAD : named[side]?.get(name);
   return names.sort((first, second) => kindOf(first) - kindOf(second)).map((name) => [blockOf(0, name), blockOf(1, name), Object.values(KIND_NAMES).includes(name) ? "" : ` (${name})`]);
+}
+
+/** The names of directories that only one of two blocks has, by their rows. */
+function loneGroups({ rows }) {
+  const sides = new Map();
+  for (const { name, cells } of rows.filter(({ isXmp }) => !isXmp)) {
+    const group = name.split(":")[0], there = sides.get(group) ?? [false, false];
+    sides.set(group, there.map((is, i) => is || !!cells[i] && !cells[i].isAbsent));
+  }
+  return [...sides].filter(([, there]) => there.includes(false)).map(([group]) => group);
+}
+
+/** The lists of rows of two heads, or of one. A row of a block or directory that only one of them has says so. */
+export function listsOf(kit, heads) {
+  return pairsOf(heads).map(([one, other, suffix]) => {
+    const list = rowsOf(kit, one, other, suffix), part = heads.length === 2 && !(one && other) ? (one ?? other).name : "";
+    const lone = heads.length === 2 && !part ? loneGroups(list) : [];
+    for (const row of list.rows) Object.assign(row, { part: part || (!row.isXmp && lone.includes(row.name.split(":")[0]) ? row.name.split(":")[0] : ""), suffix });
+    return list;
+  });
 }

@@ -3,17 +3,35 @@
  * own (exifnorm_pictures' tiff.py and tiff_block.py, whose blocks are the same).
  * @module
  */
-import { inResources } from "./parts.js";
+import { gapsOf, placed } from "./notes.js";
+import { inResources, left } from "./parts.js";
 import { Directories } from "./tiff_directories.js";
 
 const LONG = 4;
 const PIXELS = [0x0111, 0x0117, 0x0120, 0x0121, 0x0144, 0x0145, 0x0201, 0x0202, 0x0207, 0x0208, 0x0209], SUB_IFDS = 0x014a;
 const XMP = 0x02bc, IPTC = 0x83bb, PHOTOSHOP = 0x8649, LAYERS = 0x935c, DNG_VERSION = 0xc612, MAKER_NOTE = 0x927c;
 const POINTERS = { 0x8769: { 0xa005: {} }, 0x8825: {} };
-const OTHERS = [0x0190, 0x8290, 0x8606, 0x888a, 0xfe00, 0xc634, 0xc68c, 0xc6f5, 0xa010]; // whose values lead to more, or are files by themselves
+const OTHERS = [0x0190, 0x8290, 0x8606, 0x888a, 0xfe00]; // pointers that aren't followed
+const SONY = 0xc634, ORIGINAL = 0xc68c, PROFILES = 0xc6f5, SAMSUNG = 0xa010; // private entries, of which no value counts
+const MOST_BETWEEN = 1 << 24;
+
+/** Whether an entry leads to what isn't read, and is no field by its value. In a DNG Sony's tag has a value. */
+const isPrivate = ({ tag, size }) => tag === PROFILES || tag === SAMSUNG || tag === SONY && size === 4 || tag === ORIGINAL && size > 4;
+
+/** The bytes between all that directories lead to, which a MakerNote may use, as a list: with their offsets from the only MakerNote on. */
+function between({ ranges, parts }, notes) {
+  const merged = [];
+  for (const [start, end] of ranges.sort(([one], [other]) => one - other)) {
+    if (merged.length && start <= merged.at(-1)[1]) merged.at(-1)[1] = Math.max(end, merged.at(-1)[1]); else merged.push([start, end]);
+  }
+  const holes = merged.slice(1).map(([start], i) => [merged[i][1], Math.min(start, parts.size)]).filter(([start, end]) => start < end);
+  if (holes.reduce((sum, [start, end]) => sum + end - start, 0) > MOST_BETWEEN) return [left("bytes that the MakerNote may lead to")];
+  const gaps = holes.flatMap(([start, end]) => gapsOf(parts.at(start, end).slice(), []).map(([at, octets]) => [start + at, octets]));
+  return gaps.length ? [left("bytes that only the MakerNote can reach", placed(gaps, notes.size === 1 ? [...notes][0] : 0))] : [];
+}
 
 export function readTiff(parts, engine) {
-  const directories = new Directories(parts), found = { blocks: [], notRead: [] }, waiting = [];
+  const directories = new Directories(parts), found = { blocks: [], notRead: [] }, waiting = [], notes = new Set();
   const take = ({ entries }, part, page) => {
     const add = (...blocks) => found.blocks.push(...blocks.map((block) => ({ ...block, part })));
     const kept = entries.filter((entry) => {
@@ -27,17 +45,19 @@ export function readTiff(parts, engine) {
         const inside = inResources(engine, data);
         add(...inside.blocks);
         found.notRead.push(...inside.notRead);
-      } else if (entry.tag === LAYERS && entry.size > 4) found.notRead.push("Photoshop's layers");
+      } else if (entry.tag === LAYERS && entry.size > 4) found.notRead.push(left("Photoshop's layers", directories.placeOf(entry) && parts.short(...directories.placeOf(entry))));
+      else if (isPrivate(entry)) found.notRead.push(left(`what tag ${entry.tag.toString(16)} leads to`, entry.tag === ORIGINAL ? directories.bytesOf(entry) : null));
       else if (!PIXELS.includes(entry.tag)) {
-        if (OTHERS.includes(entry.tag)) found.notRead.push(`what tag ${entry.tag.toString(16).padStart(4, "0")} leads to`);
+        if (OTHERS.includes(entry.tag)) found.notRead.push(left(`what tag ${entry.tag.toString(16).padStart(4, "0")} leads to`));
         return true;
       }
       return false;
     });
     if (!kept.length) return;
     const table = directories.table(kept, POINTERS);
-    if (table.below.get(0x8769)?.entries.some(({ tag, size }) => tag === MAKER_NOTE && size > 4)) found.notRead.push("bytes that the MakerNote may lead to");
-    add({ kind: "exif", data: directories.block(table) });
+    const note = table.below.get(0x8769)?.entries.find(({ tag, size }) => tag === MAKER_NOTE && size > 4)?.value ?? null;
+    if (note !== null) notes.add(note);
+    add({ kind: "exif", data: directories.block(table), note });
   };
   for (let at = directories.first, number = 1; at || number === 1; number++) {
     const page = directories.read(at), name = `page ${number}`;
@@ -49,6 +69,8 @@ export function readTiff(parts, engine) {
     }
     at = page.following;
   }
-  if (directories.hasCut) found.notRead.push("the rest of a damaged file, which ends inside a value");
+  if (notes.size) found.notRead.push(...between(directories, notes));
+  if (directories.hasCut) found.notRead.push(left("the rest of a damaged file, which ends inside a value"));
+  if (directories.isWhole) found.notRead.push(...parts.behind(directories.ranges.reduce((most, [, end]) => Math.max(most, end), 0)));
   return found;
 }

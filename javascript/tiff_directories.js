@@ -1,12 +1,16 @@
 /** The directories of a TIFF file, and one of them as an Exif block by itself. @module */
 import { Broken } from "./parts.js";
 
-const SIZES = { 1: 1, 2: 1, 3: 2, 4: 4, 5: 8, 6: 1, 7: 1, 8: 2, 9: 4, 10: 8, 11: 4, 12: 8, 13: 4, 129: 1 }, LONG = 4, IFD = 13;
+export const SIZES = { 1: 1, 2: 1, 3: 2, 4: 4, 5: 8, 6: 1, 7: 1, 8: 2, 9: 4, 10: 8, 11: 4, 12: 8, 13: 4, 129: 1 };
+const LONG = 4, IFD = 13;
+const NUMBERS = { 3: 2, 4: 4, 13: 4 }, PIXELS = [[0x0111, 0x0117], [0x0144, 0x0145], [0x0201, 0x0202]], MOST_STRIPS = 100_000;
 const MOST_DIRECTORIES = 1000, MOST_BLOCK = 1 << 24, NOWHERE = 0xffffffff;
 
 /** The directories of a file, each read once. */
 export class Directories {
   #taken = [[0, 8]];
+  ranges = [[0, 8]]; // of the file, to which directories lead
+  isWhole = true; // whether all of these are known
 
   constructor(parts) {
     this.parts = parts;
@@ -26,7 +30,25 @@ export class Directories {
       const start = at + 2 + 12 * i, type = this.number(start + 2, 2), elements = this.number(start + 4, 4);
       return { tag: this.number(start, 2), type, elements, size: (SIZES[type] ?? 0) * elements, last: this.parts.at(start + 8, start + 12).slice(), value: this.number(start + 8, 4) };
     });
-    return { at, entries, following: this.number(end - 4, 4) };
+    const directory = { at, entries, following: this.number(end - 4, 4) };
+    this.#reach(directory, end);
+    return directory;
+  }
+
+  /** Notes where a directory, its values and its pixels are. */
+  #reach({ at, entries }, end) {
+    this.ranges.push([at, end], ...entries.map((entry) => this.placeOf(entry)).filter(Boolean));
+    for (const [starts, sizes] of PIXELS) {
+      const pair = [starts, sizes].map((tag) => entries.find((entry) => entry.tag === tag)).filter(Boolean);
+      if (!pair.length || pair[0].tag !== starts) continue;
+      const isKnown = pair.length === 2 && pair[0].elements === pair[1].elements && pair[0].elements <= MOST_STRIPS && pair.every((entry) => this.isList(entry));
+      if (!isKnown) {
+        this.isWhole = false;
+        continue;
+      }
+      const [places, lengths] = pair.map((entry) => this.numbersOf(entry));
+      this.ranges.push(...places.map((place, i) => [place, place + lengths[i]]));
+    }
   }
 
   /** Where a value is that isn't in its entry; null if the file doesn't have all of it. */
@@ -44,9 +66,14 @@ export class Directories {
     return entry.size <= 4 ? entry.last.subarray(0, entry.size) : place ? this.parts.at(...place).slice() : new Uint8Array(0);
   }
 
+  /** Whether a value is a whole list of numbers. */
+  isList(entry) {
+    return Object.hasOwn(NUMBERS, entry.type) && (entry.size <= 4 || !!this.placeOf(entry));
+  }
+
   numbersOf(entry) {
-    const size = { 3: 2, 4: 4, 13: 4 }[entry.type], bytes = this.bytesOf(entry);
-    if (!size || bytes.length !== entry.size) throw new Broken(`the list of tag ${entry.tag.toString(16).padStart(4, "0")} isn't whole`);
+    const size = NUMBERS[entry.type], bytes = this.bytesOf(entry);
+    if (!this.isList(entry)) throw new Broken(`the list of tag ${entry.tag.toString(16).padStart(4, "0")} isn't whole`);
     const view = new DataView(bytes.buffer, bytes.byteOffset, bytes.length);
     return Array.from({ length: entry.elements }, (_, i) => size === 2 ? view.getUint16(2 * i, this.isLittle) : view.getUint32(4 * i, this.isLittle));
   }

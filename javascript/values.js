@@ -25,7 +25,7 @@ const grouped = (number) => number.toLocaleString("en");
 
 const utf8 = new TextDecoder("utf-8", { fatal: true, ignoreBOM: true });
 const wide = ["utf-16be", "utf-16le"].map((name) => new TextDecoder(name, { ignoreBOM: true }));
-const strictlyWide = new TextDecoder("utf-16le", { fatal: true, ignoreBOM: true });
+const [strictlyWide, strictlyWideBig] = ["utf-16le", "utf-16be"].map((name) => new TextDecoder(name, { fatal: true, ignoreBOM: true }));
 const japanese = new TextDecoder("iso-2022-jp", { fatal: true });
 const WINDOWS = "€\x81‚ƒ„…†‡ˆ‰Š‹Œ\x8dŽ\x8f\x90‘’“”•–—˜™š›œ\x9džŸ"; // its characters from 0x80 to 0x9F, of which five are undefined
 const UNDEFINED = /[\x81\x8d\x8f\x90\x9d]/g;
@@ -116,12 +116,12 @@ function characterSetOf(octets) {
 function comment(octets) {
   const name = characterSetOf(octets), rest = octets.subarray(8);
   if (octets.every(isBlank) || name !== null && rest.every(isBlank)) return "";
-  if (name === null) return bareComment(octets);
+  if (name === null) return bareComment(octets) ?? wideComment(octets);
   const ended = (text) => text === null ? null : trimmedEnd(text.split("\0")[0]);
   if (name === "UNICODE") {
     const [big, little] = wide.map((decoder) => decoder.decode(rest.subarray(0, rest.length & ~1)));
     const beyondLatin = (text) => [...text].filter((character) => character > "\u02ff").length;
-    return ended(beyondLatin(big) <= beyondLatin(little) ? big : little);
+    return ended((beyondLatin(big) <= beyondLatin(little) ? big : little).replace(/^\ufeff+/, ""));
   }
   return ended(name === "JIS" ? decoded(japanese, beforeNul(rest)) : eitherText(beforeNul(rest)));
 }
@@ -132,6 +132,16 @@ function bareComment(octets) {
   if (!isKnown || bare.length < 8 && !octets.subarray(bare.length).every(isBlank)) return null;
   const text = printable(eitherText(bare));
   return text === null ? null : trimmedEnd(text);
+}
+
+/** The text of a comment in UTF-16 in front of which no character set is named: it can be printed, and most of it is Latin; null of any other. */
+function wideComment(octets) {
+  for (const decoder of [strictlyWide, strictlyWideBig]) {
+    const whole = decoded(decoder, octets.subarray(0, octets.length & ~1));
+    const text = whole === null ? null : printable(whole.replace(/^\ufeff+/, "").replace(/[\0 ]+$/, ""));
+    if (text && 2 * [...text].filter((character) => character < "\u0250").length > [...text].length) return text;
+  }
+  return null;
 }
 
 /** The text of a comment; of one that is a text by its type all that is in front of a NUL, unless a character set is there. */
@@ -402,8 +412,11 @@ export function fieldOf(where, key, type, raw) {
 
 /** The value of a field as a person writes it. `words` has the words for numbers by tag. */
 export function plain(words, field) {
-  return inWords(words, field) || asText(field) || withoutWords(field);
+  return withoutNuls(inWords(words, field) || asText(field) || withoutWords(field));
 }
+
+/** A text in which the end of a line stands for NULs: databases and XML refuse them. */
+const withoutNuls = (text) => text.includes("\0") ? text.split("\0").filter(trimmedEnd).join("\n") : text;
 
 // ---- values for programs
 

@@ -14,6 +14,21 @@ const CHARACTERS = { "&amp;": "&", "&lt;": "<", "&gt;": ">", "&#13;": "\r" };
 const utf8 = new TextDecoder("utf-8", { fatal: true, ignoreBOM: true });
 const unescaped = (text) => text.replace(/&(?:amp|lt|gt|#13);/g, (reference) => CHARACTERS[reference]);
 
+/**
+ * A packet in UTF-8, without its declaration of XML. A packet may be in UTF-16, which its first bytes show (XMP part 1, 7.1; XML 1.0, F.1). Bytes
+ * that are no such text stay as they are.
+ */
+export function inUtf8(packet) {
+  const start = [...packet.subarray(0, 4)].map((octet) => octet === 0x3c ? "<" : octet.toString(16)).join(" ");
+  const name = /^(?:fe ff|0 <)/.test(start) ? "utf-16be" : /^(?:ff fe|< 0)(?! 0 0$)/.test(start) ? "utf-16le" : "";
+  if (!name) return packet;
+  try {
+    return new TextEncoder().encode(new TextDecoder(name, { fatal: true }).decode(packet).replace(/^<\?xml\s[^>]*\?>/, ""));
+  } catch {
+    return packet;
+  }
+}
+
 /** Reads a form from its beginning to its end. */
 class Reader {
   #text;

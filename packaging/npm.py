@@ -24,12 +24,13 @@ import words as words_of
 from scripts import READING, joined
 
 FOLDER = TOP / "javascript"
+COMMAND = "cli.js"  # which npm makes a command of
 LICENCES = ("LICENSE-APACHE", "LICENSE-MIT")
 
 
 def exported() -> str:
     """The names that the package exports, but for `ready`."""
-    text = (FOLDER / "node.js").read_text(encoding="utf-8")
+    text = (FOLDER / "exifnorm.js").read_text(encoding="utf-8")
     return ", ".join(re.findall(r"(?m)^export \{ (.*?) \} from", text))
 
 
@@ -68,6 +69,7 @@ def archive(wasm: bytes, version: str, seconds: int) -> bytes:
         for name, data in files(wasm, version):
             entry = tarfile.TarInfo(f"package/{name}")
             entry.size, entry.mtime = len(data), seconds
+            entry.mode = 0o755 if name == COMMAND else 0o644
             tar.addfile(entry, io.BytesIO(data))
     return gzip.compress(octets.getvalue(), mtime=seconds)
 

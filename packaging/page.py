@@ -3,9 +3,10 @@
 
   packaging/page.py WASM TARGET
 
-WASM is exifnorm.wasm, and TARGET the page. The sources are in page/, and the modules that read pictures in javascript/.
-The names of fields, the words for numbers and the causes of refusals are the tables of exifnorm_pictures. The same sources make the same bytes. A page with a module that was
-compiled without proofs has the mark by which build/guard.py refuses it.
+WASM is exifnorm.wasm, and TARGET the page. The sources are in page/, and the modules that read pictures in javascript/. The names of fields,
+the words for numbers and the causes of refusals are the tables of exifnorm_pictures. The module, the tables and the worker's scripts are in the
+page as gzip in base64. The same sources make the same bytes. A page with a module that was compiled without proofs has the mark by which
+build/guard.py refuses it.
 """
 
 from __future__ import annotations
@@ -74,7 +75,7 @@ def page(wasm: bytes) -> str:
         "POLICY": policy(style, script),
         "STYLE": style,
         "SCRIPT": script,
-        "WORKER": joined(MODULES),
+        "WORKER": packed(joined(MODULES).encode()),
         "TABLES": packed(words_of.json_of(words_of.tables()).encode()),
         "MODULE": packed(wasm),
         "SAMPLES": samples(),

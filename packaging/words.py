@@ -1,4 +1,8 @@
-"""The tables of exifnorm_pictures that the page and the JavaScript package have: the names of fields, words for numbers, causes, labels."""
+#!/usr/bin/env python3
+"""The tables of exifnorm_pictures that the page and the JavaScript package have: the names of fields, words for numbers, causes, labels.
+
+  packaging/words.py                 prints them in JSON
+"""
 
 from __future__ import annotations
 
@@ -11,7 +15,8 @@ TOP = Path(__file__).resolve().parent.parent
 sys.path[:0] = [str(TOP / "python")]
 
 from exifnorm._causes import OF_HEADS, OF_PACKETS
-from exifnorm_pictures.fields import choosing, labels, names, plain_names, plain_values, xmp_types
+from exifnorm_pictures.comparison import edits
+from exifnorm_pictures.fields import labels, names, own_texts, plain_names, plain_values, xmp_types
 from exifnorm_pictures.model import xmp_names
 from exifnorm_pictures.refusals import causes
 
@@ -35,6 +40,12 @@ def labels_of() -> dict[str, str]:
     return {**found, "exif 9286": labels.COMMENT, **windows, "exif:UserComment": labels.COMMENT}
 
 
+def own_texts_of() -> dict[str, Any]:
+    """The rules of texts that cameras and programs write by themselves. JavaScript writes the end of a text in another way."""
+    rules = {"program": own_texts._PROGRAM, "camera": own_texts._CAMERA, "file": own_texts._FILE.replace(r"\Z", "$")}
+    return {"texts": sorted(own_texts._TEXTS), **rules, "filling": sorted(own_texts._FILLING)}
+
+
 def tables() -> dict[str, Any]:
     """What the scripts have of exifnorm_pictures."""
     return {
@@ -46,7 +57,9 @@ def tables() -> dict[str, Any]:
         "packets": {name: [sentence, "", remedy, ""] for name, (sentence, remedy) in OF_PACKETS.items()},
         "spaces": xmp_names._SPACES,
         "labels": labels_of(),
-        "saves": choosing.SAVES,
+        "labelled": labels.label_of_fields(),
+        "byThemselves": edits.BY_THEMSELVES,
+        "own": own_texts_of(),
     }
 
 
@@ -57,3 +70,7 @@ def types() -> dict[str, str]:
 
 def json_of(value: Any) -> str:
     return json.dumps(value, ensure_ascii=False, separators=(",", ":")).replace("<", "\\u003c")
+
+
+if __name__ == "__main__":
+    print(json_of({**tables(), "types": types()}))

@@ -8,7 +8,7 @@
 const WORD = /\s+|[^\P{Alphabetic}\u0e00-\u0eff\u1000-\u109f\u1780-\u17ff\u3040-\u30ff\u3400-\u4dbf\u4e00-\u9fff\uf900-\ufaff\u{20000}-\u{3ffff}]+|[\p{N}_]+|[^]/gu;
 const KEPT = "=", OUT = "-", IN = "+";
 const MOST_STEPS = 10_000; // of comparing words
-const MOST_EDITS = 100, FEW = 6; // fields of a block that came or went, which don't count beside a text of it
+const POSITION = "position", MOST_EDITS = 100, FEW = 6; // fields of a block that came or went, which don't count beside a text of it
 const MOMENT = /^(\d{4}-\d\d-\d\d)(?: (\d\d:\d\d)(:\d\d)?)?$/;
 
 /** The longest run of words that two ranges have in common, the first one in each: where it begins in both, and its length. */
@@ -98,18 +98,22 @@ function shiftOf(before, after) {
   if (!one?.[2] || !other?.[2]) return "";
   const [from, to] = [one, other].map(([, day, time, second = ":00"]) => Date.parse(`${day}T${time}${second}Z`)), size = Math.abs(to - from) / 1000;
   if (!size || Number.isNaN(size)) return "";
-  const parts = [[86400, "d"], [3600, "h"], [60, "min"], [1, "s"]].map(([unit, name], i, all) => [Math.floor(size % (i ? all[i - 1][0] : Infinity) / unit), name]);
-  return `${parts.filter(([count]) => count).map((part) => part.join(" ")).join(" ")} ${to > from ? "later" : "earlier"}`;
+  const days = Math.floor(size / 86400), parts = [[days, days === 1 ? "day" : "days"], [Math.floor(size / 3600) % 24, "h"], [Math.floor(size / 60) % 60, "min"], [size % 60, "s"]];
+  return `${parts.filter(([count]) => count).map(([count, word]) => `${count.toLocaleString("en")} ${word}`).join(" ")} ${to > from ? "later" : "earlier"}`;
 }
 
+const PLAIN_BYTES = /^(?:ExifIFD:MakerNote|IFD1:(?:ThumbnailImage|jpeg|strip))/, NUMBERS = /^-?\d+(?:\/-?\d+)?(?: -?\d+(?:\/-?\d+)?)*$/;
+const textsOf = ({ cells }) => cells.map((cell) => cell ? cell.text + (cell.exact ? ` (${cell.exact})` : "") : null);
+
 /** The edit of one row of fields. */
-function editOf({ name, label, members, cells: [before, after] }) {
-  const edit = { name: label ?? name, fields: [name], note: "", steps: [], isList: false };
-  const texts = [before, after].map((cell) => cell ? cell.text + (cell.exact ? ` (${cell.exact})` : "") : null);
+function editOf(row, name) {
+  const { members, cells: [before, after] } = row, edit = { name, fields: [row.name], note: "", steps: [], isList: false }, texts = textsOf(row);
+  if (before?.exact && after?.exact && [before, after].every(({ exact }) => NUMBERS.test(exact))) return { ...edit, name: "equal numbers", note: "written otherwise" };
+  if (PLAIN_BYTES.test(row.name)) return { ...edit, note: texts[1] === null ? "removed" : texts[0] === null ? "added" : "other bytes" };
   if (texts[1] === null) return { ...edit, note: "removed", steps: [[OUT, texts[0]]] };
   const shift = texts[0] === null ? "" : shiftOf(...texts);
   if (shift) return { ...edit, name: "dates", note: shift, steps: [[OUT, texts[0]], [IN, texts[1]]] };
-  if (members) {
+  if (members && !members.every(({ length }) => length === 1)) {
     const [less, more] = [without(members[0], members[1]), without(members[1], members[0])], steps = [...less.map((text) => [OUT, text]), ...more.map((text) => [IN, text])];
     return steps.length ? { ...edit, steps, isList: true } : { ...edit, note: "the same list in another order" };
   }
@@ -117,26 +121,54 @@ function editOf({ name, label, members, cells: [before, after] }) {
   return { ...edit, steps: isNew ? [...texts[0] === null ? [] : [[OUT, texts[0]]], [IN, texts[1]]] : steps };
 }
 
+/** The fields of a position as one edit, of Exif and of XMP: its parts in one text. */
+function positionEdits(rows) {
+  return [false, true].flatMap((isXmp) => {
+    const mine = rows.filter((row) => Boolean(row.isXmp) === isXmp), [before, after] = [0, 1].map((side) => mine.map((row) => textsOf(row)[side]).filter((text) => text !== null).join(", "));
+    if (!before && !after) return [];
+    const steps = [...before ? [[OUT, before]] : [], ...after ? [[IN, after]] : []];
+    return [{ name: POSITION, fields: mine.map(({ name }) => name), note: after ? "" : "removed", steps, isList: false, isMinor: false }];
+  });
+}
+
+const partOf = ({ part, cells }) => part ? `${part} ${cells[0] ? "removed" : "added"}` : "";
+
+/** The blocks and directories that came or went as one edit. Of a small one only the texts count that came with it, or the only one that went. */
+function wholeParts(rows, nameOf) {
+  const parts = new Map();
+  for (const row of rows.filter(({ part }) => part)) {
+    const found = parts.get(partOf(row)) ?? parts.set(partOf(row), { count: 0, texts: new Set(), isGone: !row.cells[1] }).get(partOf(row));
+    found.count++;
+    if (nameOf(row) !== row.name) found.texts.add(nameOf(row));
+  }
+  return new Set([...parts].filter(([, { count, texts, isGone }]) => count > FEW || isGone && texts.size !== 1).map(([part]) => part));
+}
+
+/** The edit of a row that is no position. */
+function plainEdit(row, name, whole, byThemselves) {
+  const isWhole = whole.has(partOf(row)), isGone = !row.cells[1], isText = name !== row.name;
+  if (isWhole && (isGone || !isText)) return { name: row.part, fields: isText ? [row.name] : [], note: isGone ? "removed" : "added", steps: [], isMinor: false };
+  return { ...editOf(row, name), isMinor: byThemselves.includes(row.name) || Boolean(row.part) && !isWhole && !isText };
+}
+
 /**
- * The edits of a picture by the fields that differ. `saves` are the names of fields that programs write by themselves. A block that came or went
- * is one edit, but for the texts that came with it. Each edit has a `key`, which equal edits share.
+ * The edits of a picture by the fields that differ, those with a label first. `labelled` has the labels of fields by their names, and `byThemselves`
+ * the fields that programs write by themselves. A block that came or went is one edit, but for the texts that came with it. Each edit has a `key`,
+ * which equal edits share.
  */
-export function editsOf(rows, saves) {
-  const edits = new Map(), counts = new Map();
-  const partOf = ({ part, cells }) => part ? `${part} ${cells[0] ? "removed" : "added"}` : "";
-  for (const row of rows) counts.set(partOf(row), (counts.get(partOf(row)) ?? 0) + 1);
-  for (const row of rows) {
-    const part = partOf(row), isWhole = part && counts.get(part) > FEW, isGone = !row.cells[1], isMinor = saves.includes(row.name) || part && !isWhole && !row.label;
-    const edit = isWhole && (isGone || !row.label) ? { name: row.part, fields: [row.part], note: isGone ? "removed" : "added", steps: [] } : editOf(row);
+export function editsOf(rows, { labelled, byThemselves }) {
+  const edits = new Map(), bare = ({ name, suffix = "" }) => name.slice(0, name.length - suffix.length), nameOf = (row) => (labelled[bare(row)] ?? bare(row)) + (row.suffix ?? "");
+  const whole = wholeParts(rows, nameOf), isPosition = (row) => nameOf(row) === POSITION && !(whole.has(partOf(row)) && !row.cells[1]), order = new Map([...new Set(Object.values(labelled))].map((label, i) => [label, i]));
+  for (const edit of [...positionEdits(rows.filter(isPosition)), ...rows.filter((row) => !isPosition(row)).map((row) => plainEdit(row, nameOf(row), whole, byThemselves))]) {
     const key = JSON.stringify([edit.name, edit.note, edit.note ? [] : coreOf(edit)]), known = edits.get(key);
     if (known) {
       known.fields = [...new Set([...known.fields, ...edit.fields])];
-      known.isMinor &&= isMinor;
-    } else if (edits.size < MOST_EDITS) edits.set(key, { ...edit, key, isMinor });
+      known.isMinor &&= edit.isMinor;
+    } else if (edits.size < MOST_EDITS) edits.set(key, { ...edit, key });
     else edits.set("", { name: "further fields", fields: [], note: "changed", steps: [], key: "" });
   }
-  const major = [...edits.values()].filter((edit) => !edit.isMinor);
-  if (major.length || !edits.size) return major;
+  const major = [...edits.values()].filter((edit) => !edit.isMinor), placeOf = ({ name }) => order.get(name) ?? order.size;
+  if (major.length || !edits.size) return major.sort((one, other) => placeOf(one) - placeOf(other) || (one.name < other.name ? -1 : Number(one.name > other.name)));
   return [{ name: "what programs write by themselves", fields: [], note: "changed", steps: [], key: "minor" }];
 }
 

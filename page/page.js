@@ -3,6 +3,7 @@
 
 const PATIENCE = 30_000; // milliseconds for one question
 const ROWS = 300; // of a list, that are shown at once
+const MOST_KEPT = 50_000_000; // characters of changed values, for all pictures of folders
 const MOST_FILES = 500_000, MOST_REFUSALS = 20;
 const TWO = "Choose one or two, please: pictures or folders.";
 const SIDES = ["first", "second"], KINDS = { exif: "Exif", iptc: "IPTC", xmp: "XMP" };
@@ -54,15 +55,21 @@ function save(name, content, type) {
   setTimeout(() => URL.revokeObjectURL(address), 60_000);
 }
 
+/** What the page has as gzip in base64. */
+function unpacked(text) {
+  const octets = Uint8Array.from(atob(text), (character) => character.charCodeAt(0));
+  return new Response(new Blob([octets]).stream().pipeThrough(new DecompressionStream("gzip")));
+}
+
 // ---- the worker
 
 const policy = self.trustedTypes?.createPolicy("exifnorm", { createScriptURL: (address) => address }) ?? { createScriptURL: (address) => address };
 const waiting = new Map(); // questions by their numbers
-let worker = null, questions = 0;
+let worker = null, scripts = null, questions = 0;
 
 function begin() {
   const given = `self.MODULE = ${JSON.stringify($("module").textContent)}; self.TABLES = ${JSON.stringify($("tables").textContent)};`;
-  const address = URL.createObjectURL(new Blob([`${given}\n${$("worker").textContent}`], { type: "text/javascript" }));
+  const address = URL.createObjectURL(new Blob([`${given}\n${scripts}`], { type: "text/javascript" }));
   worker = new Worker(policy.createScriptURL(address));
   URL.revokeObjectURL(address);
   worker.onmessage = ({ data: { id, answer, error } }) => {
@@ -87,7 +94,8 @@ function end(why) {
 }
 
 /** What the worker answers, or an error: also if that takes too long. */
-function ask(call, ...words) {
+async function ask(call, ...words) {
+  scripts ??= await unpacked($("worker").textContent).text();
   if (!worker) begin();
   return new Promise((done, failed) => {
     const id = ++questions, timer = setTimeout(() => end(`it took more than ${PATIENCE / 1000} seconds`), PATIENCE);
@@ -250,11 +258,17 @@ function readXmp({ sides, xmp }) {
 /** Whether no picture has metadata that is read here. */
 const haveNone = ({ sides }) => sides.every(({ blocks }) => !blocks.some(({ refusal }) => !refusal?.isRare));
 
+/** The kinds of blocks that have fields here. */
+const kindsIn = ({ sides }) => Object.keys(KINDS).filter((kind) => sides.some(({ blocks }) => blocks.some((block) => block.kind === kind && !block.refusal))).map((kind) => KINDS[kind]);
+
+/** How many fields one picture has, and of which kinds. */
+const fieldsOf = (look) => `${look.isCut ? "At least " : ""}${many(look.counts[0], "field")} of ${listed(kindsIn(look))}`;
+
 function titleOf(look) {
   const { verdict, sides } = look, hasNone = haveNone(look), open = readXmp(look);
   const none = `No Exif, IPTC or XMP${sides.some(({ others }) => others) ? " that is read" : ""}`;
   if (verdict === "same") return hasNone ? none : "Same Exif, IPTC and XMP";
-  if (verdict === "valid") return hasNone ? open || none : open ? `Valid, ${open}` : "Valid";
+  if (verdict === "valid") return hasNone ? open || none : `${fieldsOf(look)}${open && `, ${open}`}`;
   if (verdict === "partly") {
     const isXmpAlone = open && !sides.some(({ unread, notRead }) => unread || notRead.length);
     if (isXmpAlone && !sides.some(({ blocks }) => blocks.some(({ kind }) => kind !== "xmp"))) return open;
@@ -287,8 +301,8 @@ function meaningOf(look) {
     return `${what}${isPair ? ", and the pictures are not compared" : ""}. ${look.sameBytes ? `Both pictures have the same bytes of ${look.xmp.sameBytes ? "Exif, IPTC and XMP" : "Exif and IPTC"}.` : ""}`;
   }
   if (look.verdict === "valid") {
-    const next = chosen[0]?.files || chosen[1] ? "" : " Choose a second picture to compare it with.";
-    return (!kinds.length ? `The picture has no ${isXmpOpen ? "Exif and no IPTC" : "Exif, IPTC or XMP"} that is read here.` : `The picture has valid ${listed(kinds)}: ${fields(differing)}.`) + next;
+    const next = chosen.some((item) => item?.files) || chosen.every(Boolean) ? "" : ` Choose a ${SIDES[chosen[0] ? 1 : 0]} picture to compare it with.`;
+    return (kinds.length ? `No rule is broken: ${listed(kinds)} of the picture ${kinds.length > 1 ? "have" : "has"} a certain meaning.` : `The picture has no ${isXmpOpen ? "Exif and no IPTC" : "Exif, IPTC or XMP"} that is read here.`) + next;
   }
   return isPair ? "The pictures are not compared." : "";
 }
@@ -382,10 +396,54 @@ function downloadsOf(look, names, files) {
 const ofAll = (count, rows) => count > rows.length ? ` (the first ${counted(rows.length)} of ${counted(count)})` : "";
 
 function captionsTable({ captions }, heads) {
-  const isOne = heads.length === 1, areEqual = isOne || captions.every(({ cells: [first, second] }) => first?.text === second?.text);
-  const shown = isOne ? heads : areEqual ? ["Both"] : heads;
-  const rows = captions.map(({ label, cells }) => [label, shown.map((head, i) => cell(cells[i], head, !isOne))]);
+  if (heads.length === 1) {
+    const there = [0, 1, 2].filter((at) => captions.some(({ cells }) => cells[at])), standards = Object.values(KINDS);
+    return table("Captions", ["Label", ...there.map((at) => standards[at])], captions.map(({ label, cells }) => [label, there.map((at) => cell(cells[at], standards[at]))]));
+  }
+  const areEqual = captions.every(({ cells: [first, second] }) => first?.text === second?.text);
+  const shown = areEqual ? ["Both"] : heads;
+  const rows = captions.map(({ label, cells }) => [label, shown.map((head, i) => cell(cells[i], head, true))]);
   return table("Captions", ["Label", ...shown], rows);
+}
+
+/** A text that no spreadsheet takes for a formula, whatever separates its cells. */
+const harmless = (text) => safe(text).replace(/^(?=[=+\-@\t\n＝＋－＠])|(?<=[;\t\n])(?=[=+\-@＝＋－＠])/g, "'");
+
+function saveTable(name, lines) {
+  const csvCell = (text) => `"${harmless(text).replaceAll('"', '""')}"`;
+  save(name, lines.map((cells) => `${cells.map(csvCell).join(",")}\r\n`).join(""), "text/csv");
+}
+
+/** Puts rows on the clipboard, in lines that a spreadsheet takes as cells. Without the right to it they are chosen, and copied as by the keyboard. */
+async function copyTable(lines) {
+  const text = lines.map((cells) => cells.map((one) => harmless(one).replace(/[\t\n]+/g, " ")).join("\t")).join("\n");
+  try {
+    await navigator.clipboard.writeText(text);
+  } catch {
+    const area = element("textarea", "unseen", text);
+    document.body.append(area);
+    area.select();
+    document.execCommand("copy");
+    area.remove();
+  }
+  say(`Copied: ${many(lines.length - 1, "row")}.`);
+}
+
+const COLUMNS = ["picture", "result", "moved to", "field", "before", "after", "note"]; // as `exifnorm-pictures changed --csv` has them
+const exactText = (value) => value ? value.text + (value.exact ? ` (${value.exact})` : "") : "";
+
+/** The rows of a result for a file: of one picture its fields, of two those that differ. */
+function linesOf({ verdict, differing, counts: [count] }, names) {
+  if (names.length === 1) return [["picture", "field", "value"], ...differing.map(({ name, cells: [value] }) => [names[0], name, exactText(value)])];
+  const about = [names[0], RESULTS[verdict], names[1] === names[0] ? "" : names[1]], more = count - differing.length;
+  const rows = verdict === "different" ? differing.map(({ name, cells }) => [...about, name, ...cells.map(exactText), ""]) : [];
+  return [COLUMNS, ...rows, ...more > 0 || !rows.length ? [[...about, "", "", "", more > 0 && rows.length ? `and ${many(more, "other field")}` : ""]] : []];
+}
+
+/** The buttons with which a result is taken away. */
+function takeAway(look, names) {
+  const lines = () => linesOf(look, names);
+  return element("p", "steps", button("Save as CSV", () => saveTable("result.csv", lines())), button("Copy", () => copyTable(lines())));
 }
 
 /** The pictures themselves, beside each other, as far as the browser can show them. */
@@ -420,8 +478,8 @@ function show(look, names, files, areOfFolders) {
     table("", ["Field", "Both"], look.equal.map((row) => [safe(row.name), [cell(row.cells[0], "")]])));
   if (same) same.open = !isDifferent && equal <= 12;
   const others = open > 0 && table("Fields that could be read" + ofAll(open, look.open), ["Field", ...heads], look.open.map((row) => [safe(row.name), cells(row)]));
-  const captions = look.captions.length > 0 && captionsTable(look, heads);
-  const parts = [main, imagesOf(look, called, files), isDifferent && fields, captions, !isDifferent && fields, others, same, downloadsOf(look, called, files)];
+  const captions = look.captions.length > 0 && captionsTable(look, heads), taken = !isUnread && takeAway(look, names);
+  const parts = [main, imagesOf(look, called, files), isDifferent && fields, isDifferent && taken, captions, !isDifferent && fields, !isDifferent && taken, others, same, downloadsOf(look, called, files)];
   $("result").replaceChildren(...parts.filter(Boolean));
   $("result").hidden = false;
   return main.firstChild;
@@ -556,7 +614,7 @@ async function rowOf(path, files) {
 async function folders(both) {
   const mine = turn, paths = [...new Set(both.flatMap(({ files }) => [...files.keys()]))].sort();
   const rows = [];
-  let others = 0, isStopped = false, last = 0;
+  let others = 0, isStopped = false, last = 0, kept = 0;
   $("running").hidden = false;
   $("progress").max = paths.length;
   $("stop").onclick = () => {
@@ -567,20 +625,19 @@ async function folders(both) {
     if (performance.now() - last > 200) {
       last = performance.now();
       $("progress").value = done;
-      say(`${counted(done)} of ${many(paths.length, "file")} ..`, false);
+      say(`${counted(done)} of ${many(paths.length, "file")} ..`);
     }
     const row = await rowOf(path, both.map(({ files }) => files.get(path)));
     if (mine !== turn) return;
     if (isStopped) break;
     if (row) rows.push(row); else others++;
+    kept += row?.changes?.flat().reduce((sum, text) => sum + (text?.length ?? 0), 0) ?? 0;
+    if (row?.changes && kept > MOST_KEPT) Object.assign(row, { changes: [], edits: [], shared: [] });
   }
   $("running").hidden = true;
   summarise(both.length === 2 && !isStopped ? pairMoved(rows) : rows, others, both.length === 2, isStopped ? paths.length : 0);
   document.body.dataset.state = "done";
 }
-
-/** A cell of CSV that no spreadsheet takes for a formula, whatever separates its cells. */
-const csvCell = (text) => `"${safe(text).replace(/^(?=[=+\-@\t\n＝＋－＠])|(?<=[;\t\n])(?=[=+\-@＝＋－＠])/g, "'").replaceAll('"', '""')}"`;
 
 // the words of `exifnorm-pictures changed --csv`
 const RESULTS = { different: "different", refused: "refused", moved: "moved", partly: "not wholly read", unread: "not read", same: "same", valid: "valid" };
@@ -593,12 +650,9 @@ function csvRows(row) {
   return [...row.changes.map(([name, before, after]) => [...about, name, before ?? "", after ?? "", ""]), ...more > 0 ? [[...about, "", "", "", `and ${many(more, "other field")}`]] : []];
 }
 
-function saveCsv(rows) {
-  const lines = [["picture", "result", "moved to", "field", "before", "after", "note"], ...rows.flatMap(csvRows)];
-  save("pictures.csv", lines.map((cells) => `${cells.map(csvCell).join(",")}\r\n`).join(""), "text/csv");
-}
+const saveCsv = (rows) => saveTable("pictures.csv", [COLUMNS, ...rows.flatMap(csvRows)]);
 
-const PARTIAL = "when a folder is dropped, this browser leaves out names such as those with \" * : < > ? | or with characters that can’t be seen, as in some emoji. Choose the folders by their buttons to have all.";
+const PARTIAL = "dropped folders come without names that have \" * : < > ? | or characters that can’t be seen. The buttons find all.";
 
 /** The card over the list: the counts, and what isn't read. Its title has the worst verdicts, and that pictures are not read. */
 function summaryCard(rows, counts, others, isPair, stoppedOf) {
@@ -614,8 +668,7 @@ function summaryCard(rows, counts, others, isPair, stoppedOf) {
   return card(look, SIGNS[look], title,
     element("p", "", `${many(rows.length, "picture")}${isPair ? ", paired by path" : ""}${rest}${stopped}`),
     isPartial && element("p", "small", element("strong", "", "Perhaps not all: "), PARTIAL),
-    counts.moved > 0 && element("p", "small", "Moved: the same Exif, IPTC and XMP are at another path. Pixels are not compared."),
-    element("p", "small", `Not read: ${open ? `some XMP (of ${many(open, "picture")}), ` : ""}some formats, what is inside a MakerNote, and what follows the head of a JPEG.`));
+    element("p", "small", `${counts.moved ? "Moved: the same Exif, IPTC and XMP at another path; pixels are not compared. " : ""}Not read: ${open ? `some XMP (of ${many(open, "picture")}), ` : ""}some formats, what is inside a MakerNote, and what follows the head of a JPEG.`));
 }
 
 /** The link of a row to the comparison of its pictures. */
@@ -632,6 +685,7 @@ function linkOf(row) {
 
 // ---- what changed, by edits
 
+const MOST_LABELS = 100; // that the list can be filtered by
 const MOST_WAYS = 60, AROUND = 40; // ways that are listed; characters of kept text on each side of a change
 const standardOf = (name) => name.startsWith("IPTC") ? "IPTC" : name.startsWith("XMP") ? "XMP" : "Exif";
 
@@ -672,10 +726,10 @@ function waysSection(ways, open) {
     bar.append(part);
     return element("li", "", button(isOdd ? safeName(group[0].path) : many(group.length, "picture"), () => open(group)), ...edits.slice(0, 9).map(editLine));
   });
-  const others = alike ? ` ${odd ? "The others" : "All"} changed in ${many(alike, "way")}.` : "";
+  const others = alike ? `${odd ? "The others" : "The pictures"} changed in ${many(alike, "way")}. ` : "";
   return element("section", "ways", element("h2", "", `${many(total, "picture")} changed, in ${many(ways.length, "way")}`),
-    element("p", "", `${odd ? many(odd, "picture") : "No picture"} changed like no other${odd ? ": look here first" : ""}.${others} `, "Words that were left out are ", element("del", "", "struck through"), ", new ones are ", element("ins", "", "underlined"), "."),
-    bar, element("ul", "", ...lines), ways.length > MOST_WAYS && element("p", "small", `And ${many(ways.length - MOST_WAYS, "further way")}: see the list.`));
+    element("p", "", odd > 0 && `${many(odd, "picture")} changed like no other: look here first. `, others, "Words that were left out are ", element("del", "", "struck through"), ", new ones are ", element("ins", "", "underlined"), "."),
+    alike > 0 && ways.length > 1 && bar, element("ul", "", ...lines), ways.length > MOST_WAYS && element("p", "small", `And ${many(ways.length - MOST_WAYS, "further way")}: see the list.`));
 }
 
 /** Pictures of one folder with the same metadata: for each side, the paths of each group. Rows learn the others of their group. */
@@ -705,23 +759,33 @@ function summarise(rows, others, isPair, stoppedOf) {
   const counts = Object.fromEntries(VERDICTS.map((verdict) => [verdict, rows.filter((row) => row.verdict === verdict).length]));
   const holder = element("div", ""), choices = element("div", "counts");
   const ways = waysOf(rows), copies = copiesOf(rows), byWay = new Map(ways.flat().map((row, i) => [row, i]));
-  let filter = VERDICTS.find((verdict) => counts[verdict]), shown = ROWS, group = null;
+  const labels = new Map();
+  for (const label of rows.flatMap((row) => row.labels ?? [])) labels.set(label, (labels.get(label) ?? 0) + 1);
+  let filter = VERDICTS.find((verdict) => counts[verdict]), shown = ROWS, group = null, field = "";
   const draw = () => {
     closeResult();
-    const chosenRows = rows.filter((row) => group ? group.includes(row) : filter === "all" || row.verdict === filter);
+    const chosenRows = rows.filter((row) => field ? row.labels?.includes(field) : group ? group.includes(row) : filter === "all" || row.verdict === filter);
     if (filter === "different") chosenRows.sort((first, second) => byWay.get(first) - byWay.get(second));
     const lines = chosenRows.slice(0, shown).map((row) => {
       const cells = [element("td", "verb", element("span", `word ${row.verdict}`, wordOf(row))), element("td", "", safe(detailOf(row)))];
       for (const node of cells) node.setAttribute("role", "cell");
       return [linkOf(row), cells];
     });
-    const label = group ? "Changed alike" : filter === "all" ? "All pictures" : LABELS[filter][0].toUpperCase() + LABELS[filter].slice(1), left = chosenRows.length - shown;
+    const label = field ? `Changed in ${safe(field)}` : group ? "Changed alike" : filter === "all" ? "All pictures" : LABELS[filter][0].toUpperCase() + LABELS[filter].slice(1), left = chosenRows.length - shown;
     const more = left > 0 && button(`Show ${counted(Math.min(ROWS, left))} more`, () => { shown += ROWS; draw(); }, "more");
     holder.replaceChildren(...[table(`${label}: ${counted(chosenRows.length)}`, ["Path", "Verdict", "Details"], lines, "list"), more].filter(Boolean));
-    for (const node of choices.querySelectorAll("[aria-pressed]")) node.setAttribute("aria-pressed", String(node.dataset.filter === filter && !group));
+    for (const node of choices.querySelectorAll("[aria-pressed]")) node.setAttribute("aria-pressed", String(node.dataset.filter === filter && !group && !field));
+    if (!field) chooser.value = "";
   };
+  const chooser = element("select", "", ...["", ...[...labels.keys()].sort((one, other) => labels.get(other) - labels.get(one)).slice(0, MOST_LABELS)].map((label) => {
+    const option = element("option", "", label ? `${safe(label)} (${counted(labels.get(label))})` : "any field");
+    option.value = label;
+    return option;
+  }));
+  chooser.onchange = () => { field = chooser.value; filter = "different"; group = null; shown = ROWS; draw(); };
   const openWay = (some) => {
     filter = "different";
+    field = "";
     group = some.length > 1 ? some : null;
     shown = ROWS;
     draw();
@@ -735,11 +799,12 @@ function summarise(rows, others, isPair, stoppedOf) {
   };
   for (const verdict of [...VERDICTS.filter((word) => counts[word]), "all"]) {
     const text = verdict === "all" ? `all ${counted(rows.length)}` : `${counted(counts[verdict])} ${LABELS[verdict]}`;
-    const node = button(text, () => { filter = verdict; group = null; shown = ROWS; draw(); });
+    const node = button(text, () => { filter = verdict; group = null; field = ""; shown = ROWS; draw(); });
     node.dataset.filter = verdict;
     node.setAttribute("aria-pressed", "false");
     choices.append(node);
   }
+  if (labels.size > 1) choices.append(element("label", "chooser", "Changed in ", chooser));
   choices.append(button("Save as CSV", () => saveCsv(rows)));
   choices.setAttribute("role", "group");
   choices.setAttribute("aria-label", "Shown in the list");
@@ -799,16 +864,21 @@ document.ondrop = drop;
 
 /** Two pictures to try the page with, which it has as gzip in base64: the length of the first one, and both. */
 $("samples").onclick = async () => {
-  const [length, text] = $("sample-pictures").textContent.split(" "), octets = Uint8Array.from(atob(text), (character) => character.charCodeAt(0));
-  const both = await new Response(new Blob([octets]).stream().pipeThrough(new DecompressionStream("gzip"))).blob();
+  const [length, text] = $("sample-pictures").textContent.split(" "), both = await unpacked(text).blob();
   const named = [["bowl, before.jpg", both.slice(0, length)], ["bowl, after.jpg", both.slice(length)]];
   put(named.map(([name, some]) => ({ name, file: new File([some], name, { type: "image/jpeg" }) })), null);
+};
+
+/** Pictures that were copied elsewhere. */
+document.onpaste = ({ clipboardData }) => {
+  const items = [...clipboardData?.files ?? []].map((file) => ({ name: file.name, file }));
+  if (items.length > 2) say(TWO); else if (items.length) put(items, null);
 };
 
 let closed = [];
 self.addEventListener("beforeprint", () => {
   drawAll(true);
-  closed = [...document.querySelectorAll("details:not([open])")];
+  closed = [...document.querySelectorAll("details.copies:not([open])")];
   for (const node of closed) node.open = true;
 });
 self.addEventListener("afterprint", () => {

@@ -4,33 +4,29 @@
  * @module
  */
 import { NormalTooLong, Refused, load } from "../javascript/engine.js";
-import { headOf, haveSameBytes, identity, problem, single, verdict, xmpOf } from "../javascript/head.js";
-import { captionRows, pairsOf, rowsOf } from "../javascript/rows.js";
+import { headOfFile, haveSameBytes, identity, noteDoubt, problem, single, verdict, xmpOf } from "../javascript/head.js";
+import { cameraOf, captionRows, captionTable, listsOf, pairsOf } from "../javascript/rows.js";
+import { sha256 } from "../javascript/sha256.js";
 import { editsOf, shared, stepsOf } from "./edits.js";
 
-// A head is read in steps, so that a large file costs what its head does.
-const FIRST_READ = 1 << 18, MOST_READ = 1 << 26;
 const MOST_ROWS = 3_000, MOST_NAMES = 6, MOST_CHANGES = 100; // that are sent to the page
 const MARKED = 2_000; // characters of a text of which words are marked
 
 let kit;
 
 /** The head of a file, of which a part is read at a time. */
-async function read(file) {
-  const part = (start, end) => new Uint8Array(new FileReaderSync().readAsArrayBuffer(file.slice(start, end)));
-  for (let size = FIRST_READ; ; size *= 4) {
-    try {
-      const head = headOf(kit.engine, new Uint8Array(await file.slice(0, size).arrayBuffer()), { size: file.size, part });
-      if (head.problem?.cause !== "JpegCut" || size >= file.size) return head;
-    } catch (error) {
-      if (error instanceof DOMException) return problem("unreadable");
-      throw error;
-    }
-    if (size >= MOST_READ) return problem("long");
+function read(file) {
+  try {
+    return headOfFile(kit.engine, { size: file.size, part: (start, end) => new Uint8Array(new FileReaderSync().readAsArrayBuffer(file.slice(start, end))) });
+  } catch (error) {
+    if (error instanceof DOMException) return problem("unreadable");
+    throw error;
   }
 }
 
-const readAll = (...files) => Promise.all(files.filter(Boolean).map(read));
+const readAll = (...files) => files.filter(Boolean).map(read);
+
+const digestOf = (text) => sha256(new TextEncoder().encode(text));
 
 /** The texts about a cause. */
 const aboutOf = (cause) => kit.tables.causes[cause] ?? kit.tables.packets[cause];
@@ -42,7 +38,7 @@ function reason({ problem: why, format, blocks, unread, further, others, notRead
     return words[why.name] ?? `damaged JPEG: ${why.cause} at ${why.offset}`;
   }
   const refused = blocks.filter(({ refusal }) => refusal).map(({ name, refusal: { cause, offset } }) => `${name}: ${aboutOf(cause)[0]} (${cause} at ${offset})`);
-  const open = [unread && "more metadata", further.extended.length && "extended XMP, missing or not joined to a packet,", further.resources.length && "XMP in Photoshop's resources", others.length && "a segment APP1 of an unknown kind", ...notRead];
+  const open = [unread && "more metadata", further.extended.length && "extended XMP, missing or not joined to a packet,", further.resources.length && "XMP in Photoshop's resources", others.length && "a segment APP1 of an unknown kind", ...notRead.map(({ what }) => what)];
   return [...refused, ...open.filter(Boolean).map((what) => `${what} that isn't read`)].join("; ");
 }
 
@@ -56,30 +52,21 @@ function marked(row) {
 /** The rows that differ: if the pictures do, without those of blocks of which nobody knows what they mean. */
 const differs = (found) => (row) => !row.isEqual && !(found === "different" && row.isOpen);
 
-/** All rows of two heads, or of one. */
-function listsOf(heads) {
-  return pairsOf(heads).map(([one, other, suffix]) => {
-    const list = rowsOf(kit, one, other, suffix), part = heads.length === 2 && !(one && other) ? (one ?? other).name : "";
-    for (const row of list.rows) row.part = part;
-    return list;
-  });
-}
-
 const CALLS = {
   version: () => kit.engine.version(),
 
   /** Two pictures, or one and null: the verdict, and the fields and captions of both. */
-  async look(first, second) {
-    const heads = await readAll(first, second), found = heads.length === 2 ? verdict(kit.engine, ...heads) : single(heads[0]), lists = listsOf(heads);
+  look(first, second) {
+    const heads = readAll(first, second), found = heads.length === 2 ? verdict(kit.engine, ...heads) : single(heads[0]), lists = listsOf(kit, heads);
     const rows = lists.flatMap((list) => list.rows), differing = rows.filter(differs(found)), equal = rows.filter(({ isEqual }) => isEqual);
-    const open = rows.filter((row) => !row.isEqual && !differs(found)(row));
+    const open = rows.filter((row) => !row.isEqual && !differs(found)(row)), doubt = found === "partly" ? noteDoubt(heads) : "";
     return {
       verdict: found, differing: differing.slice(0, MOST_ROWS).map(marked), equal: equal.slice(0, MOST_ROWS), open: open.slice(0, MOST_ROWS),
       counts: [differing.length, equal.length, open.length], isCut: lists.some(({ isCut }) => isCut),
-      captions: pairsOf(heads).flatMap(([one, other]) => captionRows(kit, one, other)),
+      captions: heads.length === 1 ? captionTable(kit, heads[0]) : pairsOf(heads).flatMap(([one, other]) => captionRows(kit, one, other, heads.map((head) => cameraOf(kit, head)))),
       sameBytes: haveSameBytes(heads), xmp: { ...xmpOf(heads), equal: equal.filter(({ isXmp }) => isXmp).length },
-      sides: heads.map(({ problem: why = null, format, blocks, further, others, unread, notRead }) => ({
-        problem: why && { ...why, about: kit.tables.heads[why.cause] ?? [] }, format, extended: further.extended.length > 0, resources: further.resources.length > 0, others: others.length > 0, unread, notRead,
+      sides: heads.map(({ problem: why = null, format, blocks, further, others, unread, notRead }, i) => ({
+        problem: why && { ...why, about: kit.tables.heads[why.cause] ?? [] }, format, extended: further.extended.length > 0, resources: further.resources.length > 0, others: others.length > 0, unread, notRead: [...notRead.map(({ what }) => what), ...i && doubt ? [doubt] : []],
         blocks: blocks.map(({ kind, name, index, data, refusal }) => ({ kind, name, index, size: data.length, refusal: refusal && { ...refusal, about: aboutOf(refusal.cause) } })),
       })),
     };
@@ -89,24 +76,24 @@ const CALLS = {
    * Two pictures of folders with one path, or one and null, in a few words: how they compare, what was edited, and what identifies the metadata
    * of each.
    */
-  async brief(first, second) {
-    const heads = await readAll(first, second), isPair = heads.length === 2;
+  brief(first, second) {
+    const heads = readAll(first, second), isPair = heads.length === 2;
     const found = isPair ? verdict(kit.engine, ...heads) : single(heads[0]), reasons = heads.map(reason), sides = ["first: ", "second: "];
-    const lists = found === "different" ? listsOf(heads) : [], differing = lists.flatMap(({ rows }) => rows).filter(differs(found));
-    const identities = heads.map((head) => identity(kit.engine, head)), edits = editsOf(differing, kit.tables.saves);
+    const lists = found === "different" ? listsOf(kit, heads) : [], differing = lists.flatMap(({ rows }) => rows).filter(differs(found));
+    const identities = heads.map((head) => identity(kit.engine, head)), edits = editsOf(differing, kit.tables);
     return {
-      verdict: found, names: differing.slice(0, MOST_NAMES).map(({ name }) => name), count: differing.length, isCut: lists.some(({ isCut }) => isCut),
+      verdict: found, labels: [...new Set(edits.map(({ name }) => name))].slice(0, MOST_CHANGES), names: differing.slice(0, MOST_NAMES).map(({ name }) => name), count: differing.length, isCut: lists.some(({ isCut }) => isCut),
       changes: differing.slice(0, MOST_CHANGES).map(({ name, cells }) => [name, ...cells.map((cell) => cell && cell.text + (cell.exact ? ` (${cell.exact})` : ""))]),
-      edits, key: edits.map(({ key }) => key).sort().join("\n"), shared: edits.map(shared),
-      why: reasons[0] === reasons[1] ? reasons[0] : reasons.map((text, i) => text && (isPair ? sides[i] : "") + text).filter(Boolean).join("; "),
+      edits, key: digestOf(edits.map(({ key }) => key).sort().join("\n")), shared: edits.map(shared),
+      why: [reasons[0] === reasons[1] ? reasons[0] : reasons.map((text, i) => text && (isPair ? sides[i] : "") + text).filter(Boolean).join("; "), found === "partly" && noteDoubt(heads)].filter(Boolean).join("; "),
       isOther: heads.every(({ problem: why }) => why?.name === "format" || why?.name === "empty"),
       xmp: xmpOf(heads), sameBytes: haveSameBytes(heads), identity: isPair ? "" : identities[0], identities,
     };
   },
 
   /** The normal form of a block of a picture; null if it is too long. */
-  async form(file, kind, index) {
-    const head = await read(file), block = head.blocks.find((candidate) => candidate.kind === kind && candidate.index === index);
+  form(file, kind, index) {
+    const head = read(file), block = head.blocks.find((candidate) => candidate.kind === kind && candidate.index === index);
     try {
       return block ? block.form ?? kit.engine.normalise(block.data) : null;
     } catch (error) {

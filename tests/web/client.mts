@@ -20,6 +20,9 @@ texts.push(...(captions.caption ?? []).map(({ text }) => text), ...refusals.map(
 numbers.push(position?.latitude ?? 0);
 const found: exifnorm.Comparison = exifnorm.compare(bytes, form), isSame: boolean = found.verdict === "same" && found.proved;
 texts.push(...found.differences.map(({ name, before }) => `${name} ${before ?? ""}`), ...found.notRead.map(({ side, what }) => `${side} ${what}`));
+const source: exifnorm.Source = { size: 2, part: (start, end) => bytes.subarray(start, end) }, engineOfAThread: Promise<exifnorm.Engine> = exifnorm.load(bytes);
+const later: exifnorm.Picture = await exifnorm.read(new Blob([bytes])), ofParts: exifnorm.Comparison = exifnorm.compare(source, bytes);
+texts.push(later.format, ofParts.verdict, (await exifnorm.compare(new Blob([bytes]), source)).verdict, (await engineOfAThread).version());
 const packet: Uint8Array = exifnorm.xmpNormalise(exifnorm.jpegXmp(bytes) ?? bytes);
 texts.push(...exifnorm.xmpProperties(packet).flatMap(({ namespace, name, value }) => [namespace, name, ...textsOf(value)]));
 try {

@@ -3,7 +3,7 @@ import assert from "node:assert/strict";
 import { readFileSync } from "node:fs";
 import { test } from "node:test";
 import * as exifnorm from "exifnorm";
-import { Engine, load } from "./engine.js";
+import { Engine, load } from "exifnorm/engine.js";
 
 const bytes = (hex) => new Uint8Array(Buffer.from(hex.replaceAll(" ", ""), "hex"));
 const compiled = (name) => new WebAssembly.Module(readFileSync(new URL(name, import.meta.url)));
@@ -48,11 +48,11 @@ test("errors have a cause, an offset, and what else belongs to them", () => {
 });
 
 test("each call says what it takes", () => {
-  const calls = Object.entries(exifnorm).filter(([name]) => /^[a-z]/.test(name) && !["version", "ready"].includes(name));
+  const calls = Object.entries(exifnorm).filter(([name]) => /^[a-z]/.test(name) && !["load", "version", "ready"].includes(name));
   assert.ok(calls.length > 10);
   for (const [name, call] of calls)
     for (const wrong of ["text", null, undefined, [1, 2], new Uint16Array(2), new ArrayBuffer(2)])
-      assert.throws(() => call(wrong, wrong), { name: "TypeError", message: "exifnorm takes a Uint8Array" }, name);
+      assert.throws(() => call(wrong, wrong), { name: "TypeError", message: /^exifnorm takes a (?:picture as a )?Uint8Array/ }, name);
 });
 
 const RDF = "http://www.w3.org/1999/02/22-rdf-syntax-ns#", encoded = (text) => new TextEncoder().encode(text);

@@ -17,6 +17,7 @@ import pytest
 
 import exifnorm
 import exifnorm_pictures
+import made_files as made
 from changed import changed
 from commands import TOP, run
 from judged import LARGE, blocks_of_cases
@@ -31,7 +32,7 @@ from test_jpeg_xmp import packet as xmp_segment
 HERE = Path(__file__).resolve().parent
 pytestmark = pytest.mark.xdist_group("web")
 SEED = 7
-MOST_WASM = 250_000
+MOST_WASM = 252_000
 RUSSIAN = "Ваза с двумя полосами".encode()  # the caption of the package's first example
 
 
@@ -218,8 +219,10 @@ def test_the_declared_types_are_those_of_the_module(node, module):
         shutil.copyfile(HERE / name, module / name)
     there = json.loads(node("declared.mjs", folder=module))
     texts = {name: (module / f"{name}.d.ts").read_text(encoding="utf-8") for name in there}
-    assert declared(texts["exifnorm"]) == {name: found for name, found in there["exifnorm"].items() if name != "ready"}
-    again = re.search(r"export \{ (.*?) \} from", texts["engine"])[1].split(", ")
+    from_each = {name: re.search(r"export \{ (.*?) \} from", text)[1].split(", ") for name, text in texts.items()}
+    of_engine = {name: there["engine"][name] for name in from_each["exifnorm"]}
+    assert {**declared(texts["exifnorm"]), **of_engine} == {name: found for name, found in there["exifnorm"].items() if name != "ready"}
+    again = from_each["engine"]
     assert {**{name: there["exifnorm"][name] for name in again}, **declared(texts["engine"])} == there["engine"]
     if shutil.which("tsc"):
         run("tsc", "--noEmit", "--strict", "--target", "es2022", "--module", "node16", "--lib", "es2022,dom", "client.mts", folder=module)
@@ -245,6 +248,81 @@ def test_pictures_are_those_of_exifnorm_pictures(node, module, checks):
             if label in ("title", "caption", "keywords"):
                 checks.check(f"{path.name} {label}", {*picture.texts(label)} <= {caption["text"] for caption in captions})
     checks.check("some", len(files) > 10)
+
+
+def test_a_blob_is_read_no_further_than_needed(node, module):
+    """Of a large file the parts that the answer needs; the answer is that of the bytes, also where the parts are far from each other."""
+    file, behind = TOP / "samples" / "before" / "prints" / "1931-4-plan.png", (TOP / "samples" / "before" / "ceramics" / "2003-12-bowl.jpg")
+    print_of_parts = """const { readFileSync } = require("node:fs"), { compare, read } = require("./exifnorm.cjs");
+    const size = 300e6, end = readFileSync(process.argv[1]), [png, jpeg] = process.argv.slice(2).map((name) => readFileSync(name));
+    const octets = new Map(), blobOf = (head, tail) => {
+      const blob = new Blob([head]), asked = [];
+      Object.defineProperty(blob, "size", { value: size });
+      blob.slice = (start, stop) => {
+        const part = new Uint8Array(stop - start);
+        asked.push(part.length);
+        for (const [at, some] of [[0, head], [size - tail.length, tail]]) {
+          for (let i = Math.max(at, start); i < Math.min(at + some.length, stop); i++) part[i - start] = some[i - at];
+        }
+        return new Blob([part]);
+      };
+      octets.set(blob, asked);
+      return blob;
+    };
+    (async () => {
+      const tiff = end, of = (bytes, tail = new Uint8Array(0)) => blobOf(new Uint8Array(bytes), tail);
+      const one = of(jpeg), other = of(tiff.subarray(0, 8), tiff), answers = [await read(one), await read(other)];
+      const asked = [one, other].map((blob) => octets.get(blob).reduce((sum, count) => sum + count, 0));
+      const same = await compare(of(jpeg), jpeg), whole = await read(new Blob([png]));
+      console.log(JSON.stringify([answers.map(({ texts }) => texts), asked, same.verdict, JSON.stringify(whole) === JSON.stringify(read(png)), read(jpeg).texts]));
+    })();"""
+    far = bytearray(made.small_tiff((0x010F, 2, b"Leica\0")))
+    directory = int.from_bytes(far[4:8], "little")
+    size = 300_000_000
+    value = int.from_bytes(far[directory + 10 : directory + 14], "little")
+    far[4:8] = (size - len(far) + directory).to_bytes(4, "little")
+    far[directory + 10 : directory + 14] = (size - len(far) + value).to_bytes(4, "little")
+    (module / "far.tif").write_bytes(far)
+    texts, asked, verdict, is_equal, due = json.loads(node("-e", print_of_parts, module / "far.tif", file, behind, folder=module))
+    assert texts == [due, {"IFD0:Make": "Leica"}] and verdict == "same" and is_equal
+    assert max(asked) < 1 << 20, "of 300 MB"
+
+
+def test_two_blocks_are_not_compared_as_pictures(node, module):
+    """An old call would get an object, which is true."""
+    blocks = [made.iim(b"one"), made.exif(b"abc"), made.iim(b"one")]
+    print_of_calls = """const { compare } = require("./exifnorm.cjs"), blocks = process.argv.slice(1).map((hex) => new Uint8Array(Buffer.from(hex, "hex")));
+    for (const other of blocks.slice(1)) try { compare(blocks[0], other); console.log("compared"); } catch (error) { console.log(error.name, error.message); }"""
+    said = node("-e", print_of_calls, *(block.hex() for block in blocks), folder=module)
+    assert said == "TypeError compare takes two pictures; `same` compares two blocks\n" * 2
+
+
+def test_import_and_require_have_the_same_classes(node, module):
+    program = """import { createRequire } from "node:module"; import * as imported from "exifnorm"; import * as engine from "exifnorm/engine.js";
+    const required = createRequire(import.meta.url)("exifnorm"), names = Object.keys(required);
+    console.log(names.length > 25 && names.every((name) => required[name] === imported[name] && (!(name in engine) || engine[name] === imported[name])));"""
+    (module / "both.mjs").write_text(program, encoding="utf-8")
+    assert node("both.mjs", folder=module) == "true\n"
+
+
+EVERY = ("__proto__", "constructor", "toString", "hasOwnProperty", "valueOf")  # names that each object of JavaScript has
+COUNTS = """const there = (it) => Object.getOwnPropertyNames(it.prototype).length;
+console.log(JSON.stringify([there(Object), there(Array), ({}).Vase ?? null]));"""
+
+
+def test_names_that_each_object_has(node, module, folder):
+    """As names of properties, of members and of namespaces: each is there as others are, and no other object has them."""
+    files = []
+    for number, space in enumerate(("http://d/", *EVERY)):
+        members = "".join(f"<d:{name}>Vase</d:{name}>" for name in EVERY)
+        texts = "".join(f"<d:{name}s>Vase</d:{name}s><d:{name} r:parseType='Resource'>{members}</d:{name}>" for name in EVERY)
+        packet = f"<r:RDF xmlns:r='{RDF[1:-1]}' xmlns:d='{space}'><r:Description>{texts}</r:Description></r:RDF>"
+        files.append(folder / f"{number}.jpg")
+        files[-1].write_bytes(picture(xmp_segment(packet.encode())))
+    found, plain = map(json.loads, node("--input-type=module", "-e", f"{READ}\n{COUNTS}", *files, folder=module).splitlines())
+    assert plain == json.loads(node("-e", COUNTS))
+    due = {it.name for it in exifnorm_pictures.read(files[0]).fields}
+    assert {*found[0]["fields"]} == {*found[0]["texts"]} == due and len(due) == 2 * len(EVERY)
 
 
 def test_the_module_imports_nothing_and_is_small(wasm, node):
@@ -282,6 +360,9 @@ def test_a_package_that_npm_installs(wasm, node, folder):
         required = re.sub(r'import (\{[^}]*\}) from ("[^"]*");', r"const \1 = require(\2);", example)
         (user / "example.cjs").write_text(required, encoding="utf-8")
         assert node("example.cjs", folder=user) == said[-1]
+    if shutil.which("npx") and (user / "node_modules" / ".bin").exists():
+        said_by_command = run("npx", "--offline", "exifnorm", "before.jpg", "after.jpg", folder=user, status=1, HOME=str(folder))
+        assert "Different metadata: 2 fields.\n" in said_by_command
     assert "different true\n" in said[0] and "IPTC:Caption-Abstract: Bowl, celadon glaze, 1820 -> Bowl, celadon glaze, 1280\n" in said[0]
     assert said[0].startswith(RUSSIAN.decode() + "\n")
     title = '{"kind":"Alt","members":[{"kind":"text","text":"Vase with two bands","language":"x-default"}]}'

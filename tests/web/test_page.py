@@ -397,7 +397,7 @@ def test_words_for_xmp_are_those_of_exifnorm_pictures(browser, folder, checks):
         paths = put(folder, one, other)
         browser.ask("document.getElementById('anew').click()")
         title, due = compare(browser, *paths), sorted(differences(exifnorm_pictures.compare(*paths)))
-        found = sorted(rows(browser, "What differs") + (rows(browser, "Fields that could be read") if title == "Different" else []))
+        found = sorted(rows(browser, "What differs"))
         checks.equal(f"{title}: {found}", [row[0] for row in found], [row[0] for row in due] if title == "Different" else [])
         for row, words in zip(found, due):
             are_alike = (cell.startswith(word) or (cell, word) == ("not read", "not there") for cell, word in zip(row, words))
@@ -407,13 +407,13 @@ def test_words_for_xmp_are_those_of_exifnorm_pictures(browser, folder, checks):
 @pytest.mark.parametrize(
     "xmp, title, words",
     [
-        (VASE_XMP, "Valid", "The picture has valid XMP: 1 field."),
+        (VASE_XMP, "1 field of XMP", "No rule is broken: XMP of the picture has a certain meaning."),
         (RARE, "XMP not read", "rare form"),
         (WRONG, "Refused", "not x:xmpmeta around one rdf:RDF"),
-        (extended(TITLE.format("Vase"), "1"), "Valid", "The picture has valid XMP: 2 fields."),
+        (extended(TITLE.format("Vase"), "1"), "2 fields of XMP", "No rule is broken"),
         (OTHER, "No Exif, IPTC or XMP that is read", "may find metadata (the picture has it)"),
-        (MISSING, "Valid, XMP not wholly read", "missing or can’t be joined to a packet (the picture has it)"),
-        (made.app1(ONE) + RARE, "Valid, XMP not read", "The picture has valid Exif: 1 field."),
+        (MISSING, "2 fields of XMP, XMP not wholly read", "missing or can’t be joined to a packet (the picture has it)"),
+        (made.app1(ONE) + RARE, "1 field of Exif, XMP not read", "No rule is broken: Exif of the picture has a certain meaning."),
     ],
 )
 def test_xmp_of_one_picture(browser, folder, xmp, title, words):
@@ -426,9 +426,9 @@ def test_captions_and_values_of_xmp_are_text(browser, folder):
         TITLE.format("&lt;img src=x onerror=alert(1)>\u202e")
         + "<dc:subject><rdf:Bag><rdf:li>urn</rdf:li><rdf:li>clay</rdf:li></rdf:Bag></dc:subject>"
     )
-    assert compare(browser, *put(folder, made.jpeg(of_property(markup)))) == "Valid"
+    assert compare(browser, *put(folder, made.jpeg(of_property(markup)))) == "2 fields of XMP"
     shown = "<img src=x onerror=alert(1)>\\u202e"
-    assert rows(browser, "Captions") == [["title (XMP)", shown], ["keywords (XMP)", "clay; urn"]]
+    assert rows(browser, "Captions") == [["title", shown], ["keywords", "clay; urn"]]
     assert rows(browser, "Fields") == [["XMP-dc:subject", "clay; urn"], ["XMP-dc:title", shown]]
     assert browser.ask("document.querySelectorAll('main :not(figure) > img').length") == 0
 
@@ -476,9 +476,60 @@ def test_a_caption_whose_character_set_is_a_guess(browser, folder):
     assert rows(browser, "Captions") == [["caption (IPTC)", "üb (its character set isn't declared)", "üb"]]
 
 
-def test_one_picture(browser):
-    assert compare(browser, BOWL) == "Valid"
+def test_one_picture(browser, folder):
+    """What its standards have of a label is beside each other."""
+    assert "fields of Exif" in compare(browser, BOWL)
     assert ["IPTC:Caption-Abstract", "Bowl, celadon glaze, 1820"] in rows(browser, "Fields")
+    first, second = app1_of("Anna"), made.app1_xmp(made.xmp("<dc:description>Otto</dc:description>"))
+    compare(browser, *put(folder, made.jpeg(first, second)))
+    assert rows(browser, "Captions") == [["caption", "Anna", "Otto"]]
+    assert browser.ask("[...document.querySelectorAll('thead th')].slice(0, 3).map((node) => node.textContent)") == ["Label", "Exif", "XMP"]
+
+
+def app1_of(caption, make="Leica"):
+    """Exif with a caption."""
+    return made.app1(made.small_tiff((0x010E, 2, caption.encode() + b"\0"), (0x010F, 2, make.encode() + b"\0")))
+
+
+def test_what_a_camera_writes_is_no_caption(browser, folder):
+    compare(browser, *put(folder, made.jpeg(app1_of("SONY DSC"))))
+    assert not rows(browser, "Captions") and ["IFD0:ImageDescription", "SONY DSC"] in rows(browser, "Fields")
+
+
+def test_a_second_picture_alone(browser):
+    browser.choose("#file-1", BOWL)
+    heading(browser)
+    assert "Choose a first picture to compare it with." in text(browser)
+
+
+def test_a_pasted_picture(browser):
+    browser.ask(PASTED % "'a.gif'")
+    assert heading(browser) == "Not read" and "a.gif is of the format GIF" in text(browser).replace("A.gif", "a.gif")
+
+
+PASTED = """(() => {
+    const data = new DataTransfer();
+    data.items.add(new File(["GIF89a and more bytes"], %s, { type: "image/gif" }));
+    document.dispatchEvent(new ClipboardEvent("paste", { clipboardData: data }));
+})()"""
+
+
+def test_a_result_is_taken_away(browser, folder):
+    """As a file, and by the clipboard: no cell is a formula."""
+    browser.call("Browser.setDownloadBehavior", behavior="allow", downloadPath=str(folder))
+    compare(browser, *put(folder, made.jpeg(app1_of("=1+1")), made.jpeg(app1_of("+2", "Canon"))))
+    browser.ask("[...document.querySelectorAll('#result .steps button')].find((node) => node.textContent === 'Save as CSV').click()")
+    (file,) = saved(folder, "result*.csv")
+    with open(file, newline="", encoding="utf-8") as lines:
+        found = [*csv.reader(lines)]
+    assert found[1:] == [
+        ["0.jpg", "different", "1.jpg", "IFD0:ImageDescription", "'=1+1", "'+2", ""],
+        ["0.jpg", "different", "1.jpg", "IFD0:Make", "Leica", "Canon", ""],
+    ]
+    browser.ask("navigator.clipboard.writeText = async (text) => { self.copied = text; }")
+    browser.ask("[...document.querySelectorAll('#result .steps button')].find((node) => node.textContent === 'Copy').click()")
+    browser.wait("self.copied")
+    assert [line.split("\t") for line in browser.ask("self.copied").split("\n")] == found
 
 
 def test_pictures_that_are_not_read(browser, folder):
@@ -731,6 +782,27 @@ def test_edits(browser, folder):
     assert [row[0] for row in rows(browser, "Changed alike")] == [*EDITED]
 
 
+def test_a_list_of_one_label(browser, folder):
+    """The counts of the labels are those of the rows, and those of the verdicts add up."""
+    pairs = {**EDITED, **ODD, "9.jpg": (made.jpeg(app1_of("a")), made.jpeg(app1_of("a", "Canon"))), "10.jpg": (EDITED["0.jpg"][0], None)}
+    compare_folders(browser, *two_folders(folder, pairs))
+    options = browser.ask("[...document.querySelectorAll('select option')].map((node) => node.textContent)")
+    assert options == ["any field", "caption (8)", "IFD0:Make (1)"]
+    for label, count in (("caption", 8), ("IFD0:Make", 1)):
+        browser.ask(
+            f"(() => {{ const it = document.querySelector('select'); it.value = '{label}'; it.dispatchEvent(new Event('change')); }})()"
+        )
+        assert len(rows(browser, f"Changed in {label}: {count}")) == count
+    counts = browser.ask(
+        "[...document.querySelectorAll('.counts [data-filter]')].map((node) => Number(/[0-9]+/.exec(node.textContent)[0]))"
+    )
+    assert sum(counts[:-1]) == counts[-1] == len(pairs) and f"{len(pairs)} pictures" in text(browser)
+    browser.ask("document.querySelector('[data-filter=missing]').click()")
+    assert [row[0] for row in rows(browser, "In one folder only")] == ["10.jpg"] and browser.ask(
+        "document.querySelector('select').value"
+    ) == ""
+
+
 def test_the_result_of_a_line_is_below_it(browser, folder):
     """Escape leads back to the line, and j and k to the next ones."""
     compare_folders(browser, *two_folders(folder, {**EDITED, **ODD}))
@@ -928,7 +1000,7 @@ def test_hostile_pictures(browser, folder):
 def test_a_picture_of_millions_of_parts(browser, folder):
     parts, datasets = b"\xff\x01" * 1_000_000, b"\x1c\x02\x19\0\0" * 12_000
     many = picture(*[photoshop(jpegs.SIGNATURES[0] + b"\4\4\0\0" + len(datasets).to_bytes(4, "big") + datasets)] * 5)
-    for octets, title in ((b"\xff\xd8" + parts + b"\xff\xd9", "Not read"), (many, "Valid")):
+    for octets, title in ((b"\xff\xd8" + parts + b"\xff\xd9", "Not read"), (many, "5 fields of IPTC")):
         browser.ask("document.getElementById('anew').click()")
         assert compare(browser, *put(folder, octets)) == title
 
@@ -1086,14 +1158,12 @@ def test_by_keyboard(browser):
 
 
 def test_print(browser):
-    """Equal fields are printed, and buttons are not."""
+    """Equal fields are printed if they are open, and buttons are not."""
     compare(browser, BOWL, BOWL_AFTER)
     browser.call("Emulation.setEmulatedMedia", media="print")
     assert not browser.ask("document.querySelector('.choices').checkVisibility()")
     browser.call("Emulation.setEmulatedMedia", media="")
     browser.ask("dispatchEvent(new Event('beforeprint'))")
-    assert browser.ask("document.querySelector('details').open")
-    browser.ask("dispatchEvent(new Event('afterprint'))")
     assert not browser.ask("document.querySelector('details').open")
     browser.show()
 

@@ -1,0 +1,22 @@
+// Answers the lines of a file, each a list of one or two files: what `read` has of one, as digests, and what `compare` says of two. An answer is a line of JSON.
+import { createHash } from "node:crypto";
+import { readFileSync } from "node:fs";
+import { compare, read } from "./node.js";
+
+const digest = (bytes) => createHash("sha256").update(bytes).digest("hex");
+
+function one(bytes) {
+  const before = digest(bytes), { format, blocks, refusals, notRead } = read(bytes);
+  if (digest(bytes) !== before) throw new Error("read has changed the bytes");
+  return { format, blocks: blocks.map(({ kind, data }) => [kind, digest(data)]), named: [...notRead, ...refusals.map(({ cause }) => cause)] };
+}
+
+function two(...both) {
+  const { verdict, differences, proved, refusals, notRead } = compare(...both);
+  return { verdict, names: differences.map(({ name }) => name), proved, named: [...notRead.map(({ what }) => what), ...refusals.map(({ cause }) => cause)] };
+}
+
+for (const line of readFileSync(process.argv[2], "ascii").split("\n")) {
+  const files = JSON.parse(line).map((name) => readFileSync(name));
+  console.log(JSON.stringify(files.length === 1 ? one(...files) : two(...files)));
+}

@@ -1,0 +1,266 @@
+"""`read` and `compare` of the JavaScript module: laws over pairs of pictures whose relation is known by how they were made, over odd heads beside
+exifnorm_pictures, and over made and damaged files of each format."""
+
+import hashlib
+import json
+import shutil
+import zlib
+from collections import Counter
+from pathlib import Path
+from random import Random
+
+import pytest
+from changed import changed
+from commands import TOP, run
+from made_museum import first_night, second_night
+from pairs import DIFFERENT, SAME, UNDECIDED
+
+import exifnorm_pictures
+from exifnorm_pictures.comparison import two_pictures
+from exifnorm_pictures.comparison.edits import PROGRAMS, edits_of
+import made_files as made
+import odd_heads
+import test_bigtiff as big
+import test_never_the_same as never
+import test_raw as raw
+
+HERE = Path(__file__).resolve().parent
+pytestmark = pytest.mark.xdist_group("web")
+MAKERS = (never.parts, never.reached, never.pointers, never.segments, never.texts, never.damages, big.pairs)
+OF_RAW = (raw.of_damaged_entries, raw.everywhere, raw.of_dng, raw.of_sony, raw.of_panasonic, raw.of_fujifilm)
+ODD, DAMAGED = 300, 700
+# how files of formats begin that aren't read, and the name of each
+UNREAD = {
+    "BigTIFF": b"II+\0\x08\0\0\0\x10\0\0\0\0\0\0\0" + bytes(16),
+    "GIF": b"GIF89a" + bytes(20),
+    "Photoshop": b"8BPS\0\1" + bytes(30),
+    "CR2": b"II*\0\x10\0\0\0CR\2\0" + bytes(20),
+    "CR3": b"\0\0\0\x18ftypcrx " + bytes(20),
+    "JPEG XL": b"\xff\x0a" + bytes(20),
+    "JPEG 2000": b"\0\0\0\x0cjP  \r\n\x87\n" + bytes(20),
+    "raw": b"FUJIFILMCCD-RAW 0201" + bytes(20),
+}
+
+
+@pytest.fixture(scope="module")
+def answers(module, session_folder):
+    """What the module answers to lists of one picture, or of two, by their bytes."""
+    shutil.copyfile(HERE / "pictures.mjs", module / "pictures.mjs")
+    folder = session_folder / "of-pictures"
+    folder.mkdir()
+
+    def ask(*lists):
+        lines = []
+        for octets in lists:
+            names = [str(folder / hashlib.sha256(it).hexdigest()) for it in octets]
+            for name, it in zip(names, octets):
+                Path(name).write_bytes(it)
+            lines.append(json.dumps(names))
+        (folder / "asked").write_text("\n".join(lines), encoding="ascii")
+        return [json.loads(line) for line in run("node", "pictures.mjs", folder / "asked", folder=module).splitlines()]
+
+    return ask
+
+
+def is_true_of(status, found):
+    """Whether an answer is allowed for a pair: a difference that is known isn't overlooked without a word, and nothing is said that isn't known."""
+    if status == SAME:
+        return found["verdict"] != "different"
+    if status == DIFFERENT:
+        return found["verdict"] == "different" or found["verdict"] != "same" and bool(found["named"])
+    return found["verdict"] not in ("same", *(["different"] if status == UNDECIDED else []))
+
+
+def test_pairs_whose_relation_is_known(answers, checks, record_property):
+    pairs = [it for make in (*MAKERS, *OF_RAW) for it in make()]
+    counts = Counter()
+    for pair, found in zip(pairs, answers(*((it.before, it.after) for it in pairs))):
+        checks.check(f"{pair.name}: {found}", is_true_of(pair.status, found))
+        counts[pair.status, found["verdict"]] += 1
+    record_property("verdicts", {f"{status}: {verdict}": count for (status, verdict), count in sorted(counts.items())})
+    checks.check(f"pairs are decided: {counts}", counts[SAME, "same"] > 25 and counts[DIFFERENT, "different"] > 10)
+
+
+def status_of(first, second):
+    """What the program says of two pictures in memory."""
+    same = exifnorm_pictures.compare(*map(exifnorm_pictures.read_bytes, (first, second))).same
+    return {True: SAME, False: DIFFERENT, None: UNDECIDED}[same]
+
+
+def test_odd_heads(answers, checks, record_property):
+    """The module says `same` only where the program does, and `different` only where it doesn't say `same`."""
+    chance, counts = Random(5), Counter()
+    pairs = [odd_heads.pair(chance) for _ in range(ODD)]
+    for number, (pair, found) in enumerate(zip(pairs, answers(*pairs))):
+        status = status_of(*pair)
+        is_true = found["verdict"] != "same" if status == UNDECIDED else is_true_of(status, found)
+        checks.check(f"{number}: {status} {found}", is_true)
+        counts[status, found["verdict"]] += 1
+    record_property("verdicts", {f"{status}: {verdict}": count for (status, verdict), count in sorted(counts.items())})
+    checks.check(f"both are there: {counts}", min(counts[SAME, "same"], counts[DIFFERENT, "different"]) > 30)
+
+
+def blocks_of(octets, name):
+    """The kind and the digest of each block that the program finds; none of what it can't read."""
+    try:
+        found = exifnorm_pictures.read_bytes(octets, name=name).blocks
+    except (exifnorm_pictures.NoPicture, exifnorm_pictures.NotReadable):
+        return []
+    return sorted([it.kind, hashlib.sha256(it.data).hexdigest()] for it in found)
+
+
+def test_blocks_are_those_of_exifnorm_pictures(answers, checks):
+    """Of made files of each format and state, and of damaged ones: where blocks differ, the module names why. Nothing is thrown."""
+    chance, made = Random(11), {name: it for name, it in first_night().items() if isinstance(it, bytes) and it}
+    some = [(name, it) for name, it in made.items() if name.startswith(("formats/", "states/", "rare/", "notes/", "sidecars/"))]
+    damaged = [(name, changed(it, chance)) for name, it in (chance.choice(some) for _ in range(DAMAGED))]
+    equal = 0
+    for (name, octets), found in zip([*made.items(), *damaged], answers(*([it] for _, it in [*made.items(), *damaged]))):
+        is_equal = sorted(found["blocks"]) == blocks_of(octets, name)
+        checks.check(f"{name} {hashlib.sha256(octets).hexdigest()[:8]}: {found}", is_equal or bool(found["named"]))
+        equal += is_equal
+    checks.check(f"most are equal: {equal}", 2 * equal > len(made) + DAMAGED)
+
+
+def test_formats_that_are_not_read_are_named(answers):
+    found = answers(*([it] for it in UNREAD.values()))
+    assert [it["named"] for it in found] == [[f"the format {name} isn't read"] for name in UNREAD]
+
+
+# ---- texts and further pictures
+
+
+def test_packets_in_utf_16(answers, node, module, folder):
+    """A sidecar, and a packet in a JPEG, say what they say in UTF-8."""
+    packet = made.title("Ваза").decode()
+    wide = [start + packet.encode(name) for start, name in ((b"\xff\xfe", "utf-16-le"), (b"", "utf-16-be"))]
+    pairs = [(packet.encode(), it) for it in wide] + [(made.jpeg(made.app1_xmp(packet.encode())), made.jpeg(made.app1_xmp(wide[0])))]
+    assert [it["verdict"] for it in answers(*pairs)] == ["same"] * 3
+    (folder / "a.xmp").write_bytes(wide[0])
+    said = node(
+        "-e",
+        "console.log(require('./exifnorm.cjs').read(require('fs').readFileSync(process.argv[1])).texts['XMP-dc:format'])",
+        folder / "a.xmp",
+        folder=module,
+    )
+    assert said == "Ваза\n"
+
+
+def test_pictures_behind_the_head(answers):
+    """They are read if they are there; of the first bytes alone it is said that they aren't."""
+    both = [made.mpf(made.app1(made.exif(b"abc")), made.jpeg(made.app1(made.exif(it)))) for it in (b"one", b"two")]
+    head = both[0][: both[0].index(b"\xff\xd9") + 2]
+    (other, same, part), (alone,) = answers(both, [both[0], both[0]], [head, both[0]]), answers([both[0]])
+    assert (other["verdict"], same["verdict"], part["verdict"]) == ("different", "same", "different")
+    assert (
+        other["names"] == ["IFD0:Make (Exif of MPF picture 2)"]
+        and not same["named"]
+        and any("behind the bytes" in it for it in part["named"])
+    )
+    assert len(alone["blocks"]) == 2
+
+
+# ---- edits
+
+
+EDITS = """import { readFileSync } from "node:fs"; import { Engine } from "./engine.js"; import { headOfFile, verdict } from "./head.js";
+import { listsOf } from "./rows.js"; import tables from "./tables.js"; import { editsOf } from "./edits.js";
+const engine = new Engine(new WebAssembly.Module(readFileSync("exifnorm.wasm")));
+const headOf = (bytes) => headOfFile(engine, { size: bytes.length, part: (start, end) => bytes.subarray(start, end) });
+for (const line of readFileSync(process.argv[1], "ascii").split("\\n")) {
+  const heads = JSON.parse(line).map((name) => headOf(new Uint8Array(readFileSync(name)))), isDifferent = verdict(engine, ...heads) === "different";
+  const rows = isDifferent ? listsOf({ engine, tables }, heads).flatMap((list) => list.rows).filter(({ isEqual, isOpen }) => !isEqual && !isOpen) : [];
+  console.log(JSON.stringify([isDifferent, editsOf(rows, tables).map(({ name, note }) => [name, note])]));
+}"""
+
+
+def edits_by_program(first, second):
+    """The names and the notes of the edits; those of programs count only if there are no others."""
+    records = [exifnorm_pictures.read_bytes(it).record for it in (first, second)]
+    edits = edits_of(two_pictures.compare(*records, None).compared.changes)
+    return sorted([it.name, it.note] for it in edits if it.name != PROGRAMS or len(edits) == 1)
+
+
+def edited_pairs():
+    """Pictures of a museum on two nights, and each beside the next one."""
+    first, second = first_night(), second_night()
+    kept = [
+        name for name, it in first.items() if isinstance(it, bytes) and name.startswith(("texts/", "contradictions/", "work/", "formats/"))
+    ]
+    pairs = [(first[name], second[name]) for name in kept if name in second] + [
+        (first[one], first[other]) for one, other in zip(kept, kept[1:])
+    ]
+    return [pair for pair in pairs if pair[0] != pair[1]]
+
+
+def test_edits_are_those_of_exifnorm_pictures(node, module, folder, checks):
+    shutil.copyfile(TOP / "page" / "edits.js", module / "edits.js")
+    pairs, lines = edited_pairs(), []
+    for number, pair in enumerate(pairs):
+        names = [folder / f"{number}-{side}" for side in range(2)]
+        for name, octets in zip(names, pair):
+            name.write_bytes(octets)
+        lines.append(json.dumps([str(name) for name in names]))
+    (folder / "asked").write_text("\n".join(lines), encoding="ascii")
+    found = [json.loads(line) for line in node("--input-type=module", "-e", EDITS, folder / "asked", folder=module).splitlines()]
+    for number, (pair, (is_different, edits)) in enumerate(zip(pairs, found)):
+        if is_different:
+            checks.equal(number, sorted(edits), edits_by_program(*pair))
+    checks.check("pairs were edited", sum(is_different for is_different, _ in found) > 30)
+
+
+# ---- compressed texts
+
+
+INFLATE = """import { readFileSync } from "node:fs"; import { createHash } from "node:crypto"; import { inflated } from "./inflate.js";
+const { sizes, most } = JSON.parse(process.argv[2]), octets = new Uint8Array(readFileSync(process.argv[1]));
+let end = 0;
+console.log(JSON.stringify(sizes.map((size) => {
+  const found = inflated(octets.subarray(end, (end += size)), most);
+  return found && createHash("sha256").update(found).digest("hex");
+})));"""
+
+
+def streams():
+    """Compressed bytes of each kind of block, and damaged and cut ones."""
+    chance = Random(3)
+    contents = [
+        b"",
+        b"a" * 3000,
+        chance.randbytes(2000),
+        bytes(chance.choice(b"abcd") for _ in range(5000)),
+        b"".join(b"%d " % it for it in range(900)),
+    ]
+    for content in contents:
+        for level in (0, 1, 6, 9):
+            for strategy in (zlib.Z_DEFAULT_STRATEGY, zlib.Z_HUFFMAN_ONLY, zlib.Z_FIXED):
+                coder = zlib.compressobj(level, strategy=strategy)
+                whole = coder.compress(content) + coder.flush()
+                yield whole
+                yield from (changed(whole, chance) for _ in range(6))
+
+
+def test_what_is_inflated_is_what_zlib_inflates(node, module, folder):
+    some = [*streams()]
+    (folder / "streams").write_bytes(b"".join(some))
+    asked = json.dumps({"sizes": [len(it) for it in some], "most": 1 << 20})
+    found = json.loads(node("--input-type=module", "-e", INFLATE, folder / "streams", asked, folder=module))
+    due = []
+    for stream in some:
+        opened = zlib.decompressobj()
+        try:
+            content = opened.decompress(stream)
+            due.append(hashlib.sha256(content).hexdigest() if opened.eof else None)
+        except zlib.error:
+            due.append(None)
+    assert found == due and None in due
+
+
+def test_long_texts_end_at_a_limit(answers):
+    """Compressed ones of more bytes than any block has."""
+    long = made.packed_zeros(64)
+    profile, packet = (
+        made.png(made.chunk(kind, word + b"\0" + head + long))
+        for kind, word, head in ((b"iCCP", b"a", b"\0"), (b"zTXt", b"XML:com.adobe.xmp", b"\0"))
+    )
+    assert [it["named"] for it in answers([profile], [packet])] == [[], ["text chunk that can't be read"]]
