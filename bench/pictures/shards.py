@@ -24,7 +24,7 @@ sys.dont_write_bytecode = True
 import test_shards
 
 from exifnorm_pictures.catalogue import shards
-from exifnorm_pictures.scan import cluster, parts, shard_tasks
+from exifnorm_pictures.scan import parts, shard_tasks
 from exifnorm_pictures.scan.batches import How
 
 Rows = Iterator[Tuple[str, str]]
@@ -91,22 +91,17 @@ def over_files(folder: Path, count: int, environment: Dict[str, str]) -> Rows:
         costs = [commands.cost(folder, f"index {it} --shards of-{it} --quiet --jobs 1", environment) for it in ("few", "p")]
         yield what, _slope(costs, (4, count))
     yield "bytes of a catalogue for a picture with Exif, IPTC and XMP", f"{_size(folder / 'of-p') / count:,.0f}"
-    yield from _network(folder, count)
+    yield from _network(folder)
 
 
-def _network(folder: Path, count: int) -> Rows:
-    """The bytes of a part and its outcome, and of a picture where the client writes one catalogue."""
+def _network(folder: Path) -> Rows:
+    """The bytes of a part and its outcome."""
     planned = parts.plan(str(folder / "of-p"), [os.fsencode(folder / "p")], [])
     how = How(jobs=1)
     sent = [(str(folder / "of-p"), shard, False, how, []) for shard in planned.shards]
     returned = [shard_tasks.index_there(*words) for words in sent]
     octets = sum(len(pickle.dumps(it)) for it in (planned, *sent, *returned))
-    yield "bytes through the scheduler, with --shards", f"{octets / len(sent):,.0f} a folder"
-    top = folder / "p" / "0"
-    names = [os.fsencode(it.relative_to(top)) for it in sorted(top.rglob("*.jpg"))[: cluster.CHUNK]]
-    answers = cluster.look_there(os.fsencode(top), names, how)
-    octets = len(pickle.dumps((os.fsencode(top), names, how))) + len(pickle.dumps(answers))
-    yield "bytes through the scheduler, without", f"{octets / len(names):,.0f} a picture"
+    yield "bytes through the scheduler", f"{octets / len(sent):,.0f} a folder"
 
 
 def main() -> None:

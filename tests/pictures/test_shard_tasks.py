@@ -1,5 +1,6 @@
 """`index --shards --scheduler`: each worker of a Dask cluster writes the catalogues of its folders, also where workers are killed."""
 
+import itertools
 import os
 import pickle
 from types import SimpleNamespace
@@ -14,7 +15,7 @@ from with_cluster import EXV, PATIENT, Task, WithCluster
 from exifnorm_pictures.catalogue import shards
 from exifnorm_pictures.catalogue.store import Catalogue
 from exifnorm_pictures.extract import programs
-from exifnorm_pictures.scan import cluster, shard_tasks
+from exifnorm_pictures.scan import shard_tasks
 from exifnorm_pictures.scan.batches import How
 from exifnorm_pictures.scan.parts import WrongFolder
 from exifnorm_pictures.scan.shard_tasks import TRIES, Parts
@@ -62,10 +63,13 @@ class Cluster(WithCluster):
 class Near:
     """A cluster in this process: what goes through the network is pickled, and some tasks end otherwise than they would."""
 
-    def __init__(self, outcomes=(), threads=2):
+    def __init__(self, outcomes=(), threads=2, error=None, slow=0):
         self.outcomes, self.threads, self.sent, self.returned, self.waits = list(outcomes), threads, [], [], []
+        self.error, self.slow = error, slow
 
     def Client(self, scheduler, timeout):
+        if self.error:
+            raise self.error
         return self
 
     def __enter__(self):
@@ -87,10 +91,12 @@ class Near:
         return Task(outcome)
 
     def nthreads(self):
-        return {"one": self.threads}
+        return {"one": self.threads} if self.threads else {}
 
     def wait(self, tasks, timeout, return_when):
         self.waits.append(len(tasks))
+        if len(self.waits) <= self.slow:
+            raise TimeoutError
         return SimpleNamespace(done={tasks[0]})
 
 
@@ -103,7 +109,7 @@ def indexed(archive):
     """Indexes the folder p on such a cluster: the outcome of each part, by its folder."""
 
     def call(near, patterns=()):
-        with mock.patch.multiple(cluster, create=True, distributed=near, KilledWorker=Killed, CommClosedError=Killed):
+        with mock.patch.multiple(shard_tasks, create=True, distributed=near, KilledWorker=Killed, CommClosedError=Killed):
             parts = Parts(FAR, str(archive / "shards"), False, How(), patterns)
             planned = parts.planned([os.fsencode(archive / "p")])
             outcomes = {os.path.basename(shard.part.folder): it for shard, it in parts.outcomes(planned, How(pixels=True, sidecars=True))}
@@ -168,7 +174,24 @@ def test_what_is_wrong_with_a_folder_is_wrong_use(archive, indexed):
         indexed(Near())
 
 
+def test_a_cluster_without_workers(archive, indexed, monkeypatch):
+    """It may take as long as a program may take for one file; while there are workers, it may take any time."""
+    now = itertools.count(step=10)
+    monkeypatch.setattr(shard_tasks.time, "monotonic", lambda: next(now))
+    assert indexed(Near(slow=40))[1]
+    near = Near(threads=0, slow=1000)
+    with pytest.raises(programs.Failed, match=f"^the cluster {FAR} has no worker$"):
+        indexed(near)
+    assert 6 <= len(near.waits) <= 8, "a minute"
+
+
+@pytest.mark.parametrize("error", [OSError("Timed out"), Killed("Timed out"), ValueError("Timed out")], ids=repr)
+def test_a_cluster_that_cannot_be_reached(error, archive, indexed):
+    with pytest.raises(programs.Failed, match=f"^the cluster {FAR} failed: Timed out$"):
+        indexed(Near(error=error))
+
+
 def test_without_dask(called_lines, archive):
-    with mock.patch.object(cluster, "distributed", None):
+    with mock.patch.object(shard_tasks, "distributed", None):
         status, _, messages = called_lines("index", "p", "--shards", "shards", "--scheduler", FAR)
     assert status == 4 and "python3-distributed" in messages

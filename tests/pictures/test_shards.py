@@ -217,6 +217,16 @@ def test_a_catalogue_that_is_not_listed_is_said(archive, called_lines):
     assert "without the catalogue shards/two.catalogue, which its list doesn't name" in messages and "notes" not in messages
 
 
+@pytest.mark.parametrize("count", (3, 4, 20_000))
+def test_of_many_missing_catalogues_three_are_named(archive, called_lines, count):
+    shards.put_list(str(archive / "shards"), ["one.catalogue", "two.catalogue", *(f"{number}.catalogue" for number in range(count))])
+    status, _, messages = called_lines("list", "shards")
+    more = ["1 more catalogue", "19,997 more catalogues"][count > 4]
+    notes = [f"the answer is without the catalogue shards/{number}.catalogue, which isn't there" for number in range(3)]
+    notes += [f"the answer is without {more}, not there either"] * (count > 3)
+    assert status == 2 and [it.partition("note: ")[2] for it in messages.splitlines()] == notes
+
+
 @pytest.mark.parametrize("way", ("../v", "sub/v", "{folder}/v", "link", "the list"))
 def test_a_catalogue_that_lies_elsewhere_is_read_alone(archive, called_lines, way):
     """A list of a stranger can name it: a command that writes refuses the folder, and one that asks keeps no texts there."""

@@ -6,20 +6,17 @@ import re
 import subprocess
 import sys
 import unittest
-from unittest import mock
 from xml.etree import ElementTree
 
+import by_rdflib
 from exifnorm_pictures.fields import xmp_properties as properties
-from attacks import rare_text
-from exifnorm_pictures.model.budgets import Budget, TooLong, TooMuch
-from exifnorm_pictures.xmp import CAUSES, by_rdflib, reader, reading, tree
+from exifnorm_pictures.xmp import CAUSES, reader, tree
 from exifnorm_pictures.xmp.elements import rdf_of
 from exifnorm_pictures.xmp.packets import Unreadable
-from exifnorm_pictures.xmp.repeated import check_repeated
 from hypothesis import assume, given, settings
 from made_files import SPACES, title, xmp
 from packets import packets
-from studio import TESTS_PATH, interpreter_with, needs
+from studio import TESTS_PATH, needs
 from exifnorm_pictures.fields import xmp_properties
 
 RDF = "http://www.w3.org/1999/02/22-rdf-syntax-ns#"
@@ -123,33 +120,24 @@ class Packets(unittest.TestCase):
         ]
         self.assertEqual(len({said(it) for it in packets_}), len(packets_))
 
-    @needs("rdflib")
-    def test_named_nodes(self):
-        """As rdflib writes a packet: ExifTool reads the URI of rdf:Bag as a keyword, and Adobe's toolkit (exiv2) refuses the packet."""
-        inside = "<dc:subject rdf:nodeID='n'/></rdf:Description><rdf:Bag rdf:nodeID='n'><rdf:li>clay</rdf:li></rdf:Bag><rdf:Description>"
-        self.assertEqual(cause(xmp(inside)), "Shared")
-
-    def test_rare_forms_are_left_to_rdflib(self):
-        from exifnorm_pictures.xmp import elements, reader
-
+    def test_forms_that_no_writer_uses_are_not_read(self):
+        """On every machine alike, by one cause."""
         for inside in (
             "<xmp:d><rdf:Description rdf:about='http://x/' xmp:a='7'/></xmp:d>",
             "<xmp:d><rdf:Seq rdf:about=''/></xmp:d>",
             "<xmp:d><rdf:Description about='' xmp:a='7'/></xmp:d>",
             "<xmp:d rdf:nodeID='n'/>",
+            "<xmp:d rdf:parseType='Literal'><a/></xmp:d>",
+            "</rdf:Description><dc:Image rdf:about=''/><rdf:Description>",
             "<xmp:d rdf:datatype='http://t/'>1</xmp:d>",
             "text",
             "<xmp:d rdf:resource='relative'/>",
             "<xmp:d><rdf:Description/>text</xmp:d>",
-            "<xmp:d xml:lang='!'>1</xmp:d>",
             *(
                 f"<xmp:d rdf:resource='{it}'/>"
                 for it in ("http://x/ y", "http://x/&lt;y&gt;", "http://x/\\", "http://x/^", "1:x", "-a:x", ":x", "a_b:x", "")
             ),
-            *(
-                f"<xmp:d xml:lang='{it}'>1</xmp:d>"
-                for it in ("en_US", "123", "abcdefghi", "en-", "-en", "en--us", "en-abcdefghi", "d\u00e9")
-            ),
+            *(f"<xmp:d xml:lang='{it}'>1</xmp:d>" for it in ("!", "en us", "en-&#x202e;", "d\u00e9")),
             *(
                 f"<xmp:d rdf:{it} xmp:a='1'/>"
                 for it in ("ID='i'", "nodeID='n'", "type='http://t/'", "resource='http://x/'", "parseType='Resource'")
@@ -161,28 +149,27 @@ class Packets(unittest.TestCase):
             "<dc:format>one</dc:format>text",
             "<xmp:d><rdf:Bag><rdf:li>1</rdf:li>text</rdf:Bag></xmp:d>",
         ):
-            with self.assertRaises(reader.Unusual, msg=inside):
-                reader.statements(elements.rdf_of(xmp(inside)))
+            self.assertEqual(cause(xmp(inside)), "RareForm", inside)
         for attribute, inside in (
             ("xml:base='http://b/'", "<rdf:Description/>"),
             ("", "text<rdf:Description/>"),
             ("", "<rdf:Description/>text"),
             ("", "<dc:a/>"),
         ):
-            with self.assertRaises(reader.Unusual, msg=(attribute, inside)):
-                reader.statements(elements.rdf_of(f"<rdf:RDF {SPACES} {attribute}>{inside}</rdf:RDF>".encode()))
+            self.assertEqual(cause(f"<rdf:RDF {SPACES} {attribute}>{inside}</rdf:RDF>".encode()), "RareForm", (attribute, inside))
 
-    def test_usual_forms_are_read_without_rdflib(self):
-        """URIs (RFC 3986, 3 and 4.3) and languages (RFC 5646, 2.1) of any kind, in the nodes that writers use."""
-        from exifnorm_pictures.xmp import elements, reader, tree
+    def test_usual_forms_are_read_by_the_reader_in_python(self):
+        """URIs (RFC 3986, 3 and 4.3) and languages (RFC 5646, 2.1) of any kind, in the nodes that writers use. Some write a language as other
+        programs name a locale."""
+        from exifnorm_pictures.xmp import reader, tree
 
         def value(inside):
-            (found,) = reader.statements(elements.rdf_of(xmp(inside)))
+            (found,) = reader.statements(xmp(inside))
             return found.value
 
         for uri in ("http://x/", "HTTP://x/%20?a=b#c", "urn:uuid:1-2", "a1+.-b:", "mailto:a@b"):
             self.assertEqual(value(f"<xmp:d rdf:resource='{uri}'/>"), tree.Uri(uri))
-        for language in ("", "x-default", "i-klingon", "a", "de", "DE-de-1996", "zh-Hant", "abcdefgh-12345678"):
+        for language in ("", "x-default", "i-klingon", "a", "de", "DE-de-1996", "zh-Hant", "abcdefgh-12345678", "en_US", "123"):
             self.assertEqual(value(f"<xmp:d xml:lang='{language}'>1</xmp:d>"), tree.Literal("1", language.lower()))
         for kind in ("Bag", "Seq", "Alt"):
             expected = [tree.Statement(tree.TYPE, tree.Uri(tree.RDF + kind)), tree.Statement(tree.RDF + "_1", tree.Literal("1"))]
@@ -293,12 +280,6 @@ class Harm(unittest.TestCase):
             self.assertEqual(cause(packet.encode()), why, packet[:100])
         self.assertEqual(cause(b"<a>\xff</a>"), "NotText")
 
-    def test_too_rare_is_a_packet_and_too_slow_a_picture(self):
-        for error, raised in ((TooMuch("many"), Unreadable), (TooLong("slow"), TooLong)):
-            budget = Budget()
-            with self.assertRaises(raised), mock.patch.object(budget, "spend", side_effect=error):
-                reading.statements(rare_text("one"), reading.Extensions({}, budget), set())
-
     def test_many_levels_do_not_exhaust_the_stack(self):
         self.assertEqual(cause(b"<a>" * 399_999), "NotWellFormed")
         self.assertEqual(cause(b"<a>" * 200_000 + b"</a>" * 200_000), "TooDeep")
@@ -318,8 +299,7 @@ class Harm(unittest.TestCase):
             "cause(b\"<!DOCTYPE x SYSTEM 'http://localhost:1/'><x/>\"); cause(b\"<!DOCTYPE x [<!ENTITY a SYSTEM '/etc/hostname'>]><x>&a;</x>\");"
             "print(opened)"
         )
-        python = interpreter_with("rdflib") or sys.executable
-        done = subprocess.run([python, "-c", call], capture_output=True, env={**os.environ, "PYTHONPATH": TESTS_PATH})
+        done = subprocess.run([sys.executable, "-c", call], capture_output=True, env={**os.environ, "PYTHONPATH": TESTS_PATH})
         self.assertEqual((done.stdout, done.stderr), (b"[]\n", b""))
 
 
@@ -344,25 +324,23 @@ def canonical(root):
 
 @needs("rdflib")
 class BesideRdflib(unittest.TestCase):
-    """The usual reader finds what rdflib finds, and two packets mean the same if rdflib's canonical graphs are equal."""
+    """The reader in Python finds what rdflib finds, and two packets mean the same if rdflib's canonical graphs are equal."""
 
     def read(self, call, packet):
-        """A result: the root, the digest of the statements or the cause of failure, and the fields; nothing if it is left to rdflib."""
+        """A result: the root, the digest of the statements or the cause of failure, and the fields."""
         try:
             root = rdf_of(packet)
             found = call(root)
-            check_repeated(found)  # of a property that is repeated with other values rdflib doesn't keep the order
+            reader.check_repeated(found)  # of a property that is repeated with other values rdflib doesn't keep the order
             return root, tree.digest_of_statements(found), properties.fields_of_statements(found)
         except Unreadable as why:
             return None, why.cause, []
-        except reader.Unusual:
-            return None
 
     @settings(max_examples=1000)
     @given(packets())
     def test_statements(self, packet):
-        own = self.read(reader.statements, packet)
-        if own is not None:
+        own = self.read(reader.of_root, packet)
+        if own[1] != "RareForm":
             self.assertEqual(own[1:], self.read(by_rdflib.statements, packet)[1:])
 
     def test_statements_about_the_picture_in_a_value(self):
@@ -370,7 +348,7 @@ class BesideRdflib(unittest.TestCase):
         step = "<rdf:li xml:lang='en'><rdf:Description rdf:about='' xmp:when='{}'><xmp:by>a</xmp:by></rdf:Description></rdf:li>"
         for steps, due in (("1", None), ("11", None), ("12", "Repeated")):
             packet = xmp(f"<xmp:History><rdf:Seq>{''.join(map(step.format, steps))}</rdf:Seq></xmp:History>", "xmp:Rating='1'")
-            own, other = (self.read(call, packet) for call in (reader.statements, by_rdflib.statements))
+            own, other = (self.read(call, packet) for call in (reader.of_root, by_rdflib.statements))
             self.assertEqual((own[1:], cause(packet)), (other[1:], due))
 
     @settings(max_examples=60)
@@ -381,13 +359,13 @@ class BesideRdflib(unittest.TestCase):
         self.assertEqual(first[1] == second[1], canonical(first[0]) == canonical(second[0]))
 
     def test_packets_of_each_sort(self):
-        """There are packets that are read, that are left to rdflib, and that are damaged; or else the tests above show nothing."""
+        """There are packets that are read, that aren't, and that are damaged; or else the tests above show nothing."""
         seen = set()
 
         @given(packets())
         def look(packet):
-            own = self.read(reader.statements, packet)
-            seen.add("left to rdflib" if own is None else "read" if own[2] else own[1])
+            own = self.read(reader.of_root, packet)
+            seen.add("read" if own[2] else own[1])
 
         look()
-        self.assertLessEqual({"read", "left to rdflib", "NotWellFormed"}, seen)
+        self.assertLessEqual({"read", "RareForm", "NotWellFormed"}, seen)

@@ -4,11 +4,10 @@ import re
 from xml.etree import ElementTree
 from xml.parsers import expat
 
+import by_rdflib
 import exifnorm
 import pytest
 from exifnorm_pictures import xmp as reading
-from exifnorm_pictures.model.budgets import Budget
-from exifnorm_pictures.xmp import by_rdflib
 from exifnorm_pictures.xmp.elements import rdf_of
 from hypothesis import given, settings
 from hypothesis import strategies as st
@@ -147,7 +146,7 @@ def test_rdflib_reads_the_deepest_forms(end):
     for step in STEPS:
         packets = (packet_of("", step * count + end) for count in range(10, 101))
         packet, form = [(it, form) for it in packets if isinstance(form := form_of(it), bytes)][-1]
-        one, other = (reading.digest_of_packet(by_rdflib.statements(rdf_of(it), Budget())) for it in (packet, form))
+        one, other = (reading.digest_of_packet(by_rdflib.statements(rdf_of(it))) for it in (packet, form))
         assert one == other
 
 

@@ -2,7 +2,6 @@
 
 import json
 import re
-import sys
 
 import pytest
 
@@ -167,7 +166,6 @@ OVER_LIMITS = {
     "LongLanguage": LONG_LANGUAGE.replace(b"d:a='Bowl'/>", b"><d:a>Bowl</d:a></r:Description>"),
     "TooLong": BARE.replace(b"<r:D", b"<!--" + b"=" * 100_000 + b"--><r:D").replace(b"d:a=", b"r:ID='a' d:a="),
     "TooDeep": BARE.replace(b"<r:D", b"<r:D>" * 100 + b"<r:D").replace(b"/></", b"/>" + b"</r:D>" * 100 + b"</"),
-    "TooRare": BARE.replace(b"/></", b"><d:b r:ID='a'/>" + b"<d:a/>" * 30_000 + b"</r:Description></"),
 }
 
 
@@ -287,14 +285,6 @@ def test_a_remedy_that_was_not_tried_is_kept(cause, called, folder, monkeypatch)
     assert (cause in printed, causes.XMP_REMEDIES[cause] in printed) == (True, is_kept), printed
     remedy = json.loads(called("explain", "a.xmp", "--json")[1].splitlines()[0])["remedy"]
     assert (remedy == causes.XMP_REMEDIES[cause]) == is_kept
-
-
-def test_a_rare_packet_needs_rdflib_before_mend(called, folder, tried, monkeypatch):
-    """A copy may lose values of a packet in which nothing is wrong. That no step helps says nothing of rdflib."""
-    monkeypatch.setitem(sys.modules, "rdflib", None)
-    (folder / "a.xmp").write_bytes(BARE.replace(b"/></", b"><d:b r:ID='a'>c</d:b></r:Description></"))
-    status, printed, _ = called("explain", "a.xmp")
-    assert (status, "NeedsRdflib" in printed, "Remedy: Install python3-rdflib first" in printed) == (2, True, True), printed
 
 
 SLOW = {

@@ -8,10 +8,10 @@ from xml.etree import ElementTree
 
 import pytest
 
+import by_rdflib
 import exifnorm
 from exifnorm_pictures import xmp as reading
-from exifnorm_pictures.model.budgets import Budget
-from exifnorm_pictures.xmp import by_rdflib, rare, usual
+from exifnorm_pictures.xmp import reader, usual
 from exifnorm_pictures.xmp.elements import rdf_of
 from exifnorm_pictures.xmp.tree import Node, Uri
 from hypothesis import given, settings
@@ -28,7 +28,7 @@ SAMPLES, FORMAT = TOP / "samples", TOP / "docs" / "FORMAT.md"
 def said(packet):
     """The digest of a packet's statements by the Python reader, or None if it is unreadable."""
     try:
-        return reading.digest_of_packet(rare.statements(packet, Budget()))
+        return reading.digest_of_packet(reader.statements(packet))
     except reading.Unreadable:
         return None
 
@@ -51,7 +51,7 @@ def check(packet):
     if b"<!DOCTYPE" not in packet:  # the Python reader refuses it in a comment or a text, too
         assert digest is not None, "accepted, and the Python reader refuses it"
         assert said(form) == digest, "the form makes other statements than the packet"
-        in_library, in_packet = (listed(call(packet)) for call in (usual.statements, lambda it: rare.statements(it, Budget())))
+        in_library, in_packet = (listed(call(packet)) for call in (usual.statements, lambda it: reader.statements(it)))
         assert in_library == in_packet, "exifnorm-pictures reads other statements by the library, or another order of a Bag"
     assert exifnorm.xmp_normal(form) == form, "the form is not its own normal form"
     check_properties(form)
@@ -66,7 +66,7 @@ def listed(statements):
 def check_properties(form):
     """The properties of a form are those that the Python reader finds in it, in the order of the form."""
     properties = [(it.namespace + it.name, value_of(it.value)) for it in exifnorm.xmp_properties(form)]
-    assert properties == [(it.predicate, read_value_of(it.value)) for it in rare.statements(form, Budget())]
+    assert properties == [(it.predicate, read_value_of(it.value)) for it in reader.statements(form)]
 
 
 def value_of(value):
@@ -96,7 +96,7 @@ def test_packets_of_the_samples():
 
 def test_usual_packets_are_read_by_the_library(monkeypatch):
     """Without it each packet would still be read, in twice the time and after a parser of XML was imported."""
-    monkeypatch.delattr(rare, "statements")
+    monkeypatch.delattr(reader, "statements")
     assert reading.statements(PACKET.encode(), {}, set())
 
 
@@ -120,7 +120,7 @@ def test_equal_forms_are_equal_statements(some):
 def test_agrees_with_rdflib(packet):
     form = form_of(packet)
     if isinstance(form, bytes):
-        one, other = (reading.digest_of_packet(by_rdflib.statements(rdf_of(it), Budget())) for it in (packet, form))
+        one, other = (reading.digest_of_packet(by_rdflib.statements(rdf_of(it))) for it in (packet, form))
         assert one == other
 
 
@@ -287,9 +287,9 @@ OF_BOTH = {
 def test_limits_of_both_readers(words):
     """What the library reads at a limit, the Python reader reads too, and it names this limit over it."""
     (make, _), most = LIMITS[words], limit_of(words)
-    assert rare.statements(make(most), Budget())
+    assert reader.statements(make(most))
     with pytest.raises(reading.Unreadable, match=OF_BOTH[words]):
-        rare.statements(make(most + 1), Budget())
+        reader.statements(make(most + 1))
 
 
 @pytest.mark.parametrize("zeros", range(6))

@@ -1,4 +1,4 @@
-"""A Dask cluster on this machine for the tests of `index --scheduler`."""
+"""A Dask cluster on this machine for the tests of `index --shards --scheduler`."""
 
 import json
 import os
@@ -7,11 +7,9 @@ import subprocess
 import time
 from contextlib import ExitStack
 
-from made_blocks import MAKE, block, with_exif
-from studio import SMALL_JPEG, Studio, WithPictures, interpreter_with, run, write
+from studio import Studio, WithPictures, interpreter_with, write
 
 EXV = b"\xff\x01Exiv2\xff\xd9"  # exiv2's own format, which has no reader here
-GOOD = with_exif(SMALL_JPEG, block([MAKE]))
 PATIENCE = 600  # seconds that a process of the cluster may take to begin or to end, also on a very busy machine
 PATIENT = ("--limit", str(PATIENCE))  # for a command, which otherwise waits a minute for the first worker
 
@@ -64,11 +62,6 @@ class WithCluster(WithPictures):
         except (FileNotFoundError, ValueError):
             return False
         return True
-
-    def index(self, *words, status=0, quiet=("--quiet",)):
-        done = run([self.python, "-m", "exifnorm_pictures", "index", *words, "--catalogue", "c", *PATIENT, *quiet], self.folder)
-        self.assertEqual(done.returncode, status, done)
-        return done.stdout.decode().splitlines()
 
     def deadly(self, condition):
         """An ExifTool that kills the worker that calls it, if the condition is true."""

@@ -20,41 +20,43 @@ from . import objects
 from .exit_codes import SUCCESS, UNKNOWN
 from .looking import how_of, xmp_files_alone
 from .names import is_catalogue, named
-from .options import Options
+from .options import Files, Output, Run, group_of
 from .output import counted, kind_of_part, print_line, print_lines, record_lines, say_notes
-from .sources import settle_first
+from .sources import settle_first, with_first
 
 
-def going_on(arguments: Options, catalogue: Catalogue) -> Options:
+def going_on(run: Run, catalogue: Catalogue) -> Run:
     """Goes on with XMP sidecars, and with digests of coded pictures, in a catalogue that has them. Raises `WrongUse`."""
-    if arguments.sidecars and not catalogue.has_sidecars() and not catalogue.is_empty():
+    if run.sidecars and not catalogue.has_sidecars() and not catalogue.is_empty():
         raise WrongUse(f"{catalogue.name} was made without --sidecars: make a new catalogue")
     # of the pictures that changed, too
-    return arguments.but(sidecars=arguments.sidecars or catalogue.has_sidecars(), pixels=arguments.pixels or catalogue.has_digests())
+    return run._replace(sidecars=run.sidecars or catalogue.has_sidecars(), pixels=run.pixels or catalogue.has_digests())
 
 
-def run(arguments: Options) -> int:
+def run(arguments: argparse.Namespace) -> int:
     """Looks at pictures and keeps the results."""
-    if not arguments.shards:
-        arguments = settle_first(arguments)
-    if arguments.shards or shards.is_folder(arguments.catalogue):
+    files, run, output = group_of(Files, arguments), group_of(Run, arguments), group_of(Output, arguments)
+    name, files = (arguments.shards, with_first(files)) if arguments.shards else settle_first(files)
+    if arguments.shards or shards.is_folder(name):
         from . import index_shards  # which few need
 
-        return index_shards.run(arguments)
-    names, excluded = _names(arguments), Excluded(arguments.exclude)
-    has_words = not arguments.json and not arguments.quiet
-    with Catalogue(arguments.catalogue, make=True) as catalogue:
-        arguments = _prepared(arguments, catalogue)
-        options = _options(arguments, names, excluded)
+        return index_shards.indexed_shards(name, named(files), run, output, arguments.keep_old)
+    names, excluded = _names(name, files, run), Excluded(run.exclude)
+    has_words = not output.json and not run.quiet
+    with Catalogue(name, make=True) as catalogue:
+        if arguments.keep_old:
+            _keep_old(catalogue, arguments.keep_old, run)
+        run = going_on(run, catalogue)
+        options = printing_options(run, output, names)._replace(excluded=excluded)
         counts, unread = index(options, catalogue), lacking(options, catalogue)
         parts = _parts(catalogue) if has_words else []
         damaged = number_of(catalogue, f"{DAMAGED} AND {OF_LAST_RUN}")
-        steps = list(_next_steps(catalogue, arguments.catalogue, excluded.known)) if has_words else []
+        steps = list(_next_steps(catalogue, name, excluded.known)) if has_words else []
     if excluded.count:
         counts["excluded"] = excluded.count
     say_unused(excluded.unused())
     say_notes(*not_read_again(unread))
-    if arguments.json:
+    if output.json:
         objects.print_object("index", "summary", {"counts": dict(counts), "damaged": damaged})
     else:
         print_lines([*parts, counted(counts, damaged), *steps])
@@ -69,40 +71,20 @@ def not_read_again(counts: "Counter[str]") -> Iterator[str]:
             yield f"{pictures_in_words(count)} unchanged, and not read again by {option}: index --again {option} reads all"
 
 
-def _prepared(arguments: Options, catalogue: Catalogue) -> Options:
-    """Goes on with what a catalogue has. Raises `WrongUse`."""
-    if arguments.keep_old:
-        _keep_old(catalogue, arguments)
-    arguments = going_on(arguments, catalogue)
-    if arguments.sidecars and arguments.scheduler:
-        raise WrongUse("XMP sidecars are read here only, not on the workers of a cluster: leave out --scheduler")
-    return arguments
-
-
-def _keep_old(catalogue: Catalogue, arguments: argparse.Namespace) -> None:
+def _keep_old(catalogue: Catalogue, old: str, run: Run) -> None:
     """Copies the catalogue, unless it has a part of what a run was to find that was stopped: the copy from before that run is compared with."""
-    if catalogue.was_stopped() and is_catalogue(arguments.keep_old):
-        say_notes(f"{escaped(arguments.keep_old)} stays as it was: the last run was stopped, and this one goes on")
+    if catalogue.was_stopped() and is_catalogue(old):
+        say_notes(f"{escaped(old)} stays as it was: the last run was stopped, and this one goes on")
     else:
-        copy_over(catalogue, arguments.keep_old, arguments.session.room)
+        copy_over(catalogue, old, run.session.room)
 
 
-def _options(arguments: argparse.Namespace, names: List[bytes], excluded: Excluded) -> IndexOptions:
-    """How the names are looked at, and what is printed of it."""
-    options = printing_options(arguments, names)._replace(excluded=excluded)
-    if arguments.scheduler:
-        from ..scan import cluster  # only this needs Dask
-
-        return options._replace(look=cluster.looker(arguments.scheduler, arguments.elsewhere, names))
-    return options
-
-
-def printing_options(arguments: argparse.Namespace, names: Sequence[bytes]) -> IndexOptions:
+def printing_options(run: Run, output: Output, names: Sequence[bytes]) -> IndexOptions:
     """The options of a run, with the lines that are printed about pictures."""
-    lines = objects.record_lines if arguments.json else None if arguments.quiet else record_lines
-    moved = None if arguments.json or arguments.quiet else moved_line
-    how = how_of(arguments, arguments.session.room, lines)
-    return IndexOptions(names, arguments.again, arguments.quiet, how, print_line, moved_line=moved, lines=lines or record_lines)
+    lines = objects.record_lines if output.json else None if run.quiet else record_lines
+    moved = None if output.json or run.quiet else moved_line
+    how = how_of(run, run.session.room, lines)
+    return IndexOptions(names, run.again, run.quiet, how, print_line, moved_line=moved, lines=lines or record_lines)
 
 
 def say_unused(patterns: Iterable[str]) -> None:
@@ -110,12 +92,12 @@ def say_unused(patterns: Iterable[str]) -> None:
     say_notes(*(f"--exclude {pattern} fits no file and no folder" for pattern in patterns))
 
 
-def _names(arguments: argparse.Namespace) -> List[bytes]:
+def _names(catalogue: str, files: Files, run: Run) -> List[bytes]:
     """The names that are given. Raises `WrongUse`."""
-    names = named(arguments, arguments.folders)
-    if arguments.elsewhere and not arguments.scheduler:
-        raise WrongUse("--elsewhere is a path on the workers of --scheduler, which is missing")
-    if not any(map(os.path.lexists, names)) and not _are_known(names, arguments.catalogue):
+    names = named(files)
+    if run.scheduler:
+        raise WrongUse("--scheduler is for a catalogue of each folder: give --shards DIR in place of a catalogue")
+    if not any(map(os.path.lexists, names)) and not _are_known(names, catalogue):
         raise WrongUse(f"there is no folder or file {', '.join(map(shown_path, names))}")
     return names
 

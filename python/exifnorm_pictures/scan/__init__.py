@@ -1,1 +1,1 @@
-"""Finds the pictures of an archive and looks at each, in one process, in several or in a cluster."""
+"""Finds the pictures of an archive and looks at each, in one process, in several, or, a folder each, in a cluster."""

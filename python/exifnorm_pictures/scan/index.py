@@ -6,7 +6,6 @@ The folders are listed while pictures are read, so that a run holds only the nam
 from __future__ import annotations
 
 import gc
-import importlib.util
 import os
 import time
 from collections import Counter
@@ -200,15 +199,11 @@ class _Finding:
 
 
 def _unfinished(catalogue: Catalogue) -> Iterator[int]:
-    """The numbers of pictures with a block or a part that was not read for want of a program which is there now."""
-    if importlib.util.find_spec("rdflib"):
-        yield from catalogue.rows(f"{_PICTURES_WITH} blocks ON picture = id AND xmp IS NULL AND cause = ?", ("NeedsRdflib",), itemgetter(0))
+    """The numbers of pictures with a part that was not read for want of a program which is there now."""
     if programs.is_there("exiftool"):
-        parts = f"{_PICTURES_WITH} not_read AS part ON picture = id AND pictures.not_read IS NULL AND what = ?"
-        yield from catalogue.rows(parts, (UNREAD_TRAILER,), itemgetter(0))
-
-
-_PICTURES_WITH = "SELECT id FROM pictures CROSS JOIN"  # a cross join begins with the pictures, of which few are concerned
+        # a cross join begins with the pictures, of which few are concerned
+        joined = "pictures CROSS JOIN not_read AS part ON picture = id AND pictures.not_read IS NULL AND what = ?"
+        yield from catalogue.rows(f"SELECT id FROM {joined}", (UNREAD_TRAILER,), itemgetter(0))
 
 
 def _is_unchanged(file: FoundFile, known: Optional[Known], how: How = How()) -> bool:

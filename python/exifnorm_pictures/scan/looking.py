@@ -10,7 +10,7 @@ from exifnorm import LibraryMissing
 
 from ..extract import extraction, programs, sidecars
 from ..extract.formats.streams import digest_of_file
-from ..files.opening import Place
+from ..files.opening import held
 from ..files.session import Session
 from ..judge import judge
 from ..model.budgets import WHOLE_FILE, TooMuch
@@ -29,10 +29,11 @@ if TYPE_CHECKING:
 FINE, COARSE = 20_000_000, 2_000_000_000
 
 
-def look(file: FoundFile, how: How, session: Session, packs: bool = True, place: Optional[Place] = None) -> PictureRecord:
+def look(file: FoundFile, how: How, session: Session, packs: bool = True) -> PictureRecord:
     """The result for one file, its fields packed for a catalogue unless that isn't asked for. An error of any kind affects only this file, which
-    `place` may hold open."""
-    return compared_with_before(file, _look(file, how, session, packs, place or file.path))
+    is opened once."""
+    with held(file.path):
+        return compared_with_before(file, _look(file, how, session, packs))
 
 
 def compared_with_before(file: FoundFile, picture: PictureRecord) -> PictureRecord:
@@ -40,16 +41,16 @@ def compared_with_before(file: FoundFile, picture: PictureRecord) -> PictureReco
     return picture._replace(is_known=True) if picture.problem and picture.problem == file.problem else picture
 
 
-def _look(file: FoundFile, how: How, session: Session, packs: bool, place: Place) -> PictureRecord:
+def _look(file: FoundFile, how: How, session: Session, packs: bool) -> PictureRecord:
     began = _now()
     try:
         marks = sidecars.marks(file.path, file.sidecars, lambda *times: _is_racy(times, began)) if file.sidecars else ""
-        blocks, judged = _read(file, how, session, packs, place)
-        whole_file = file_digest(place, blocks, how.whole)
+        blocks, judged = _read(file, how, session, packs)
+        whole_file = file_digest(file.path, blocks, how.whole)
         if file.sidecars:
             whole_file = sidecars.with_sidecars(whole_file, file.path, file.sidecars)
         reading, is_known = _maker_notes(session, file.path, blocks, judged) if how.maker_notes else (None, True)
-        pixels = _pixels(file.path, blocks, place) if how.pixels else (None, "", "", None)
+        pixels = _pixels(file.path, blocks) if how.pixels else (None, "", "", None)
     except LibraryMissing:  # an OSError too, but not of this file
         raise
     except programs.Failed as error:
@@ -71,10 +72,10 @@ def _look(file: FoundFile, how: How, session: Session, packs: bool, place: Place
     return PictureRecord.of_blocks(file.path, file.root, stamp, blocks, judged, file=whole_file, **more)
 
 
-def _read(file: FoundFile, how: How, session: Session, packs: bool, place: Place) -> Tuple[Blocks, List[BlockRecord]]:
+def _read(file: FoundFile, how: How, session: Session, packs: bool) -> Tuple[Blocks, List[BlockRecord]]:
     """The blocks of a file and its sidecars, and what they mean. A file over a limit has a problem, and so has one for which a program takes too long."""
     try:
-        blocks = extraction.blocks_of_file(file.path, how.whole, session, place)
+        blocks = extraction.blocks_of_file(file.path, how.whole, session)
         if blocks.problem == Problem.NO_FILE:  # which was there when its folder was listed
             blocks = Blocks(problem=Problem.VANISHED, detail=Problem.VANISHED.text)
         if file.sidecars:
@@ -109,23 +110,23 @@ def _packed(reading: "NotesReading") -> bytes:
     return maker_notes.packed_reading(reading)
 
 
-def _pixels(path: bytes, blocks: Blocks, place: Place) -> Tuple[Optional[str], str, str, Optional[str]]:
+def _pixels(path: bytes, blocks: Blocks) -> Tuple[Optional[str], str, str, Optional[str]]:
     """What --pixels adds to a record: the digests of the coded picture and of what is beside it, its damage, and the digest of the whole file;
     empty if not known."""
     from ..extract import coded_picture
 
-    coded = coded_picture.CodedPicture() if blocks.problem else coded_picture.of_file(path, blocks.budget, place)
+    coded = coded_picture.CodedPicture() if blocks.problem else coded_picture.of_file(path, blocks.budget)
     is_read = blocks.problem not in NO_BYTES
-    return coded.digest, coded.beside, coded.damage, digest_of_file(place, 1 << 62) if is_read else ""
+    return coded.digest, coded.beside, coded.damage, digest_of_file(path, 1 << 62) if is_read else ""
 
 
-def file_digest(place: Place, blocks: Blocks, whole: bool) -> str:
+def file_digest(path: bytes, blocks: Blocks, whole: bool) -> str:
     """SHA-256 of a whole file, if nothing else of it can be compared: no block of it was read, or a part has no digest."""
     if not blocks.problem and all(it.digest for it in blocks.not_read):
         return ""
     if blocks.problem in (*NO_BYTES, Problem.NEEDS_EXIFTOOL):
         return ""
-    return digest_of_file(place, WHOLE_FILE if not whole else 1 << 62)
+    return digest_of_file(path, WHOLE_FILE if not whole else 1 << 62)
 
 
 def failed(file: FoundFile, why: str) -> PictureRecord:

@@ -11,7 +11,7 @@ from collections import Counter
 from typing import Dict, FrozenSet, Iterator, List, NamedTuple, Optional, Sequence, Set
 
 from ..catalogue import shards
-from ..catalogue.store import NUMBERS, Catalogue, NoCatalogue
+from ..catalogue.store import NUMBERS, Catalogue, roll_back
 from ..model.errors import WrongUse
 from ..model.problems import Problem
 from ..model.records import PictureRecord
@@ -170,17 +170,7 @@ def _number_of(name: str) -> int:
 
 def _kept(name: str) -> _Kept:
     """What a catalogue has, also if a run was killed while it wrote to it: then it has a journal, which only one that writes can roll back."""
-    try:
-        return _read(name)
-    except NoCatalogue:
-        if not os.path.exists(f"{name}-journal"):
-            raise
-    with Catalogue(name, make=True):
-        pass
-    return _read(name)
-
-
-def _read(name: str) -> _Kept:
+    roll_back(name)
     with Catalogue(name) as catalogue:
         row = next(catalogue.rows("SELECT root, path FROM pictures LIMIT 1"), None)
         part = None

@@ -10,21 +10,18 @@ CAUSES = {
     f" {LIMITS[budgets.XMP_BYTES]:,} bytes, {LIMITS[budgets.XMP_TAGS]:,} tags or {LIMITS[budgets.XMP_ATTRIBUTES]:,} attributes.",
     "LongNamespace": f"A namespace of the packet has more than {NAMESPACE} characters.",
     "LongLanguage": f"A language of the packet (xml:lang) has more than {LANGUAGE} characters.",
-    "TooRare": f"The packets of the file have more than {LIMITS[budgets.RARE_ELEMENTS]:,} elements in a rare form of RDF/XML.",
-    "Markup": "A value is XML or HTML text (rdf:parseType Literal, or the datatype XMLLiteral or HTML), which XMP does not allow.",
     "NotText": "The packet is no text in UTF-8, UTF-16 or UTF-32, or declares another encoding.",
     "DocumentType": "The packet has a document type declaration, which XMP does not allow.",
     "NotWellFormed": "The packet is not well-formed XML.",
     "NoRDF": "The packet is not x:xmpmeta around one rdf:RDF, nor rdf:RDF by itself.",
     "TooDeep": f"More than {NESTED} elements are nested in one another.",
-    "NotRDF": "What is inside rdf:RDF does not follow the syntax of RDF/XML.",
+    "RareForm": "The packet has a form of RDF/XML that writers of XMP don't use, or breaks its rules, and isn't read: such as rdf:nodeID,"
+    " rdf:datatype, or rdf:parseType Literal.",
     "SeveralSubjects": "The packet makes statements about several subjects.",
     "Repeated": "A property stands twice with different values, which XMP does not allow, and their order isn't known.",
-    "Shared": "A node of the packet has a name (rdf:nodeID), which other readers of XMP don't follow, or several, or leads back to itself.",
     "ExtensionMissing": "The packet names extended XMP that is not there.",
     "ExtensionNotNamed": "There is extended XMP that no packet names.",
     "ExtensionDamaged": "The extended XMP is not the one that the packet names, by its MD5.",
-    "NeedsRdflib": "The packet has a rare form of RDF/XML, for which the Python package rdflib is needed (package python3-rdflib).",
 }
 
 

@@ -1,4 +1,7 @@
-"""The forms of RDF/XML that XMP writers use (XMP part 1, 7), and a few rare ones, from the elements of a packet. rdflib reads the others."""
+"""The packets that the library leaves to others: in other encodings, with other names, or in a few forms of RDF/XML that it calls rare.
+
+Forms that no writer of XMP uses are not read: they are unreadable on every machine alike, by the cause `RareForm`.
+"""
 
 from __future__ import annotations
 
@@ -8,9 +11,9 @@ from typing import Dict, List
 from xml.etree.ElementTree import Element
 
 from ..model.budgets import CACHED, LANGUAGE
+from .elements import rdf_of
 from .packets import Unreadable
-from .repeated import check_repeated
-from .tree import MEMBER, PICTURE, RDF, TYPE, Literal, Node, Uri, Statement, Statements, Value
+from .tree import MEMBER, PICTURE, RDF, TYPE, Literal, Node, Statement, Statements, Uri, Value, key_of
 
 _R = f"{{{RDF}}}"
 _XML = "{http://www.w3.org/XML/1998/namespace}"
@@ -23,23 +26,29 @@ _NOT_IN_URI = re.compile(r"[\s<>\"{|\\^`]")
 _ABSOLUTE = re.compile(r"[A-Za-z][A-Za-z0-9+.-]*:[^\s<>\"{}|\\^`]*\Z")
 
 
-_LANGUAGE = re.compile(r"(?:[A-Za-z]{1,8}(?:-[A-Za-z0-9]{1,8})*)?\Z")
+_LANGUAGE = re.compile(r"[A-Za-z0-9_-]*\Z")  # of RFC 5646, and those of programs that write `en_US` as other programs name a locale
 
 
-class Unusual(Exception):
-    """A form that rdflib has to read."""
+def statements(packet: bytes) -> Statements:
+    """The statements of a packet. Raises `Unreadable`.
+
+    >>> rdf = "<r:RDF xmlns:r='http://www.w3.org/1999/02/22-rdf-syntax-ns#' xmlns:d='http://d/'><r:Description d:a='1'/></r:RDF>"
+    >>> statements(rdf.encode("utf-16"))
+    (Statement(predicate='http://d/a', value=Literal(text='1', language='', datatype='')),)
+    """
+    return of_root(rdf_of(packet))
 
 
-def statements(root: Element) -> Statements:
-    """The statements of an rdf:RDF element. Raises `Unusual` and `Unreadable`."""
+def of_root(root: Element) -> Statements:
+    """The statements of an rdf:RDF element. Raises `Unreadable`."""
     if set(root.attrib) - {_LANG} or _says(root.text):
-        raise Unusual
+        raise Unreadable("RareForm")
     every: List[Statement] = []
     inner: List[Statements] = []
     subjects = set()
     for node in root:
         if node.tag != _DESCRIPTION or _says(node.tail):
-            raise Unusual
+            raise Unreadable("RareForm")
         subjects.add(node.get(_ABOUT, node.get("about", "")))
         every += _node(node, _language(root, ""), inner)
     if len(subjects - {""}) > 1:
@@ -62,7 +71,7 @@ def _language(element: Element, outer: str) -> str:
     if len(language) > LANGUAGE:
         raise Unreadable("LongLanguage")
     if not _LANGUAGE.match(language):
-        raise Unusual
+        raise Unreadable("RareForm")
     return language.lower()
 
 
@@ -74,7 +83,7 @@ def _uri(name: str) -> str:
 def _made_uri(name: str) -> str:
     space, _, local = name[1:].partition("}")
     if name[:1] != "{" or name.startswith(_XML) or (name.startswith(_R) and not _PLAIN.match(name)) or _NOT_IN_URI.search(name[1:]):
-        raise Unusual
+        raise Unreadable("RareForm")
     return space + local
 
 
@@ -84,7 +93,7 @@ _cached_uri = functools.lru_cache(maxsize=4096)(_made_uri)
 def _node(node: Element, language: str, inner: List[Statements]) -> List[Statement]:
     """The statements of a node element: its type, its attributes, and its property elements. Those about the picture in a value go to `inner`."""
     if node.tag not in _NODES or _says(node.text):
-        raise Unusual
+        raise Unreadable("RareForm")
     language = _language(node, language)
     statements: List[Statement] = []
     if node.tag != _DESCRIPTION:
@@ -102,21 +111,21 @@ def _properties(node: Element, language: str, inner: List[Statements]) -> List[S
     number = 0
     for element in node:
         if _says(element.tail):
-            raise Unusual
+            raise Unreadable("RareForm")
         if element.tag == _LI:
             number += 1
             predicate = f"{RDF}_{number}"
         else:
             predicate = _uri(element.tag)
         if MEMBER.match(predicate) and element.tag != _LI:
-            raise Unusual
+            raise Unreadable("RareForm")
         statements.append(Statement(predicate, _value(element, _language(element, language), inner)))
     return statements
 
 
 def _resource(uri: str) -> Uri:
     if not _ABSOLUTE.match(uri):
-        raise Unusual
+        raise Unreadable("RareForm")
     return Uri(uri)
 
 
@@ -127,10 +136,10 @@ def _value(element: Element, language: str, inner: List[Statements]) -> Value:
         return _content(element, language, inner)
     if own == {_PARSE_TYPE: "Resource"}:
         if _says(element.text):
-            raise Unusual
+            raise Unreadable("RareForm")
         return Node(tuple(_properties(element, language, inner)))
     if len(element) or _says(element.text):
-        raise Unusual
+        raise Unreadable("RareForm")
     if list(own) == [_RESOURCE]:
         return _resource(own[_RESOURCE])
     return _by_attributes(own, language)
@@ -141,11 +150,11 @@ def _content(element: Element, language: str, inner: List[Statements]) -> Value:
         return Literal(element.text or "", language)
     node = element[0]
     if len(element) > 1 or _says(element.text) or _says(node.tail) or "about" in node.attrib:
-        raise Unusual
+        raise Unreadable("RareForm")
     if _ABOUT not in node.attrib:
         return Node(tuple(_node(node, language, inner)))
     if node.tag != _DESCRIPTION or node.attrib[_ABOUT]:
-        raise Unusual
+        raise Unreadable("RareForm")
     # IDimager writes this, and RDF/XML (2.2) makes statements about the picture of it.
     inner.append(tuple(_node(node, language, inner)))
     return Uri(PICTURE)
@@ -154,5 +163,16 @@ def _content(element: Element, language: str, inner: List[Statements]) -> Value:
 def _by_attributes(own: Dict[str, str], language: str) -> Node:
     """The attributes of a property element without content are a node of their own."""
     if any(name.startswith(_R) and name != _VALUE for name in own):
-        raise Unusual
+        raise Unreadable("RareForm")
     return Node(tuple(Statement(_uri(name), Literal(text, language)) for name, text in own.items()))
+
+
+def check_repeated(statements: Statements) -> None:
+    """Raises `Unreadable` if a property stands twice with different values: their order decides which one a reader shows, and isn't known."""
+    seen: Dict[str, Value] = {}
+    for predicate, value in statements:
+        other = seen.setdefault(predicate, value)
+        if other is not value and predicate != TYPE and other != value and key_of(other) != key_of(value):
+            raise Unreadable("Repeated")
+        if isinstance(value, Node):
+            check_repeated(value.statements)

@@ -33,7 +33,7 @@ class Extensions:
         if name not in self._parsed:
             if hashlib.md5(self.data[name], usedforsecurity=False).hexdigest().upper() != name:
                 raise Unreadable("ExtensionDamaged")
-            self._parsed[name] = _parsed(self.data[name], self.budget)
+            self._parsed[name] = _parsed(self.data[name])
         return self._parsed[name]
 
 
@@ -52,7 +52,7 @@ def statements(packet: bytes, extensions: Union[Extensions, Mapping[str, bytes]]
         extensions.budget.small_packets -= 1
     else:
         spend(packet, extensions.budget)
-    parsed = _parsed(packet, extensions.budget)
+    parsed = _parsed(packet)
     wanted = _named(parsed)
     if not wanted:
         return parsed
@@ -63,13 +63,13 @@ def statements(packet: bytes, extensions: Union[Extensions, Mapping[str, bytes]]
     return tuple(it for it in parsed if it.predicate != NOTE) + added
 
 
-def _parsed(packet: bytes, budget: Budget) -> Statements:
+def _parsed(packet: bytes) -> Statements:
     try:
         return usual.statements(packet)
     except usual.NotUsual:
-        from . import rare  # which imports a parser of XML, and few packets are rare
+        from . import reader  # which imports a parser of XML, and few packets are rare
 
-        return rare.statements(packet, budget)
+        return reader.statements(packet)
 
 
 def _named(statements: Statements) -> Tuple[str, ...]:
