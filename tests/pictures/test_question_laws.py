@@ -2,41 +2,88 @@
 refused; and no answer is nothing where something fits."""
 
 import collections
+import csv
+import io
 import json
+import os
+import re
 import shutil
 
 import pytest
 from exifnorm_pictures.catalogue.asking import Answer
 from exifnorm_pictures.catalogue.store import Catalogue
-from exifnorm_pictures.fields.listing import is_rest
-from exifnorm_pictures.fields.questions import Condition, WrongQuestion, question_of
-from exifnorm_pictures.model.texts import escaped
+from exifnorm_pictures.fields.questions import WrongQuestion, question_of
 from studio import SMALL_JPEG, TOP, needs, put, tool
 
 pytestmark = [pytest.mark.xdist_group("museum")]
 
 
-def printed(catalogue):
-    """The values that `show` prints of each name, in plain words and exactly, and the pictures that have them."""
+def shown(called, paths):
+    """The lines of `show` and of `show --exact`: the values of each name, and the pictures that have them."""
     values = collections.defaultdict(lambda: collections.defaultdict(set))
-    for picture in catalogue.pictures():
-        for _, fields in catalogue.blocks_with_fields(picture):
-            for field in fields:
-                for text in (escaped(field.text), field.exact.strip('"')) if not is_rest(field.directory, field.tag) else ():
-                    values[field.name][text].add(picture.id)
+    for path in paths:
+        for option in ((), ("--exact",)):
+            for line in called("show", path, *option)[1].splitlines():
+                match = re.fullmatch(r"  (\S+:\S+) +(.*)", line)
+                if match and not (option and match[2].startswith("{")):
+                    values[match[1]][match[2].strip('"') if option else match[2]].add(path)
     return values
 
 
+def listed(called, catalogue, names):
+    """The same of the columns of `list`."""
+    values = collections.defaultdict(lambda: collections.defaultdict(set))
+    status, lines, messages = called("list", catalogue, "--csv", "--columns", ",".join(names))
+    assert status in (0, 2), messages
+    for row in csv.DictReader(io.StringIO(lines, newline="")):
+        for name in names:
+            values[name][row[name]].add(row["picture"])
+    return values
+
+
+def asking(name, value):
+    """The question with a name and a value as they are printed."""
+    quoted = value.replace('"', '""')
+    return f'{name} = "{quoted}"'
+
+
 @needs("exiftool")
-def test_each_value_that_is_printed_is_found(museum):
+def test_each_value_that_is_printed_is_found(museum, called):
+    """By each line of `show` and each column of `list`: the question NAME = VALUE finds the picture."""
+    paths = sorted(str(it) for it in (museum / "archive").rglob("*") if it.is_file())
+    values = shown(called, paths)
+    assert len(values) > 40
+    labels = ["title", "keywords", "creator", "credit", "date created", "rights end", "digital source"]
+    for name, texts in listed(called, str(museum / "full"), [*labels, *values]).items():
+        for text, pictures in texts.items():
+            values[name][text] |= pictures if text else set()
     with Catalogue(str(museum / "full")) as catalogue, catalogue.reading(is_answer=True):
-        values = printed(catalogue)
-        assert len(values) > 40
         answer = Answer(catalogue, None, shown=list(values))
+        numbers = {os.fsdecode(it.path): it.id for it in catalogue.pictures()}
+        assert len(numbers.keys() & set(paths)) > 100
         for name, texts in values.items():
             for text, pictures in texts.items():
-                found = answer._finder.of(Condition(name, "=", text)).sure
-                assert all(number in found for number in pictures), (name, text)
+                found = answer._finder.of(question_of(asking(name, text))).sure if pictures else ()
+                assert not [it for it in pictures if it in numbers and numbers[it] not in found], (name, text)
+
+
+@needs("exiftool")
+def test_what_may_fit_is_named(museum, called, folder):
+    """The status is 2 where a picture is named that may fit, and only there; in lines up to 20 of them are."""
+    (folder / "rules").write_text("position, serial never in web/\nserial never in pages/\ncredit at most 20 characters in nested/\n")
+    asked = [("list", str(museum / "full"), option, label) for label in LABELS for option in ("--without", "--count")]
+    asked += [("check", str(folder / "rules"), str(museum / "full"))]
+    for words in asked:
+        status, lines, _ = called(*words, "--json")
+        summary = json.loads(lines.splitlines()[-1])
+        names = [it["path"] for key in ("may_have", "may_fit", "may_break") for it in summary.get(key, ())]
+        assert (status == 2) == bool(names), words
+        assert summary["not_known"] == len(names), words
+        printed = called(*words)[1].splitlines()
+        assert sum(f"  {name}" in printed for name in names) == min(len(names), 20), words
+
+
+LABELS = ("title", "credit", "serial", "owner", "position", "damage", "rights end", "FNumber", "dc:title")
 
 
 @pytest.fixture
@@ -93,6 +140,7 @@ def test_questions_of_a_registrar(asked, question):
     [
         ("Orientation = upwards", "Orientation is never 'upwards': it is one of 1 upright; 2 "),
         ("Orientation != upwards", "Orientation is never 'upwards'"),
+        ("Orientation is upwards", "Orientation is never 'upwards'"),
         ("FNumber = wide", "FNumber is never 'wide': pictures have 'f/11'"),
         ("FNumber < wide", "expected: a number, or a date, such as 1950"),
         ("DateTimeOriginal = yesterday", "DateTimeOriginal is never 'yesterday'"),
@@ -116,6 +164,17 @@ def test_names_of_no_field_and_of_several(asked, called):
         assert called("list", "c", "--where", question)[1].splitlines()[-1].endswith(f"; {end}")
 
 
+def test_a_day_is_given(asked, called, folder, monkeypatch):
+    """EXIFNORM_TODAY is today in questions and rules, and a wrong one is refused."""
+    (folder / "rules").write_text("DateTimeOriginal not after today - 1 day\n")
+    for today, later in (("2019-03-13", 3), ("2024-05-02", 2)):
+        monkeypatch.setenv("EXIFNORM_TODAY", today)
+        assert asked("DateTimeOriginal >= today") == later
+        assert f"by {later} of 8 pictures" in called("check", "rules", "c")[1]
+    monkeypatch.setenv("EXIFNORM_TODAY", "tomorrow")
+    assert "EXIFNORM_TODAY=tomorrow" in asked("DateTimeOriginal >= today") and called("check", "rules", "c")[0] == 3
+
+
 def test_dates_of_today():
     later = question_of("rights end < today + 30 days").value
     assert later == question_of("rights end < in 30 days").value > question_of("rights end < today").value
@@ -125,7 +184,7 @@ def test_dates_of_today():
 
 RIGHTS = """-IPTC:ExpirationDate=2026:12:03 -IPTC:ReleaseDate=2026:12:01 -XMP-plus:LicenseEndDate=2026:12:03
 -XMP-iptcExt:DigitalSourceType=http://cv.iptc.org/newscodes/digitalsourcetype/trainedAlgorithmicMedia
--XMP-iptcExt:LocationCreatedGPSLatitude=51.5 -XMP-iptcExt:LocationCreatedGPSLongitude=0.1"""
+-XMP-iptcExt:PersonInImage=Ann -XMP-iptcExt:PersonInImage=Ben -XMP-iptcExt:LocationCreatedGPSLatitude=51.5 -XMP-iptcExt:LocationCreatedGPSLongitude=0.1"""
 
 
 @needs("exiftool")
@@ -143,6 +202,7 @@ def test_rights_embargoes_sources_and_places(folder, called):
         "digital source = trainedAlgorithmicMedia",
         "DigitalSourceType like '*trainedAlgorithmicMedia'",
         "LocationCreatedGPSLatitude = 51.5",
+        "person shown = ben and person shown is 'Ann'",
     ):
         assert called("list", "c", "-0", "--where", question)[1].count("\0") == 1, question
     status, lines, _ = called("list", "c", "--with", "position", "--columns", "position")
@@ -160,6 +220,18 @@ def test_impossible_dates_break_each_rule_of_dates(folder, called):
     (folder / "rules").write_text("date created not before 1826\n")
     lines = called("check", "rules", "p")[1].splitlines()
     assert lines[-1] == "1 of 1 rule broken, by 3 of 4 pictures"
+    rules = (
+        "every picture needs date created",
+        "date created like '*'",
+        "DateTimeOriginal at most 99 characters",
+        "CreateDate not after today",
+    )
+    (folder / "rules").write_text("\n".join((*rules, "IFD0:ModifyDate never", "IFD0:Artist is 20230230", "IFD0:Artist like 2*")))
+    tool(folder / "p", "exiftool", "-q", "-overwrite_original", "-IFD0:Artist=20230230", "0.jpg")
+    *broken, _ = map(json.loads, called("check", "rules", "p", "--json")[1].splitlines())
+    assert [it["line"] for it in broken] == [1, 1, 1, 2, 2, 2, 3, 3, 3]
+    for question in ("date created = impossible", "DateTimeOriginal = impossible"):
+        assert called("list", "p", "-0", "--where", question)[1].count("\0") == 3, question
 
 
 def test_a_refused_block_may_not_have_what_its_standard_has_not(folder, called):

@@ -3,7 +3,6 @@
 import hashlib
 import io
 import os
-import subprocess
 import sys
 import unittest
 import zlib
@@ -12,7 +11,7 @@ from unittest import mock
 
 from made_blocks import segment
 from made_files import exif, jpeg, xmp
-from studio import TESTS_PATH, WithPictures, interpreter_with, needs, run
+from studio import WithPictures, run
 
 from exifnorm_pictures.catalogue.store import BLOCK_COLUMNS, PICTURE_COLUMNS, Catalogue, NoCatalogue
 from exifnorm_pictures.comparison import changed
@@ -270,19 +269,3 @@ class Closed(WithPictures):
             "os.open, os.pread = opened, fails\nprint(extraction.blocks_of_file(b'a.jpg').problem, count() - before)\n"
         )
         self.assertEqual(self.by_itself(text), ["NotAFile 0", "Unreadable 0"])
-
-
-@needs("rdflib")
-class Languages(unittest.TestCase):
-    def test_of_packets_that_rdflib_reads(self):
-        """Upper and lower case mean the same (RFC 5646, 2.1.1), and languages differ."""
-        packets = [
-            xmp(f"<xmp:d rdf:datatype='http://t/'>1</xmp:d><dc:format{it}>one</dc:format>").decode()
-            for it in (" xml:lang='en-GB'", " xml:lang='EN-gb'", " xml:lang='en-gb'", " xml:lang='en'", "")
-        ]
-        call = "import sys; from test_xmp import said; print(*[said(it.encode()) for it in sys.argv[1:]])"
-        environment = {**os.environ, "PYTHONPATH": TESTS_PATH}
-        done = subprocess.run([interpreter_with("rdflib"), "-c", call, *packets], capture_output=True, env=environment)
-        self.assertEqual(done.stderr, b"")
-        digests = done.stdout.split()
-        self.assertEqual([digests.index(it) for it in digests], [0, 0, 0, 3, 4])

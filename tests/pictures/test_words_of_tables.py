@@ -47,7 +47,7 @@ def test_each_row(golden):
     rows += [("fields of", word, *fields) for word, fields in fields_by_label().items()]
     rows += [
         ("keep", it, getattr(keeping, it))
-        for it in ("NOT_KNOWN", "OTHER", "OTHER_PARTS", "OTHER_FILE", "NO_PICTURE", "KEEP_ALL", "HAS_MORE", "NOT_ALL")
+        for it in ("NOT_KNOWN", "OTHER", "OTHER_PARTS", "OTHER_FILE", "NO_PICTURE", "HAS_MORE", "NOT_ALL")
     ]
     rows += [("meant in a rule by", *it) for it in rules._MEANT.items()]
     rows += [("cause", it, explain._FACTS.get(it, explain._entry).__name__[1:].upper()) for it in CAUSES]

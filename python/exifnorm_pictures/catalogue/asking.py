@@ -8,14 +8,15 @@ that fit surely, and of those that may.
 from __future__ import annotations
 
 import functools
+from dataclasses import replace
 from itertools import groupby, repeat
 from operator import and_, itemgetter, or_
-from typing import Callable, Dict, Iterator, List, NamedTuple, Optional, Sequence, Tuple
+from typing import Callable, Dict, Iterable, Iterator, List, NamedTuple, Optional, Sequence, Tuple, Union
 
-from ..fields.folding import bare, folded
+from ..fields.folding import bare, compose, folded
 from ..fields.forms import clock_of, number_of, words_of
 from ..fields.choosing import kinds_of
-from ..fields.dates import EXPECTED, asked_date, plain_date
+from ..fields.dates import EXPECTED, asked_date, is_asked_impossible, is_impossible, plain_date
 from ..fields.labels import DAMAGE, DATED, POSITION, UNCLEAR_POSITION, fields_by_label, is_in_maker_notes
 from ..fields.listing import LONGEST_TEXT
 from ..fields.questions import ORDERED, All, Any, Condition, Not, Question, Unsure, With, WrongQuestion, conditions_of, fields_in, labels_of
@@ -25,11 +26,12 @@ from ..model.found import EXIF, IPTC, XMP
 from ..model.numbers import Numbers
 from ..model.problems import NOT_THERE, Problem
 from ..model.records import has, has_short
+from ..model.texts import unescaped
 from ..model.words import Word
 from .field_texts import DATE as FIELD_DATE
 from .field_texts import NUMBER, OTHER, SHOWN, Places, add_fields
 from .kept_texts import Report, make_ready, say_nothing
-from .store import HEAD, NOT_WHOLE, Catalogue
+from .store import HEAD, NOT_WHOLE, Catalogue, root_of_row
 
 _WHOLE = "ifnull(folded, lower(text))"  # a long text as it is compared; of a short one it is the head
 _LAST = "\U0010ffff"  # sorts after each other character
@@ -83,7 +85,7 @@ def unread(labels: Sequence[str]) -> str:
     return f"p.id IN ({' UNION ALL '.join(query for reason in _reasons(labels) for query in _UNREAD[reason])})"
 
 
-class _Part(NamedTuple):
+class Part(NamedTuple):
     """A condition of SQL, and its values."""
 
     sql: str
@@ -113,7 +115,7 @@ class _Finder:
             joined = and_ if isinstance(question, All) else or_
             parts = map(self.of, dict.fromkeys(question.questions))  # one after the other, so that few sets are in memory
             return functools.reduce(lambda one, other: _Sets(*map(joined, one, other)), parts)
-        sure = self.with_label(question.label) if isinstance(question, With) else self._with_text(question)
+        sure = self.with_label(question.label) if isinstance(question, With) else self._with_texts(question)
         return _Sets(sure, sure | self.unread([question.label]))
 
     def with_label(self, label: str) -> Numbers:
@@ -131,17 +133,31 @@ class _Finder:
             self._unread[reason] = functools.reduce(or_, map(self._catalogue.numbers, _UNREAD[reason]))
         return self._unread[reason]
 
+    def _with_texts(self, question: Condition) -> Numbers:
+        """The pictures with a text that compares so; or that is equal to it as it is printed: control characters are escaped, and a list is
+        joined."""
+        if question.comparison != "=":
+            return self._with_text(question)
+        numbers = Numbers()
+        for value in dict.fromkeys((question.value, unescaped(question.value))):
+            numbers |= self._with_text(replace(question, value=value))
+            texts = dict.fromkeys(value.split("; "))
+            if len(texts) > 1:
+                numbers |= functools.reduce(and_, (self._with_text(replace(question, value=text)) for text in texts))
+        return numbers
+
     def _with_text(self, question: Condition) -> Numbers:
         """The pictures with a text that compares so."""
         numbers = Numbers()
+        known = put_wanted(self._catalogue, [question.value, *question.others]) if question.comparison == "is" else 0
         for table in self._catalogue.all_texts:
-            for label in _labels(question.label):
+            for label in forms_of_word(question.label):
                 if question.comparison in _TESTS:
                     test, value = _test_of(question)
                     numbers |= self._short(table, label, test.format("head"), value)
-                    parts = [_Part(f"long = 1 AND {test.format(_WHOLE)}", (value,))]
+                    parts = [Part(f"long = 1 AND {test.format(_WHOLE)}", (value,))]
                 else:
-                    parts = _compared(question, label)
+                    parts = parts_of(question, label, known)
                 for part in parts:
                     query = f"SELECT picture FROM {table} WHERE label = ? AND {part.sql}"
                     numbers |= self._catalogue.numbers(query, (label, *part.values))
@@ -174,7 +190,16 @@ _TESTS = {"has": "instr({}, ?2)", "like": "{} GLOB ?2"}
 def _test_of(question: Condition) -> Tuple[str, str]:
     """A test of a text in SQL, and its value."""
     value = folded(question.value)
-    return _TESTS[question.comparison], value.replace("[", "[[]") if question.comparison == "like" else value
+    return _TESTS[question.comparison], pattern_of(value) if question.comparison == "like" else value
+
+
+def pattern_of(text: str) -> str:
+    """A pattern of `like` as SQLite's GLOB has it: # is a digit.
+
+    >>> pattern_of("19##*[a]")
+    '19[0-9][0-9]*[[]a]'
+    """
+    return text.replace("[", "[[]").replace("#", "[0-9]")
 
 
 def is_field(word: str) -> bool:
@@ -182,14 +207,38 @@ def is_field(word: str) -> bool:
     return word not in fields_by_label() and word != DAMAGE
 
 
-def _labels(word: str) -> List[str]:
+def forms_of_word(word: str) -> List[str]:
     """The labels that have the texts of a word in all their forms."""
     return [before + word for before in ("", SHOWN, OTHER, NUMBER, FIELD_DATE)] if is_field(word) else [word]
 
 
-def _compared(question: Condition, label: str) -> List[_Part]:
-    """The texts of a comparison, as conditions that the index can answer; one of them has to hold."""
+def put_wanted(catalogue: Catalogue, texts: Iterable[str]) -> int:
+    """Keeps the texts of `is`, composed and with NUL as texts are kept, for a condition that has the returned number."""
+    composed = {compose(text).replace("\0", "\\x00") for text in texts}
+    with catalogue.guarded():
+        base = catalogue.base
+        base.execute(_WANTED)
+        (number,) = base.execute("SELECT ifnull(max(number), 0) + 1 FROM temp.wanted").fetchone()
+        rows = ((number, text, folded(text)[:HEAD]) for text in composed)
+        base.executemany("INSERT INTO temp.wanted VALUES (?, ?, ?)", rows)
+    return int(number)
+
+
+_WANTED = """CREATE TEMP TABLE IF NOT EXISTS wanted
+    (number INTEGER, text TEXT, head TEXT, PRIMARY KEY (number, text)) WITHOUT ROWID"""
+
+
+def parts_of(question: Condition, label: str, known: int = 0) -> List[Part]:
+    """The texts of a comparison, as conditions that the index can answer; one of them has to hold. `known` is the number of the texts of `is`."""
+    if question.comparison == "is":
+        if label.startswith((NUMBER, FIELD_DATE)) and is_field(question.label):
+            return []
+        heads = "head IN (SELECT w.head FROM temp.wanted w WHERE w.number = ?)"
+        same = "composed(text) IN (SELECT w.text FROM temp.wanted w WHERE w.number = ?)"
+        return [Part(f"long = {long} AND {heads} AND {same}", (known, known)) for long in (0, 1)]
     value = folded(question.value)
+    if question.label in DATED and is_asked_impossible(value):
+        return [_NEVER]
     if question.label in DATED and question.comparison in _DATES and plain_date(question.value):
         return [part._replace(sql=f"{part.sql} AND {_YEAR}") for part in _DATES[question.comparison](value)]
     if is_field(question.label):
@@ -197,16 +246,18 @@ def _compared(question: Condition, label: str) -> List[_Part]:
     if question.comparison == "=":
         return _equal(value)
     number = f"CAST(head AS REAL) {question.comparison} ?"
-    return [_Part(f"long = 0 AND {number} AND head GLOB '[-+0-9]*' AND head NOT GLOB '?*[^0-9.]*'", (float(value),))]
+    return [Part(f"long = 0 AND {number} AND head GLOB '[-+0-9]*' AND head NOT GLOB '?*[^0-9.]*'", (float(value),))]
 
 
 _YEAR, _CLOCK = "head GLOB '[0-9][0-9][0-9][0-9]*'", "head GLOB '[0-9][0-9]:*'"
 
 
-def _compared_field(question: Condition, label: str) -> List[_Part]:
+def _compared_field(question: Condition, label: str) -> List[Part]:
     """The same of a field: numbers with numbers, dates with dates, times with times, and if they are to be equal also texts with texts."""
     value = question.value
     if label.startswith(FIELD_DATE):
+        if is_asked_impossible(value):
+            return [_NEVER] if question.comparison == "=" else []
         compare = _DATES[question.comparison]
         day, clock = asked_date(value), clock_of(value)
         dates = [part._replace(sql=f"{part.sql} AND {_YEAR}") for part in (compare(folded(day)) if day else ())]
@@ -214,32 +265,46 @@ def _compared_field(question: Condition, label: str) -> List[_Part]:
     number = number_of(value) if label.startswith(NUMBER) else None
     if number is not None:
         if question.comparison == "=":
-            return [_Part("CAST(head AS REAL) BETWEEN ? AND ?", (number.value - number.last, number.value + number.last))]
-        return [_Part(f"CAST(head AS REAL) {question.comparison} ?", (number.value,))]
+            return [Part("CAST(head AS REAL) BETWEEN ? AND ?", (number.value - number.last, number.value + number.last))]
+        return [Part(f"CAST(head AS REAL) {question.comparison} ?", (number.value,))]
     return _equal(folded(value)) if question.comparison == "=" else []
 
 
-def _equal(value: str) -> List[_Part]:
+_NEVER = Part("long = 0 AND is_impossible(text)")  # dates that no calendar has
+
+
+def add_functions(catalogue: Catalogue) -> None:
+    """Adds the functions of conditions to SQLite. A damaged catalogue has cells that are no texts."""
+    for name, test in (("composed", compose), ("is_impossible", is_impossible)):
+        given = functools.partial(_of_text, test)
+        catalogue.base.create_function(name, 1, given, deterministic=True)
+
+
+def _of_text(function: Callable[[str], Union[str, bool]], text: object) -> Union[str, bool, None]:
+    return function(text) if isinstance(text, str) else None
+
+
+def _equal(value: str) -> List[Part]:
     if len(value) < HEAD:
-        return [_Part("long = 0 AND head = ?", (value,))]
-    return [_Part(f"long = 1 AND head = ? AND {_WHOLE} = ?", (value[:HEAD], value))]
+        return [Part("long = 0 AND head = ?", (value,))]
+    return [Part(f"long = 1 AND head = ? AND {_WHOLE} = ?", (value[:HEAD], value))]
 
 
-def _within(value: str) -> List[_Part]:
-    return [_Part("long = 0 AND head >= ? AND head < ?", (value, value + _LAST))]
+def _within(value: str) -> List[Part]:
+    return [Part("long = 0 AND head >= ? AND head < ?", (value, value + _LAST))]
 
 
-def _before(value: str) -> List[_Part]:
+def _before(value: str) -> List[Part]:
     # a date that is known less exactly, as 1950 for 1950-03, is neither before nor after it
-    return [_Part("long = 0 AND head < ? AND substr(?, 1, length(head)) != head", (value, value))]
+    return [Part("long = 0 AND head < ? AND substr(?, 1, length(head)) != head", (value, value))]
 
 
-def _after(value: str) -> List[_Part]:
-    return [_Part("long = 0 AND head > ?", (value + _LAST,))]
+def _after(value: str) -> List[Part]:
+    return [Part("long = 0 AND head > ?", (value + _LAST,))]
 
 
 # Dates are compared as far as the given one goes: 1950-03-21 is in 1950, and not after it
-_DATES: Dict[str, Callable[[str], List[_Part]]] = {
+_DATES: Dict[str, Callable[[str], List[Part]]] = {
     "=": _within,
     "<": _before,
     "<=": lambda value: [*_before(value), *_within(value)],
@@ -345,6 +410,7 @@ class Answer:
         """It is about all pictures, or those that were new or changed in a run that began at `since`, in UTC, or later. `shown` are further
         labels and fields whose texts are asked for later, those of fields in the words of `show` or as `exiftool -n` has them."""
         make_ready(catalogue, report)
+        add_functions(catalogue)
         self._catalogue, self._in_words = catalogue, in_words
         fields = fields_in([*(labels_of(question) if question else []), *shown])
         self._places: Places = {}
@@ -383,7 +449,9 @@ class Answer:
         if word in DATED and condition.comparison == "=" and not plain_date(value) and not self._finder.of(condition).may:
             raise WrongQuestion(f"the {word} of no picture is {condition.value!r}; expected: {EXPECTED}")
         places = self._places.get(word, set())
-        if not places or condition.comparison not in ("=", *ORDERED) or self._finder.of(condition).sure:
+        if not places or condition.comparison not in ("=", "is", *ORDERED) or self._finder.of(condition).sure:
+            return
+        if condition.others:  # one of several may well be right
             return
         if number_of(condition.value) or asked_date(condition.value) or clock_of(condition.value):
             return
@@ -404,11 +472,11 @@ class Answer:
         """Of how many pictures it isn't known whether they fit, because they were not wholly read."""
         return self._not_known().count(self._total)
 
-    def paths_not_known(self, most: Optional[int] = None) -> Iterator[bytes]:
-        """These pictures by path, or the first ones of them."""
-        self._put("not_known", self._not_known() & self._scope)
-        query = "SELECT path FROM temp.not_known n JOIN pictures p ON p.id = n.picture ORDER BY path LIMIT ?"
-        yield from (row[0] for row in self._catalogue.rows(query, (-1 if most is None else most,)))
+    def paths_not_known(self, label: Optional[str] = None) -> Iterator[bytes]:
+        """These pictures by path; or of those that fit, the ones of which it isn't known whether they have a text of a label."""
+        self._put("not_known", self._not_known() if label is None else self._lacking_of(label))
+        query = "SELECT path FROM temp.not_known n JOIN pictures p ON p.id = n.picture ORDER BY path"
+        yield from self._catalogue.rows(query, (), root_of_row)
 
     def _not_known(self) -> Numbers:
         return self._finder.unread(self.labels) & self._may & ~self._sure if self.labels else Numbers()

@@ -4,25 +4,27 @@ from __future__ import annotations
 
 import difflib
 import os
-import unicodedata
+import re
 from dataclasses import replace
 from itertools import groupby
 from typing import Dict, Iterator, List, NamedTuple, Optional, Sequence, Tuple
 
-from ..fields.dates import is_impossible
-from ..fields.folding import folded
-from ..fields.labels import POSITION, UNCLEAR_POSITION
-from ..fields.questions import Unsure, fields_in
-from ..fields.rules import AFTER, BEFORE, LENGTH, LIKE, NEEDS, NEVER, VALUES, Rule
+from ..fields.folding import compose, folded
+from ..fields.labels import DATED, POSITION, UNCLEAR_POSITION
+from ..fields.plain_names import group_name
+from ..fields.questions import Condition, Unsure, fields_in
+from ..fields.rules import AFTER, BEFORE, EQUAL, LENGTH, LIKE, NEEDS, NEVER, VALUES, Rule
 from ..model.records import has, has_short
 from ..model.texts import escaped, pictures_in_words, shown_path
-from .asking import IN_SCOPE, has_text, is_field, unread
+from .asking import IN_SCOPE, add_functions, forms_of_word, has_text, is_field, parts_of, pattern_of, put_wanted, unread
 from .field_texts import DATE as FIELD_DATE
-from .field_texts import EACH, OTHER, SHOWN, add_fields
+from .field_texts import EACH, SHOWN, add_fields
 from .kept_texts import Report, make_ready, say_nothing
 from .store import HEAD, Catalogue, root_of_row
 
 _DATED = "head GLOB '[0-9][0-9][0-9][0-9]*'"
+_TEXTS = f"""SELECT p.path, p.root, t.text FROM texts t JOIN pictures p ON p.id = t.picture
+    WHERE t.label = ? AND {{}} AND {IN_SCOPE}"""
 _LAST = "\U0010ffff"  # sorts after each other character
 _FEW = 20  # texts of a rule that are looked for; a list of words has many that no picture has
 _FREQUENT = 1000  # texts of pictures with which one of a rule is compared
@@ -56,73 +58,88 @@ class Checked:
     def __init__(self, catalogue: Catalogue, rules: Sequence[Rule], report: Report = say_nothing) -> None:
         make_ready(catalogue, report)
         fields = fields_in(label for rule in rules for label in rule.labels)
-        places = add_fields(catalogue, fields, report) if fields else {}
+        self._places = add_fields(catalogue, fields, report) if fields else {}
         for word in fields:
-            if isinstance(word, Unsure) and not places[word]:
+            if isinstance(word, Unsure) and not self._places[word]:
                 raise word.why
         self._catalogue = catalogue
         self.rules = rules
         base = catalogue.base
-        base.create_function("composed", 1, _composed, deterministic=True)
-        base.create_function("is_impossible", 1, _is_impossible, deterministic=True)
+        add_functions(catalogue)
+        self._allowed: Dict[Rule, int] = {}  # the numbers of the texts that rules allow
         with catalogue.guarded():
             base.execute("CREATE TEMP TABLE broken (path BLOB, number INTEGER, label TEXT, text TEXT)")
-            base.execute("CREATE TEMP TABLE allowed (number INTEGER, text TEXT, PRIMARY KEY (number, text)) WITHOUT ROWID")
         for number, rule in enumerate(rules):
+            if rule.kind == VALUES:
+                self._allowed[rule] = put_wanted(catalogue, rule.values)
             for label in rule.labels:
-                rows = ((*row, number, label) for row in self._rows(number, rule, label))
+                rows = ((*row, number, label) for row in self._rows(rule, label))
                 with catalogue.guarded():
                     base.executemany("INSERT INTO temp.broken (path, text, number, label) VALUES (?, ?, ?, ?)", rows)
+        self._put_not_known()
 
-    def _rows(self, number: int, rule: Rule, label: str) -> Iterator[Tuple[bytes, Optional[str]]]:
+    def _rows(self, rule: Rule, label: str) -> Iterator[Tuple[bytes, Optional[str]]]:
         """The pictures that break a rule by one label, each with the text that does."""
+        for query, values in self._queries(rule, label):
+            for path, root, text in self._catalogue.rows(query, values):
+                has(bytes, path, root)
+                if text is not None:
+                    has_text(text)
+                if rule.is_about(_below(path, root)):
+                    yield path, text
+
+    def _queries(self, rule: Rule, label: str) -> Iterator[Tuple[str, Tuple[object, ...]]]:
+        """The pictures that break a rule in SQL, with the text that does, and its values. A date that no calendar has breaks each rule."""
         if rule.kind == NEEDS:
             # a picture that was not wholly read may have the text
             query = f"SELECT p.path, p.root, NULL FROM pictures p WHERE {IN_SCOPE} AND NOT {unread([label])}"
-            query += " AND p.id NOT IN (SELECT picture FROM texts WHERE label = ?)"
-            values: Tuple[object, ...] = (label,)
-        else:
-            test, given = self._test(number, rule, label)
-            query = "SELECT p.path, p.root, t.text FROM texts t JOIN pictures p ON p.id = t.picture"
-            query += f" WHERE t.label = ? AND {test} AND {IN_SCOPE}"
-            values = (self._label_of(rule, label), *given)
-        for path, root, text in self._catalogue.rows(query, values):
-            has(bytes, path, root)
-            if text is not None:
-                has_text(text)
-            if rule.is_about(_below(path, root)):
-                yield path, text
+            yield f"{query} AND p.id NOT IN (SELECT picture FROM texts WHERE label = ?)", (label,)
+        has_dates = rule.kind != NEVER and self._is_date(rule, label)
+        if has_dates:
+            dated = FIELD_DATE + label if is_field(label) else label
+            yield _TEXTS.format("is_impossible(t.text)"), (dated,)
+        if rule.kind != NEEDS:
+            test, given = self._test(rule, label)
+            test = f"({test}) AND NOT is_impossible(t.text)" if has_dates else test
+            yield _TEXTS.format(test), (self._label_of(rule, label), *given)
+
+    def _is_date(self, rule: Rule, label: str) -> bool:
+        """Whether a rule is about dates: by its words, or as its label has nothing else."""
+        names = [group_name(*place) for place in self._places.get(label, ())]
+        dated = bool(names) and all(re.search("date", name, re.I) for name in names)
+        return dated or label in DATED or rule.kind in (AFTER, BEFORE)
 
     def _label_of(self, rule: Rule, label: str) -> str:
         """The label of the texts that a rule is about: of a field those that `show` prints, or its dates."""
         return label if not is_field(label) else (FIELD_DATE if rule.kind in (AFTER, BEFORE) else SHOWN) + label
 
-    def _test(self, number: int, rule: Rule, label: str) -> Tuple[str, Tuple[object, ...]]:
-        """What a text has to be in SQL to break a rule, and its values. A date that no calendar has breaks each rule of dates."""
+    def _test(self, rule: Rule, label: str) -> Tuple[str, Tuple[object, ...]]:
+        """What a text has to be in SQL to break a rule, and its values."""
         if rule.kind == NEVER:
             return "1", ()
         if rule.kind == LIKE:
-            signs = {"[": "[[]", "#": "[0-9]"}
-            pattern = unicodedata.normalize("NFC", rule.values[0])
-            return "composed(t.text) NOT GLOB ?", ("".join(signs.get(sign, sign) for sign in pattern),)
+            return "composed(t.text) NOT GLOB ?", (pattern_of(compose(rule.values[0])),)
         if rule.kind == LENGTH:
             return "length(composed(t.text)) > ?", (int(rule.values[0]),)
         if rule.kind == AFTER:
-            return f"(is_impossible(t.text) OR {_DATED} AND t.head > ?)", (rule.values[0] + _LAST,)
+            return f"{_DATED} AND t.head > ?", (rule.values[0] + _LAST,)
         if rule.kind == BEFORE:
-            before = f"{_DATED} AND t.head < ? AND substr(?, 1, length(t.head)) != t.head"
-            return f"(is_impossible(t.text) OR {before})", (rule.values[0], rule.values[0])
-        assert rule.kind == VALUES
-        texts = {(number, unicodedata.normalize("NFC", text)) for text in rule.values}
-        with self._catalogue.guarded():
-            self._catalogue.base.executemany("INSERT OR IGNORE INTO temp.allowed VALUES (?, ?)", texts)
-        allowed = "EXISTS (SELECT 1 FROM temp.allowed a WHERE a.number = ? AND a.text = {})"
-        test = f"{allowed.format('t.text')} OR {allowed.format('composed(t.text)')}"
-        if not is_field(label):
-            return f"NOT ({test})", (number, number)
-        # a value of a field is also one in another form, as 1 beside upright
-        forms = f"SELECT 1 FROM texts f WHERE f.label IN (?, ?) AND f.picture = t.picture AND f.number / {EACH} = t.number / {EACH}"
-        return f"NOT ({test} OR EXISTS ({forms} AND {allowed.format('f.text')}))", (number, number, label, OTHER + label, number)
+            return f"{_DATED} AND t.head < ? AND substr(?, 1, length(t.head)) != t.head", (rule.values[0], rule.values[0])
+        assert rule.kind in (VALUES, EQUAL)
+        condition = Condition(label, "=" if rule.kind == EQUAL else "is", rule.values[0])
+        return self._unlike(condition, self._allowed.get(rule, 0))
+
+    def _unlike(self, condition: Condition, allowed: int) -> Tuple[str, Tuple[object, ...]]:
+        """That a text doesn't compare as a condition has it, in none of the forms of its value."""
+        tests, values = [], []  # type: List[str], List[object]
+        for label in forms_of_word(condition.label):
+            for part in parts_of(condition, label, allowed):
+                tests.append(f"f.label = ? AND {part.sql}")
+                values += [label, *part.values]
+        same = "f.long IN (0, 1) AND f.picture = t.picture AND "
+        same += f"f.number / {EACH} = t.number / {EACH}" if is_field(condition.label) else "f.number = t.number"
+        fits = f"SELECT 1 FROM texts f WHERE f.label IN ({', '.join('?' * len(forms_of_word(condition.label)))}) AND {same}"
+        return f"NOT EXISTS ({fits} AND ({' OR '.join(tests)}))", (*forms_of_word(condition.label), *values)
 
     def broken(self, by_picture: bool = False) -> Iterator[Broken]:
         """What breaks a rule, by rules or by pictures."""
@@ -142,9 +159,37 @@ class Checked:
         """How many pictures were checked."""
         return self._catalogue.number_of(f"SELECT count(*) FROM pictures p WHERE {IN_SCOPE}")
 
+    def _put_not_known(self) -> None:
+        """Finds the pictures of which it isn't known whether they break further rules."""
+        base = self._catalogue.base
+        with self._catalogue.guarded():
+            base.execute("CREATE INDEX temp.broken_by_path ON broken (path, number)")
+            base.execute("CREATE TEMP TABLE unknown (path BLOB PRIMARY KEY) WITHOUT ROWID")
+        for label in dict.fromkeys(label for rule in self.rules for label in rule.labels):
+            rows = ((path,) for path in self._may_break(label))
+            with self._catalogue.guarded():
+                base.executemany("INSERT OR IGNORE INTO temp.unknown VALUES (?)", rows)
+
+    def _may_break(self, label: str) -> Iterator[bytes]:
+        """The pictures that may have a text of a label, or a further one, and then may break a rule that they don't break by what was read."""
+        rules = [(number, rule) for number, rule in enumerate(self.rules) if label in rule.labels]
+        with_text = "SELECT 1 FROM texts t WHERE t.label = ? AND t.long IN (0, 1) AND t.picture = p.id"
+        query = f"SELECT p.path, p.root, EXISTS ({with_text}) FROM pictures p WHERE {IN_SCOPE} AND {unread([label])}"
+        for path, root, has_one in self._catalogue.rows(query, (label,)):
+            has(bytes, path, root)
+            below = _below(path, root)
+            if any(
+                not (rule.kind == NEEDS and has_one) and rule.is_about(below) and not self._breaks(path, number) for number, rule in rules
+            ):
+                yield path
+
+    def _breaks(self, path: bytes, number: int) -> bool:
+        query = "SELECT EXISTS (SELECT 1 FROM temp.broken WHERE path = ? AND number = ?)"
+        return bool(self._catalogue.number_of(query, (path, number)))
+
     def not_known(self) -> int:
         """Of how many it isn't known whether they break further rules."""
-        return self._catalogue.number_of(f"SELECT count(*) {self._unread()}")
+        return self._catalogue.number_of("SELECT count(*) FROM temp.unknown")
 
     def unknown(self) -> str:
         """A sentence about these pictures, with the reasons; empty if there are none. They are more than those of which a part was not read."""
@@ -155,12 +200,8 @@ class Checked:
         return f"{pictures_in_words(self.not_known())} {why}" if self.not_known() else ""
 
     def paths_not_known(self) -> Iterator[bytes]:
-        """These pictures."""
-        yield from self._catalogue.rows(f"SELECT p.path {self._unread()}", (), root_of_row)
-
-    def _unread(self) -> str:
-        labels = [label for rule in self.rules for label in rule.labels]
-        return f"FROM pictures p WHERE {IN_SCOPE} AND {unread(labels)}"
+        """These pictures, by path."""
+        yield from self._catalogue.rows("SELECT path FROM temp.unknown ORDER BY path", (), root_of_row)
 
     def notes(self) -> List[str]:
         """The rules whose folders have no picture, and the texts of rules that no picture has, each in a sentence."""
@@ -181,7 +222,7 @@ class Checked:
     def fit_no_text(self) -> Tuple[List[Unused], int]:
         """The first texts of rules that no picture has, as if they were mistyped, and how many more there are.
         One of several texts that a rule allows may well be new: it is named only if a text is near."""
-        missing = [unused for number, rule in enumerate(self.rules) for unused in self._unused(number, rule)]
+        missing = [unused for rule in self.rules for unused in self._unused(rule)]
         frequent: Dict[str, List[str]] = {}
         named: List[Unused] = []
         compared = 0
@@ -196,17 +237,18 @@ class Checked:
                 named.append(unused._replace(near=near))
         return named, 0
 
-    def _unused(self, number: int, rule: Rule) -> Iterator[Unused]:
+    def _unused(self, rule: Rule) -> Iterator[Unused]:
         """The texts of a rule that no picture has. The texts of a label are read once for a rule, and only if its index lacks one."""
         in_index = "SELECT 1 FROM texts WHERE label = ? AND long = 0 AND head = ? AND text = ? LIMIT 1"
-        allowed = "(SELECT a.text FROM temp.allowed a WHERE a.number = ?)"
+        allowed = "(SELECT a.text FROM temp.wanted a WHERE a.number = ?)"
         in_label = f"SELECT DISTINCT composed(text) FROM texts WHERE label = ? AND (text IN {allowed} OR composed(text) IN {allowed})"
         labels = [label for label in rule.labels if not is_field(label)]
         for label in labels if rule.kind == VALUES and len(rule.values) <= _FEW else ():
             heads = [(text, folded(text)[:HEAD]) for text in rule.values]
             absent = [text for text, head in heads if next(self._catalogue.rows(in_index, (label, head, text)), None) is None]
-            present = {row[0] for row in self._catalogue.rows(in_label, (label, number, number))} if absent else set()
-            yield from (Unused(rule, label, text) for text in absent if unicodedata.normalize("NFC", text) not in present)
+            known = (label, self._allowed[rule], self._allowed[rule])
+            present = {row[0] for row in self._catalogue.rows(in_label, known)} if absent else set()
+            yield from (Unused(rule, label, text) for text in absent if compose(text) not in present)
 
     def _frequent(self, label: str) -> List[str]:
         """The most frequent texts of a label. One that is twice as long as another is none that looks like it."""
@@ -230,16 +272,6 @@ def _nearest(unused: Unused, frequent: Sequence[str]) -> str:
         return ""
     others = [text for text in frequent if text not in unused.rule.values]
     return next(iter(difflib.get_close_matches(unused.text, others, 1, 0.75)), "")
-
-
-def _is_impossible(text: object) -> bool:
-    """Whether a text is a date that no calendar has."""
-    return isinstance(text, str) and is_impossible(text)
-
-
-def _composed(text: object) -> Optional[str]:
-    """A text with composed letters, as rules compare it; None of what is no text in a damaged catalogue."""
-    return unicodedata.normalize("NFC", text) if isinstance(text, str) else None
 
 
 def _below(path: bytes, root: bytes) -> str:

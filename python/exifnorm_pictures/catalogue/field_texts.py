@@ -8,6 +8,7 @@ from __future__ import annotations
 
 from decimal import Decimal
 from functools import partial
+from itertools import chain
 from typing import Any, Dict, Iterator, List, Sequence, Set, Tuple
 
 from ..fields.choosing import Choice
@@ -37,7 +38,7 @@ _GREATEST = 100  # of the logarithm of a time that ExifTool reads; others are 0 
 
 
 SHOWN, OTHER, NUMBER, DATE = "show ", "other ", "number ", "date "  # before the word of a field: labels of its forms
-EACH = 1_000_000  # numbers of texts for each field that a word stands for
+EACH = 1_000_000  # numbers of texts for each value of a field
 Places = Dict[str, Set[Tuple[str, str]]]  # the fields that some words stand for, by their directories and tags
 
 
@@ -67,22 +68,25 @@ def _rows(choices: Sequence[Tuple[str, Choice]], seen: Places, catalogue: Catalo
     """The texts of a picture as rows. Of fields with the same texts one counts; a field may have a text twice, as 16 bits for each colour."""
     blocks = catalogue.blocks_with_fields(PictureRecord(number))
     for word, choice in choices:
-        lists: Dict[Tuple[str, ...], Forms] = {}
+        values: Dict[Tuple[str, ...], List[Forms]] = {}
         for block, fields in blocks:
             name = "" if block.name == NAMES[block.kind] else block.name
             for field in _chosen(choice, fields, name):
                 texts = tuple(texts_of_field(field, fields))
-                if texts not in lists:
-                    lists[texts] = forms_of(field, texts)
+                if texts not in values:
+                    values[texts] = forms_of(field, texts)
                 seen[word].add((field.directory, field.tag))
-        for first, (texts, forms) in enumerate(lists.items()):
-            for label, of_label in (("", texts), (SHOWN, forms.shown), (OTHER, forms.others), (DATE, forms.dates)):
+        for first, forms in enumerate(chain.from_iterable(values.values())):
+            for label, of_label in _by_label(forms):
                 for at, text in enumerate(of_label):
                     yield (number, first * EACH + at, *kept_text(label + word, text))
-            for at, text in enumerate(forms.numbers):
-                one = number_of(text)
-                assert one
-                yield (number, first * EACH + at, *kept_text(NUMBER + word, repr(one.value)))
+
+
+def _by_label(forms: Forms) -> Iterator[Tuple[str, Sequence[str]]]:
+    """The forms of a value, by the labels that they have before the word."""
+    yield from (("", forms.texts), (SHOWN, forms.shown), (OTHER, forms.others), (DATE, forms.dates))
+    numbers = (number_of(text) for text in forms.numbers)
+    yield NUMBER, [repr(it.value) for it in numbers if it]
 
 
 def _chosen(choice: Choice, fields: Sequence[Field], block: str) -> List[Field]:

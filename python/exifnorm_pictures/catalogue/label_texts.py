@@ -7,11 +7,12 @@ from typing import Dict, Iterator, List, Mapping, NamedTuple, Optional, Sequence
 
 from ..fields.folding import folded
 from ..fields.dates import plain_date
-from ..fields.labels import CODED, DATED, OF_FIELDS, POSITION, UNCLEAR_POSITION, decoded
+from ..fields.labels import CODED, DATED, OF_FIELDS, POSITION, UNCLEAR_POSITION
 from ..fields.field import Field
 from ..fields.listing import LONGEST_TEXT, is_rest
 from ..fields.places import further_places, has_angles, position_of
 from ..fields.plain_numbers import iptc_time
+from ..fields.plain_texts import decoded
 from ..model.records import BlockRecord
 from ..model.xmp_values import Long, texts_in
 from .store import HEAD

@@ -8,7 +8,7 @@ import re
 import sys
 import time
 from datetime import datetime, timezone
-from typing import List, Optional, Sequence
+from typing import List, NamedTuple, Optional, Sequence
 
 from ..catalogue.asking import Answer, Fitting, Texts, Unread
 from ..fields.labels import DAMAGE, POSITION
@@ -19,9 +19,10 @@ from . import listed_texts
 from .exit_codes import SUCCESS, UNKNOWN
 from .looking import Preparing, catalogue_for_questions, note_sidecars, refuse_for_catalogues
 from .objects import print_object
-from .options import Options
-from .output import print_line, print_lines, say_notes, table_of
+from .options import Files, Output, Run, group_of
+from .output import named, print_line, print_lines, say_notes, table_of
 from .sources import settle
+from .word_files import words_of_file
 
 _WHAT_CHANGED = (
     "This catalogue doesn't know what changed in them. Compare it with an older one, as index --keep-old and nightly keep it:"
@@ -29,45 +30,54 @@ _WHAT_CHANGED = (
 )
 
 
-def run(arguments: Options) -> int:
+def run(arguments: argparse.Namespace) -> int:
     """Lists pictures by their texts."""
-    question = _question(arguments)
-    columns = _columns(arguments, question)
+    files, run, output = group_of(Files, arguments), group_of(Run, arguments), group_of(Output, arguments)
+    places = [With(POSITION)] * output.geojson
+    question = _question(arguments.having, arguments.without, arguments.where, places)
+    columns = _columns(arguments.columns, question, output)
     counted = given_label(arguments.count) if arguments.count else None
+    form = _Form(output, arguments.null, arguments.since)
     since = _since(arguments.since) if arguments.since else None
-    arguments = settle(arguments)
-    source = arguments.catalogue
-    refuse_for_catalogues(arguments, source)
-    arguments = arguments.but(pixels=DAMAGE in (*(labels_of(question) if question else ()), *columns, counted))  # of a folder
-    with catalogue_for_questions(source, arguments) as catalogue, catalogue.reading(is_answer=True):
-        note_sidecars(catalogue, source, arguments)
+    source = settle(files)
+    refuse_for_catalogues(files, run, source)
+    run = run._replace(pixels=DAMAGE in (*(labels_of(question) if question else ()), *columns, counted))  # of a folder
+    with catalogue_for_questions(source, run) as catalogue, catalogue.reading(is_answer=True):
+        note_sidecars(catalogue, source, run)
         shown = [*columns, *([] if counted is None else [counted])]
-        answer = Answer(catalogue, question, since, Preparing(arguments).report, shown, not arguments.json)
+        answer = Answer(catalogue, question, since, Preparing(run).report, shown, not output.json)
         not_known = 0
         if counted is not None:
-            not_known = _print_counts(arguments, answer, counted)
+            not_known = _print_counts(form, answer, counted)
         else:
-            columns = [] if arguments.null else columns
-            (_print_names if arguments.null else _print_pictures)(arguments, answer, columns)
+            columns = [] if form.is_of_names else columns
+            (_print_names if form.is_of_names else _print_pictures)(form, answer, columns)
             not_known = answer.lacking(columns) if arguments.columns is not None else 0  # in each form of the answer the same
         return UNKNOWN if not_known or answer.not_known() else SUCCESS
 
 
-def _question(arguments: argparse.Namespace) -> Optional[Question]:
+class _Form(NamedTuple):
+    """The form of the answer."""
+
+    output: Output
+    is_of_names: bool  # and of nothing else, for xargs
+    since: Optional[str]
+
+
+def _question(having: Sequence[str], without: Sequence[str], where: Sequence[str], more: Sequence[Question]) -> Optional[Question]:
     """All that the options ask, together; None if they ask nothing."""
-    questions: List[Question] = [With(given_label(word)) for word in arguments.having]
-    questions += [Not(With(given_label(word))) for word in arguments.without]
-    questions += [question_of(text) for text in arguments.where]
-    questions += [With(POSITION)] * arguments.geojson
-    return all_of(questions) if questions else None
+    questions: List[Question] = [With(given_label(word)) for word in having]
+    questions += [Not(With(given_label(word))) for word in without]
+    questions += [question_of(text, words_of_file) for text in where]
+    return all_of([*questions, *more]) if questions or more else None
 
 
-def _columns(arguments: argparse.Namespace, question: Optional[Question]) -> List[str]:
+def _columns(asked: Optional[str], question: Optional[Question], output: Output) -> List[str]:
     """The labels whose texts are printed: those that are asked for, in a table at least those of the question."""
-    if arguments.columns is not None:
-        return listed_texts.labels_in(arguments.columns)
+    if asked is not None:
+        return listed_texts.labels_in(asked)
     in_question = labels_of(question) if question else []
-    return list(dict.fromkeys(["title", *in_question])) if arguments.csv or arguments.json or arguments.geojson else []
+    return list(dict.fromkeys(["title", *in_question])) if output.csv or output.json or output.geojson else []
 
 
 def _since(text: str) -> str:
@@ -84,33 +94,34 @@ def _since(text: str) -> str:
 # Pictures
 
 
-def _print_names(arguments: argparse.Namespace, answer: Answer, columns: Sequence[str]) -> None:
+def _print_names(form: _Form, answer: Answer, columns: Sequence[str]) -> None:
     for paths in answer.paths():
         sys.stdout.buffer.write(b"".join(path + b"\0" for path in paths))
-    _print_end(arguments, answer, answer.fitting(), answer.damaged(), columns)
+    _print_end(form, answer, answer.fitting(), answer.damaged(), columns)
 
 
-def _print_pictures(arguments: argparse.Namespace, answer: Answer, columns: Sequence[str]) -> None:
-    table = table_of(arguments, ["picture", *listed_texts.heads(columns)])
+def _print_pictures(form: _Form, answer: Answer, columns: Sequence[str]) -> None:
+    output = form.output
+    table = table_of(output, ["picture", *listed_texts.heads(columns)])
     listed, damaged = 0, 0
-    if arguments.geojson:
+    if output.geojson:
         print('{"type": "FeatureCollection", "features": [')
-    for picture, texts in answer.pictures([*columns, *[POSITION] * arguments.geojson]):
+    for picture, texts in answer.pictures([*columns, *[POSITION] * output.geojson]):
         listed += 1
         damaged += bool(picture.damage)
         if table:
             table.row(picture.path, *listed_texts.cells(columns, texts))
-        elif arguments.json:
+        elif output.json:
             captions = listed_texts.member(columns, texts)
             print_object("list", "picture", {**path_members(picture.path), "texts": captions, "damage": picture.damage or None})
-        elif arguments.geojson:
+        elif output.geojson:
             print("," * (listed > 1) + json.dumps(_feature(picture, columns, texts)))
         else:
             fault = f"   (damaged: {picture.damage})" if picture.damage and DAMAGE not in columns else ""
             print_lines([shown_path(picture.path) + fault, *listed_texts.lines(columns, texts, "  ")])
-    if arguments.geojson:
+    if output.geojson:
         print("]}")
-    _print_end(arguments, answer, listed, damaged, columns)
+    _print_end(form, answer, listed, damaged, columns)
 
 
 def _feature(picture: Fitting, columns: Sequence[str], texts: Texts) -> Members:
@@ -121,35 +132,34 @@ def _feature(picture: Fitting, columns: Sequence[str], texts: Texts) -> Members:
     return {"type": "Feature", "geometry": geometry, "properties": properties}
 
 
-def _print_end(arguments: argparse.Namespace, answer: Answer, listed: int, damaged: int, columns: Sequence[str]) -> None:
+def _print_end(form: _Form, answer: Answer, listed: int, damaged: int, columns: Sequence[str]) -> None:
     """How many pictures were listed, how many of them are damaged or may have a text that was not read, and of how many more it isn't known
     whether they fit."""
-    if arguments.json:
+    if form.output.json:
         numbers: Members = {"pictures": answer.count(), "listed": listed, "not_known": answer.not_known(), "damaged": damaged}
         print_object("list", "summary", {**numbers, "may_fit": list(map(path_members, answer.paths_not_known()))})
         return
     end = (
         f"{listed:,} of {pictures_in_words(answer.count())}"
-        + _since_then(arguments, answer.count())
+        + _since_then(form.since, answer.count())
         + f", {damaged:,} of them cut off or damaged" * bool(damaged)
         + _of_unknown(answer)
         + "".join(_of_lacking(answer, label) for label in columns)
         + "".join(f"; none has {escaped(word)}" for word in answer.absent())
         + "".join(f"; {word} stands for {escaped(', '.join(names[:_FIELDS]))}" for word, names in answer.ambiguous().items())
     )
-    if not (arguments.csv or arguments.null or arguments.geojson):
-        if 0 < answer.not_known() <= _NAMED:
-            print_lines(["may fit:", *(f"  {shown_path(path)}" for path in answer.paths_not_known(_NAMED))])
-        print_line(end)
-        if arguments.since and listed:
+    lines = [*named("may fit:", answer.paths_not_known(), answer.not_known()), end]
+    if not (form.output.csv or form.is_of_names or form.output.geojson):
+        print_lines(lines)
+        if form.since and listed:
             print_line(_WHAT_CHANGED)
     elif answer.not_known() or damaged or answer.lacking(columns):
-        say_notes(end)
+        say_notes(*lines)
 
 
-def _since_then(arguments: argparse.Namespace, pictures: int) -> str:
+def _since_then(since: Optional[str], pictures: int) -> str:
     """To which pictures --since restricts the answer."""
-    return f" that {'was' if pictures == 1 else 'were'} new or changed since {escaped(arguments.since)}" if arguments.since else ""
+    return f" that {'was' if pictures == 1 else 'were'} new or changed since {escaped(since)}" if since else ""
 
 
 def _of_unknown(answer: Answer) -> str:
@@ -168,7 +178,7 @@ def _unread(reasons: Sequence[Unread]) -> str:
 
 
 _UNREAD = {
-    Unread.PICTURE: "their pictures were not read for damage; index --pixels reads those of JPEG, PNG, TIFF, WebP and raw files",
+    Unread.PICTURE: "their pictures were not read for damage; index --pixels reads those of JPEG, PNG, TIFF, WebP, HEIC, AVIF, JPEG XL and raw files",
     Unread.PARTS: "they were not wholly read",
     Unread.POSITION: "their latitude or longitude makes no position, as without a direction or the other one",
     Unread.MAKER_NOTE: "they have a MakerNote, which index --maker-notes --again reads",
@@ -176,41 +186,44 @@ _UNREAD = {
 
 
 _FIELDS = 5  # that a word stands for
-_NAMED = 20  # pictures of which it isn't known whether they fit
 
 
 # Counts
 
 
-def _print_counts(arguments: argparse.Namespace, answer: Answer, label: str) -> int:
+def _print_counts(form: _Form, answer: Answer, label: str) -> int:
     """Each text of a label with the number of pictures that have it; those that are spelled otherwise below it. Returns of how many pictures it
     isn't known whether they have one."""
-    table = table_of(arguments, [label, "pictures", "like"])
+    table = table_of(form.output, [label, "pictures", "like"])
     common, first = None, ""
     for text, pictures, bare in answer.counted(label):
         like = first if bare == common else ""
         if table:
             table.row(text, pictures, like)
-        elif arguments.json:
+        elif form.output.json:
             print_object("list", "text", {"label": label, "text": text, "pictures": pictures, "like": like or None})
         else:
             print_line(f"{pictures:>7,}  {escaped(text)}" + (f"   <- like {escaped(like)}?" if like else ""))
         if bare != common:
             common, first = bare, text
-    return _print_end_of_counts(arguments, answer, label)
+    return _print_end_of_counts(form, answer, label)
 
 
-def _print_end_of_counts(arguments: argparse.Namespace, answer: Answer, label: str) -> int:
+def _print_end_of_counts(form: _Form, answer: Answer, label: str) -> int:
     having, without, not_known = answer.having(label)
     total = having + without + not_known
-    if arguments.json:
-        print_object("list", "summary", {"pictures": total, "with": having, "not_known": not_known})
+    if form.output.json:
+        paths = {"may_have": answer.paths_not_known(label), "may_fit": answer.paths_not_known()}
+        names = {name: list(map(path_members, of_name)) for name, of_name in paths.items()}
+        print_object("list", "summary", {"pictures": total, "with": having, "not_known": not_known, **names})
         return not_known
     more = f"; {not_known:,} not known: {_unread(answer.why_not_known(label))}" if not_known else ""
-    of_new = f", of {pictures_in_words(total)}{_since_then(arguments, total)}" * bool(arguments.since)
+    of_new = f", of {pictures_in_words(total)}{_since_then(form.since, total)}" * bool(form.since)
     end = f"{pictures_in_words(having)} with a text of {label}, {without:,} without{of_new}{more}{_of_unknown(answer)}"
-    if not arguments.csv:
-        print_line(end)
+    lines = named(f"may have {label}:", answer.paths_not_known(label), not_known)
+    lines += [*named("may fit:", answer.paths_not_known(), answer.not_known()), end]
+    if not form.output.csv:
+        print_lines(lines)
     elif not_known or answer.not_known():
-        say_notes(end)
+        say_notes(*lines)
     return not_known

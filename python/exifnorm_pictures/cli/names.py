@@ -2,35 +2,35 @@
 
 from __future__ import annotations
 
-import argparse
 import os
 import sys
 from itertools import chain
-from typing import Callable, Iterable, Iterator, List, Optional, Sequence, Set
+from typing import Callable, Iterable, Iterator, List, Optional, Set
 
 from ..files.opening import reading
 from ..model.errors import WrongUse
 from ..model.texts import shown_path
 from ..scan.walk import BadList, names_in_list
+from .options import Files
 from .output import say_notes
 from .parser import refuse
 
 
-def each_of_list(arguments: argparse.Namespace) -> Iterator[bytes]:
+def each_of_list(files: Files) -> Iterator[bytes]:
     """The names of --files-from. Those of standard input come one by one, and what was printed is written before more are read."""
-    if arguments.files_from:
-        yield from names_in_list(arguments.files_from, arguments.null, sys.stdout.flush)
+    if files.files_from:
+        yield from names_in_list(files.files_from, files.null, sys.stdout.flush)
 
 
-def from_list(arguments: argparse.Namespace) -> Optional[List[bytes]]:
+def from_list(files: Files) -> Optional[List[bytes]]:
     """All names of --files-from; None without a list."""
-    names = list(each_of_list(arguments))
-    return names if arguments.files_from else None
+    names = list(each_of_list(files))
+    return names if files.files_from else None
 
 
-def chosen_paths(arguments: argparse.Namespace) -> Optional[Set[bytes]]:
+def chosen_paths(files: Files) -> Optional[Set[bytes]]:
     """The names of --files-from as absolute paths."""
-    names = from_list(arguments)
+    names = from_list(files)
     return None if names is None else {os.path.abspath(it) for it in names}
 
 
@@ -46,25 +46,25 @@ def say_unknown(names: Iterable[bytes], is_known: Callable[[bytes], bool]) -> No
         say_notes(f"{have}: {', '.join(shown)}")
 
 
-def named(arguments: argparse.Namespace, names: Sequence[str]) -> List[bytes]:
+def named(files: Files) -> List[bytes]:
     """The names of the arguments and of the list together, each once; at least one."""
-    return list(dict.fromkeys(each_name(arguments, names)))
+    return list(dict.fromkeys(each_name(files)))
 
 
-def each_name(arguments: argparse.Namespace, names: Sequence[str]) -> Iterator[bytes]:
+def each_name(files: Files) -> Iterator[bytes]:
     """The same, one by one: a name of standard input before the next one is read. One that the list repeats is repeated, because a program may
     ask again for a picture that it has changed."""
-    if not names and not arguments.files_from:
-        refuse(arguments.command, "give at least one name")
-    for name in chain(map(os.fsencode, dict.fromkeys(names)), each_of_list(arguments)):
+    if not files.names and not files.files_from:
+        refuse(files.command, "give at least one name")
+    for name in chain(map(os.fsencode, dict.fromkeys(files.names)), each_of_list(files)):
         if b"\0" in name:
             raise BadList("a name contains a NUL")
         yield name
 
 
-def is_list(arguments: argparse.Namespace, names: Sequence[str]) -> bool:
+def is_list(files: Files) -> bool:
     """Whether each picture needs its name above what is printed of it: there may be several."""
-    return bool(arguments.files_from) or len(set(names)) > 1
+    return bool(files.files_from) or len(set(files.names)) > 1
 
 
 def is_catalogue(name: str) -> bool:
@@ -83,7 +83,7 @@ def is_catalogue(name: str) -> bool:
 def refuse_folders(*names: str) -> None:
     """Raises `WrongUse` if one of the names that `compare` gets is a folder or a catalogue."""
     for name in names:
-        if os.path.isdir(name) or is_catalogue(name):
+        if os.path.isdir(name) or is_catalogue(os.path.abspath(name)):
             what = "a folder" if os.path.isdir(name) else "a catalogue"
             raise WrongUse(f"{shown_path(name)} is {what}: compare takes two pictures; changed compares folders and catalogues")
 

@@ -2,9 +2,14 @@
 
 from __future__ import annotations
 
+import functools
+import os
 import re
 import time
 from datetime import date, timedelta
+
+from ..model.errors import WrongUse
+from ..model.texts import safe
 
 _ANY = re.compile(r"(\d{4})(?:([-:/.]?)(\d\d)(?:\2(\d\d)(?:[ T]?(\d\d)(?::?(\d\d)(?::?(\d\d(?:\.\d+)?))?)?)?(?: ?(Z|[+-]\d\d:?\d\d))?)?)?")
 _TODAY = re.compile(r"(?:in (\d{1,5}) (day|week|month|year)s?|today(?: ?([+-]) ?(\d{1,5}) (day|week|month|year)s?)?)", re.I)
@@ -37,7 +42,16 @@ def asked_date(text: str) -> str:
         day = plain_date(text)
         return "" if is_impossible(day) else day
     number = int(match[1] or match[4] or 0) * (-1 if match[3] == "-" else 1)
-    return _shifted(date(*time.localtime()[:3]), number, (match[2] or match[5] or "day").lower())
+    return _shifted(_today(os.environ.get("EXIFNORM_TODAY", "")), number, (match[2] or match[5] or "day").lower())
+
+
+@functools.lru_cache(maxsize=None)
+def _today(given: str) -> date:
+    """The day of the whole run: the local one, or that which somebody gives. Raises `WrongUse`."""
+    try:
+        return date.fromisoformat(given) if given else date(*time.localtime()[:3])
+    except ValueError:
+        raise WrongUse(f"EXIFNORM_TODAY={safe(given)}: expected a day, such as 2026-03-31") from None
 
 
 def _shifted(day: date, number: int, unit: str) -> str:
@@ -74,3 +88,9 @@ _SHORTER = (0, 0, 3, 0, 1, 0, 1, 0, 0, 1, 0, 1, 0)  # by how many days a month i
 
 
 EXPECTED = "a date, such as 1950, 1950-03, 1950-03-21, today or today + 30 days"  # for a sentence
+IMPOSSIBLE = "impossible"  # asks for dates that no calendar has
+
+
+def is_asked_impossible(text: str) -> bool:
+    """Whether somebody asks for dates that no calendar has."""
+    return text.strip().casefold() == IMPOSSIBLE

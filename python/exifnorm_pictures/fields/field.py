@@ -2,8 +2,7 @@
 
 from __future__ import annotations
 
-from functools import lru_cache
-from typing import TYPE_CHECKING, Any, Dict, NoReturn, Tuple, Union
+from typing import TYPE_CHECKING, Any, ClassVar, Dict, NoReturn, Tuple, Union
 
 from ..model.found import EXIF, NAMES
 from ..model.xmp_values import Long, XmpValue
@@ -15,8 +14,6 @@ if TYPE_CHECKING:
 Ratio = Tuple[int, int]  # numerator and denominator; `exifnorm.Ratio` is one too, whose package loads the library
 Content = Union[bytes, Tuple[int, ...], Tuple[Ratio, ...], Tuple[XmpValue, ...], Long]
 Identity = Tuple[str, str, str, int, Content]  # the directory, the tag, the type, the number of elements, and the content
-
-_name = lru_cache(4096)(group_name)  # a picture's fields are asked for their names again and again
 
 
 class Field:
@@ -55,6 +52,7 @@ class Field:
     count: int
     content: Content
     _block: str
+    declares_utf8: ClassVar[bool] = False  # whether its record does
 
     def __init__(self, directory: str, tag: str, type: str, count: int, content: Content, block: str = "") -> None:
         _set_directory(self, directory)
@@ -71,7 +69,7 @@ class Field:
         raise AttributeError(f"a field doesn't change: {name}")
 
     def __reduce__(self) -> Tuple[Any, ...]:
-        return Field, (*self.identity, self._block)
+        return type(self), (*self.identity, self._block)
 
     def __eq__(self, other: object) -> bool:
         if not isinstance(other, Field):
@@ -91,11 +89,11 @@ class Field:
 
     def with_content(self, content: Content) -> "Field":
         """The same field with another content."""
-        return Field(*self.identity[:4], content, self._block)
+        return type(self)(*self.identity[:4], content, self._block)
 
     def in_block(self, name: str) -> "Field":
         """The same field in the block of this name."""
-        return self if name == self.block else Field(*self.identity, name)
+        return self if name == self.block else type(self)(*self.identity, name)
 
     @property
     def block(self) -> str:
@@ -105,7 +103,7 @@ class Field:
     @property
     def name(self) -> str:
         """The name with its group, as ExifTool has it: "IFD0:Artist", "IPTC:Keywords", "XMP-dc:title"."""
-        return _name(self.directory, self.tag)
+        return group_name(self.directory, self.tag)
 
     @property
     def key(self) -> str:
@@ -124,9 +122,11 @@ class Field:
     @property
     def json(self) -> Any:
         """The value as `show --json` prints it, of what JSON has: a fraction is divided, and bytes are {"hex": "00ff"} (docs/JSON.md)."""
+        from .plain_texts import without_nul
         from .typed import typed
 
-        return typed(self)
+        value = typed(self)
+        return without_nul(value) if isinstance(value, str) else value
 
     @property
     def languages(self) -> Dict[str, str]:
@@ -138,9 +138,17 @@ class Field:
     @property
     def text(self) -> str:
         """The value in plain words: "1/60 s"."""
+        from .plain_texts import without_nul
         from .plain_values import plain
 
-        return plain(self)
+        return without_nul(plain(self))
+
+    @property
+    def guess(self) -> str:
+        """How the character set of a text was found if it isn't declared, as in a caption: "character set guessed: Windows-1252". Empty otherwise."""
+        from .plain_texts import guess_of
+
+        return guess_of(self)
 
     @property
     def exact(self) -> str:
@@ -155,6 +163,13 @@ class Field:
         from .typed import raw
 
         return raw(self) or b""
+
+
+class DeclaredField(Field):
+    """A DataSet of a record that declares its texts as UTF-8 (1:90)."""
+
+    __slots__ = ()
+    declares_utf8 = True
 
 
 # By which a new field gets its attributes, in half the time of object.__setattr__

@@ -20,6 +20,15 @@ def folded(text: str) -> str:
     return " ".join(unicodedata.normalize("NFC", decomposed).split())
 
 
+def compose(text: str) -> str:
+    """A text with composed letters, by which the very same texts are alike.
+
+    >>> compose("Zu\u0308rich") == "Z\u00fcrich", compose("Weiß") == compose("Weiss")
+    (True, False)
+    """
+    return unicodedata.normalize("NFC", text)
+
+
 def bare(text: str) -> str:
     """A text without what spellings of one name differ in: capitals, accents, spaces and punctuation. Of signs alone, the text as it is.
 

@@ -6,7 +6,6 @@ import re
 from fractions import Fraction
 from typing import Dict, List, NamedTuple, Optional, Sequence
 
-from ..model.texts import escaped
 from . import other_names
 from .dates import plain_date
 from .field import Field
@@ -16,9 +15,10 @@ from .plain_values import WORDS, plain
 
 
 class Forms(NamedTuple):
-    """The value of a field in its forms."""
+    """A value of a field in its forms: a member of a list, or all of another field."""
 
-    shown: List[str]  # as `show` prints it; of a list its members
+    texts: Sequence[str]  # as `exiftool -n` has them
+    shown: Sequence[str]  # as `show` prints it
     others: List[str]
     numbers: List[str]  # texts that are numbers
     dates: List[str]  # dates and times, with the separators in which they are compared
@@ -63,26 +63,33 @@ _IS_DATE = re.compile(r"\d{4}[-:]\d\d|\d{8}")
 _CLOCK = re.compile(r"\d\d:\d\d(:\d\d(\.\d+)?)?( ?UTC|Z|[+-]\d\d:?\d\d)?")
 
 
-def forms_of(field: Field, texts: Sequence[str]) -> Forms:
-    """The forms of a field whose texts are these, as `exiftool -n` has them.
+def forms_of(field: Field, texts: Sequence[str]) -> List[Forms]:
+    """The values of a field whose texts are these, as `exiftool -n` has them. All of a list is a value that isn't shown.
 
-    >>> forms_of(Field("main", "0112", "SHORT", 1, (6,)), ["6"])
-    Forms(shown=['turn 90° clockwise to view'], others=['Rotate 90 CW'], numbers=['6'], dates=[])
-    >>> forms_of(Field("exif", "829d", "RATIONAL", 1, ((11, 1),)), ["11"])[:2], forms_of(Field("iptc", "2:37", "octets", 8, b"20261203"), [])[3]
-    ((['f/11'], ['11/1']), ['2026-12-03'])
+    >>> forms_of(Field("main", "0112", "SHORT", 1, (6,)), ["6"])[0][1:]
+    (['turn 90° clockwise to view'], ['Rotate 90 CW'], ['6'], [])
+    >>> forms_of(Field("exif", "829d", "RATIONAL", 1, ((11, 1),)), ["11"])[0][1:3]
+    (['f/11'], ['11/1'])
     """
     whole = plain(field)[:LONGEST_TEXT]
-    shown = list(texts) if len(texts) > 1 and "; ".join(texts) == whole else [whole]
+    others = [whole, exact(field).strip('"')]
+    others += [bare[1] for bare in [_UNIT.fullmatch(whole)] if bare]
+    if len(texts) > 1 and "; ".join(texts) == whole:
+        members = [_forms(field, [text], [text], []) for text in texts]
+        return [*members, Forms((), (), list(dict.fromkeys(others)), [], [])]
+    return [_forms(field, texts, [whole], others)]
+
+
+def _forms(field: Field, texts: Sequence[str], shown: Sequence[str], others: Sequence[str]) -> Forms:
     words = words_of(field.directory, field.tag)
-    others = [whole, escaped(whole), *(word for text in texts for word in words.get(text, ()))]
-    others += [exact(field).strip('"'), *(bare[1] for bare in [_UNIT.fullmatch(whole)] if bare)]
-    dates = [_date(text, field) for text in (*shown, *texts)]
+    others = [*others, *(word for text in texts for word in words.get(text, ()))]
     known = {*shown, *texts}
     return Forms(
+        texts,
         shown,
         [it for it in dict.fromkeys(others) if it not in known and len(it) <= LONGEST_TEXT],
         [it for it in dict.fromkeys(texts) if number_of(it) is not None],
-        list(dict.fromkeys(filter(None, dates))),
+        list(dict.fromkeys(filter(None, (_date(text, field) for text in (*shown, *texts))))),
     )
 
 

@@ -14,7 +14,7 @@ from ..model.xmp_values import Long, texts_in
 from .field import Field
 from .own_texts import is_own
 from .plain_names import group_name, plain_name
-from .plain_texts import text_of_comment
+from .plain_texts import decoded, text_of_comment
 
 
 class Label(NamedTuple):
@@ -57,8 +57,9 @@ POSITION = "position"  # no label of a text: where the picture was taken, by GPS
 UNCLEAR_POSITION = "position?"  # a latitude and a longitude that make no position; no question has this word
 DAMAGE = "damage"  # no label either: where a file is cut off, or its coded picture is damaged. No field has it
 RIGHTS_END, EMBARGO, DIGITAL_SOURCE, DATA_MINING = "rights end", "embargo", "digital source", "data mining"
+PERSON_SHOWN = "person shown"
 # No labels of captions either, but of fields that are asked for: which camera, lens and owner a picture is of, which a MakerNote may have, too
-# (only ExifTool reads it); until when, from when and for what it may be used; and whether a program has made it
+# (only ExifTool reads it); until when, from when and for what it may be used; whether a program has made it; and who is shown
 OF_FIELDS = {
     "serial": (
         ("exif", "a431"),
@@ -74,6 +75,7 @@ OF_FIELDS = {
     EMBARGO: (("iptc", "2:30"), ("xmp", "<http://prismstandard.org/namespaces/basic/2.0/embargoDate>")),
     DIGITAL_SOURCE: (("xmp", "Iptc4xmpExt:DigitalSourceType"),),
     DATA_MINING: (("xmp", "plus:DataMining"),),
+    PERSON_SHOWN: (("xmp", "Iptc4xmpExt:PersonInImage"),),
 }
 DATED = (DATE, RIGHTS_END, EMBARGO)  # labels of dates
 CODED = (DIGITAL_SOURCE, DATA_MINING)  # labels of codes, which are the last part of a URI
@@ -171,21 +173,6 @@ class Caption(NamedTuple):
 
     def __str__(self) -> str:
         return self.line
-
-
-def decoded(octets: bytes, declares_utf8: bool = False) -> Tuple[str, str]:
-    """The text of some bytes, and how its character set was found if it isn't declared, or isn't the declared one.
-
-    >>> decoded(b"Vase"), decoded(b"Z\\xfcrich"), decoded(b"Z\\xc3\\xbcrich", True)
-    (('Vase', ''), ('Zürich', 'character set guessed: Windows-1252'), ('Zürich', ''))
-    """
-    bare = octets.rstrip(b"\0")
-    try:
-        text = bare.decode("utf-8")
-        return text, "" if bare.isascii() or declares_utf8 else "character set guessed: UTF-8"
-    except UnicodeDecodeError:
-        remark = "declared as UTF-8, which it isn't" if declares_utf8 else "character set guessed"
-        return bare.decode("cp1252", "backslashreplace"), f"{remark}: Windows-1252"
 
 
 _EXIF = {it.exif: it.word for it in LABELS if it.exif} | {"9291": DATE, "9011": DATE, "9286": COMMENT} | WINDOWS

@@ -9,7 +9,7 @@ from exifnorm._forms import _READ, Place, places
 
 from ..model.budgets import ALL_FIELDS, FIELDS, LEAST_FIELD, Budget
 from ..model.xmp_values import Long
-from .field import Field, Identity
+from .field import DeclaredField, Field, Identity
 from .listing import OCTETS, digest_of
 
 
@@ -19,7 +19,9 @@ def fields_of_form(form: bytes) -> List[Field]:
     >>> fields_of_form(b"\\x1c\\x02\\x78\\x00\\x04Vase")
     [Field(name='IPTC:Caption-Abstract', text='Vase')]
     """
-    return list(starmap(Field, contents(form)))
+    each = contents(form)
+    declared = [it[4] for it in each if it[1] == "1:90"] if form.startswith(b"\x1c") else []
+    return list(starmap(DeclaredField if declared == [b"\x1b%G"] else Field, each))
 
 
 def contents(form: bytes) -> List[Identity]:

@@ -5,9 +5,11 @@ A property of XMP keeps its own spelling, in which ExifTool finds it too (it ign
 
 from __future__ import annotations
 
+import functools
 import re
-from typing import Dict
+from typing import Dict, Tuple
 
+from ..model.budgets import CACHED
 from .names import name_of
 
 _GROUPS = {"main": "IFD0", "exif": "ExifIFD", "gps": "GPS", "interop": "InteropIFD", "thumb": "IFD1", "iptc": "IPTC"}
@@ -49,9 +51,28 @@ def group_name(where: str, key: str) -> str:
     >>> group_name("main", "013b"), group_name("xmp", "dc:title"), group_name("xmp", "<http://x/title>")
     ('IFD0:Artist', 'XMP-dc:title', 'XMP:<http://x/title>')
     """
+    return _cached(where, key)[0] if len(key) <= CACHED else _made(where, key)[0]
+
+
+def spellings(where: str, key: str) -> Tuple[str, ...]:
+    """What a field is found by, in small letters: its name with its group and without, and what identifies it in its directory.
+
+    >>> sorted(spellings("main", "013b"))
+    ['0x013b', 'artist', 'ifd0:artist']
+    """
+    return _cached(where, key)[1] if len(key) <= CACHED else _made(where, key)[1]
+
+
+def _made(where: str, key: str) -> Tuple[str, Tuple[str, ...]]:
     if where == "xmp":
-        return f"XMP:{key}" if key.startswith("<") else f"XMP-{key}"
-    return f"{group_of(where)}:{plain_name(where, key)}"
+        name = f"XMP:{key}" if key.startswith("<") else f"XMP-{key}"
+    else:
+        name = f"{group_of(where)}:{plain_name(where, key)}"
+    folded = name.casefold()
+    return name, tuple({folded, folded.partition(":")[2], exact_key(where, key).casefold()})
+
+
+_cached = functools.lru_cache(maxsize=4096)(_made)
 
 
 def group_of(where: str) -> str:

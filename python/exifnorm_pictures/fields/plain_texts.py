@@ -7,7 +7,7 @@ from typing import Callable, List, Optional, Tuple
 from ..model.texts import quoted
 from ..model.xmp_values import Long, simple_texts
 from .field import Field
-from .listing import exact, kept_value, marked_text, printable, shortened
+from .listing import DATASET_NUMBERS, exact, is_comment, is_text, is_wide_text, kept_value, marked_text, printable, shortened
 
 EMPTY = "(empty)"
 
@@ -55,6 +55,8 @@ def comment(octets: bytes) -> Optional[str]:
 
     >>> comment(b"ASCII\\0\\0\\0Vase  "), comment(b"UNICODE\\0" + "Zürich".encode("utf-16-be")), comment(b"\\0" * 20)
     ('Vase', 'Zürich', '')
+    >>> comment("Low light".encode("utf-16-le"))
+    'Low light'
     >>> comment(b"ASCII   Z\\xfcrich"), comment(b"Z\\xfcrich"), comment(b"\\xff\\xfe\\xfd")
     ('Zürich', 'Zürich', None)
     """
@@ -62,10 +64,11 @@ def comment(octets: bytes) -> Optional[str]:
     if not octets.strip(b"\0 ") or (name is not None and not rest.strip(b"\0 ")):
         return ""
     if name is None:
-        return _bare_comment(octets)
+        bare = _bare_comment(octets)
+        return wide_comment(octets) if bare is None else bare
     if name == "UNICODE":
         both = [rest[: len(rest) & ~1].decode(it, "replace") for it in ("utf-16-be", "utf-16-le")]
-        return min(both, key=lambda it: sum(ord(one) > 0x2FF for one in it)).partition("\0")[0].rstrip()
+        return min(both, key=lambda it: sum(ord(one) > 0x2FF for one in it)).lstrip(_MARK).partition("\0")[0].rstrip()
     text = rest.partition(b"\0")[0]
     try:
         return text.decode("iso2022_jp" if name == "JIS" else "utf-8" if is_utf8(text) else "cp1252").rstrip()
@@ -91,6 +94,65 @@ def _bare_comment(octets: bytes) -> Optional[str]:
     except UnicodeDecodeError:
         return None
     return None if text is None else text.rstrip()
+
+
+_MARK = "\ufeff"  # of the byte order
+
+
+def wide_comment(octets: bytes) -> Optional[str]:
+    """The text of a comment in UTF-16 in front of which no character set is named: it can be printed, and most of it is Latin. None of any other."""
+    for order in ("utf-16-le", "utf-16-be"):
+        try:
+            text = printable(octets[: len(octets) & ~1].decode(order).lstrip(_MARK).rstrip("\0 "))
+        except UnicodeDecodeError:
+            continue
+        if text and 2 * sum(ord(one) < 0x250 for one in text) > len(text):
+            return text
+    return None
+
+
+def without_nul(text: str) -> str:
+    """A text in which the end of a line stands for NULs: databases and XML refuse them.
+
+    >>> without_nul("Lena Brandt\\0Riverside Museum"), without_nul("Lena\\0\\0 ")
+    ('Lena Brandt\\nRiverside Museum', 'Lena')
+    """
+    return text if "\0" not in text else "\n".join([it for it in text.split("\0") if it.strip()])
+
+
+def guess_of(field: Field) -> str:
+    """How the character set of a text of Exif or IPTC was found if it isn't declared, or isn't the declared one; empty otherwise.
+
+    >>> guess_of(Field("main", "013b", "ASCII", 7, b"Z\\xfcrich\\0")), guess_of(Field("main", "013b", "ASCII", 5, b"Otto\\0"))
+    ('character set guessed: Windows-1252', '')
+    """
+    octets = field.content
+    if not isinstance(octets, bytes) or not is_text(field) or is_wide_text(field) or field.tag in _NO_TEXTS:
+        return ""
+    name = _character_set(octets) if is_comment(field) else ""
+    if name is None and field.type not in ("ASCII", "UTF8") and wide_comment(octets) == comment(octets) is not None:
+        return "character set guessed: UTF-16"
+    if name in ("UNICODE", "JIS") or octets.isascii() or (is_comment(field) and text_of_comment(field) is None):
+        return ""
+    return decoded(octets, field.type == "UTF8" or field.declares_utf8)[1]
+
+
+_NO_TEXTS = (*DATASET_NUMBERS, "1:90")
+
+
+def decoded(octets: bytes, declares_utf8: bool = False) -> Tuple[str, str]:
+    """The text of some bytes, and how its character set was found if it isn't declared, or isn't the declared one.
+
+    >>> decoded(b"Vase"), decoded(b"Z\\xfcrich"), decoded(b"Z\\xc3\\xbcrich", True)
+    (('Vase', ''), ('Zürich', 'character set guessed: Windows-1252'), ('Zürich', ''))
+    """
+    bare = octets.rstrip(b"\0")
+    try:
+        text = bare.decode("utf-8")
+        return text, "" if bare.isascii() or declares_utf8 else "character set guessed: UTF-8"
+    except UnicodeDecodeError:
+        remark = "declared as UTF-8, which it isn't" if declares_utf8 else "character set guessed"
+        return bare.decode("cp1252", "backslashreplace"), f"{remark}: Windows-1252"
 
 
 def text_of_comment(field: Field) -> Optional[str]:

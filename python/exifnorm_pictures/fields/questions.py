@@ -3,10 +3,11 @@
     question    alternative { "or" alternative }
     alternative factor { "and" factor }
     factor      "not" factor | "(" question ")" | ("with" | "without") label | label comparison value
-    comparison  "=" | "!=" | "has" | "like" | "<" | "<=" | ">" | ">="
+    comparison  "=" | "!=" | "has" | "like" | "<" | "<=" | ">" | ">=" | "is" | "one of" | "from"
 
 A value with `and`, `or`, `not`, brackets or quotes in it stands in quotes. Capitals don't matter in any of the words. A value of a field may be
-as `show`, ExifTool or exiv2 print it; a date is also `today` or `today + 30 days`.
+as `show`, ExifTool or exiv2 print it; a date is also `today`, `today + 30 days`, or `impossible`. `is`, `one of` (several texts with commas) and
+`from` (a file of them) take no other text for the same, but for how accents are composed.
 """
 
 from __future__ import annotations
@@ -14,7 +15,7 @@ from __future__ import annotations
 import difflib
 import re
 from dataclasses import dataclass
-from typing import Callable, Iterable, Iterator, List, NamedTuple, NoReturn, Optional, Sequence, Tuple, Union
+from typing import Callable, Iterable, Iterator, List, Optional, Sequence, Tuple, Union
 
 from ..model.errors import WrongUse
 from ..model.texts import safe
@@ -22,11 +23,13 @@ from . import dates
 from .forms import clock_of, number_of
 from .labels import CODED, DAMAGE, DATED, POSITION, fields_by_label, label_of
 from .places import place_of
+from .tokens import EXACT, Mistake, Reader, Token, tokens_of
 
-COMPARISONS = ("=", "!=", "has", "like", "<", "<=", ">", ">=")
+COMPARISONS = ("=", "!=", "has", "like", "<", "<=", ">", ">=", "is", "one of", "from")
 ORDERED = ("<", "<=", ">", ">=")
 _SIGNS = ("=", "!=", *ORDERED)
-_AFTER_LABEL = f"expected: one of {' '.join(COMPARISONS)} and a value after {{0}}, or `with {{0}}`"
+_SIGNS_SHOWN = ", ".join(COMPARISONS)
+_AFTER_LABEL = f"expected: {_SIGNS_SHOWN} and a value after {{0}}, or `with {{0}}`"
 DEEPEST = 20  # brackets and `not` inside each other, each of which takes places in the stack of SQLite's parser, of which it has 100
 LONGEST = 4000  # characters of a question
 LONGEST_PATTERN = 1000  # characters of `like`, with which SQLite may compare at each place of a text
@@ -52,11 +55,12 @@ class With:
 
 @dataclass(frozen=True)
 class Condition:
-    """Pictures of which a text of this label compares so. `!=` is `Not` of `=`."""
+    """Pictures of which a text of this label compares so. `!=` is `Not` of `=`; `is`, `one of` and `from` are `is`."""
 
     label: str
     comparison: str
     value: str
+    others: Tuple[str, ...] = ()  # further texts of `is`, of which one is enough
 
 
 @dataclass(frozen=True)
@@ -113,15 +117,21 @@ def all_of(questions: Sequence[Question]) -> Question:
     return questions[0] if len(questions) == 1 else All(tuple(questions))
 
 
-def question_of(text: str) -> Question:
-    """What a text asks. Raises `WrongQuestion`.
+def question_of(text: str, words_of: Callable[[str], List[str]] = lambda name: []) -> Question:
+    """What a text asks; `words_of` reads a file of words. Raises `WrongQuestion`.
 
     >>> question_of("keywords = clay or without credit")
-    Any(questions=(Condition(label='keywords', comparison='=', value='clay'), Not(question=With(label='credit'))))
-    >>> question_of("date created < 1950").value
-    '1950'
+    Any(questions=(Condition(label='keywords', comparison='=', value='clay', others=()), Not(question=With(label='credit'))))
+    >>> question_of("credit one of Museum, 'Public domain'").others
+    ('Public domain',)
     """
-    return _Reader(text).read()
+    if len(text) > LONGEST:
+        raise WrongQuestion(f"a question has at most {LONGEST:,} characters; of a long text give its beginning: LABEL like 'Once upon*'")
+    _check_text(text)
+    try:
+        return _Reader(text, tokens_of(text), words_of).read()
+    except Mistake as mistake:
+        raise WrongQuestion(mistake.why, *mistake.shown_in(text)) from None
 
 
 def given_label(text: str) -> str:
@@ -176,78 +186,21 @@ def _nearest(text: str) -> str:
     return f" (perhaps {near[0]} is meant)" if near else hint(text) or f". The labels are {', '.join(labels)}"
 
 
-class Token(NamedTuple):
-    """A part of a question or a rule: a word, a sign, or a text that was in quotes."""
-
-    text: str
-    start: int
-    end: int
-    is_quoted: bool = False
-
-    @property
-    def word(self) -> str:
-        """The word in lower case; empty of a text in quotes, which is never a word of the language."""
-        return "" if self.is_quoted else self.text.lower()
+_ENDS = ("and", "or", "(", ")")
 
 
-_TOKEN = re.compile(r'"([^"]*)"|(?<![^\s(=<>])\'([^\']*)\'(?![^\s)])|(!=|<=|>=|[=<>()])|((?:[^\s()=<>!"]|!(?!=)|(?<=\d)")+)')
-_JOINING = ("and", "or", ")", "")
-
-
-class _Reader:
+class _Reader(Reader):
     """Reads a question from its tokens."""
 
-    def __init__(self, text: str) -> None:
-        self._text = text
-        if len(text) > LONGEST:
-            raise WrongQuestion(f"a question has at most {LONGEST:,} characters")
-        _check_text(text)
-        self._tokens = self._split()
-        self._at = 0
-        self._depth = 0
-
-    def _split(self) -> List[Token]:
-        tokens: List[Token] = []
-        at = 0
-        while True:
-            at = re.compile(r"\s*").match(self._text, at).end()  # type: ignore[union-attr]
-            if at == len(self._text):
-                return [*tokens, Token("", at, at)]
-            match = _TOKEN.match(self._text, at)
-            if match is None:
-                self._fail(Token("", at, at + 1), "the quotes have no end" if self._text[at] == '"' else "this can't be understood")
-            quoted = match[1] if match[1] is not None else match[2]
-            if quoted is None and match[0].startswith("'"):  # it would be taken for a part of the text, which no picture has
-                token = Token(match[0], match.start(), match.end())
-                self._fail(token, "the quotes have no end; put a text that begins with an apostrophe, or has one, in double quotes")
-            tokens.append(Token(match[0] if quoted is None else quoted, match.start(), match.end(), quoted is not None))
-            at = match.end()
-
-    def _fail(self, token: Token, why: str) -> NoReturn:
-        raise WrongQuestion(why, *self._shown(token))
-
-    def _shown(self, token: Token) -> Tuple[str, str]:
-        """The question with a mark below a part."""
-        mark = " " * token.start + "^" * max(1, token.end - token.start)
-        return f"  {' '.join(self._text.splitlines())}", f"  {mark}"
-
-    @property
-    def _next(self) -> Token:
-        return self._tokens[self._at]
-
-    def _takes(self, word: str) -> bool:
-        """Whether the next token is this word, which is then passed."""
-        is_next = self._next.word == word and bool(self._next.text)
-        self._at += is_next
-        return is_next
+    _depth = 0
 
     def read(self) -> Question:
         """The whole question."""
-        if not self._next.text and not self._next.is_quoted:
-            self._fail(self._next, "the question is empty")
+        if self._is_at_end:
+            self._fail("the question is empty")
         question = self._read_any()
-        if self._next.start < len(self._text):
-            self._fail(self._next, "expected: and, or" + ("; there is no bracket to close" if self._next.word == ")" else ""))
+        if not self._is_at_end:
+            self._fail("expected: and, or" + "; there is no bracket to close" * self._follows(")"))
         return question
 
     def _read_any(self) -> Question:
@@ -265,16 +218,15 @@ class _Reader:
         return tuple(questions)
 
     def _read_factor(self) -> Question:
-        token = self._next
         self._depth += 1
         if self._depth > DEEPEST:
-            self._fail(token, "too many brackets inside each other")
+            self._fail("too many brackets inside each other")
         if self._takes("not"):
             question: Question = Not(self._read_factor())
         elif self._takes("("):
             question = self._read_any()
             if not self._takes(")"):
-                self._fail(self._next, "expected: )")
+                self._fail("expected: )")
         elif self._takes("with"):
             question = With(self._read_label())
         elif self._takes("without"):
@@ -284,81 +236,105 @@ class _Reader:
         self._depth -= 1
         return question
 
+    def _comparison(self) -> Tuple[str, ...]:
+        """The words of the comparison that is next; empty if none is."""
+        return next((it for it in _BY_WORDS if self._follows(*it)), ())
+
     def _read_label(self) -> str:
         """The label up to a comparison, a word that joins, or the end."""
         first = self._at
-        while self._next.word not in (*_JOINING, "(", *COMPARISONS) or self._next.is_quoted:
-            self._at += 1
+        whole = self._up_to(lambda: self._next.word in _ENDS or bool(self._comparison()))
         tokens = self._tokens[first : self._at]
         if not tokens:
-            self._fail(self._next, "expected: a label, such as keywords")
-        whole = Token(self._text[tokens[0].start : tokens[-1].end], tokens[0].start, tokens[-1].end)
-        name = tokens[0].text if len(tokens) == 1 else whole.text
-        label = _label_or_field(name)
-        if label is None:
-            self._refuse_after_label(tokens)
-            return _unsure(name, f"{name!r} is no label and no field", *self._shown(whole))
-        return label
-
-    def _refuse_after_label(self, tokens: List[Token]) -> None:
-        """Fails if some words begin with a label: what follows it is no comparison then."""
-        for number in range(len(tokens) - 1, 0, -1):
+            self._fail("expected: a label, such as keywords")
+        label = _label_or_field(whole.text)
+        if label is not None:
+            return label
+        for number in range(len(tokens) - 1, 0, -1):  # what follows a label is no comparison then
             label = _label_or_field(self._text[tokens[0].start : tokens[number - 1].end])
             if label is not None:
-                self._fail(tokens[number], _AFTER_LABEL.format(label))
+                self._fail(_AFTER_LABEL.format(label), tokens[number])
+        shown = Mistake("", whole.start, whole.end).shown_in(self._text)
+        return _unsure(whole.text, f"{whole.text!r} is no label and no field", *shown)
 
     def _read_comparison(self) -> Question:
         label = self._read_label()
-        token = self._next
-        if token.word not in COMPARISONS:
-            self._fail(token, _AFTER_LABEL.format(label))
-        self._at += 1
-        value = self._read_value()
-        if token.word in ("=", "!=", *ORDERED):
-            value = self._checked(label, token.word, value)
-        if token.word == "like" and len(value.text) > LONGEST_PATTERN:
-            self._fail(value._replace(end=value.start + 1), f"a pattern has at most {LONGEST_PATTERN:,} characters")
-        if token.word in ("=", "!=", "has") and "*" in value.text and not value.is_quoted:
-            self._fail(value, "* is a wildcard only after like; put a text that has this character in quotes")
-        if token.word == "!=":
-            return Not(Condition(label, "=", value.text))
-        return Condition(label, token.word, value.text)
-
-    def _read_value(self) -> Token:
-        """A text in quotes, or all up to a word that joins."""
-        first = self._at
-        if self._next.is_quoted:
-            self._at += 1
-            return self._tokens[first]
+        words = self._comparison()
+        if not words:
+            self._fail(_AFTER_LABEL.format(label))
+        self._takes(*words)
+        if words in EXACT:
+            texts = self._texts(words, _ENDS, _VALUE)
+            values = [exact_value(label, text) for text in texts]
+            return Condition(label, "is", values[0], tuple(values[1:]))
         if self._next.word in _SIGNS:  # as in == and <>, which other programs have
-            signs = " ".join(COMPARISONS)
-            self._fail(self._next, f"expected: a value. The comparisons are {signs}; put a value that begins like that in quotes")
-        while self._next.word not in (*_JOINING, "(") and not self._next.is_quoted:
-            self._at += 1
-        tokens = self._tokens[first : self._at]
-        if not tokens:
-            self._fail(self._next, "expected: a value; in quotes if it has brackets, and, or")
-        return Token(self._text[tokens[0].start : tokens[-1].end], tokens[0].start, tokens[-1].end)
+            self._fail(f"expected: a value. The comparisons are {_SIGNS_SHOWN}; put a value that begins like that in quotes")
+        value = self._value(_ENDS, _VALUE)
+        try:
+            text = checked_value(label, words[0], value)
+        except ValueError as error:
+            self._fail(str(error), value)
+        if words[0] == "!=":
+            return Not(Condition(label, "=", text))
+        return Condition(label, words[0], text)
 
-    def _checked(self, label: str, comparison: str, value: Token) -> Token:
-        """A value as texts of a label are kept. Fails for one with which none of them can be compared."""
-        is_of_field = label not in fields_by_label() and label != DAMAGE
-        if label in DATED:
-            day = dates.asked_date(value.text)
-            if not day and comparison in ("=", "!=") and re.search(r"\d", value.text):  # what a picture has needn't be a date
-                day = dates.plain_date(value.text) or value.text
-            if not day:
-                self._fail(value, f"expected: {dates.EXPECTED}")
-            return value._replace(text=day)
-        if comparison in ORDERED:
-            can_be = number_of(value.text) or (is_of_field and (dates.asked_date(value.text) or clock_of(value.text)))
-            if not can_be or not (is_of_field or re.fullmatch(r"[+-]?\d+(\.\d+)?", value.text)):
-                self._fail(value, "expected: a number" + f", or {dates.EXPECTED}" * is_of_field)
-        elif label == POSITION:
-            place = place_of(value.text)
-            if place is None:
-                self._fail(value, "expected: a latitude and a longitude, such as 46.5, -7.2 or 46.5° N, 7.2° W")
-            return value._replace(text=place.text)
-        elif label in CODED:
-            return value._replace(text=value.text.rstrip("/").rpartition("/")[2])
-        return value
+
+_BY_WORDS = tuple(tuple(it.split()) for it in COMPARISONS)
+_VALUE = "expected: a value; in quotes if it has brackets, and, or"
+
+
+def checked_value(label: str, comparison: str, value: Token) -> str:
+    """A value as texts of a label are kept. Raises `ValueError` for one with which none of them can be compared."""
+    _check_form(comparison, value)
+    if comparison in ("has", "like"):
+        return value.text
+    if label in DATED:
+        return _date(comparison, value.text)
+    if comparison in ORDERED:
+        _check_ordered(label, value.text)
+        return value.text
+    if label == POSITION and place_of(value.text) is None:
+        raise ValueError("expected: a latitude and a longitude, such as 46.5, -7.2 or 46.5° N, 7.2° W")
+    return exact_value(label, value.text)
+
+
+def _check_form(comparison: str, value: Token) -> None:
+    """Raises `ValueError` for a pattern that is too long, and for one where none is meant."""
+    if comparison == "like" and len(value.text) > LONGEST_PATTERN:
+        raise ValueError(f"a pattern has at most {LONGEST_PATTERN:,} characters")
+    if comparison in ("=", "!=", "has") and "*" in value.text and not value.is_quoted:
+        raise ValueError("* is a wildcard only after like; put a text that has this character in quotes")
+
+
+def _check_ordered(label: str, text: str) -> None:
+    """Raises `ValueError` for what is no number, nor of a field a date or a time."""
+    is_of_field = label not in fields_by_label() and label != DAMAGE
+    if is_of_field:
+        can_be = bool(number_of(text) or dates.asked_date(text) or clock_of(text))
+    else:
+        can_be = bool(re.fullmatch(r"[+-]?\d+(\.\d+)?", text))
+    if not can_be:
+        raise ValueError("expected: a number" + f", or {dates.EXPECTED}" * is_of_field)
+
+
+def _date(comparison: str, text: str) -> str:
+    """The same of a date, which pictures may have that none of the calendar is."""
+    is_equal = comparison in ("=", "!=")
+    day = dates.asked_date(text)
+    if not day and is_equal and (re.search(r"\d", text) or dates.is_asked_impossible(text)):
+        day = dates.plain_date(text) or text
+    if not day:
+        raise ValueError(f"expected: {dates.EXPECTED}")
+    return day
+
+
+def exact_value(label: str, text: str) -> str:
+    """A text as those of a label are kept: a place in degrees, and a code without its URI.
+
+    >>> exact_value("position", "46.5° N, 7.2° W"), exact_value("creator", "Anna")
+    ('46.500000, -7.200000', 'Anna')
+    """
+    if label in CODED:
+        return text.rstrip("/").rpartition("/")[2]
+    place = place_of(text) if label == POSITION else None
+    return place.text if place else text

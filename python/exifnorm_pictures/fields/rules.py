@@ -8,10 +8,12 @@
     position, serial never in web/ except web/press/
     caption at most 2000 characters
     date created not after today
+    city = zurich
 
-A label is one of `captions`, or the name of a field as `show` or ExifTool has it (IPTC:ExpirationDate). A rule but `needs` is about the texts
-that are there. Texts are compared exactly, but for how accents are composed. `like` has the wildcards *
-and ?, and # for a digit. A folder with a slash inside lies at the top of what was indexed, and any other one anywhere below it.
+A label is one of `captions`, or the name of a field as `show` or ExifTool has it (IPTC:ExpirationDate). A rule but `needs` is about every text
+that is there. `is`, `one of` and `from` compare exactly, but for how accents are composed, and `=` without capitals, as in questions. `like` is
+exact, too, and has the wildcards * and ?, and # for a digit. A date that no calendar has breaks each rule about dates. A folder with a slash
+inside lies at the top of what was indexed, and any other one anywhere below it.
 """
 
 from __future__ import annotations
@@ -22,21 +24,23 @@ import fnmatch
 import os
 import re
 from dataclasses import dataclass
-from typing import Callable, Dict, Iterable, Iterator, List, NoReturn, Optional, Sequence, Tuple
+from typing import Callable, Dict, Iterable, List, NoReturn, Optional, Sequence, Tuple
 
 from ..model.errors import WrongUse
 from . import dates
 from .choosing import hint
 from .labels import DATED, fields_by_label, label_of
-from .questions import LONGEST_PATTERN, Token, WrongQuestion, given_label
+from .questions import WrongQuestion, checked_value, exact_value, given_label
+from .tokens import EXACT, MOST_WORDS, Mistake, Reader, Token, tokens_of
 
-NEEDS, VALUES, LIKE, NEVER, LENGTH, AFTER, BEFORE = "needs", "values", "like", "never", "length", "after", "before"
-_EVERY = ("every", "picture")
+NEEDS, VALUES, EQUAL, LIKE, NEVER = "needs", "values", "equal", "like", "never"
+LENGTH, AFTER, BEFORE = "length", "after", "before"
 _PREDICATES = {  # by their words
     ("needs",): NEEDS,
     ("is",): VALUES,
     ("one", "of"): VALUES,
     ("from",): VALUES,
+    ("=",): EQUAL,
     ("like",): LIKE,
     ("never",): NEVER,
     ("at", "most"): LENGTH,
@@ -45,7 +49,7 @@ _PREDICATES = {  # by their words
 }
 _PLACES = ("in", "except")
 _MEANT = {  # words in place of a predicate, and what may be meant
-    **dict.fromkeys(("=", "==", ":", "equals", "must", "should", "are", "be"), "is"),
+    **dict.fromkeys((":", "equals", "must", "should", "are", "be"), "is"),
     **dict.fromkeys(("matches", "match", "has", "contains", "contain", "with"), 'like "*..*"'),
     **dict.fromkeys(("before", "until", "<", "<="), "not after"),
     **dict.fromkeys(("after", "since", ">", ">="), "not before"),
@@ -55,10 +59,9 @@ _MEANT = {  # words in place of a predicate, and what may be meant
     **dict.fromkeys(("need", "require", "requires", "required", "have"), "every picture needs"),
 }
 MOST_RULES = 1000
-MOST_WORDS = 1_000_000  # of the texts that all rules together allow
 LONGEST_LINE = 100_000  # characters
 _MOST_MISTAKES = 20  # that are listed
-_SHOWN = 100  # characters of a line that are listed before and after the start of a mistake
+_LONGEST_NAME = 100  # characters of a wrong name that are shown
 
 
 class WrongRules(WrongUse):
@@ -73,7 +76,9 @@ class Rule:
     text: str  # as it was written
     kind: str
     labels: Tuple[str, ...]
-    values: Tuple[str, ...] = ()  # of VALUES all that are allowed; the pattern of LIKE, the number of LENGTH, the date of AFTER and BEFORE
+    values: Tuple[
+        str, ...
+    ] = ()  # of VALUES all that are allowed; the text of EQUAL, the pattern of LIKE, the number of LENGTH, the date of AFTER and BEFORE
     inside: Tuple[str, ...] = ()
     outside: Tuple[str, ...] = ()
 
@@ -109,8 +114,8 @@ def rules_of(text: str, words_of: Callable[[str], List[str]]) -> List[Rule]:
     for number, line in enumerate(text.splitlines(), 1):
         try:
             rule = _rule(number, line, words_of)
-        except _Mistake as mistake:
-            mistakes += mistake.lines(number, line)
+        except Mistake as mistake:
+            mistakes += [f"line {number}: {mistake.why}", *mistake.shown_in(line)]
             if len(mistakes) < 3 * _MOST_MISTAKES:
                 continue
             raise WrongRules(*mistakes, "the lines below were not looked at") from None
@@ -125,11 +130,11 @@ def rules_of(text: str, words_of: Callable[[str], List[str]]) -> List[Rule]:
 
 
 def _rule(number: int, line: str, words_of: Callable[[str], List[str]]) -> Optional[Rule]:
-    """The rule of a line, if it has one. Raises `_Mistake`."""
+    """The rule of a line, if it has one. Raises `Mistake`."""
     if len(line) > LONGEST_LINE:
-        raise _Mistake(f"a line has at most {LONGEST_LINE:,} characters; a file of words, after from, may have more", 0, 1)
-    tokens = list(_tokens(line))
-    return _Reader(number, line, tokens, words_of).read() if tokens else None
+        raise Mistake(f"a line has at most {LONGEST_LINE:,} characters; a file of words, after from, may have more", 0, 1)
+    tokens = tokens_of(line, has_comments=True)
+    return _Reader(line, tokens, words_of).read(number) if tokens else None
 
 
 def _meant_label(name: str) -> str:
@@ -144,99 +149,47 @@ def _meant_label(name: str) -> str:
     return next(iter([*near, *(label for label, (group, field) in groups if name in (group, field))]), "")
 
 
-class _Mistake(Exception):
-    def __init__(self, why: str, start: int, end: int) -> None:
-        super().__init__(why)
-        self.why, self.start, self.end = why, start, end
-
-    def lines(self, number: int, line: str) -> List[str]:
-        """What is wrong with a line, and the line with a mark below it, or of a long one the part around it."""
-        first, last = max(0, self.start - _SHOWN), self.start + _SHOWN
-        shown = ".. " * (first > 0) + line[first:last] + " .." * (last < len(line))
-        mark = " " * (self.start - first + 3 * (first > 0)) + "^" * max(1, min(self.end, last) - self.start)
-        return [f"line {number}: {self.why}", f"  {shown}", f"  {mark}"]
+_ENDS = (",", *_PLACES)
+_VALUE = "expected: a text, in quotes if it has a comma, in or except"
 
 
-_TOKEN = re.compile(r"""\s*(?:"([^"]*)"|'([^']*)'(?=[\s,]|$)|(,)|(\#.*)|([^\s,"]+)|(\S))""")
-
-
-def _tokens(line: str) -> Iterator[Token]:
-    at = 0
-    while True:
-        match = _TOKEN.match(line, at)
-        if match is None or match[4]:  # the end, or a comment
-            return
-        if match[6]:
-            raise _Mistake("the quotes have no end", match.start(6), len(line))
-        if match[5] and match[5].startswith("'"):  # it would be taken for a part of the text
-            why = "the quotes have no end; put a text that begins with an apostrophe, or has one, in double quotes"
-            raise _Mistake(why, match.start(5), match.end())
-        quoted = match[1] if match[1] is not None else match[2]
-        start = match.end() - len(match[0].lstrip())
-        yield Token(match[3] or match[5] or quoted, start, match.end(), quoted is not None)
-        at = match.end()
-
-
-class _Reader:
+class _Reader(Reader):
     """Reads the rule of a line."""
 
-    def __init__(self, number: int, line: str, tokens: Sequence[Token], words_of: Callable[[str], List[str]]) -> None:
-        self._number, self._line, self._words_of = number, line, words_of
-        self._tokens = [*tokens, Token("", tokens[-1].end, tokens[-1].end)]
-        self._at = 0
-
-    @property
-    def _next(self) -> Token:
-        return self._tokens[self._at]
-
-    @property
-    def _is_at_end(self) -> bool:
-        return self._at == len(self._tokens) - 1
-
-    def _fail(self, why: str, *tokens: Token) -> NoReturn:
-        first, last = (tokens[0], tokens[-1]) if tokens else (self._next, self._next)
-        raise _Mistake(why, first.start, last.end)
-
-    def _follows(self, words: Tuple[str, ...]) -> bool:
-        return tuple(token.word for token in self._tokens[self._at : self._at + len(words)]) == words
-
-    def read(self) -> Rule:
+    def read(self, number: int) -> Rule:
         """The whole rule."""
-        if self._follows(_EVERY):
-            self._at += 2
-            if not self._follows(("needs",)):
+        if self._takes("every", "picture"):
+            if not self._takes("needs"):
                 self._fail("expected: needs, as in `every picture needs credit`")
-            self._at += 1
             kind, labels, values = NEEDS, self._labels(), ()  # type: Tuple[str, Tuple[str, ...], Tuple[str, ...]]
         else:
             labels = self._labels()
             kind, values = self._predicate(labels)
         inside, outside = self._places()
-        return Rule(self._number, self._line[self._tokens[0].start : self._tokens[-1].end], kind, labels, values, inside, outside)
+        written = self._text[self._tokens[0].start : self._tokens[-1].end]
+        return Rule(number, written, kind, labels, values, inside, outside)
 
     def _labels(self) -> Tuple[str, ...]:
         """Labels up to a predicate, a place or the end."""
         labels = [self._label()]
-        while self._next.word == ",":
-            self._at += 1
+        while self._takes(","):
             labels.append(self._label())
         return tuple(labels)
 
     def _label(self) -> str:
         first = self._at
-        while not (self._is_at_end or any(map(self._follows, _PREDICATES)) or self._next.word in (",", *_PLACES)):
-            self._at += 1
+        given = self._up_to(lambda: self._next.word in _ENDS or bool(self._predicate_words()))
         tokens = self._tokens[first : self._at]
         if not tokens:
             self._fail("expected: a label, such as credit")
-        name = " ".join(token.text for token in tokens)
+        name = " ".join(given.text.split())
         label = label_of(name)
         if label is not None:
             return label
         with contextlib.suppress(WrongQuestion):
             if not any(it.startswith(f"{name.casefold()} ") for it in fields_by_label()):  # as date, which is a field of few pictures
                 return given_label(name)
-        self._fail_at_label(name[:_SHOWN], tokens)
+        self._fail_at_label(name[:_LONGEST_NAME], tokens)
 
     def _fail_at_label(self, name: str, tokens: Sequence[Token]) -> NoReturn:
         """Says what is wrong with words that are no label, and what may be meant."""
@@ -248,14 +201,20 @@ class _Reader:
         meant = _meant_label(name.casefold())
         self._fail(f"{name!r} is no label and no field" + (f" (perhaps {meant} is meant)" if meant else hint(name)), *tokens)
 
+    def _predicate_words(self) -> Tuple[str, ...]:
+        """The words of the predicate that is next; empty if none is."""
+        return next((words for words in _PREDICATES if self._follows(*words)), ())
+
     def _predicate(self, labels: Sequence[str]) -> Tuple[str, Tuple[str, ...]]:
-        for words, kind in _PREDICATES.items():
-            if self._follows(words):
-                self._at += len(words)
-                if kind == NEEDS:
-                    self._fail("only `every picture` needs something: every picture needs " + ", ".join(labels), *self._tokens[:1])
-                return kind, self._values(words, kind, labels)
-        self._fail(f"expected: {', '.join(' '.join(words) for words in _PREDICATES if words != ('needs',))}")
+        words = self._predicate_words()
+        if not words:
+            known = (" ".join(words) for words in _PREDICATES if words != ("needs",))
+            self._fail(f"expected: {', '.join(known)}")
+        self._takes(*words)
+        kind = _PREDICATES[words]
+        if kind == NEEDS:
+            self._fail("only `every picture` needs something: every picture needs " + ", ".join(labels), *self._tokens[:1])
+        return kind, self._values(words, kind, labels)
 
     def _values(self, words: Tuple[str, ...], kind: str, labels: Sequence[str]) -> Tuple[str, ...]:
         if kind == NEVER:
@@ -264,33 +223,15 @@ class _Reader:
             return (self._length(),)
         if kind in (AFTER, BEFORE):
             return (self._date(labels),)
-        first = self._next
-        values = [self._value()]
-        while words == ("one", "of") and self._next.word == ",":
-            self._at += 1
-            values.append(self._value())
-        if kind == LIKE and len(values[0]) > LONGEST_PATTERN:
-            self._fail(f"a pattern has at most {LONGEST_PATTERN:,} characters", first)
-        if words != ("from",):
-            return tuple(values)
+        is_comment = "#" in self._text[self._tokens[-1].end :]
+        expected = _VALUE + ". # begins a comment: put a text that has it in quotes" * is_comment
+        if words in EXACT:
+            return tuple(exact_value(labels[0], it) for it in self._texts(words, _ENDS, expected))
+        value = self._value(_ENDS, expected)
         try:
-            return tuple(self._words_of(values[0]))
-        except OSError as error:
-            self._fail(f"{values[0]} can't be read: {error.strerror or error}", first)
-
-    def _value(self) -> str:
-        """A text in quotes, or words up to a comma, a place or the end."""
-        if self._next.is_quoted:
-            self._at += 1
-            return self._tokens[self._at - 1].text
-        first = self._at
-        while not (self._is_at_end or self._next.word in (",", *_PLACES) or self._next.is_quoted):
-            self._at += 1
-        if first == self._at:
-            is_comment = self._is_at_end and "#" in self._line[self._next.end :]
-            more = ". # begins a comment: put a text that has it in quotes" * is_comment
-            self._fail(f"expected: a text, in quotes if it has a comma, in or except{more}")
-        return self._line[self._tokens[first].start : self._tokens[self._at - 1].end]
+            return tuple(checked_value(label, words[0], value) for label in labels)[:1]
+        except ValueError as error:
+            self._fail(str(error), value)
 
     def _length(self) -> str:
         number = self._next
@@ -306,13 +247,10 @@ class _Reader:
         for label in labels:
             if label not in DATED and label in fields_by_label():
                 self._fail(f"only {', '.join(DATED)} and fields are compared with a date", *self._tokens[:1])
-        first = self._at
-        while not (self._is_at_end or self._next.word in _PLACES):
-            self._at += 1
-        day = dates.asked_date(self._line[self._tokens[first].start : self._tokens[max(first, self._at - 1)].end])
+        given = self._up_to(lambda: self._next.word in _PLACES)
+        day = dates.asked_date(given.text)
         if not day:
-            self._at = first
-            self._fail(f"expected: {dates.EXPECTED}")
+            self._fail(f"expected: {dates.EXPECTED}", given)
         return day
 
     def _places(self) -> Tuple[Tuple[str, ...], Tuple[str, ...]]:
@@ -325,14 +263,18 @@ class _Reader:
                 self._fail(f"expected: in or except and a folder, or the end of the line{several}")
             self._at += 1
             folders[word].append(self._folder())
-            while self._next.word == ",":
-                self._at += 1
+            while self._takes(","):
                 folders[word].append(self._folder())
         return tuple(folders["in"]), tuple(folders["except"])
 
     def _folder(self) -> str:
-        folder = self._next
-        if self._is_at_end or folder.word == "," or not folder.text.strip("/"):
-            self._fail("expected: a folder, such as scans/")
-        self._at += 1
+        """A folder, whose name has spaces only in quotes."""
+        end = self._next.end
+        folder = self._up_to(lambda: self._next.word == "," or self._next.end > end and self._next.start > self._end_before)
+        if not folder.text.strip("/"):
+            self._fail("expected: a folder, such as scans/", folder)
         return os.path.normpath(folder.text) + "/"
+
+    @property
+    def _end_before(self) -> int:
+        return self._tokens[self._at - 1].end

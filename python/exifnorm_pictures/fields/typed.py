@@ -84,7 +84,7 @@ def number_of(field: Field) -> Optional[float]:
 
 def together(fields: Sequence[Field]) -> Any:
     """The value of one field, or the values of a DataSet that is repeated as a list."""
-    return typed(fields[0]) if len(fields) == 1 else [typed(it) for it in fields]
+    return fields[0].json if len(fields) == 1 else [it.json for it in fields]
 
 
 def _json_number(number: Any) -> Any:
