@@ -9,13 +9,15 @@ import pytest
 from hypothesis import given, settings
 from hypothesis import strategies as st
 from made_blocks import ASCII, LONG, segment
+from made_boxes import PICTURE as CODED, XMP_UUID, Item, box, full, heif, item_exif, jxl, mime
 from made_files import Placed, app1, app1_xmp, app13, chunk, exif, iim, jpeg, mpf, page, png, png_xmp, profile, resource, tiff, title, webp
+from made_more_files import application, gif
 from studio import SMALL_JPEG, put
 from test_mutations import mutated
 
 from exifnorm_pictures.extract import coded_picture, readers
 from exifnorm_pictures.extract.formats import parts
-from exifnorm_pictures.model import rest
+from exifnorm_pictures.model import budgets, rest
 from exifnorm_pictures.model.budgets import Budget, TooMuch
 from exifnorm_pictures.model.found import Broken
 
@@ -23,6 +25,10 @@ A, T, K = exif(b"abc"), title("one"), iim(b"one")
 PATH, FLAG = resource(0x07D0, bytes(26)), resource(0x040A, b"\1")
 JUMBF = b"JP\0\1\0\0\0\1" + bytes(4) + b"jumb" + bytes(4) + b"jumdc2pa"
 RESOURCES = resource(0x0404, K) + PATH + FLAG + resource(0x0425, bytes(16))
+
+
+C2PA = bytes.fromhex("d8fec3d61b0e483c92975828877ec481")  # of a box uuid
+EXIF = Item(b"Exif", item_exif(A), b"", (1,))
 
 
 def tif(*more, **words):
@@ -47,6 +53,23 @@ FILES = {
     "a TIFF": tif((0x02BC, 1, T), (0x83BB, 7, K), (0x8649, 1, RESOURCES), (0x8773, 7, b"profile"), (0x935C, 7, b"layers"), behind=b"video"),
     "a TIFF of two pages": tiff(
         page((0x010F, ASCII, b"Anna\0")), page((0x0111, LONG, Placed(b"pixels")), (0x0117, LONG, 6)), more=b"nobody's"
+    ),
+    "a HEIF": heif(
+        CODED,
+        CODED._replace(references=((b"thmb", (1,)),)),
+        EXIF,
+        mime(T, (1,), parts=3),
+        Item(b"uri ", b"one", b"urn\0"),
+        properties=box(b"colr", b"profabc") + full(b"udes", 0, b"en\0Name\0\0\0"),
+        behind=box(b"uuid", C2PA, JUMBF) + b"video",
+        padding=b"----",
+    ),
+    "an AVIF with items in meta": heif(
+        Item(b"grid", bytes(8), references=((b"dimg", (2, 3)),), method=1), CODED, CODED, EXIF, brand=b"avif", behind=box(b"moov", b"abc")
+    ),
+    "a JPEG XL": jxl(box(b"Exif", item_exif(A)), box(b"xml ", T), box(b"jumb", JUMBF), box(b"uuid", XMP_UUID, T), behind=b"video"),
+    "a JPEG XL of pieces": jxl(
+        box(b"jxlp", bytes(4), b"one"), box(b"brob", b"xml ", b"abc"), box(b"jxlp", b"\x80\0\0\1", b"two"), pixels=b""
     ),
 }
 
@@ -102,15 +125,19 @@ NAMED = {
         jpeg(app13(resource(0x0404, K) + FLAG)),
         "Photoshop resource 040a (copyright flag)",
     ),
-    "a thumbnail": (jpeg(app1(A)), jpeg(app1(A), segment(0xE0, b"JFXX\0\x10AAAA")), "thumbnail of JFIF"),
     "credentials of a PNG": (png(chunk(b"eXIf", A)), png(chunk(b"eXIf", A), chunk(b"caBX", JUMBF)), parts.CREDENTIALS),
     "a private chunk": (png(chunk(b"eXIf", A)), png(chunk(b"eXIf", A), chunk(b"meTa", b"inventory")), "meTa chunk"),
+    "credentials of a HEIF": (heif(CODED, EXIF), heif(CODED, EXIF, behind=box(b"uuid", C2PA, JUMBF)), parts.CREDENTIALS),
+    "credentials of a JPEG XL": (jxl(box(b"Exif", item_exif(A))), jxl(box(b"Exif", item_exif(A)), box(b"jumb", JUMBF)), parts.CREDENTIALS),
     "a path of a TIFF": (
         tif((0x8649, 1, resource(0x0404, K))),
         tif((0x8649, 1, resource(0x0404, K) + PATH)),
         "Photoshop resource 07d0 (path)",
     ),
 }
+
+
+NOT_READ = ("credentials of a HEIF", "credentials of a JPEG XL")  # boxes that may hold metadata, so the two are in no group
 
 
 @pytest.mark.parametrize("name", NAMED)
@@ -121,6 +148,9 @@ def test_a_part_that_is_gone_is_named_by_each_command(name, folder, called):
     assert printed.endswith(f"Other parts of the files differ: {part} removed.\n")
     called("index", "p", "--catalogue", "c", "--quiet", "--pixels")
     rows = list(csv.DictReader(called("same", "c", "--csv")[1].splitlines()))
+    if name in NOT_READ:
+        assert rows == []
+        return
     assert [(it["keep"], part in it["note"]) for it in rows] == [("0", False), ("1", True)], "the one with more stays"
     assert "any one may stay" not in called("same", "c")[1]
     put(folder / "n", {"x": rich})
@@ -148,5 +178,86 @@ def test_parts_that_each_lacks(folder, called):
 def test_what_has_come_and_gone(old, new):
     before, after = map(rest.text_of, (old, new))
     assert (rest.names_in(before), rest.names_in(after)) == (old, new)
-    assert bool(rest.changes(before, after)) == (old != new)
-    assert rest.has_all(before, after) == all(new.values() and old.get(name) == digest != "" for name, digest in new.items())
+    assert bool(rest.changes(before, after)) == (old != new or "" in old.values())
+
+
+@given(st.lists(st.dictionaries(st.sampled_from(("a", "b", "JFIF")), st.sampled_from(("0f", "1e", "")), max_size=3), max_size=12))
+def test_the_first_file_that_has_all_parts_of_another(files):
+    fullest = rest.Fullest()
+    for at, names in enumerate(files):
+        count = {name: digest for name, digest in names.items() if name != "JFIF"}
+        has_all = (one for one in range(at) if all(digest and files[one].get(name) == digest for name, digest in count.items()))
+        assert fullest.has_all_of(at, rest.text_of(names)) == next(has_all, at)
+
+
+JFIF, DENSER = segment(0xE0, b"JFIF\0\1\1\0\0\1\0\1\0\0"), segment(0xE0, b"JFIF\0\1\1\1\0\x48\0\x48\0\0")
+WRITTEN = {
+    "JFIF": (jpeg(JFIF, app1(A)), jpeg(DENSER, app1(A)), "JFIF changed"),
+    "a thumbnail": (jpeg(app1(A), segment(0xE0, b"JFXX\0\x10AAAA")), jpeg(app1(A)), "thumbnail of JFIF removed"),
+    "resources": (
+        jpeg(app13(resource(0x0404, K) + resource(0x03ED, bytes(16)) + resource(0x040C, b"one"))),
+        jpeg(app13(resource(0x0404, K) + resource(0x0425, bytes(16)) + resource(0x040C, b"two"))),
+        "Photoshop resource 03ed (resolution) removed, Photoshop resource 040c (thumbnail) changed",
+    ),
+    "the time of a PNG": (png(chunk(b"eXIf", A)), png(chunk(b"eXIf", A), chunk(b"tIME", bytes(7))), "tIME chunk added"),
+}
+
+
+@pytest.mark.parametrize("name", WRITTEN)
+def test_what_programs_write_by_themselves_is_named_and_is_no_news(name, folder, called):
+    before, after, words = WRITTEN[name]
+    put(folder / "p", {"a": before, "b": after})
+    status, printed, _ = called("compare", "p/a", "p/b")
+    assert status == 0 and printed.endswith(f"Other parts of the files differ: {words}.\n")
+    called("index", "p", "--catalogue", "c", "--quiet", "--pixels")
+    assert [it["keep"] for it in csv.DictReader(called("same", "c", "--csv")[1].splitlines())] == ["1", "0"]
+    put(folder / "n", {"x": before})
+    night = ("nightly", "n", "--catalogue", "of-nights", "--pixels")
+    called(*night)
+    called("index", "n", "--catalogue", "first", "--quiet", "--pixels")
+    put(folder / "n", {"x": after})
+    assert called(*night)[:2] == (0, "")
+    status, printed, _ = called("changed", "first", "of-nights", "--each")
+    assert status == 0 and words in printed
+    status, printed, _ = called("verify", "--catalogue", "first")
+    assert status == 0 and words in printed
+
+
+def test_a_part_that_is_too_large_is_never_equal(folder, called, monkeypatch):
+    monkeypatch.setattr(budgets, "UNREAD_BYTES", 100)
+    put(folder / "p", {"a": png(chunk(b"eXIf", A), chunk(b"prIv", b"a" * 101)), "b": png(chunk(b"eXIf", A), chunk(b"prIv", b"b" * 101))})
+    status, printed, _ = called("compare", "p/a", "p/b")
+    assert status == 2 and printed.endswith("Other parts of the files differ: prIv chunk too large to compare.\n")
+    called("index", "p", "--catalogue", "c", "--quiet", "--pixels")
+    assert [it["keep"] for it in csv.DictReader(called("same", "c", "--csv")[1].splitlines())] == ["", ""]
+    called("index", "p", "--catalogue", "d", "--quiet", "--pixels")
+    assert called("changed", "c", "d")[0] == 0, "the files have the same bytes"
+
+
+def test_many_names(folder, called):
+    """Of a file with many names a few are shown, and none is said to have come or gone whose fate isn't known."""
+    kinds = [b"pr" + bytes([65 + it // 26, 97 + it % 26]) for it in range(100)]
+    made = png(*(chunk(it, it) for it in kinds))
+    put(folder / "p", {"a": made, "b": png(*(chunk(it, b"x" if it == kinds[50] else it) for it in kinds[1:]))})
+    status, printed, _ = called("compare", "p/a", "p/b")
+    assert status == 1 and printed.endswith("Other parts of the files differ: further parts changed.\n")
+    assert len(rest.names_in(coded_picture.of_stream(io.BytesIO(made), Budget()).beside)) == rest.MOST + 1
+
+
+CREDENTIALS = {
+    "JPEG": (jpeg(), jpeg(segment(0xEB, JUMBF))),
+    "PNG": (png(), png(chunk(b"caBX", JUMBF))),
+    "WebP": (webp((b"VP8 ", b"pixels.")), webp((b"VP8 ", b"pixels."), (b"C2PA", JUMBF))),
+    "HEIF": (heif(CODED), heif(CODED, behind=box(b"uuid", C2PA, JUMBF))),
+    "JPEG XL": (jxl(), jxl(box(b"jumb", JUMBF))),
+    "GIF": (gif(), gif(application(b"C2PA_GIF\1\0\0", JUMBF))),
+}
+
+
+@pytest.mark.parametrize("name", CREDENTIALS)
+def test_content_credentials_are_named(name, folder, called):
+    """Also where neither picture has metadata; and it is said that nobody has validated them."""
+    put(folder, dict(zip(("a", "b"), CREDENTIALS[name])))
+    for words in (("a", "b"), ("b", "a")):
+        status, printed, _ = called("compare", *words, "--no-exiftool")
+        assert status in (1, 2) and "content credentials (not validated)" in printed, printed

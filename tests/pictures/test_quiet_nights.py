@@ -7,10 +7,9 @@ import pytest
 from made_blocks import BLOCKS
 from made_files import app1, app1_xmp, exif, jpeg
 from studio import put
-from test_dask import FAR, Closed, Killed, Near
 
 from exifnorm_pictures.extract import programs
-from exifnorm_pictures.scan import cluster, looking
+from exifnorm_pictures.scan import looking
 
 PICTURE, REFUSED, UNREADABLE = jpeg(app1(exif(b"abc"))), jpeg(app1(BLOCKS["Overlap"])), jpeg(app1_xmp(b"<x"))
 
@@ -52,24 +51,6 @@ def test_nights(archive, called):
         and "5 at which a program failed as before" in printed
         and "1 at which a program failed" in printed
     )
-
-
-def test_nights_on_a_cluster(archive, called, monkeypatch):
-    """Workers don't know the catalogue: which problems are known is found here, also for a picture at which workers die."""
-    near = Near()
-    for name, value in (("distributed", near), ("KilledWorker", Killed), ("CommClosedError", Closed)):
-        monkeypatch.setattr(cluster, name, value, raising=False)
-    index = ["index", "p", "--catalogue", "c", "--scheduler", FAR]
-    status, printed, _ = called(*index)
-    assert status == 2 and printed.count("exiv2 ended with status 1") == 5
-    status, printed, _ = called(*index)
-    assert status == 0 and "exiv2 ended" not in printed and "5 at which a program failed as before" in printed
-    near.outcomes = [ValueError("another Python")]
-    status, printed, _ = called(*index)
-    assert status == 0 and "5 at which a program failed as before" in printed
-    shutil.copy(archive / "failing0.jpg", archive / "failing5.jpg")
-    status, printed, _ = called(*index)
-    assert status == 2 and printed.count("exiv2 ended") == 1 and "5 at which a program failed as before" in printed
 
 
 def test_one_catalogue_with_itself(archive, called):

@@ -20,7 +20,7 @@ from ..model.found import EXIF, NAMES, OWN, PROGRAMS, XMP_FILE, lost_kinds
 from ..model.problems import Problem
 from ..model.records import BlockRecord, PictureRecord, is_same_file
 from ..model.results import Result
-from ..model.rest import changes as changes_of_rest
+from ..model.rest import changes as changes_of_rest, counting
 from ..model.sides import REACHED, Status
 from ..model.steps import Step
 from ..model.verdicts import Judged, Verdict, left_open, verdicts
@@ -43,6 +43,7 @@ class Compared(NamedTuple):
     changes: Sequence[FieldDifference] = ()
     verdicts: Sequence[Verdict] = ()
     moved_to: Optional[bytes] = None
+    partner: Optional[bytes] = None  # the picture with the same stem with which it was compared
     maker_note: "Optional[List[maker_notes.NoteDifference]]" = None  # the values that ExifTool reads otherwise, if it was asked
     repairs: Sequence[Tuple[str, Tuple[Step, ...], Tuple[Step, ...]]] = ()  # of each block, before and after
     left_out: Sequence[str] = ()  # fields and kinds that differ and don't count
@@ -50,6 +51,7 @@ class Compared(NamedTuple):
     parts: Sequence[str] = ()  # what has come, gone or changed of the rest of the file
     is_unseen: bool = False  # whether its file has other bytes and the same metadata, and its picture can't be compared
     damage: Tuple[str, str] = ("", "")  # of the file before and after
+    is_new: bool = False  # only there afterwards
     has_more: bool = False  # whether further fields weren't compared, of pages that share blocks of many fields
 
 
@@ -62,18 +64,19 @@ def changed(
     session: Optional[Session] = None,
     choice: Choice = EVERYTHING,
     pictures: "Optional[Counter[Coded]]" = None,
+    by_stem: bool = False,
 ) -> Iterator[Compared]:
     """Compares each picture of two catalogues, in the order of their names, or only some pictures, by name or by path.
 
     Those that are the same are only counted, unless `every` is set. In a session ExifTool is asked for the values of MakerNotes. Fields that the
-    choice leaves out don't count. In the end `counts` has the number of each result, and `pictures` those of the coded pictures.
+    choice leaves out don't count. `by_stem` compares pictures whose names differ only in folders and endings. In the end `counts` has the number of each result, and `pictures` those of the coded pictures.
     """
-    with contextlib.closing(Pairs(before, after, only)) as pairs:
+    with contextlib.closing(Pairs(before, after, only, by_stem)) as pairs:
         there = 0
         differing = (compared(pair, pairs, session, choice) for pair in pairs.differing(every))
-        came = (Compared(name, Result.MISSING_BEFORE) for name in pairs.came())
+        came = (Compared(it.name, _alone(it, Result.MISSING_BEFORE), is_new=True) for it in pairs.came())
         for comparison in heapq.merge(differing, came, key=lambda one: one.name):
-            there += comparison.result != Result.MISSING_BEFORE
+            there += not comparison.is_new
             counts[comparison.result] += 1
             choice.add_left_out(comparison.left_out)
             yield comparison
@@ -89,6 +92,8 @@ def compared(pair: Pair, sides: Sides, session: Optional[Session], choice: Choic
     coded, damage = result_of_coded(pair.old, pair.new)
     damaged = (pair.old.damage if pair.old else "", pair.new.damage if pair.new else "")
     comparison = comparison._replace(picture=coded, parts=_other_parts(pair, coded), damage=damaged)
+    if pair.place is not None and comparison.result == Result.MOVED and counting(comparison.parts):
+        return comparison._replace(result=Result.MOVED_EDITED, note=_joined(comparison.note, ", ".join(comparison.parts)))
     if pair.place is not None or (choice.only and not coded.is_damaged):
         return comparison
     result, clause = (comparison.result, "") if choice.only else result_with(coded, comparison.result, comparison.parts)
@@ -115,14 +120,26 @@ def _have_other_bytes(pair: Pair) -> bool:
 
 def _by_metadata(pair: Pair, sides: Sides, session: Optional[Session], choice: Choice) -> Compared:
     """A picture without its coded picture."""
-    name, old, new, place = pair
+    name, old, new, place = pair[:4]
     if old is None or new is None:
-        return Compared(name, Result.MISSING_AFTER) if place is None else Compared(name, Result.MOVED, moved_to=place)
+        if place is None:
+            return Compared(name, _alone(pair, Result.MISSING_AFTER))
+        result = Result.RENUMBERED if pair.is_renumbered else Result.MOVED
+        note = "" if pair.is_sure or not pair.is_renumbered else "probably: not the file, but what it has is the same"
+        return Compared(name, result, note, moved_to=place)
     if old.problem or new.problem:
         return _unless_untouched(_unread(name, old, new), old, new, place)
     judged, lost = _by_digests(old, new, sides)
     found = _unless_untouched(Compared(name, judged.result, judged.sentence, (), judged.verdicts), old, new, place)
-    return found if found.result == Result.SAME_FILE else _placed(_in_detail(name, judged, old, new, sides, session, choice, lost), place)
+    if found.result == Result.SAME_FILE:
+        return found
+    found = _in_detail(name, judged, old, new, sides, session, choice, lost)
+    return found._replace(partner=place) if pair.is_partner else _placed(found, place)
+
+
+def _alone(pair: Pair, result: Result) -> Result:
+    """The result of a picture that isn't compared."""
+    return Result.UNCLEAR if pair.is_unclear else result
 
 
 def _unless_untouched(found: Compared, old: PictureRecord, new: PictureRecord, place: Optional[bytes]) -> Compared:
@@ -252,7 +269,7 @@ def total(counts: "Counter[Result]") -> int:
 
 def number_changed(counts: "Counter[Result]") -> int:
     """How many of them have changed. One that only has another name hasn't, and one that can't be compared wholly isn't known to have."""
-    return sum(count for it, count in counts.items() if it.has_changed and it.are_pictures and it != Result.MOVED)
+    return sum(count for it, count in counts.items() if it.has_changed and it.are_pictures and it not in (Result.MOVED, Result.RENUMBERED))
 
 
 def number_undecided(counts: "Counter[Result]") -> int:

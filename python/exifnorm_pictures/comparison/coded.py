@@ -5,6 +5,7 @@ from __future__ import annotations
 from collections import Counter
 from typing import Optional, Sequence, Tuple
 
+from ..model import rest
 from ..model.found import CUT
 from ..model.records import PictureRecord
 from ..model.results import Result
@@ -33,10 +34,14 @@ class Coded(Word):
     UNKNOWN = ("not compared", "Only metadata was compared: these pictures aren't read here.")
 
 
+# Whether the rests of two files, in the rows `old` and `new`, are equal: a part without a digest only if the whole files are
+SAME_REST = (
+    "(old.sha256 != '' AND old.sha256 = new.sha256 OR old.beside = new.beside AND instr(char(10) || old.beside, char(10) || ' ') = 0)"
+)
 # The same as `coded_result`, for the rows `old` and `new` of two catalogues
 SQL = f"""CASE WHEN new.damage != '' AND old.damage = '' THEN '{Coded.DAMAGED}' WHEN new.damage != '' THEN '{Coded.DAMAGED_BOTH}'
     WHEN old.damage != '' THEN '{Coded.DAMAGED_BEFORE}' WHEN old.type != new.type THEN '{Coded.UNKNOWN}' WHEN old.coded_picture != '' AND new.coded_picture != ''
-    THEN CASE WHEN old.coded_picture != new.coded_picture THEN '{Coded.OTHER}' WHEN old.beside = new.beside THEN '{Coded.SAME}' ELSE '{Coded.BESIDE}' END
+    THEN CASE WHEN old.coded_picture != new.coded_picture THEN '{Coded.OTHER}' WHEN {SAME_REST} THEN '{Coded.SAME}' ELSE '{Coded.BESIDE}' END
     WHEN old.sha256 != '' AND old.sha256 = new.sha256 THEN '{Coded.SAME}' ELSE '{Coded.UNKNOWN}' END"""
 
 
@@ -56,7 +61,8 @@ def _by_digests(picture: PictureRecord, other: PictureRecord) -> Coded:
         return Coded.SAME if picture.sha256 and picture.sha256 == other.sha256 else Coded.UNKNOWN
     if picture.coded_picture != other.coded_picture:
         return Coded.OTHER
-    return Coded.SAME if picture.beside == other.beside else Coded.BESIDE
+    is_same = bool(picture.sha256) and picture.sha256 == other.sha256
+    return Coded.SAME if is_same or not rest.changes(picture.beside, other.beside) else Coded.BESIDE
 
 
 def _damaged(picture: PictureRecord, other: PictureRecord) -> Tuple[Coded, str]:
@@ -76,14 +82,19 @@ _RESULTS = {
     Coded.DAMAGED_BEFORE: (Result.DAMAGED_DIFFERENT, Result.DAMAGED_BEFORE, Result.DAMAGED_BEFORE),
     Coded.OTHER: (None, Result.OTHER_PICTURE_ALONE, Result.OTHER_PICTURE),
 }
+_OF_PARTS = (None, Result.OTHER_PARTS, None)  # of parts that count
 
 
 def result_with(coded: Coded, result: Result, parts: Sequence[str]) -> Tuple[Result, str]:
     """The result of the metadata and the coded pictures together, and what isn't in its word, as the other `parts` that differ."""
-    by_metadata = _RESULTS.get(coded, (None,) * 3)[0 if result.has_changed else 1 if result.is_equal else 2]
-    if by_metadata:
+    counted = rest.counting(parts) if coded == Coded.BESIDE else ()
+    results = _RESULTS.get(coded, _OF_PARTS if counted else (None,) * 3)
+    by_metadata = results[0 if result.has_changed else 1 if result.is_equal else 2]
+    if by_metadata == Result.OTHER_PARTS and all(it.endswith(rest.TOO_LARGE) for it in counted):
+        by_metadata = Result.NOT_WHOLLY_READ
+    if by_metadata and coded != Coded.BESIDE:
         return by_metadata, ""
-    return result, {Coded.OTHER: "the picture differs, too", Coded.BESIDE: ", ".join(parts)}.get(coded, "")
+    return by_metadata or result, {Coded.OTHER: "the picture differs, too", Coded.BESIDE: ", ".join(parts)}.get(coded, "")
 
 
 def sentence_of_coded(counts: "Counter[Coded]", pixels: str = "index --pixels") -> str:

@@ -43,13 +43,17 @@ _CLEAREST = (NAMES[XMP], NAMES[IPTC], NAMES[EXIF])  # the order in which two tex
 
 
 class Conflict(NamedTuple):
-    """A label with texts in two standards at least, and how these differ."""
+    """A label with texts in two standards at least, and how these differ.
+
+    `kind` is a word: "alike", "another order", "empty", "camera's text", "joined", "cut", "character set" or "different". `detail` says more,
+    `texts` are those of each field, and `worse` the fields whose text is cut or in a wrong character set.
+    """
 
     label: str
     kind: ConflictKind
     detail: str
     texts: Tuple[Caption, ...]
-    worse: Tuple[str, ...] = ()  # the fields whose text is cut or in a wrong character set
+    worse: Tuple[str, ...] = ()
 
     @property
     def is_alike(self) -> bool:
@@ -117,15 +121,15 @@ def _conflict(label: Label, ours: Sequence[Caption]) -> Conflict:
     return Conflict(label.word, kind, "; ".join(details), tuple(shown), worse)
 
 
-def chosen(texts: Sequence[Caption], known: Sequence[Conflict]) -> Optional[Caption]:
+def chosen(texts: Sequence[Caption], known: Sequence[Conflict], order: Sequence[str] = STANDARDS) -> Optional[Caption]:
     """The texts of a label where there is space for one field, which aren't a camera's: those that are whole, on which two standards agree, and
-    the first in their order. Those of further blocks, such as of a second page, are taken where the first ones have none."""
+    the first in the order of the standards. Those of further blocks, such as of a second page, are taken where the first ones have none."""
     worse = {field for it in known for field in it.worse}
     candidates = [it for it in texts if not it.is_empty and not it.is_own]
     agreeing = Counter(text for text, _ in {(_plain(it.line), it.standard) for it in candidates if not it.is_extra and not it.block})
     candidates = [it for it in candidates if not it.block] or candidates
     candidates.sort(
-        key=lambda it: (it.is_extra, it.field in worse, bool(agreeing) and agreeing[_plain(it.line)] < 2, STANDARDS.index(it.standard))
+        key=lambda it: (it.is_extra, it.field in worse, bool(agreeing) and agreeing[_plain(it.line)] < 2, order.index(it.standard))
     )
     return candidates[0] if candidates else None
 

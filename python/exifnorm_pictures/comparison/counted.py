@@ -30,14 +30,12 @@ class _Counted(NamedTuple):
     meaning: str  # of all of the block
     listing: str  # of all its fields
     other: str  # the digest of those that count, after a repair too, without the MakerNote
-    other_meaning: str  # of all of the block without the MakerNote
-    other_listing: str  # of all its fields but the MakerNote
 
 
 def make_table(catalogue: Catalogue, choice: Choice, table: str) -> None:
-    """Makes the temporary table, unless it is there. Its digests are those of the fields that count, and it has five columns more: `whole`, which
-    is equal for pictures that mean the same, `listing`, which is of all fields, both without MakerNotes as `other_whole` and `other_listing`,
-    and `place`, of MakerNotes and of what was not read."""
+    """Makes the temporary table, unless it is there. Its digests are those of the fields that count, and it has three columns more: `whole`,
+    which is equal for pictures that mean the same, `listing`, which is of all fields, and `place`, of MakerNotes and of what was not read.
+    """
     if next(catalogue.rows("SELECT 1 FROM sqlite_temp_master WHERE name = ?", (table.rpartition(".")[2],)), None):
         return
     with catalogue.guarded():
@@ -45,7 +43,7 @@ def make_table(catalogue: Catalogue, choice: Choice, table: str) -> None:
     rows = _rows(catalogue, choice)
     while batch := list(islice(rows, _BATCH)):
         with catalogue.guarded():
-            catalogue.base.executemany(f"INSERT INTO temp.remaining VALUES (?{', ?' * 9})", batch)
+            catalogue.base.executemany(f"INSERT INTO temp.remaining VALUES (?{', ?' * 7})", batch)
     with catalogue.guarded():
         catalogue.base.execute(f"CREATE TABLE {table} AS SELECT {_columns(choice)}, {_MORE} FROM {_JOINED}")
         catalogue.base.execute("CREATE UNIQUE INDEX temp.counted_by_id ON counted (id)")
@@ -54,7 +52,7 @@ def make_table(catalogue: Catalogue, choice: Choice, table: str) -> None:
         catalogue.base.execute("DROP TABLE remaining")
 
 
-_SUMS = "whole, listing, other_whole, other_listing"
+_SUMS = "whole, listing"
 _MORE = f"{_SUMS}, pictures.maker_notes || ' ' || ifnull(pictures.not_read, '') AS place"
 _JOINED = "pictures LEFT JOIN temp.remaining USING (id)"
 
@@ -84,7 +82,7 @@ def _counted(row: Tuple[Any, ...], choice: Choice) -> _Counted:
     has(str, word, name, status, octets, *(it for it in (digest, repair) if it is not None))
     if packed is None:
         own = f"whole {digest}" if status == Status.ACCEPTED else None  # its fields aren't kept, so all of it counts
-        return _Counted(kind_of(word), name, own, None, digest or octets, "", own or "", digest or octets, "")
+        return _Counted(kind_of(word), name, own, None, digest or octets, "", own or "")
     fields = list(map(_with_exact_xmp, unpacked(packed)))
     block = "" if name in NAMES.values() else name
     counting = choice.of(fields, block)
@@ -93,10 +91,9 @@ def _counted(row: Tuple[Any, ...], choice: Choice) -> _Counted:
     known = (kind_of(word), name, counted if status == Status.ACCEPTED else None, counted if is_repaired else None, meaning, listing)
     others = [it for it in fields if (it.directory, it.tag) != MAKER_NOTE]
     if len(others) == len(fields):
-        return _Counted(*known, counted, meaning, listing)
-    of_others = _sum_of(others)
+        return _Counted(*known, counted)
     rest = [it for it in counting if (it.directory, it.tag) != MAKER_NOTE]
-    return _Counted(*known, _digest(rest, choice) or "no other field", of_others, of_others)
+    return _Counted(*known, _digest(rest, choice) or "no other field")
 
 
 def _with_exact_xmp(field: Field) -> Field:
@@ -134,6 +131,6 @@ def _row(blocks: Sequence[_Counted], choice: Choice) -> Tuple[object, ...]:
     exif = [(it.name, it.repaired if it.digest is None else it.digest) for it in blocks if it.kind == EXIF]
     repaired = _together(exif) or None if digests[0] is None else None
     others = [(it.name, it.other) for it in blocks if it.kind == EXIF and it.other != ""]
-    wholes = zip(*((it.meaning, it.listing, it.other_meaning, it.other_listing) for it in blocks))
+    wholes = zip(*((it.meaning, it.listing) for it in blocks))
     sums = (joined([(f"{it.kind} {it.name}", text) for it, text in zip(blocks, some)]) for some in wholes)
     return (*digests, repaired, joined(others) if others else "", *sums)

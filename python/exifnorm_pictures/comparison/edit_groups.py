@@ -84,7 +84,7 @@ class Kinds:
         places = dict(zip(keys, map(places_of, edits)))
         for key, counts in zip(kind.keys, kind.places):
             if len(counts) < MOST_PLACES:
-                counts.update(places.get(key, ()))
+                counts.update(map(_short_name, places.get(key, ())))
         values = dict(zip(keys, (digest(it.value) for it in edits)))
         kind.values = [one if one == values.get(key) else b"" for one, key in zip(kind.values, kind.keys)]
         return number + 1
@@ -133,8 +133,16 @@ class Kinds:
 def _shortened(edit: Edit) -> Edit:
     """An edit with limited texts: of words that were kept the beginning and the end are there."""
     return edit._replace(
-        steps=tuple(_short(it) for it in edit.steps[:100]), value=_short(Step(IN, edit.value)).text, fields=edit.fields[:20]
+        name=_short_name(edit.name),
+        steps=tuple(_short(it) for it in edit.steps[:100]),
+        value=_short(Step(IN, edit.value)).text,
+        fields=tuple(_short_name(it) for it in edit.fields[:20]),
     )
+
+
+def _short_name(name: str) -> str:
+    """A name that may be long. Its digest keeps it apart from others that begin alike."""
+    return name if len(name) <= LONGEST else f"{name[:LONGEST]} .. (SHA-256 {digest(name).hex()})"
 
 
 def _short(step: Step) -> Step:

@@ -16,14 +16,12 @@ from ..model.words import Word
 class Basis(Word):
     """What the pictures of a group have in common. A picture can be in groups of several kinds."""
 
-    is_later: bool  # whether a group joins pictures of earlier groups, and has one of each
     has_reasons: bool  # whether a block of some pictures is refused
 
     MEANING = ("meaning",)
     FIELDS = ("fields",)  # the meaning but for the fields left out, by the listing of fields, which is tested and not proved
-    BYTES = ("bytes", False, True)
-    MAKER_NOTE = ("maker note", True)
-    REPAIR = ("repair", True, True)
+    BYTES = ("bytes", True)
+    REPAIR = ("repair", True)  # joins pictures of earlier groups, and has one of each
     CODED_PICTURE = ("coded picture",)  # the metadata may differ
     FILE = ("file",)  # all bytes of their files
 
@@ -65,7 +63,6 @@ class Files:
     links: List[Link] = field(default_factory=list)
     gone: List[bytes] = field(default_factory=list)
     changed: List[bytes] = field(default_factory=list)
-    lost: List[PictureRecord] = field(default_factory=list)  # those that are gone or have changed, where their MakerNotes count
 
     def only(self, pictures: List[PictureRecord]) -> "Files":
         """These pictures, with their further names."""
@@ -82,12 +79,16 @@ class Group:
     reasons: Dict[int, str] = field(default_factory=dict)  # the refusals or repairs of a picture, by its number
     others: Dict[int, int] = field(default_factory=dict)  # how many more pictures an earlier group has, of which this picture is one
     not_read: str = ""  # the parts that were not read, and have the same bytes
-    result: Optional[Result] = None  # that `changed` has for two of its pictures, where it isn't decided wholly, or a MakerNote differs
 
     @property
     def basis(self) -> Basis:
         """What they have in common."""
         return self.shared.basis
+
+    @property
+    def result(self) -> Optional[Result]:
+        """What `changed` says of two of its pictures, where that isn't simply the same."""
+        return Result.SAME_REPAIRED if self.basis == Basis.REPAIR else None
 
     @property
     def members(self) -> List[PictureRecord]:
@@ -106,7 +107,7 @@ class Group:
         if self.shared.is_partial or self.basis in OTHERS:  # no digest is of what they have in common
             return {}
         for kind, digest in zip(KINDS, first.meanings):
-            if kind in self.shared.kinds and digest != "" and (kind != EXIF or not self.has_other_notes):
+            if kind in self.shared.kinds and digest != "":
                 digests[kind] = digest or (first.exif_repaired if kind == EXIF and self.basis == Basis.REPAIR else "") or ""
         return digests
 
@@ -130,28 +131,3 @@ class Group:
     def are_pictures(self) -> bool:
         """Whether ExifTool or a reader takes the files for pictures."""
         return self.members[0].problem != Problem.NO_PICTURE
-
-    @property
-    def has_other_notes(self) -> bool:
-        """Whether the MakerNotes have different bytes."""
-        return self.basis == Basis.MAKER_NOTE and len({meaning_of_exif(it) for it in self.members}) > 1
-
-    @property
-    def has_refused(self) -> bool:
-        """Whether a block of a picture is refused or unreadable."""
-        return any(it.meanings[KINDS.index(kind)] is None for it in self.members for kind in self.shared.kinds)
-
-    @property
-    def rests_on_readings(self) -> bool:
-        """Whether MakerNotes count as the same because ExifTool reads the same: then one of them may be damaged."""
-        return self.basis == Basis.MAKER_NOTE or (self.basis == Basis.REPAIR and self.has_moved_notes)
-
-    @property
-    def has_moved_notes(self) -> bool:
-        """Whether the MakerNotes are at different places."""
-        return len({it.maker_notes for it in self.members}) > 1
-
-
-def meaning_of_exif(picture: PictureRecord) -> Optional[str]:
-    """The digest of what Exif means, after repair too."""
-    return picture.exif_repaired if picture.exif is None else picture.exif

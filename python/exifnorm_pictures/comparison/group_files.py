@@ -10,9 +10,8 @@ from ..model.records import PictureRecord, Stamp, is_marked_as
 from .group import Files, Link
 
 
-def files_of(pictures: Iterable[PictureRecord], look: bool, folders: Optional[Folders], keeps_lost: bool) -> Files:
-    """The different files of some pictures that are there; the further names of each, and those that are gone or have changed. With
-    `keeps_lost` the pictures of these are kept, too."""
+def files_of(pictures: Iterable[PictureRecord], look: bool, folders: Optional[Folders]) -> Files:
+    """The different files of some pictures that are there; the further names of each, and those that are gone or have changed."""
     files = Files()
     places: Dict[object, Dict[object, int]] = {}  # of each file among the pictures, by device and inode
     further: Dict[int, List[PictureRecord]] = {}
@@ -22,7 +21,6 @@ def files_of(pictures: Iterable[PictureRecord], look: bool, folders: Optional[Fo
             state = "changed"
         if state:
             (files.gone if state == "gone" else files.changed).append(picture.path)
-            files.lost += [picture] * keeps_lost
             continue
         of_device = places.setdefault(device if inode else None, {})
         at = of_device.setdefault(inode or picture.path, len(files.pictures))

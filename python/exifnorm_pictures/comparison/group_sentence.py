@@ -2,7 +2,7 @@
 
 from __future__ import annotations
 
-from typing import Dict, List, Sequence
+from typing import Dict, List, Optional, Sequence
 
 from ..model.found import EXIF, KINDS, NAMES, XMP, lost_kinds
 from ..model.records import PictureRecord
@@ -22,7 +22,7 @@ def sentence_of(group: Group) -> str:
     text = _of_kinds(group)
     if group.not_read:
         text += f"; not read, but the same bytes: {group.not_read}"
-    return text + (_of_notes(group) if group.rests_on_readings else "")
+    return text
 
 
 def _of_files(group: Group) -> str:
@@ -34,28 +34,34 @@ def _of_files(group: Group) -> str:
 
 def _of_kinds(group: Group) -> str:
     """Which kinds are the same, which are refused and the same, and which no picture has."""
-    shared, by_kind = group.shared, dict(zip(KINDS, group.members[0].meanings))
-    refused = [it for it in shared.kinds if any(picture.meanings[KINDS.index(it)] is None for picture in group.members)]
-    there = [it for it in shared.kinds if by_kind[it] != "" and it not in refused]
-    names = {it: NAMES[it] + " but for the MakerNote" * (it == EXIF and group.has_other_notes) for it in shared.kinds}
-    parts = [f"{with_verb([names[it] for it in there])} the same" + " byte for byte" * group.same_bytes] if there else []
-    for kind in refused:
-        word = Result.UNREADABLE if kind == XMP else Result.REFUSED
-        is_by_bytes = group.basis == Basis.BYTES or kind != EXIF
-        parts.append(f"{names[kind]} is {word}, the same bytes" if is_by_bytes else f"{names[kind]} is the same after repair")
-    none = [] if shared.has_choice else [it for it in shared.kinds if by_kind[it] == ""]
-    lost = [it for it in lost_kinds(group.members[0].type, group.not_read.split(", ")) if it in none]
-    parts += [f"{with_verb([NAMES[it] for it in lost])} {Result.NOT_KNOWN}"] if lost else []
-    none = [it for it in none if it not in lost]
-    return ", ".join([*parts, *none_of(none)]) + ", but for the fields left out" * shared.is_partial
+    known = {it: _state(group, it) for it in group.shared.kinds}
+    kinds = {state: [it for it in known if known[it] == state] for state in _STATES}
+    there = [NAMES[it] for it in kinds[Result.SAME]]
+    parts = [f"{with_verb(there)} the same" + " byte for byte" * group.same_bytes] if there else []
+    parts += [f"{NAMES[it]} is {_refused(group, it)}" for it in kinds[Result.REFUSED]]
+    lost = [NAMES[it] for it in kinds[Result.NOT_KNOWN]]
+    parts += [f"{with_verb(lost)} {Result.NOT_KNOWN}"] if lost else []
+    return ", ".join([*parts, *none_of(kinds[Result.ABSENT])]) + ", but for the fields left out" * group.shared.is_partial
 
 
-def _of_notes(group: Group) -> str:
-    """What is known of the MakerNotes."""
-    if group.result == Result.ONLY_REACHED:
-        return "; bytes that only the MakerNote can reach differ, MakerNote reads the same (ExifTool)"
-    words = ["moved"] * group.has_moved_notes + ["differs in bytes"] * group.has_other_notes
-    return f"; MakerNote {', '.join([*words, 'reads the same'])} (ExifTool)"
+_STATES = (Result.SAME, Result.REFUSED, Result.NOT_KNOWN, Result.ABSENT)
+
+
+def _state(group: Group, kind: str) -> Optional[Result]:
+    """What is known of the blocks of a kind; nothing if no picture has one, and only some fields count."""
+    at = KINDS.index(kind)
+    if any(picture.meanings[at] is None for picture in group.members):
+        return Result.REFUSED
+    if group.members[0].meanings[at]:
+        return Result.SAME
+    lost = lost_kinds(group.members[0].type, group.not_read.split(", "))
+    return None if group.shared.has_choice else Result.NOT_KNOWN if kind in lost else Result.ABSENT
+
+
+def _refused(group: Group, kind: str) -> str:
+    if group.basis != Basis.BYTES and kind == EXIF:
+        return "the same after repair"
+    return f"{Result.UNREADABLE if kind == XMP else Result.REFUSED}, the same bytes"
 
 
 def _of_metadata(pictures: Sequence[PictureRecord]) -> str:

@@ -1,8 +1,9 @@
 """`same`: the groups of pictures that are the same. SQLite finds them, and the files of a group are looked at before it is returned.
 
-So a picture that is gone, that has changed, or that is a further name of another one is never the reason for a group. Groups are of four
-kinds, by what they rest on, in this order. A picture can be in groups of several kinds. A later group has only one picture of each earlier
-one, so whoever keeps any one picture of each group loses nothing; but of a group that rests on MakerNotes nobody knows which to keep.
+So a picture that is gone, that has changed, or that is a further name of another one is never the reason for a group. Groups are of several
+kinds, by what they rest on. A picture can be in groups of two kinds: one that rests on a repair has only one picture of each earlier one, so
+whoever keeps any one picture of each group loses nothing. A MakerNote can lead to anything in its block, so two count as the same only at the
+same place in blocks with the same bytes.
 """
 
 from __future__ import annotations
@@ -13,18 +14,17 @@ from ..catalogue.store import PICTURE_COLUMNS, Catalogue
 from ..extract.sidecars import Folders
 from ..fields.choosing import EVERYTHING, Choice, UnknownField
 from ..fields.block_fields import known_fields
-from ..files.session import Session
 from ..model import steps
 from ..model.found import BROKEN, EXIF, IPTC, KINDS, NAMES, REST, WITHOUT_IPTC, each_kind
 from ..model.problems import NOT_THERE
 from ..model.records import PictureRecord, picture_of_row
-from ..model.results import Result
+from ..model.texts import pictures_in_words
 from .group import OTHERS, Basis, Group, Shared
 from .group_files import files_of
-from .group_notes import by_maker_notes, by_reading
-from .readings import Readings, Unknown
 
 COUNTED = "temp.counted"  # the pictures without the fields that don't count
+# What a MakerNote may lead to: only in a block with the same bytes it is the same
+_NOTE = "CASE WHEN maker_notes = '' THEN '' ELSE maker_notes || ' ' || exif_octets END"
 _UNREAD = f"problem NOT IN {(*NOT_THERE, 'NoPicture')}"  # a file that may be a picture, and of which nothing was read
 
 
@@ -43,7 +43,7 @@ def _queries(kinds: Sequence[str], only: Optional[str]) -> Iterator[_Query]:
     there = "(" + " OR ".join(f"{it}_octets != ''" for it in columns) + ")"
     base = f"problem IS NULL AND not_read IS NOT NULL AND {there}"
     known = " AND ".join(f"{it} IS NOT NULL" for it in columns)
-    place = ("maker_notes",) * (EXIF in kinds)
+    place = (_NOTE,) * (EXIF in kinds)
     yield _Query(Basis.MEANING, (*columns, "not_read", *place), f"{base} AND {known}{chosen}")
     octets = tuple(f"ifnull({it}, 'bytes ' || {it}_octets)" for it in columns)
     yield _Query(Basis.BYTES, (*octets, "not_read", *place), f"{base} AND NOT ({known}){chosen}")
@@ -51,13 +51,10 @@ def _queries(kinds: Sequence[str], only: Optional[str]) -> Iterator[_Query]:
         unread = f"((problem IS NULL AND not_read IS NULL) OR {_UNREAD})"
         yield _Query(Basis.BYTES, ("file",), f"file != '' AND {unread}{chosen}")
     if EXIF in kinds:
-        several = "count(*) > 1 AND count(DISTINCT ifnull(exif, exif_repaired) || ' ' || maker_notes || ' ' || not_read) > 1"
-        others = ("other_exif", *octets[1:])
-        yield _Query(Basis.MAKER_NOTE, (*others, "other_not_read"), f"{base} AND maker_notes != '' AND other_exif != ''{chosen}", several)
         repaired = tuple("ifnull(exif, exif_repaired)" if it == "exif" else it for it in columns)
         after = " AND ".join(f"{it} IS NOT NULL" for it in repaired)
         several = "count(*) > 1 AND sum(exif IS NULL) > 0 AND count(DISTINCT exif_octets) > 1"
-        yield _Query(Basis.REPAIR, (*repaired, "not_read"), f"{base} AND {after}{chosen}", several)
+        yield _Query(Basis.REPAIR, (*repaired, "not_read", *place), f"{base} AND {after}{chosen}", several)
     if len(kinds) == len(KINDS):  # last, because people ask for pictures
         yield _Query(Basis.BYTES, ("file",), f"file != '' AND problem = 'NoPicture'{chosen}")
 
@@ -65,21 +62,15 @@ def _queries(kinds: Sequence[str], only: Optional[str]) -> Iterator[_Query]:
 class Groups:
     """The groups of two and more different files of a catalogue, and, once they were returned, how many aren't listed.
 
-    With `look` each file is looked at: those that are gone or have changed are listed apart and don't count. In a session ExifTool is asked
-    for the values of MakerNotes.
+    With `look` each file is looked at: those that are gone or have changed are listed apart and don't count.
     """
 
-    def __init__(self, catalogue: Catalogue, only: Optional[str] = None, look: bool = True, session: Optional[Session] = None) -> None:
+    def __init__(self, catalogue: Catalogue, only: Optional[str] = None, look: bool = True) -> None:
         self.catalogue, self.only = catalogue, only
         self.absent = 0  # groups of which all files, or all but one, are gone or have changed
         self.small = 0  # groups of pictures with fewer fields than were asked for
-        self._readings = Readings(catalogue, look, session)
+        self._look = look
         self._folders = Folders() if look and catalogue.has_sidecars() else None
-
-    @property
-    def unknown(self) -> Unknown:
-        """The pictures that may be the same as others but for their MakerNotes, by why that isn't known."""
-        return self._readings.unknown
 
     def by_meaning(self, kinds: Sequence[str] = KINDS, choice: Choice = EVERYTHING, least_fields: int = 0) -> Iterator[Group]:
         """The groups of pictures of which some kinds mean the same: those that rest on meaning first, and the largest first. Fields that the
@@ -107,17 +98,15 @@ class Groups:
     def _groups(self, query: _Query, kinds: Tuple[str, ...], table: str) -> Iterator[Group]:
         """The groups that SQLite finds in a table, by the files that are there."""
         for shared, pictures in _found(self.catalogue, query, kinds, table):
-            files = files_of(pictures, self._readings.look, self._folders, query.basis == Basis.MAKER_NOTE)
-            is_absent = len(files.pictures) < 2 and bool(files.gone or files.changed)
-            self.absent += is_absent and not query.basis.is_later
-            split = by_maker_notes if query.basis == Basis.MAKER_NOTE else by_reading
-            for group in split(Group(shared, files), self._readings):
-                if shared.basis.is_later:
-                    _take_one_of_each(group)
-                if group.count < 2 or (shared.basis == Basis.REPAIR and all(None not in it.meanings for it in group.members)):
-                    continue
-                _add_details(self.catalogue, group)
-                yield group
+            group = Group(shared, files_of(pictures, self._look, self._folders))
+            is_of_repair = query.basis == Basis.REPAIR
+            self.absent += group.count < 2 and bool(group.files.gone or group.files.changed) and not is_of_repair
+            if is_of_repair:
+                _take_one_of_each(group)
+            if group.count < 2 or (is_of_repair and all(None not in it.meanings for it in group.members)):
+                continue
+            _add_details(self.catalogue, group)
+            yield group
 
 
 def _found(catalogue: Catalogue, query: _Query, kinds: Tuple[str, ...], table: str) -> Iterator[Tuple[Shared, Iterator[PictureRecord]]]:
@@ -129,8 +118,7 @@ def _found(catalogue: Catalogue, query: _Query, kinds: Tuple[str, ...], table: s
     ids = ""
     for row in catalogue.rows(heads):
         ids = ids or _numbers_of_a_group(catalogue, query, table)
-        counts = _DIFFERENT_BUT_NOTES if query.basis == Basis.MAKER_NOTE else _DIFFERENT
-        counted = f"SELECT {counts} FROM {table} WHERE id IN ({ids})"
+        counted = f"SELECT {_DIFFERENT} FROM {table} WHERE id IN ({ids})"
         meanings, listings, places = next(catalogue.rows(counted, row)) if table == COUNTED else (1, 1, 1)
         if meanings > listings:  # something differs that no field shows
             continue
@@ -151,7 +139,7 @@ def _table(catalogue: Catalogue, choice: Choice) -> str:
 
 
 # Bases, and the first column of their index
-_INDEXED = ((Basis.MEANING, "exif"), (Basis.MAKER_NOTE, "other_exif"), (Basis.CODED_PICTURE, "coded_picture"))
+_INDEXED = ((Basis.MEANING, "exif"), (Basis.CODED_PICTURE, "coded_picture"))
 
 
 def _numbers_of_a_group(catalogue: Catalogue, query: _Query, table: str) -> str:
@@ -170,7 +158,6 @@ def _numbers_of_a_group(catalogue: Catalogue, query: _Query, table: str) -> str:
 
 
 _DIFFERENT = "count(DISTINCT whole), count(DISTINCT listing), count(DISTINCT place)"
-_DIFFERENT_BUT_NOTES = "count(DISTINCT other_whole), count(DISTINCT other_listing), 1"
 
 
 def _take_one_of_each(group: Group) -> None:
@@ -183,11 +170,10 @@ def _take_one_of_each(group: Group) -> None:
 
 
 def _add_details(catalogue: Catalogue, group: Group) -> None:
-    """What isn't simply the same: the result that `changed` has, the unread parts, and why blocks aren't accepted."""
-    group.result = _result(group)
-    if group.members[0].not_read != "" and group.basis not in (Basis.MAKER_NOTE, *OTHERS):
+    """What isn't simply the same: the unread parts, and why blocks aren't accepted."""
+    if group.members[0].not_read != "" and group.basis not in OTHERS:
         group.not_read = ", ".join(each_kind(it.what for it in catalogue.not_read_of(group.members[0])))
-    if group.basis.has_reasons or (group.basis == Basis.MAKER_NOTE and group.has_refused):
+    if group.basis.has_reasons:
         texts: Dict[str, str] = {}
         for picture in group.members:
             reason = _reason(catalogue, picture, group.basis)
@@ -197,17 +183,7 @@ def _add_details(catalogue: Catalogue, group: Group) -> None:
 def _class_of(picture: PictureRecord, kinds: Sequence[str]) -> Tuple[object, ...]:
     """What is equal for pictures of one earlier group."""
     at = [KINDS.index(kind) for kind in kinds]
-    meaning = tuple(picture.octets[number] if picture.meanings[number] is None else picture.meanings[number] for number in at)
-    return meaning, picture.not_read, picture.maker_notes
-
-
-def _result(group: Group) -> Optional[Result]:
-    """What `changed` says of two pictures of a group, where a repair or a MakerNote counts."""
-    if group.basis != Basis.MAKER_NOTE:
-        return Result.SAME_REPAIRED if group.basis == Basis.REPAIR else None
-    if group.has_moved_notes:
-        return Result.MOVED_NOTE
-    return Result.ONLY_MAKER_NOTE if group.has_other_notes else Result.ONLY_REACHED
+    return tuple(picture.octets[number] if picture.meanings[number] is None else picture.meanings[number] for number in at)
 
 
 def _reason(catalogue: Catalogue, picture: PictureRecord, basis: Basis) -> str:
@@ -215,7 +191,7 @@ def _reason(catalogue: Catalogue, picture: PictureRecord, basis: Basis) -> str:
     query = "SELECT name, cause, repair FROM blocks WHERE picture = ? AND status != 'accepted' ORDER BY number"
     reasons = []
     for name, cause, repair in catalogue.rows(query, (picture.id,), lambda row: (*row[:2], steps.unpacked(row[2]))):
-        if basis.is_later and repair:
+        if basis == Basis.REPAIR and repair:
             reasons.append(f"{name} repaired in memory: {steps.words(repair)}")
         else:
             reasons.append(f"{name} refused: {cause}")
@@ -324,7 +300,7 @@ def _may_be_lost(kinds: Sequence[str]) -> str:
 
 def but_for_parts(catalogue: Catalogue, kinds: Sequence[str] = KINDS, only: Optional[str] = None, choice: Choice = EVERYTHING) -> int:
     """How many pictures have a part that was not read, and blocks that mean the same as those of another one, which has no such part or one
-    with other bytes: nobody knows whether they are the same. MakerNotes, and what only they can reach, are compared elsewhere."""
+    with other bytes: nobody knows whether they are the same. `but_for_notes` counts those with other MakerNotes."""
     counted = [it for it in kinds if it in choice.kinds]
     queries = {query.basis: query for query in _queries(counted, only)}
     where = queries.get(Basis.REPAIR, queries[Basis.MEANING]).where
@@ -333,3 +309,28 @@ def but_for_parts(catalogue: Catalogue, kinds: Sequence[str] = KINDS, only: Opti
     several = "HAVING count(DISTINCT other_not_read) > 1"
     inner = f"SELECT sum(other_not_read != '') AS n FROM {_table(catalogue, choice)} WHERE {where} GROUP BY {key} {several}"
     return catalogue.number_of(f"SELECT ifnull(sum(n), 0) FROM ({inner})")
+
+
+def but_for_notes(catalogue: Catalogue, kinds: Sequence[str] = KINDS, only: Optional[str] = None, choice: Choice = EVERYTHING) -> int:
+    """How many pictures may be the same as others but for their MakerNotes, which have moved, have other bytes, or lie in a block that was written
+    anew: only a program that reads MakerNotes knows what they say there."""
+    counted = [it for it in kinds if it in choice.kinds]
+    if EXIF not in counted:
+        return 0
+    key = ["other_exif" if it == EXIF else f"ifnull({it}, 'bytes ' || {it}_octets)" for it in counted]
+    noted = f"problem IS NULL AND not_read IS NOT NULL AND maker_notes != '' AND other_exif != ''{_among(only)}"
+    place = "ifnull(exif, exif_repaired) || ' ' || not_read || ' ' || maker_notes || ' ' || exif_octets"
+    grouped = f"GROUP BY {', '.join([*key, 'other_not_read'])} HAVING count(DISTINCT {place}) > 1"
+    return catalogue.number_of(
+        f"SELECT ifnull(sum(n), 0) FROM (SELECT count(*) AS n FROM {_table(catalogue, choice)} WHERE {noted} {grouped})"
+    )
+
+
+def of_notes(count: int) -> str:
+    """What is said of pictures that may be the same as others but for their MakerNotes.
+
+    >>> of_notes(2)[:71]
+    '2 pictures may be the same as others but for MakerNotes that moved or a'
+    """
+    which = "same --ignore MakerNote lists them, and compare asks ExifTool about two"
+    return f"{pictures_in_words(count)} may be the same as others but for MakerNotes that moved or are in blocks with other bytes: {which}"

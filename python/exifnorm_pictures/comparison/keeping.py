@@ -20,7 +20,6 @@ OTHER = "no other one has the same picture"
 OTHER_PARTS = "other parts than one with the same picture: {}"  # what it has, lacks, or has otherwise
 OTHER_FILE = "no other file has the same bytes, and pictures of this format aren't compared"
 NO_PICTURE = "no picture, and may belong to one, as an XMP file does"
-KEEP_ALL = "which one to keep isn't known: equal readings don't show whose offsets are still right"  # of groups that rest on MakerNotes
 HAS_MORE = "it stays for one without other parts: {}"
 NOT_ALL = "its file has other bytes that say the same"
 
@@ -49,13 +48,22 @@ def damaged(fault: str) -> str:
     return f"damaged: {fault}"
 
 
+class _Equals(NamedTuple):
+    """Pictures that are equal by one key, in the order in which they may stay."""
+
+    pictures: Sequence[PictureRecord]
+    stays_for: Dict[int, PictureRecord]  # by the number of each: the first whose file has all of its parts
+    differs: Dict[int, PictureRecord]  # by the number of one that stays: the first that goes for it and lacks parts that count
+    goes: Dict[int, int]  # by the number of one that stays: how many go for it
+    has_equal_bytes: bool
+
+
 def keeping(group: Group, reads: bool = True) -> Dict[int, Keep]:
-    """What may be done with each picture of a group, by its number. The first of equal pictures by path stays: so of all groups that a picture
-    is in, the one that stays is no later one, and a chain of groups ends at a picture that stays. One whose file has more parts comes first, as it
-    may stay for one that lacks some. `reads` reads files with equal sizes."""
-    if group.rests_on_readings:
-        return {it.id: Keep(why=KEEP_ALL) for it in group.members}
-    members = sorted([it for it in group.members if _is_picture(it)], key=lambda it: (-len(rest.names_in(it.beside)), it.path))
+    """What may be done with each picture of a group, by its number. The first of equal pictures by path stays: so of all groups that
+    a picture is in, the one that stays is no later one, and a chain of groups ends at a picture that stays. One whose file has more
+    parts comes first, as it may stay for one that lacks some. `reads` reads files with equal sizes."""
+    members = [it for it in group.members if _is_picture(it)]
+    members.sort(key=lambda it: (-rest.count(it.beside), it.path))
     keys = _keys(members, reads)
     damages = {it.id: it.damage for it in members if it.damage}
     equal: Dict[_Key, List[PictureRecord]] = {}
@@ -65,8 +73,9 @@ def keeping(group: Group, reads: bool = True) -> Dict[int, Keep]:
     for key, pictures in equal.items():
         if key[0] == "file" and len(pictures) > 1 and pictures[0].coded_picture is None:  # nobody has looked whether it is whole
             damages.update({it.id: damage for damage in [_damage_of(pictures[0])] if damage for it in pictures})
+    equals = {key: _equals(key, pictures) for key, pictures in equal.items()}
     has_unknown = any(it.coded_picture is None and not (keys.get(it.id) and len(equal[keys[it.id]]) > 1) for it in members)
-    known = {it.id: _keep(it, keys, equal, damages, has_unknown) for it in members}
+    known = {it.id: _keep(it, keys, equals, damages, has_unknown) for it in members}
     return {it.id: known.get(it.id, Keep(why=NO_PICTURE)) for it in group.members}
 
 
@@ -74,27 +83,37 @@ def _is_picture(picture: PictureRecord) -> bool:
     return picture.problem != Problem.NO_PICTURE and picture.type != XMP_FILE
 
 
-def _keep(
-    picture: PictureRecord, keys: Dict[int, _Key], equal: Dict[_Key, List[PictureRecord]], damages: Dict[int, str], has_unknown: bool
-) -> Keep:
+def _equals(key: _Key, pictures: Sequence[PictureRecord]) -> _Equals:
+    is_file = key[0] == "file"
+    fullest: rest.Fullest[PictureRecord] = rest.Fullest()
+    stays_for = {it.id: pictures[0] if is_file else fullest.has_all_of(it, it.beside) for it in pictures}
+    differs: Dict[int, PictureRecord] = {}
+    goes = Counter(stays_for[it.id].id for it in pictures if stays_for[it.id] is not it)
+    for it in pictures:
+        if rest.counting(rest.changes(it.beside, stays_for[it.id].beside)):
+            differs.setdefault(stays_for[it.id].id, it)
+    has_equal_bytes = is_file or (len({it.sha256 for it in pictures}) == 1 and bool(pictures[0].sha256))
+    return _Equals(pictures, stays_for, differs, goes, has_equal_bytes)
+
+
+def _keep(picture: PictureRecord, keys: Dict[int, _Key], equals: Dict[_Key, _Equals], damages: Dict[int, str], has_unknown: bool) -> Keep:
     if picture.id in damages:
         return Keep(why=damaged(damages[picture.id]))
     if picture.id not in keys:
         return Keep(why=NOT_KNOWN)
-    same = equal[keys[picture.id]]
-    is_file = keys[picture.id][0] == "file"
-    if len(same) == 1:
-        return Keep(why=NOT_KNOWN if has_unknown else OTHER_FILE if is_file else OTHER)
-    firsts = {it.id: next(one for one in same if one is it or is_file or rest.has_all(one.beside, it.beside)) for it in same}
-    first = firsts[picture.id]
+    same = equals[keys[picture.id]]
+    if len(same.pictures) == 1:
+        return Keep(why=NOT_KNOWN if has_unknown else OTHER_FILE if keys[picture.id][0] == "file" else OTHER)
+    first = same.stays_for[picture.id]
     if picture is not first:
         return Keep(False, same_as=first.path)
-    if not any(it is first for number, it in firsts.items() if number != picture.id):
-        other = next(it for it in same if it is not picture)
+    if not same.goes.get(picture.id):
+        other = next(it for it in same.pictures if it is not picture)
         return Keep(why=OTHER_PARTS.format(", ".join(rest.changes(other.beside, picture.beside))))
-    more = [rest.changes(it.beside, picture.beside) for it in same if firsts[it.id] is picture and it.beside != picture.beside]
-    has_equal_bytes = is_file or (len({it.sha256 for it in same}) == 1 and bool(picture.sha256))
-    return Keep(True, HAS_MORE.format(", ".join(more[0])) if more else "" if has_equal_bytes else NOT_ALL)
+    if picture.id in same.differs:
+        more = rest.counting(rest.changes(same.differs[picture.id].beside, picture.beside))
+        return Keep(True, HAS_MORE.format(", ".join(more)))
+    return Keep(True, "" if same.has_equal_bytes else NOT_ALL)
 
 
 def _keys(members: Sequence[PictureRecord], reads: bool) -> Dict[int, _Key]:

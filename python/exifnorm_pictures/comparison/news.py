@@ -13,6 +13,7 @@ from ..fields.labels import POSITION, fields_by_label
 from ..files.session import Session
 from ..model.problems import NOT_READABLE, Problem
 from ..model.records import PictureRecord
+from ..model.rest import counting
 from ..model.results import Result
 from ..model.texts import shown_path
 from ..model.words import Word
@@ -21,6 +22,7 @@ from .absent import Absent
 from .changed import Compared, changed, total
 from .coded import Coded
 
+VALUES = 20  # texts that are shown before and after
 SHOWN = 3  # pictures of each kind of news that are named
 
 
@@ -48,6 +50,7 @@ class Kind(Word):
     GONE = ("gone",)
     MOVED_FOLDER = ("folder moved",)
     MOVED = ("moved",)
+    RENUMBERED = ("renumbered",)
     NEW = ("new",)
     READABLE = ("readable again",)
 
@@ -57,6 +60,15 @@ class Named(NamedTuple):
 
     path: bytes
     to: Optional[bytes] = None
+
+
+class Values(NamedTuple):
+    """A text of a picture by its label, before and now."""
+
+    path: bytes
+    label: str
+    before: List[str]
+    now: List[str]
 
 
 @dataclass
@@ -96,9 +108,11 @@ class Between:
         """Compares all pictures. Folders that aren't there are looked for below `folders`."""
         self.tally = Tally()
         self.moves: Dict[bytes, bytes] = {}  # full paths
+        self._renumbered: Set[bytes] = set()  # those of them whose names other pictures had or have
         self.coded: "Counter[Coded]" = Counter()
         self.pictures = 0
         self.with_news = 0
+        self.values: List[Values] = []  # the first ones
         self._sides = (before, now)
         roots = [it.roots() for it in self._sides]
         is_one = all(len(it) <= 1 for it in roots)  # then names are below it, as `Pairs` has them
@@ -145,12 +159,12 @@ class Between:
         if not comparison.result.are_pictures:
             return False
         if comparison.moved_to is not None:
-            self._moved(name, comparison.moved_to)
+            self._moved(name, comparison.moved_to, comparison.result == Result.RENUMBERED)
         if comparison.result == Result.NOT_READ:
             return self._not_read(name)
         kinds = list(_kinds(comparison))
         for kind in kinds:
-            for part in comparison.parts if kind == Kind.PARTS else [""]:
+            for part in counting(comparison.parts) if kind == Kind.PARTS else [""]:
                 self.tally.add(kind, comparison.moved_to or name, part)
         has_news = bool(kinds) or comparison.moved_to is not None
         return bool(comparison.changes and self._changes(comparison, bool(kinds))) or has_news
@@ -178,8 +192,10 @@ class Between:
             self.tally.add(Kind.GONE, name)
         return True
 
-    def _moved(self, name: bytes, to: bytes) -> None:
+    def _moved(self, name: bytes, to: bytes, is_renumbered: bool) -> None:
         self.moves[self._full(0, name)] = self._full(1, to)
+        if is_renumbered:
+            self._renumbered.add(self._full(0, name))
         self.absent.has_moved(self._full(0, name))
 
     def _not_read(self, name: bytes) -> bool:
@@ -202,6 +218,8 @@ class Between:
         before, now = self._texts(0, comparison.name), self._texts(1, name)
         labels = [label for label in _labels(comparison) if before.get(label) != now.get(label)]
         for label in labels:
+            if len(self.values) < VALUES:
+                self.values.append(Values(name, label, *(sorted(it.get(label, ())) for it in (before, now))))
             if label not in now:
                 self.tally.add(Kind.LOST, name, label)
             elif label in before:
@@ -223,7 +241,7 @@ class Between:
         in_folders = {path for paths in together.values() for path in paths}
         for old, new in self.moves.items():
             if old not in in_folders:
-                self.tally.add(Kind.MOVED, self.shown(old, 0), "", self.shown(new))
+                self.tally.add(Kind.RENUMBERED if old in self._renumbered else Kind.MOVED, self.shown(old, 0), "", self.shown(new))
         for folder in self.absent.settled():
             if folder.is_held:
                 self.tally.add(Kind.ABSENT, self.shown(folder.path, 0), shown_path(folder.path), count=folder.count)
@@ -237,7 +255,7 @@ class Between:
 def _kinds(comparison: Compared) -> Iterator[Kind]:
     """What a comparison itself says, besides the fields."""
     kind = _OF_CODED.get(comparison.picture)
-    if kind:
+    if kind and (kind != Kind.PARTS or counting(comparison.parts)):
         yield kind
     if comparison.is_unseen:
         yield Kind.UNSEEN

@@ -6,6 +6,7 @@ import contextlib
 import hashlib
 import os
 import sqlite3
+import unicodedata
 from collections import Counter
 from typing import Any, Callable, Iterator, List, NamedTuple, Optional, Sequence, Set, Tuple, TypeVar
 
@@ -18,7 +19,8 @@ from ..model.found import NotRead
 from ..model.problems import NOT_THERE
 from ..model.records import PICTURES, BlockRecord, PictureRecord, block_of_row, not_read_of_row, picture_of_row
 from ..scan.moved import content_key
-from .coded import SQL, Coded
+from .coded import SAME_REST, SQL, Coded
+from .partners import File, partners
 
 BEFORE, AFTER = 0, 1  # the two sides
 _BASES, _ALIASES = ("before", "after"), ("old", "new")
@@ -27,7 +29,10 @@ _BASES, _ALIASES = ("before", "after"), ("old", "new")
 _TABLES = """
 CREATE TABLE alone_before (id INTEGER PRIMARY KEY);
 CREATE TABLE alone_after (id INTEGER PRIMARY KEY);
-CREATE TABLE moved (old INTEGER PRIMARY KEY, new INTEGER UNIQUE, is_edited INTEGER NOT NULL);
+CREATE TABLE taken (old INTEGER PRIMARY KEY, new INTEGER UNIQUE);
+CREATE TABLE moved (old INTEGER PRIMARY KEY, new INTEGER UNIQUE, is_edited INTEGER NOT NULL, is_sure INTEGER NOT NULL);
+CREATE TABLE unclear_before (id INTEGER PRIMARY KEY);
+CREATE TABLE unclear_after (id INTEGER PRIMARY KEY);
 CREATE TABLE chosen_before (path BLOB PRIMARY KEY) WITHOUT ROWID;
 CREATE TABLE chosen_after (path BLOB PRIMARY KEY) WITHOUT ROWID;
 PRAGMA main.journal_mode = OFF;
@@ -36,11 +41,11 @@ PRAGMA main.synchronous = OFF;
 
 # The pairs for which nothing is reported: all kinds are known and mean the same, what wasn't read is known to be the same, and the coded
 # pictures and the rest of their files aren't known to differ, nor the files whose pictures can't be compared.
-_SAME = """(typeof(old.path) = 'blob' AND old.problem IS NULL AND new.problem IS NULL AND old.exif = new.exif
+_SAME = f"""(typeof(old.path) = 'blob' AND old.problem IS NULL AND new.problem IS NULL AND old.exif = new.exif
     AND old.iptc = new.iptc AND old.xmp = new.xmp AND old.not_read = new.not_read
     AND (old.exif_octets = new.exif_octets OR old.maker_notes = '' OR new.maker_notes = '')
     AND old.damage = new.damage
-    AND (nullif(old.coded_picture, '') = new.coded_picture AND old.beside = new.beside
+    AND (nullif(old.coded_picture, '') = new.coded_picture AND {SAME_REST}
         OR (ifnull(old.coded_picture, '') = '' OR ifnull(new.coded_picture, '') = '')
         AND (ifnull(old.sha256, '') = '' OR ifnull(new.sha256, '') = '' OR old.sha256 = new.sha256))) IS NOT TRUE"""
 
@@ -55,10 +60,26 @@ _IS_ALONE = """NOT EXISTS (SELECT 1 FROM {base}.pictures AS other WHERE other.ex
     AND other.xmp IS pictures.xmp AND other.not_read IS pictures.not_read AND other.problem IS NULL AND other.id != pictures.id)"""
 # Then of pictures that were edited, too: the only one with its name, or one whose coded picture no other picture of its catalogue has. So what
 # is new isn't taken for a picture that is gone if it may be a copy of one that stays.
+_FORM = "form"
 _CODED = ("coded_picture, last(path)", "coded_picture")
 _HAS_NO_COPY = """NOT EXISTS (SELECT 1 FROM {base}.pictures AS other WHERE other.coded_picture = pictures.coded_picture
     AND other.coded_picture != '' AND other.problem IS NULL AND other.id != pictures.id)"""
-_HAS_KEY = " AND ".join([*(f"typeof({it}) = 'integer'" for it in ("size", "modified", "inode")), "typeof(path) = 'blob'"])
+# A name that has another file than before is of renumbered pictures only if what it had is elsewhere, and what it has was elsewhere: so neither a
+# copy that was made before an edit, nor a file that replaces another one. A move for which this isn't so for both of its names is none, and with
+# it the moves of those that it has made room for.
+_NOT_RENUMBERED = """WITH RECURSIVE links (one, other) AS (
+    SELECT came.old, leaves.old FROM moved AS came JOIN taken ON taken.new = came.new JOIN moved AS leaves ON leaves.old = taken.old
+    UNION ALL SELECT leaves.old, came.old FROM moved AS leaves JOIN taken ON taken.old = leaves.old JOIN moved AS came ON came.new = taken.new),
+    none (old) AS (SELECT old FROM moved JOIN taken USING (old) WHERE taken.new NOT IN (SELECT new FROM moved) OR taken.new = moved.new
+    UNION SELECT moved.old FROM moved JOIN taken USING (new) WHERE taken.old NOT IN (SELECT old FROM moved)
+    UNION SELECT other FROM none JOIN links ON one = none.old)
+    DELETE FROM moved WHERE old IN (SELECT old FROM none)"""
+_HAS_KEY = " AND ".join(
+    [*(f"typeof({it}) = 'integer'" for it in ("size", "modified", "inode")), "typeof(path) = 'blob'"]
+    + [f"typeof({it}) != 'blob'" for it in ("sha256", "coded_picture", "xmp_octets")]
+)
+
+_PARTNER = 2  # in place of `is_edited`
 
 Made = TypeVar("Made")
 
@@ -70,6 +91,19 @@ class Pair(NamedTuple):
     old: Optional[PictureRecord]  # None if the other one is: then no more is known than the name
     new: Optional[PictureRecord]
     place: Optional[bytes]
+    is_renumbered: bool = False  # whether another picture had its new name, or has its old one
+    is_sure: bool = True  # whether a move is known by the file itself, and not by what it has
+    is_partner: bool = False  # the new picture is the one with the same stem
+    is_unclear: bool = False  # it has one of several
+
+
+def shown_form(name: bytes) -> bytes:
+    """A name in one of the forms of Unicode: those that differ in it alone are one name, which systems write in their own way.
+
+    >>> shown_form("Mu\u0308ller".encode()) == shown_form("M\u00fcller".encode())
+    True
+    """
+    return unicodedata.normalize("NFC", name.decode("utf-8", "surrogateescape")).encode("utf-8", "surrogateescape")
 
 
 def heads_of(catalogues: Sequence[Catalogue]) -> List[bytes]:
@@ -85,8 +119,9 @@ class Pairs:
     If each catalogue has one folder, pictures are matched by path relative to it; otherwise by full path. All is read of one moment.
     """
 
-    def __init__(self, before: Catalogue, after: Catalogue, only: Optional[Set[bytes]] = None) -> None:
-        """Pairs all pictures; `differing` and `came` return only some, by name or by path."""
+    def __init__(self, before: Catalogue, after: Catalogue, only: Optional[Set[bytes]] = None, by_stem: bool = False) -> None:
+        """Pairs all pictures, or `by_stem` those of one name without the ending; `differing` and `came` return only some, by name or by path."""
+        self.by_stem = by_stem
         self.catalogues = (before, after)
         if before.has_sidecars() != after.has_sidecars() and not (before.is_empty() or after.is_empty()):
             raise unlike(before, after)
@@ -110,6 +145,7 @@ class Pairs:
             check_schema(self.base, catalogue.name, base)
         self.base.executescript(_TABLES)
         self.base.create_function("last", 1, os.path.basename, deterministic=True)
+        self.base.create_function("form", 1, shown_form, deterministic=True)
         self.base.create_function("content", 5, _content, deterministic=True)
         self.base.execute("BEGIN")
         self.has_chosen = only is not None
@@ -159,14 +195,54 @@ class Pairs:
         """Finds the pictures that only one side has, and which of them are one that moved. If all that are chosen are on both sides, nobody asks
         for others."""
         alone = [self._query_alone(side) for side in (BEFORE, AFTER)]
-        chosen = [f"{query} AND {self._is_chosen(side)} LIMIT 1" for side, query in enumerate(alone)]
+        chosen = [
+            f"{query} AND {self._is_chosen(side)} LIMIT 1" for side, query in zip((BEFORE, AFTER, BEFORE), (*alone, self._query_taken()))
+        ]
         if self.has_chosen and not any(self.base.execute(query).fetchone() for query in chosen):
             return
         for base, query in zip(_BASES, alone):
             self.base.execute(f"INSERT INTO alone_{base} {query}")
-        for key in (*_ROUNDS, *_CODED):
-            left = self._alone(BEFORE, key), self._alone(AFTER, key)
-            self.base.executemany(f"INSERT INTO moved VALUES (?, ?, {int(key in _CODED)})", _equal(*left, key not in _CODED))
+        if self.by_stem:
+            self._match()
+        else:
+            self._find_moved()
+
+    def _find_moved(self) -> None:
+        """Pairs the others by what they have, and finds those that were renumbered."""
+        self.base.execute(f"INSERT INTO taken {self._query_taken()}")
+        for keys, have_taken in (((_FORM,), False), ((_FILE,), True), ((*_ROUNDS, *_CODED), False), ((*_KEYS, *_CODED), True)):
+            if have_taken and not self._has_taken():
+                continue
+            for key in keys:
+                left = self._alone(BEFORE, key, have_taken), self._alone(AFTER, key, have_taken)
+                may_differ = key in (_FORM, *_CODED)
+                how = f"{int(may_differ)}, {int(key.startswith(_FILE))}"
+                self.base.executemany(f"INSERT INTO moved VALUES (?, ?, {how})", _equal(*left, not may_differ))
+            if have_taken:
+                self.base.execute(_NOT_RENUMBERED)
+
+    def _has_taken(self) -> bool:
+        return self.base.execute("SELECT 1 FROM taken").fetchone() is not None
+
+    def _query_taken(self) -> str:
+        """A query for the numbers of the pictures under one name that are two files."""
+        return (
+            f"SELECT old.id, new.id FROM before.pictures AS old JOIN after.pictures AS new ON new.path = {self._other_path(BEFORE)}"
+            " WHERE old.problem IS NULL AND new.problem IS NULL AND CASE WHEN old.sha256 != '' AND new.sha256 != ''"
+            " THEN old.sha256 != new.sha256 OR old.xmp_octets IS NOT new.xmp_octets ELSE old.size != new.size OR old.modified != new.modified END"
+        )
+
+    def _match(self) -> None:
+        """Pairs the others by their names without the ending."""
+        sides = []
+        for side, base in enumerate(_BASES):
+            query = f"SELECT id, path, ifnull(type, '') FROM {base}.pictures AS {_ALIASES[side]} WHERE {_is_there(_ALIASES[side])}"
+            rows = self.base.execute(query).fetchall()
+            sides.append([File(number, self._named(side, path), str(type_)) for number, path, type_ in rows])
+        found = partners(*sides)
+        self.base.executemany("INSERT INTO moved VALUES (?, ?, ?, 1)", ((one.id, other.id, _PARTNER) for one, other in found.pairs))
+        for base, files in zip(_BASES, found.unclear):
+            self.base.executemany(f"INSERT INTO unclear_{base} VALUES (?)", ((it.id,) for it in files))
 
     def _query_alone(self, side: int) -> str:
         """A query for the numbers of the pictures that only this side has."""
@@ -175,11 +251,13 @@ class Pairs:
         paired = f"SELECT 1 FROM {_BASES[1 - side]}.pictures AS {other} WHERE {on}"
         return f"SELECT {mine}.id FROM {_BASES[side]}.pictures AS {mine} WHERE {_is_there(mine)} AND NOT EXISTS ({paired})"
 
-    def _alone(self, side: int, key: str) -> Iterator[Tuple[object, ...]]:
-        """The number, the digests and the key of each picture that isn't paired yet, by key and path. SQLite has sorted them before the first
-        is fetched."""
+    def _alone(self, side: int, key: str, has_taken: bool) -> Iterator[Tuple[object, ...]]:
+        """The number, the digests and the key of each picture that isn't paired yet, by key and path, also of those whose name has another file.
+        SQLite has sorted them before the first is fetched."""
+        key = f"form(substr(path, {len(self.heads[side]) + 1}))" if key == _FORM else key
+        alone = f"SELECT id FROM alone_{_BASES[side]}" + f" UNION SELECT {_ALIASES[side]} FROM taken" * has_taken
         left = (
-            f"FROM alone_{_BASES[side]} JOIN {_BASES[side]}.pictures USING (id) WHERE problem IS NULL"
+            f"FROM ({alone}) JOIN {_BASES[side]}.pictures USING (id) WHERE problem IS NULL"
             f" AND {_HAS_KEY} AND id NOT IN (SELECT {_ALIASES[side]} FROM moved)"
         )
         if key in _CODED:
@@ -203,30 +281,36 @@ class Pairs:
         """The pictures before that aren't known to be the same, or all of them, in the order of their paths."""
         columns = ", ".join(f"{alias}.{it}" for alias in _ALIASES for it in PICTURES.names)
         query = (
-            f"SELECT {columns}, place.path, moved.new, moved.is_edited FROM before.pictures AS old"
-            f" LEFT JOIN after.pictures AS new ON new.path = {self._other_path(BEFORE)} AND {_is_there('new')}"
+            f"SELECT {columns}, old.id IN (SELECT id FROM main.unclear_before), place.path, moved.new, moved.is_edited, moved.is_sure,"
+            " old.id IN (SELECT old FROM taken) OR moved.new IN (SELECT new FROM taken) FROM before.pictures AS old"
             " LEFT JOIN main.moved ON moved.old = old.id LEFT JOIN after.pictures AS place ON place.id = moved.new"
+            f" LEFT JOIN after.pictures AS new ON new.path = {self._other_path(BEFORE)} AND {_is_there('new')}"
+            " AND moved.old IS NULL AND new.id NOT IN (SELECT new FROM moved)"
             f" WHERE {_is_there('old')} AND {self._is_chosen(BEFORE)} AND {'TRUE' if every else _SAME} ORDER BY old.path"
         )
         yield from self._rows(query, self._pair_of_row)
 
     def _pair_of_row(self, row: Tuple[object, ...]) -> Pair:
-        name, (place, moved, is_edited) = self._named(BEFORE, row[1]), row[-3:]
-        if row[PICTURES.width] is None and not is_edited:
-            return Pair(name, None, None, None if place is None else self._named(AFTER, place))
+        name, (is_unclear, place, moved, is_edited, is_sure, is_renumbered) = self._named(BEFORE, row[1]), row[-6:]
+        to = None if place is None else self._named(AFTER, place)
+        is_one = to is not None and shown_form(to) == shown_form(name)
+        if row[PICTURES.width] is None and not is_edited and not is_one:
+            is_new_name = to is not None and bool(is_renumbered)
+            return Pair(name, None, None, to, is_new_name, bool(is_sure), is_unclear=bool(is_unclear))
         new = row[PICTURES.width : 2 * PICTURES.width]
-        if is_edited:
+        if is_edited or is_one:
             new = self.base.execute(f"SELECT {PICTURE_COLUMNS} FROM after.pictures WHERE id = ?", (moved,)).fetchone()
         pictures = self._picture(BEFORE, row[: PICTURES.width]), self._picture(AFTER, new)
-        return Pair(name, *pictures, self._named(AFTER, place) if is_edited else None)
+        is_partner = is_edited == _PARTNER
+        return Pair(name, *pictures, to if is_partner or (is_edited and not is_one) else None, is_partner=is_partner)
 
-    def came(self) -> Iterator[bytes]:
-        """The names of pictures that are only there afterwards and aren't moved ones, in the order of their paths."""
+    def came(self) -> Iterator[Pair]:
+        """The pictures that are only there afterwards and aren't moved ones, in the order of their paths."""
         query = (
-            f"SELECT path FROM alone_after JOIN after.pictures AS new USING (id) WHERE {self._is_chosen(AFTER)}"
+            f"SELECT path, id IN (SELECT id FROM main.unclear_after) FROM alone_after JOIN after.pictures AS new USING (id) WHERE {self._is_chosen(AFTER)}"
             " AND id NOT IN (SELECT new FROM moved) ORDER BY path"
         )
-        yield from self._rows(query, lambda row: self._named(AFTER, row[0]))
+        yield from self._rows(query, lambda row: Pair(self._named(AFTER, row[0]), None, None, None, is_unclear=bool(row[1])))
 
     def has_others(self) -> bool:
         """Whether pictures are only there afterwards, chosen or not, and aren't known to be moved ones."""
@@ -244,7 +328,7 @@ class Pairs:
         """How many pictures that are on both sides have the same coded picture, another one, and so on."""
         pictures = (
             f"FROM before.pictures AS old JOIN after.pictures AS new ON new.path = {self._other_path(BEFORE)}"
-            f" WHERE old.problem IS NULL AND new.problem IS NULL AND {self._is_chosen(BEFORE)}"
+            f" WHERE old.problem IS NULL AND new.problem IS NULL AND {self._is_chosen(BEFORE)} AND old.id NOT IN (SELECT old FROM moved)"
         )
         result = f"'{Coded.UNKNOWN}'"
         if any(self._has(base, "damage != ''") for base in _BASES) or all(

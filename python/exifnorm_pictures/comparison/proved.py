@@ -10,7 +10,7 @@ import exifnorm
 from ..extract.formats.jpeg import START
 from ..extract.formats.jpeg_segments import read_head
 from ..extract.formats.streams import File, Parts
-from ..files.opening import Place, opened
+from ..files.opening import opened
 from ..model.budgets import Budget, TooMuch
 from ..model.results import Result
 
@@ -60,23 +60,10 @@ def head_of(picture: Parts) -> Optional[bytes]:
         return None
 
 
-def head_of_file(place: Place) -> Optional[bytes]:
+def head_of_file(path: bytes) -> Optional[bytes]:
     """The same of a file; None if it can't be read."""
     try:
-        with closing(File(*opened(place), Budget())) as file:
+        with closing(File(*opened(path), Budget())) as file:
             return head_of(file)
     except OSError:
         return None
-
-
-def has_unread(head: Head) -> bool:
-    """Whether a head has a place that may have a block, as Exif under another mark, or XMP, and that the proved comparisons don't read."""
-    if head is None:
-        return False
-    try:
-        exifnorm.jpeg_xmp(head)
-        return exifnorm.jpeg_unread(head) is not None
-    except exifnorm.XmpNotRead:
-        return True
-    except exifnorm.PictureRefused:
-        return False

@@ -15,6 +15,22 @@ from .wording import moved
 LONGEST_NAMES = 100  # characters of the names of pictures in a line
 
 
+def sentence_of_partners(counts: "Counter[Result]") -> str:
+    """The same of pictures in pairs by name; those without a partner aren't compared.
+
+    >>> sentence_of_partners(Counter({Result.SAME: 5, Result.DIFFERENT: 1, Result.MISSING_AFTER: 2, Result.MISSING_BEFORE: 1}))
+    '6 pairs by name: 1 changed. Without a partner: 2 before, 1 after.'
+    """
+    alone = {"before": counts[Result.MISSING_AFTER], "after": counts[Result.MISSING_BEFORE]}
+    none = (Result.MISSING_AFTER, Result.MISSING_BEFORE, Result.UNCLEAR)
+    paired = Counter({it: count for it, count in counts.items() if it not in none})
+    words = ", ".join(f"{count:,} {side}" for side, count in alone.items() if count)
+    pairs = sentence(paired).partition(" compared: ")[2]
+    total = changed.total(paired)
+    text = f"{total:,} pair{'s' * (total != 1)} by name: {pairs}" if total else "No pair by name."
+    return text + f" Without a partner: {words}." * bool(words)
+
+
 def sentence(counts: "Counter[Result]") -> str:
     """How many pictures were compared, and how many changed, or are damaged.
 
@@ -27,7 +43,7 @@ def sentence(counts: "Counter[Result]") -> str:
     if not total:
         return "No picture to compare."
     many = ["all changed" if changes == total > 1 else f"{changes:,} changed"] * bool(changes)
-    counted = {it: counts[it] for it in (Result.MOVED, Result.DAMAGED, Result.DAMAGED_BEFORE) if counts[it]}
+    counted = {it: counts[it] for it in (Result.MOVED, Result.RENUMBERED, Result.DAMAGED, Result.DAMAGED_BEFORE) if counts[it]}
     many += [f"{count:,} {it}" for it, count in counted.items()]
     others = undecided - counts[Result.DAMAGED] - counts[Result.DAMAGED_BEFORE]
     many += [f"{others:,} not wholly compared"] * bool(others)

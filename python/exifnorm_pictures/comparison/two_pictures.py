@@ -15,7 +15,7 @@ from ..fields.listing import MAKER_NOTE
 from ..fields.plain_names import group_name
 from ..fields.plain_values import POSITION_TAGS, position
 from ..fields.shown import LIMITS, Shown
-from ..files.opening import Held, held
+from ..files.opening import held
 from ..files.session import Session
 from ..judge.sides import Fresh
 from ..model.found import EXIF, IPTC, KINDS, NAMES
@@ -71,7 +71,7 @@ class ComparedPair:
     @property
     def is_empty(self) -> bool:
         """Whether neither picture has metadata."""
-        is_other = self.compared.result in (Result.DAMAGED, Result.OTHER_PICTURE_ALONE)
+        is_other = self.compared.result in (Result.DAMAGED, Result.OTHER_PICTURE_ALONE, Result.OTHER_PARTS)
         return (
             not is_other
             and all(it.result == Result.ABSENT for it in self.compared.verdicts)
@@ -79,20 +79,19 @@ class ComparedPair:
         )
 
 
-def read(name: bytes, how: How, session: Session) -> Tuple[PictureRecord, Optional[bytes]]:
+def read(path: bytes, how: How, session: Session) -> Tuple[PictureRecord, Optional[bytes]]:
     """Reads a picture as `index --pixels` does, always with the digest of its file, if it can be read; and the head of a JPEG, which is that of
     the same file. A file that is written to meanwhile has no head."""
-    path = os.path.abspath(name)
     stamp = Stamp.at(path)
     if stamp is None and not os.path.lexists(path):
         return PictureRecord.of(path, b"", problem=Problem.NO_FILE, detail=Problem.NO_FILE.text), None
-    with held(path) as place:
-        picture = look(FoundFile(path, os.path.dirname(path), stamp), how, session, packs=False, place=place)
+    with held(path) as number:
+        picture = look(FoundFile(path, os.path.dirname(path), stamp), how, session, packs=False)
         with contextlib.suppress(OSError):
             if picture.sha256 is None:  # as of one for which ExifTool is needed
-                picture = picture._replace(sha256=digest_of_file(place, 1 << 62))
-        head = head_of_file(place)
-        is_as_it_was = isinstance(place, Held) and Stamp.of(os.fstat(place.number)) == stamp
+                picture = picture._replace(sha256=digest_of_file(path, 1 << 62))
+        head = head_of_file(path)
+        is_as_it_was = number is not None and Stamp.of(os.fstat(number)) == stamp
     return picture, head if is_as_it_was else None
 
 
@@ -108,19 +107,13 @@ def compare(
 
 
 def _proved(comparison: Compared, heads: Heads) -> Answers:
-    """The answers of the library's proved comparisons, of which the result must not say otherwise. Where only this package reads a block, the
-    two may be the same to it alone: then the proved ones have not read all."""
+    """The answers of the library's proved comparisons, of which the result must not say otherwise."""
     answers = proved.answers(*heads)
-    return Answers(_confirmed(answers.blocks, comparison, (EXIF, IPTC), heads), _confirmed(answers.all, comparison, KINDS, heads))
-
-
-def _confirmed(answer: Optional[Result], comparison: Compared, names: Sequence[str], heads: Heads) -> Optional[Result]:
-    results = [it.result for it in comparison.verdicts if it.kind in names]
-    if answer != Result.DIFFERENT or not results or any(it not in (Result.SAME, Result.ABSENT) for it in results):
-        return answer
-    if any(map(proved.has_unread, heads)):
-        return Result.NOT_WHOLLY_READ
-    raise AssertionError(f"{' or '.join(names)} of the two differ by the proved comparison, and are the same by the tested one")
+    for answer, kinds in ((answers.blocks, (EXIF, IPTC)), (answers.all, KINDS)):
+        results = {it.result for it in comparison.verdicts if it.kind in kinds}
+        are_same = bool(results) and results <= {Result.SAME, Result.ABSENT}
+        assert answer != Result.DIFFERENT or not are_same, f"{kinds} differ by the proved comparison, and are the same by the tested one"
+    return answers
 
 
 # The rows of the table
@@ -167,20 +160,28 @@ def _row(difference: FieldDifference) -> FieldRow:
 
 def with_position(rows: List[FieldRow], picture: PictureRecord, other: PictureRecord) -> List[FieldRow]:
     """The rows with the four fields of a position as one, in degrees, if both positions are known."""
-    ours = [row for row in rows if any(it.directory == "gps" and it.tag in POSITION_TAGS and not it.block for it in row.differences[:1])]
-    fields = [_gps(it) for it in (picture, other)]
-    places = [position(it) for it in fields]
-    if (
-        not ours
-        or places[0] == places[1]
-        or any(not place and any(tag in it for tag in POSITION_TAGS) for place, it in zip(places, fields))
-    ):
+    ours = [row for row in rows if _is_of_position(row)]
+    (before, is_known), (after, is_other_known) = map(_position, (picture, other))
+    if not (ours and is_known and is_other_known) or before == after:
         return rows
-    exact = [None if place is None else "; ".join(f"{it.name} {it.exact[side]}" for it in ours) for side, place in enumerate(places)]
-    every = tuple(one for it in ours for one in it.differences)
-    row = FieldRow("Composite:GPSPosition", (places[0], places[1]), (exact[0], exact[1]), every)
-    at = rows.index(ours[0])
-    return [*(it for it in rows[:at] if it not in ours), row, *(it for it in rows[at:] if it not in ours)]
+    exact = (before and _exact(ours, 0), after and _exact(ours, 1))
+    row = FieldRow("Composite:GPSPosition", (before, after), exact, tuple(one for it in ours for one in it.differences))
+    return [row if it is ours[0] else it for it in rows if it is ours[0] or it not in ours]
+
+
+def _position(picture: PictureRecord) -> Tuple[Optional[str], bool]:
+    """The position of a picture, and whether that is known: fields that make none may be a part of one."""
+    fields = _gps(picture)
+    place = position(fields)
+    return place, bool(place) or fields.keys().isdisjoint(POSITION_TAGS)
+
+
+def _is_of_position(row: FieldRow) -> bool:
+    return any(it.directory == "gps" and it.tag in POSITION_TAGS and not it.block for it in row.differences[:1])
+
+
+def _exact(rows: Sequence[FieldRow], side: int) -> str:
+    return "; ".join(f"{it.name} {it.exact[side]}" for it in rows)
 
 
 def _gps(picture: PictureRecord) -> Dict[str, Field]:

@@ -12,7 +12,7 @@ from ..catalogue.store import Catalogue
 from ..model.columns import Damaged
 from ..model.problems import NOT_THERE, TEXTS
 from ..model.records import BlockRecord, PictureRecord, Stamp, has
-from ..model.rest import changes
+from ..model.rest import changes, counting
 from ..model.results import Result
 from ..model.verdicts import result_of, verdicts
 from ..model.words import Word
@@ -29,6 +29,7 @@ class State(Word):
     AGAIN = ("written again", "written again: the same metadata, the same picture", True)
     PARTS = ("other parts", "written again: the same metadata and picture, but other parts of the file", False)
     MOVED = ("moved", "moved: the same file under another name", True)
+    RENUMBERED = ("renumbered", "renumbered: the same file under a name that another one had", True)
     OTHER = ("other picture", "edited or replaced: other picture, and a later time", False)
     OTHER_FILE = ("other file", "written since: other bytes, in a format whose pictures aren't compared", False)
     NOT_LISTED_SO = ("other bytes", "with other bytes than the manifest has", False)
@@ -59,19 +60,32 @@ def state_of(before: PictureRecord, now: PictureRecord) -> Tuple[State, str]:
         return State.AS_IT_WAS, _before(now)
     if now.damage and not before.damage:
         return State.CUT, now.damage
-    if before.stamp is None and before.coded_picture is None:  # of a manifest, which has nothing else
+    if _is_of_manifest(before):
         return State.NOT_LISTED_SO, ""
     is_same_picture = bool(before.coded_picture) and now.coded_picture == before.coded_picture
     if now.marks == before.marks:  # an edit has another ctime at least
         return State.ROTTED, "in its metadata" * is_same_picture
-    if is_same_picture:
-        same = result_of(verdicts(before.sides(), now.sides())) == Result.SAME and before.not_read == now.not_read is not None
-        parts = changes(before.beside, now.beside)
-        note = "; ".join(filter(None, [_before(now), ", ".join(parts)]))
-        return (State.CAPTIONED if not same else State.PARTS if parts else State.AGAIN), note
+    return _written_anew(before, now) if is_same_picture else _other(before, now)
+
+
+def _written_anew(before: PictureRecord, now: PictureRecord) -> Tuple[State, str]:
+    """The state of a file with the same coded picture."""
+    same = result_of(verdicts(before.sides(), now.sides())) == Result.SAME and before.not_read == now.not_read is not None
+    parts = changes(before.beside, now.beside)
+    note = "; ".join(filter(None, [_before(now), ", ".join(parts)]))
+    return (State.CAPTIONED if not same else State.PARTS if counting(parts) else State.AGAIN), note
+
+
+def _other(before: PictureRecord, now: PictureRecord) -> Tuple[State, str]:
+    """The state of a file that isn't known to have the same picture."""
     if (now.size, now.modified) == (before.size, before.modified):
         return State.ROTTED, "size and time are as before"
     return (State.OTHER, "") if before.coded_picture and now.coded_picture else (State.OTHER_FILE, "")
+
+
+def _is_of_manifest(picture: PictureRecord) -> bool:
+    """Whether no more is known of a file than its name and its digest: in a bag each name has its own file."""
+    return picture.stamp is None and picture.coded_picture is None
 
 
 def _before(now: PictureRecord) -> str:
@@ -85,7 +99,11 @@ def verified(before: Catalogue, now: Catalogue, folders: Sequence[bytes]) -> Ite
         # no index of the catalogue itself, which the run that goes on from a stopped one would refuse
         now.base.execute(f"CREATE TABLE {_DIGESTS} (sha256, picture, PRIMARY KEY (sha256, picture)) WITHOUT ROWID")
         now.base.execute(f"INSERT INTO {_DIGESTS} SELECT sha256, id FROM pictures WHERE sha256 != '' ORDER BY sha256, id")
+        now.base.execute(f"CREATE TABLE {_KNOWN} (sha256 PRIMARY KEY) WITHOUT ROWID")
         now.base.execute(f"CREATE TABLE {_SIDECARS} (path BLOB PRIMARY KEY, is_done INTEGER NOT NULL) WITHOUT ROWID")
+    for row in before.rows("SELECT DISTINCT sha256 FROM pictures WHERE sha256 != ''"):
+        with now.guarded():
+            now.base.execute(f"INSERT INTO {_KNOWN} VALUES (?)", row)
     for of_picture in before.rows("SELECT path, sidecars FROM pictures WHERE sidecars != ''", (), _sidecars_of_row):
         with now.guarded():
             now.base.executemany(f"INSERT OR IGNORE INTO {_SIDECARS} VALUES (?, 0)", ((path,) for path, _ in of_picture))
@@ -104,9 +122,26 @@ def verified(before: Catalogue, now: Catalogue, folders: Sequence[bytes]) -> Ite
         if there is None or there.problem in NOT_THERE:
             yield _gone(before, now, picture)
         else:
-            yield Verified(picture.path, *state_of(picture, there), damage=there.damage)
+            yield _renumbered(before, now, picture, there) or Verified(picture.path, *state_of(picture, there), damage=there.damage)
 
 
+def _renumbered(before: Catalogue, now: Catalogue, picture: PictureRecord, there: PictureRecord) -> Optional[Verified]:
+    """A picture whose name another one of the catalogue has now, and that is under another name itself."""
+    if not picture.sha256 or not there.sha256 or picture.sha256 == there.sha256 or _is_of_manifest(picture):
+        return None
+    is_known = next(now.rows(f"SELECT 1 FROM {_KNOWN} WHERE sha256 = ?", (there.sha256,)), None)
+    query = f"SELECT path, damage FROM {_DIGESTS} JOIN pictures ON id = picture WHERE {_DIGESTS}.sha256 = ? ORDER BY path LIMIT 1"
+    place = next(now.rows(query, (picture.sha256,)), None) if is_known else None
+    return None if place is None else _moved(before, now, picture, *place)
+
+
+def _moved(before: Catalogue, now: Catalogue, picture: PictureRecord, place: bytes, damage: str) -> Verified:
+    """A file that is at another place."""
+    state = State.RENUMBERED if _is_known(before, now, place) else State.MOVED
+    return Verified(picture.path, state, f"damaged before, too: {damage}" if damage else "", place, damage)
+
+
+_KNOWN = "temp.known"  # the files of the catalogue
 _SIDECARS = "temp.sidecars"  # those that belong to pictures of the catalogue
 _DIGESTS = "temp.digests"  # of the files that are there
 _FILE = "file "  # before the name of a sidecar, as the position of its block
@@ -169,14 +204,22 @@ def _gone(before: Catalogue, now: Catalogue, picture: PictureRecord) -> Verified
         places = now.rows(f"SELECT path, damage FROM pictures WHERE {condition} ORDER BY path", (digest,)) if digest else iter(())
         known = None
         for path, damage in places:
+            if condition == of_file and _has_other_file(before, now, path, digest or ""):
+                return _moved(before, now, picture, path, damage)
             if not _is_known(before, now, path):
-                is_captioned = condition != of_file
-                note = "captioned, too" if is_captioned else f"damaged before, too: {damage}" if damage else ""
-                return Verified(picture.path, State.MOVED, note, path, "" if is_captioned else damage)
+                return Verified(picture.path, State.MOVED, "captioned, too", path)
             known = known or path
         if known:
             return Verified(picture.path, State.MISSING, words, known)
     return Verified(picture.path, State.MISSING)
+
+
+def _has_other_file(before: Catalogue, now: Catalogue, path: bytes, sha256: str) -> bool:
+    """Whether a file that is at a path now is known not to have been there."""
+    known = before.picture(path)
+    if known is None or _is_of_manifest(known):
+        return not _is_known(before, now, path)
+    return bool(known.sha256) and known.sha256 != sha256
 
 
 def new_files(before: Catalogue, now: Catalogue) -> int:

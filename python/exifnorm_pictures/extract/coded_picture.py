@@ -12,15 +12,16 @@ from __future__ import annotations
 
 import contextlib
 import hashlib
+import zlib
 from typing import Iterable, Iterator, List, NamedTuple, Optional, Tuple
 
 from ..files import opening
 from ..model import rest
 from ..model.budgets import Budget, TooMuch
 from ..model.found import Broken
-from . import coded_tiff, raw_files
+from . import coded_boxes, coded_tiff, raw_files
 from .coded_tiff import NotFollowed
-from .formats import jpeg, parts, png, tiff, webp
+from .formats import heif, jpeg, jxl, parts, png, tiff, webp
 from .formats.jpeg_segments import Head, read_head
 from .formats.streams import File, Stream, pieces, read_at
 from .formats.tiff_directories import Directories
@@ -35,11 +36,11 @@ class CodedPicture(NamedTuple):
     damage: str = ""  # what is damaged
 
 
-def of_file(path: bytes, budget: Budget, place: Optional[opening.Place] = None) -> CodedPicture:
+def of_file(path: bytes, budget: Budget) -> CodedPicture:
     """The digest of the coded picture of a file: none if its format has none here, if it is damaged, or if it goes over what is left of a
-    budget. `place` is the file, if it is held."""
+    budget."""
     try:
-        with contextlib.closing(File(*opening.opened(place or path), budget)) as file:
+        with contextlib.closing(File(*opening.opened(path), budget)) as file:
             return of_stream(file, budget, path)
     except OSError:
         return CodedPicture()
@@ -79,6 +80,10 @@ def followed(stream: Stream, budget: Budget) -> Tuple[str, List[parts.Part]]:
         claims = coded_tiff.add(Directories(stream), coded, budget)
     elif head[:4] in tiff.BIG_HEADS:
         claims = coded_tiff.add(Directories(stream, BIG), coded, budget)
+    elif heif.is_heif(head):
+        claims = coded_boxes.add_heif(stream, coded)
+    elif head.startswith((jxl.START, jxl.BARE)):
+        claims = coded_boxes.add_jxl(stream, coded)
     else:
         return "", []
     return coded.hexdigest(), parts.whole(stream, claims)
@@ -143,9 +148,21 @@ def _png(stream: Stream, coded: "hashlib.blake2b", budget: Budget) -> Iterator[p
             if kind != b"IDAT" or last != b"IDAT":  # the data of these chunks are one stream
                 coded.update(kind if kind == b"IDAT" else kind + length.to_bytes(4, "big"))
             data += length if kind == b"IDAT" else 0
-            _add(stream, coded, at + 8, at + 8 + length)
             last = kind
+        _check(stream, coded if kind in png.PIXELS else None, (at, kind, length))
     return png.parts(stream, chunks)
+
+
+def _check(stream: Stream, coded: "Optional[hashlib.blake2b]", chunk: Tuple[int, bytes, int]) -> None:
+    """Adds a chunk to a digest, if there is one. Raises `Broken` if it isn't what its check sum says."""
+    at, kind, length = chunk
+    known = zlib.crc32(kind)
+    for data in pieces(stream, at + 8, at + 8 + length):
+        known = zlib.crc32(data, known)
+        if coded:
+            coded.update(data)
+    if known != int.from_bytes(read_at(stream, at + 8 + length, 4), "big"):
+        raise Broken(f"wrong check sum of the chunk at {at}")
 
 
 def _webp(stream: Stream, coded: "hashlib.blake2b", budget: Budget) -> Iterator[parts.Part]:

@@ -11,24 +11,21 @@ from exifnorm import LibraryMissing
 from ..files import opening, signals
 from ..files.session import Session
 from ..model.budgets import Budget, TooMuch
-from ..model.found import BROKEN, CUT, Blocks, Broken, LeftToOthers
+from ..model.found import BROKEN, CUT, UNREAD_TRAILER, Blocks, Broken, LeftToOthers, NotRead
 from ..model.problems import Problem
 from ..model.texts import described
-from .exiftool import add_trailers, by_others
 from .formats import jpeg
 from .formats.streams import File, Parts
 
 
-def blocks_of_file(path: bytes, whole: bool = False, session: Optional[Session] = None, place: Optional[opening.Place] = None) -> Blocks:
-    """All blocks of one file, unchanged, and the parts that were not read. A file that can't be read has a problem and no blocks. `place` is the
-    file, if it is held.
-
+def blocks_of_file(path: bytes, whole: bool = False, session: Optional[Session] = None) -> Blocks:
+    """All blocks of one file, unchanged, and the parts that were not read. A file that can't be read has a problem and no blocks.
     Of a JPEG the head, the tail and the pictures of its MPF index are read; with `whole` also everything between. ExifTool reads
     the files that the readers here don't, in the session or in one of its own. Raises `programs.Missing` if it is needed and not installed, `programs.Failed`, and
     `LibraryMissing`.
     """
     try:
-        return blocks_in(File(*opening.opened(place or path), Budget(whole)), path, whole, session)
+        return blocks_in(File(*opening.opened(path), Budget(whole)), path, whole, session)
     except TooMuch as why:
         return too_much(why)
     except LibraryMissing:  # an OSError too, but not of this file
@@ -51,15 +48,36 @@ def blocks_in(file: Parts, path: bytes, whole: bool = False, session: Optional[S
             return blocks_in(file, path, whole, own)
     try:
         blocks = _read(file, path, whole)
-        if blocks.has_more:
+        if blocks.has_more and not session.programs:
+            blocks.not_read.append(NotRead(UNREAD_TRAILER, ""))
+        elif blocks.has_more:
+            from .exiftool import add_trailers
+
             add_trailers(session, blocks, file.as_file(path))
         return blocks
     except LeftToOthers as why:
-        return by_others(session, file.as_file(path), file, whole, str(why))
+        return by_others(session, file.as_file(path), file, whole, str(why)) if session.programs else _without_others(str(why))
     except Broken as why:
+        if not session.programs:
+            return _of_broken(_without_others(f"{BROKEN}{why}"), str(why))
         return _of_broken(by_others(session, file.as_file(path), file, True, f"{BROKEN}{why}"), str(why))
     finally:
         file.close()
+
+
+def by_others(session: Session, path: bytes, stream: Parts, whole: bool, why: str) -> Blocks:
+    """The blocks that ExifTool and exiv2 extract, whose module is imported then: most pictures don't need them."""
+    from . import exiftool
+
+    return exiftool.by_others(session, path, stream, whole, why)
+
+
+def _without_others(why: str) -> Blocks:
+    """The result for a file that only ExifTool and exiv2 might read, where they may not be started: a broken one, or one in a form that is not
+    read here, was known by its first bytes."""
+    if not why:
+        return Blocks(problem=Problem.NO_PICTURE, detail="no format that is read without other programs")
+    return Blocks(problem=Problem.NEEDS_EXIFTOOL, detail=f"only other programs might read this file ({why}), and none may be started")
 
 
 def _of_broken(blocks: Blocks, why: str) -> Blocks:

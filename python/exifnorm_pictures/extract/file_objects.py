@@ -7,8 +7,7 @@ import errno
 import os
 import re
 import sys
-import tempfile
-from typing import IO, Iterator, List, Optional, Protocol, Union, cast
+from typing import IO, Iterator, List, Optional, Protocol, cast
 
 from ..model.budgets import COPIED_BYTES, Budget
 from ..model.texts import described
@@ -32,10 +31,14 @@ def seekable(source: BinaryFile, budget: Budget) -> Iterator[IO[bytes]]:
     if _is_read_in_place(source):
         yield cast(IO[bytes], source)
         return
+    import tempfile  # which few sources need
+
     with tempfile.TemporaryFile() as copy:
         while data := _some(source, CHUNK):
             budget.spend(COPIED_BYTES, len(data))
             copy.write(data)
+            budget.check_size(copy.tell())
+            budget.check_clock()
         copy.seek(0)
         yield copy
 
@@ -53,6 +56,7 @@ class FileObject(Parts):
         super().__init__(max(0, _place(source) - self._start), budget)
 
     def _part(self, at: int, length: int) -> bytes:
+        self.budget.check_clock()
         _seek(self._source, self._start + at)
         parts: List[bytes] = []
         while length > 0 and (data := _some(self._source, length)):  # some return less than they are asked for
@@ -65,6 +69,8 @@ class FileObject(Parts):
     def as_file(self, name: bytes) -> bytes:
         """The path of a copy, which is gone once this is closed. Raises `TooMuch`."""
         self.budget.spend(COPIED_BYTES, self.size)
+        import tempfile
+
         ending = re.search(rb"\.[A-Za-z0-9]{1,8}\Z", name)
         suffix = ending[0].decode("ascii") if ending else ""
         copy = self._copies.enter_context(tempfile.NamedTemporaryFile(prefix="exifnorm-picture-", suffix=suffix))
@@ -105,9 +111,11 @@ def own_errors() -> Iterator[None]:
 
 def _place(source: IO[bytes]) -> int:
     with own_errors():
-        place = source.tell()
-    if not isinstance(place, int) or not 0 <= place < _LONGEST:
-        raise OSError(errno.EIO, f"the file object can't be read: tell() returned {place!r:.40}")
+        answer: object = source.tell()
+        place = int(answer) if isinstance(answer, int) else -1
+    if not 0 <= place < _LONGEST:
+        shown = f"{place!r:.40}" if isinstance(answer, int) else type(answer).__name__
+        raise OSError(errno.EIO, f"the file object can't be read: tell() returned {shown}")
     return place
 
 
@@ -122,12 +130,12 @@ def _seek(source: IO[bytes], place: int, whence: int = os.SEEK_SET) -> None:
 def _some(source: BinaryFile, most: int) -> bytes:
     """The next bytes of a file object, `most` at most; none at its end."""
     with own_errors():
-        data: Union[bytes, bytearray, memoryview, None] = source.read(most)
+        data: object = source.read(most)
+        octets = bytes(data) if isinstance(data, (bytes, bytearray, memoryview)) else None
     if data is None:
         raise BlockingIOError(errno.EAGAIN, "the file object has no bytes yet")
-    if not isinstance(data, (bytes, bytearray, memoryview)):
+    if octets is None:
         raise OSError(errno.EIO, f"the file object can't be read: read() returned {type(data).__name__}, and not bytes")
-    octets = bytes(data)
     if len(octets) > most:
         raise OSError(errno.EIO, f"the file object can't be read: read({most}) returned {len(octets)} bytes")
     return octets

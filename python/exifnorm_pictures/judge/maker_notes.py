@@ -1,4 +1,4 @@
-"""What ExifTool reads of the MakerNotes of pictures, several in one call: MakerNotes that were moved or written anew have other bytes, or
+"""What ExifTool reads of the MakerNotes of pictures: MakerNotes that were moved or written anew have other bytes, or
 lead to other places, and only readers for their maker know whether they mean the same. A MakerNote that ExifTool warns of, or of which it
 reads nothing, is in doubt: then equal values don't show that it reads the same."""
 
@@ -8,7 +8,7 @@ import hashlib
 import json
 import zlib
 from collections import Counter
-from typing import Dict, Iterator, List, NamedTuple, Optional, Sequence, Tuple
+from typing import Dict, List, NamedTuple, Optional, Sequence, Tuple
 
 from ..extract import exiftool, programs
 from ..files.session import Session
@@ -36,7 +36,6 @@ _PLACES = (
     "Unknown_CTBO",  # where the parts of a CR3 are
 )
 LONGEST = 200  # characters of a value that is kept whole
-MANY = 16  # files of one call: what ExifTool writes about them, previews too, is in memory
 
 
 class NotesReading(NamedTuple):
@@ -52,11 +51,6 @@ class NotesReading(NamedTuple):
             return f"ExifTool warns of it: {self.warnings[0]}"
         return "" if self.values else "ExifTool reads nothing of it"
 
-    @property
-    def key(self) -> bytes:
-        """Equal for equal readings, in 32 bytes."""
-        return hashlib.sha256(repr((sorted(self.values.items()), self.warnings)).encode("utf-8", "surrogatepass")).digest()
-
 
 class NoteDifference(NamedTuple):
     """A value that reads otherwise; missing where it isn't read at all."""
@@ -67,11 +61,7 @@ class NoteDifference(NamedTuple):
 
 
 def readings_of(session: Session, paths: Sequence[bytes]) -> List[NotesReading]:
-    """What ExifTool reads of the MakerNotes of some files. Raises `programs.Failed` and `programs.Missing`."""
-    return [it for at in range(0, len(paths), MANY) for it in _asked(session, paths[at : at + MANY])]
-
-
-def _asked(session: Session, paths: Sequence[bytes]) -> List[NotesReading]:
+    """What ExifTool reads of the MakerNotes of one or two files. Raises `programs.Failed` and `programs.Missing`."""
     answers = exiftool.ask_several(session, paths, (), _WORDS)
     warnings = [sorted(value for name, value in it.items() if _is_warning(name)) for it in answers]
     warned = [number for number, some in enumerate(warnings) if some]
@@ -88,23 +78,6 @@ def _is_warning(name: str) -> bool:
 
 def _values(answer: Dict[str, str]) -> Values:
     return {name: _short(value) for name, value in answer.items() if not _is_warning(name) and name.rpartition(":")[2] not in _PLACES}
-
-
-def each_reading(session: Session, paths: Sequence[bytes]) -> Iterator[Optional[NotesReading]]:
-    """What ExifTool reads of the MakerNotes of each file; None for one at which it fails. Raises `programs.Missing`."""
-    for at in range(0, len(paths), MANY):
-        chunk = paths[at : at + MANY]
-        try:
-            yield from _asked(session, chunk)
-        except programs.Failed:
-            yield from (_by_itself(session, path) for path in chunk)
-
-
-def _by_itself(session: Session, path: bytes) -> Optional[NotesReading]:
-    try:
-        return _asked(session, [path])[0]
-    except programs.Failed:
-        return None
 
 
 def _short(value: str) -> str:

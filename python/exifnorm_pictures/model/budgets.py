@@ -10,7 +10,7 @@ another. With --whole, which asks for every byte, all limits of a picture are `W
 from __future__ import annotations
 
 import time
-from typing import Dict
+from typing import Dict, Optional
 
 PROGRAM_SECONDS = 60.0  # of a clock, that a program may take for one file
 PROGRAM_BYTES = 1 << 30  # of the addresses of its process; need 0.1 GB
@@ -28,7 +28,7 @@ RESOURCES, RESOURCE_BYTES = "Photoshop resources", "bytes of Photoshop resources
 BOXES, BOX_BYTES, ITEMS, EXTENTS = "boxes", "bytes of boxes", "items", "extents of items"
 DIRECTORIES, ENTRIES, VALUE_BYTES = "directories", "entries of directories", "bytes of values"
 ALL_FIELDS = "fields of Exif and IPTC"
-XMP_BYTES, XMP_TAGS, XMP_ATTRIBUTES, RARE_ELEMENTS = "bytes of XMP", "tags of XMP", "attributes of XMP", "elements of rare RDF"
+XMP_BYTES, XMP_TAGS, XMP_ATTRIBUTES = "bytes of XMP", "tags of XMP", "attributes of XMP"
 
 LIMITS: Dict[str, int] = {
     BYTES_READ: 1 << 30,  # bytes that are read twice count twice. About 3 seconds of SHA-256; need 6.8 MB
@@ -54,7 +54,6 @@ LIMITS: Dict[str, int] = {
     XMP_BYTES: 64 << 20,  # of all packets; extended XMP counts once for each packet that names it; need 1.7 MB
     XMP_TAGS: 400_000,  # about 10 microseconds and 350 bytes each; need 447
     XMP_ATTRIBUTES: 100_000,  # about 20 microseconds and 600 bytes each; need 246
-    RARE_ELEMENTS: 30_000,  # which rdflib reads, in about 0.1 milliseconds each; need 225
 }
 WHOLE = 64
 UNREAD_BYTES = 256 << 20  # after a scan or the last chunk, for whose digest all are read: 0.8 seconds of SHA-256; need 0.1 MB
@@ -102,7 +101,10 @@ class TooLong(TooMuch):
 class Budget:
     """What one picture may still cost."""
 
-    def __init__(self, whole: bool = False) -> None:
+    def __init__(self, whole: bool = False, seconds: Optional[float] = None, most: Optional[int] = None) -> None:
+        """With `seconds` reading ends after so many of a clock, and with `most` a file with more bytes isn't read."""
+        self.seconds, self.most = seconds, most
+        self._deadline = None if seconds is None else time.monotonic() + seconds
         self.times = WHOLE if whole else 1
         self.left = {what: most * WHOLE for what, most in LIMITS.items()} if whole else LIMITS.copy()
         self.small_packets = 4  # of XMP that aren't counted, because counting takes time for each usual picture
@@ -120,11 +122,32 @@ class Budget:
             self.check_time()
 
     def check_time(self) -> None:
-        """Raises `TooLong` if the picture has taken too much time of a processor."""
+        """Raises `TooLong` if the picture has taken too much time of a processor, or of the clock."""
+        self.check_clock()
         now = time.thread_time()
         self._ends = self._ends or now + SECONDS * self.times
         if now > self._ends:
             raise TooLong(f"more than {SECONDS * self.times:g} seconds of a processor")
+
+    def check_clock(self) -> None:
+        """The same of the clock alone."""
+        if self._deadline is not None and time.monotonic() > self._deadline:
+            raise TooLong(f"more than {self.seconds:g} seconds")
+
+    def again(self) -> "Budget":
+        """The same limits for a further step of one picture, whose time is that of this one."""
+        budget = Budget(self.times > 1, self.seconds, self.most)
+        budget._deadline = self._deadline
+        return budget
+
+    def stop_clock(self) -> None:
+        """Ends the time of the clock, once the picture is read."""
+        self._deadline = None
+
+    def check_size(self, size: int) -> None:
+        """Raises `TooMuch` for a file of more bytes than are read."""
+        if self.most is not None and size > self.most:
+            raise TooMuch(f"more than {self.most:,} bytes")
 
     def may_digest(self, count: int) -> bool:
         """Whether so many bytes after a picture may be read for a digest."""

@@ -91,14 +91,20 @@ def cut(parts: Iterable[str]) -> str:
     return ""
 
 
+_WORDS_OF = {EXIF: ("Exif item", "Exif box", "Exif chunk"), XMP: ("rdf+xml", "extended XMP")}  # of parts that are of a kind
+
+
 def lost_kinds(type: str, parts: Iterable[str]) -> Tuple[str, ...]:
-    """The kinds of blocks that may be missing of a damaged file of this format.
+    """The kinds of blocks that may be missing of a file of this format that is damaged, or of which a part of a kind wasn't read.
 
     >>> lost_kinds("JPEG", ["the rest of a damaged file (no marker at 2)"]), lost_kinds("JPEG", ["second picture"])
     (('exif', 'iptc', 'xmp'), ())
+    >>> lost_kinds("HEIC", ["mime item application/rdf+xml"])
+    ('xmp',)
     """
-    if not damage(parts):
-        return ()
+    known = list(parts)
+    if not damage(known):
+        return tuple(kind for kind, words in _WORDS_OF.items() if any(word in what for word in words for what in known))
     return (EXIF, XMP) if type in WITHOUT_IPTC else KINDS
 
 
@@ -145,6 +151,7 @@ class Blocks:
         self.damage = damage  # where the file is cut off, if all of its metadata stands before that
         self.counts: Dict[str, int] = {}  # of blocks by name
         self.has_more = False  # whether ExifTool may find blocks in a part that was not read
+        self.iptc_digest = b""  # of the record, as Photoshop has noted it
         self.budget = budget or Budget()
 
     def add(self, kind: str, data: bytes, where: str, part: str = "", extractor: str = OWN, note: Optional[int] = None) -> None:
@@ -175,6 +182,14 @@ class Blocks:
         if len(self.not_read) >= FEW:
             self.budget.spend(NOT_READ)
         self.not_read.append(part)
+
+    def is_iptc_changed(self) -> bool:
+        """Whether a program that doesn't write XMP has changed the record since Photoshop noted its digest, as the guidelines of the Metadata
+        Working Group find it out."""
+        records = [it for it in self.blocks if it.kind == IPTC and it.where.startswith("Photoshop")] or self.of_kind(IPTC)
+        if not self.iptc_digest or not records:
+            return False
+        return hashlib.md5(records[0].data, usedforsecurity=False).digest() != self.iptc_digest
 
     def of_kind(self, kind: str) -> List[FoundBlock]:
         """The blocks of one kind.

@@ -1,17 +1,36 @@
-"""The rest of a file, which is neither metadata nor coded picture nor structure: digests by name, as a text of a catalogue."""
+"""The rest of a file, which is neither metadata nor coded picture nor structure: digests by name, as a text of a catalogue.
+
+A part of more bytes than may be read has an empty digest, and is never equal to another one.
+"""
 
 from __future__ import annotations
 
-from typing import Dict, List
+import hashlib
+from typing import Dict, Generic, List, Sequence, Set, Tuple, TypeVar
+
+MOST, LONGEST = 20, 200  # names of a file, and characters of a name
+FURTHER = "further parts"  # all others of a file with more names
+TOO_LARGE = "too large to compare"
+# What programs write by themselves when they save a picture, and nobody misses
+_BY_PROGRAMS = frozenset(
+    ("JFIF", "thumbnail of JFIF", "pHYs chunk", "tIME chunk")
+    + tuple(f"Photoshop resource {it}" for it in ("03ed (resolution)", "0409 (thumbnail)", "040c (thumbnail)"))
+)
 
 
 def text_of(digests: Dict[str, str]) -> str:
-    """The text: a line for each name, with its digest.
+    """The text: a line for each name, with its digest. Of many names the last ones have one line together, and so have long ones.
 
     >>> text_of({"comment": "0f", "colour profile": "1e"})
     '1e colour profile\\n0f comment'
     """
-    return "\n".join(f"{digest} {name}" for name, digest in sorted(digests.items()))
+    names = sorted(digests, key=lambda name: (len(name) > LONGEST, name))
+    kept = [name for name in names[:MOST] if len(name) <= LONGEST]
+    lines = [f"{digests[name]} {name}" for name in names]
+    if len(kept) < len(lines):
+        others = hashlib.blake2b("\n".join(lines[len(kept) :]).encode("utf-8", "surrogateescape"), digest_size=16).hexdigest()
+        lines[len(kept) :] = [f"{others} {FURTHER}"]
+    return "\n".join(lines)
 
 
 def names_in(text: str) -> Dict[str, str]:
@@ -25,21 +44,79 @@ def names_in(text: str) -> Dict[str, str]:
 
 
 def changes(before: str, after: str) -> List[str]:
-    """What has come, gone or changed.
+    """What has come, gone or changed. Of two files of which one has more names than are kept, it isn't known whether a name came or went.
 
     >>> changes("1e colour profile\\n0f comment", "2d colour profile\\n3c trailer")
     ['colour profile changed', 'comment removed', 'trailer added']
+    >>> changes(" trailer", " trailer")
+    ['trailer too large to compare']
     """
     old, new = names_in(before), names_in(after)
     words = {(True, False): "removed", (False, True): "added", (True, True): "changed"}
-    return [f"{it} {words[it in old, it in new]}" for it in sorted({**old, **new}) if old.get(it) != new.get(it)]
+    names = sorted({**old, **new}) if FURTHER not in {**old, **new} else [*sorted(set(old) & set(new) - {FURTHER}), FURTHER]
+    found = []
+    for name in names:
+        if old.get(name) == new.get(name) == "":
+            found.append(f"{name} {TOO_LARGE}")
+        elif old.get(name) != new.get(name):
+            found.append(f"{name} {'changed' if name == FURTHER else words[name in old, name in new]}")
+    return found
 
 
-def has_all(more: str, less: str) -> bool:
-    """Whether a file has each part of another one's rest, byte for byte.
+def is_by_programs(name: str) -> bool:
+    """Whether programs write a part by themselves.
 
-    >>> has_all("1e colour profile\\n0f comment", "0f comment"), has_all("", "0f comment"), has_all(" trailer", " trailer")
-    (True, False, False)
+    >>> is_by_programs("JFIF of MPF picture 2"), is_by_programs("comment")
+    (True, False)
     """
-    ours = names_in(more)
-    return all(digest and ours.get(name) == digest for name, digest in names_in(less).items())
+    return name.partition(" of MPF picture")[0] in _BY_PROGRAMS
+
+
+def counting(found: Sequence[str]) -> List[str]:
+    """The changes that count.
+
+    >>> counting(["JFIF changed", "comment removed", "trailer too large to compare"])
+    ['comment removed', 'trailer too large to compare']
+    """
+    return [it for it in found if it.endswith(TOO_LARGE) or not is_by_programs(it.rpartition(" ")[0])]
+
+
+def count(text: str) -> int:
+    """How many parts count.
+
+    >>> count("1e colour profile\\n0f JFIF")
+    1
+    """
+    return sum(not is_by_programs(name) for name in names_in(text))
+
+
+T = TypeVar("T")
+
+
+class Fullest(Generic[T]):
+    """Files, of which those with more parts come first: for each, the first one that has all of its parts that count, byte for byte.
+
+    >>> fullest = Fullest()
+    >>> [fullest.has_all_of(*it) for it in [("a", "1e profile\\n0f comment"), ("b", "0f comment"), ("c", " trailer"), ("d", " trailer")]]
+    ['a', 'a', 'c', 'd']
+    """
+
+    def __init__(self) -> None:
+        self._found: Dict[str, T] = {}
+        self._with: Dict[str, List[Tuple[T, Set[str]]]] = {}  # the files that have a line, and all of their lines
+
+    def has_all_of(self, file: T, text: str) -> T:
+        """The first one that has all parts of a file with this text: itself, if there is no other."""
+        if text not in self._found:
+            lines = {""}  # which each file has
+            lines.update(f"{digest} {name}" for name, digest in names_in(text).items() if not is_by_programs(name))
+            is_known = not any(it.startswith(" ") for it in lines)  # a part without a digest equals none
+            candidates = min((self._with.get(it, []) for it in lines), key=len) if is_known else []
+            first = next((one for one, others in candidates if lines <= others), None)
+            if first is None:
+                for it in lines:
+                    self._with.setdefault(it, []).append((file, lines))
+                if not is_known:
+                    return file
+            self._found[text] = file if first is None else first
+        return self._found[text]

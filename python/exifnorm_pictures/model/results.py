@@ -41,14 +41,17 @@ class Result(Word):
     FILE_DIFFERENT = ("not read, different bytes", True, "Different bytes, in a format that isn't read.")
     NO_PICTURE_DIFFERENT = ("no picture, different bytes", True, "Different bytes, and the files are no pictures.", False)
     MOVED = ("moved", True)
+    RENUMBERED = ("renumbered", True)  # moved to a name that another picture had, or whose old name another one has
     MOVED_EDITED = ("moved and edited", True)  # which the digest of its coded picture shows
     OTHER_PICTURE_ALONE = ("other picture, the same metadata", True, "The same metadata, and another picture.")
+    OTHER_PARTS = ("other parts, the same metadata", True, "The same metadata and picture, and other parts of the files.")
     OTHER_PICTURE = ("other picture", True, "Another picture; no difference in the metadata is known.")
     DAMAGED = ("damaged", None, "The second picture is damaged.")  # and no difference of the metadata is known
     DAMAGED_BEFORE = ("damaged before", None, "The first picture is damaged.")
     DAMAGED_DIFFERENT = ("damaged and different", True)
     MISSING_BEFORE = ("missing before", True)
     MISSING_AFTER = ("missing after", True)
+    UNCLEAR = ("not clear which is its partner", None)  # of several with its name
     ONLY_REACHED = (
         "only bytes that a MakerNote can reach differ",
         None,

@@ -6,6 +6,7 @@ Such a line can't control a terminal, and has no end of a line in it.
 from __future__ import annotations
 
 import os
+import re
 from types import TracebackType
 from typing import Any, Dict, Optional, Union
 
@@ -51,12 +52,25 @@ def safe_lines(text: str) -> str:
     return text if text.isprintable() else _escaped_but(text, "\\\n\t")
 
 
+def unescaped(text: str) -> str:
+    r"""The text that somebody has copied from what was printed. NUL stays as it is: catalogues have it so.
+
+    >>> unescaped(escaped("a\nb\\c\u202e")) == "a\nb\\c\u202e", unescaped(r"a\x00b")
+    (True, 'a\\x00b')
+    """
+    return _ESCAPE.sub(lambda it: _CONTROLS.get(it[0]) or chr(int(it[1] or it[2] or it[3], 16)), text)
+
+
+_ESCAPE = re.compile(r"\\(?:x(?!00)([0-7][0-9a-f])|u([0-9a-f]{4})|U(000[0-9a-f]{5})|[nrt\\])")
+
+
 def _escaped_but(text: str, kept: str) -> str:
     """The text with its characters escaped but for some."""
     return text.translate({ord(it): _escaped_character(it) for it in set(text).difference(kept)})  # few characters are different ones
 
 
 _SHORT = {"\n": "\\n", "\r": "\\r", "\t": "\\t", "\\": "\\\\"}
+_CONTROLS = {word: sign for sign, word in _SHORT.items()}
 
 
 def _escaped_character(character: str) -> str:

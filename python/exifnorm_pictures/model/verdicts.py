@@ -44,23 +44,22 @@ def verdict(kind: str, side: Side, other: Side) -> Verdict:
     >>> verdict(EXIF, Side(Status.REFUSED, "", "o"), Side(Status.REFUSED, "", "o"))
     Verdict(kind='exif', result=<Result.REFUSED: 'refused'>, same_bytes=True)
     """
-    statuses = {side.status, other.status}
+    statuses, same_bytes = {side.status, other.status}, side.octets == other.octets
     if statuses == {Status.ABSENT}:
         return Verdict(kind, Result.ABSENT)
-    same_bytes = side.octets == other.octets
-    if (
-        Status.REFUSED in statuses
-        and not same_bytes
-        and all(it.digest or it.repaired or it.status == Status.ABSENT for it in (side, other))
-    ):
+    if Status.REFUSED in statuses and not same_bytes and _is_read(side) and _is_read(other):
         is_same = (side.digest or side.repaired) == (other.digest or other.repaired)
         return Verdict(kind, Result.SAME_REPAIRED if is_same else Result.DIFFERENT_REPAIRED)
-    for status, result in _OF_STATUS.items():
-        if status in statuses:
-            return Verdict(kind, result, same_bytes)
-    if Status.ABSENT in statuses or side.digest != other.digest:
-        return Verdict(kind, Result.DIFFERENT)
-    return Verdict(kind, Result.SAME, same_bytes)
+    unread = [result for status, result in _OF_STATUS.items() if status in statuses]
+    if unread:
+        return Verdict(kind, unread[0], same_bytes)
+    is_same = Status.ABSENT not in statuses and side.digest == other.digest
+    return Verdict(kind, Result.SAME, same_bytes) if is_same else Verdict(kind, Result.DIFFERENT)
+
+
+def _is_read(side: Side) -> bool:
+    """Whether it is known what a block means, if there is one, be it after a repair."""
+    return bool(side.digest or side.repaired or side.status == Status.ABSENT)
 
 
 def verdicts(before: Dict[str, Side], after: Dict[str, Side], kinds: Iterable[str] = tuple(NAMES)) -> List[Verdict]:
@@ -141,22 +140,32 @@ def result_of(verdicts: Sequence[Verdict], open_parts: Sequence[str] = ()) -> Re
     >>> result_of([Verdict(EXIF, Result.SAME)], ["2 bytes that only the MakerNote can reach"])
     <Result.ONLY_REACHED: 'only bytes that a MakerNote can reach differ'>
     """
-    results = {Result.SAME_BUT if it.result == Result.LEFT_OUT else it.result for it in verdicts}
-    for result in (Result.DIFFERENT, Result.DIFFERENT_REPAIRED):
-        if result in results:
-            return result
-    for result in (*_SAME_BYTES, Result.NOT_KNOWN):
-        if any(it.result == result and it.is_open for it in verdicts):
-            return result
+    found = {_OF_PICTURES[it.same_bytes].get(it.result, it.result) for it in verdicts}
     if open_parts:
-        return Result.ONLY_REACHED if all(it.endswith(REACHED) for it in open_parts) else Result.NOT_WHOLLY_READ
-    for result in (Result.SAME_REPAIRED, Result.MOVED_NOTE, Result.SAME_BUT, Result.SAME_NUMBERS):
-        if result in results:
-            return result
-    for result, same_bytes in _SAME_BYTES.items():
-        if result in results:
-            return same_bytes
-    return Result.SAME
+        found.add(Result.ONLY_REACHED if all(it.endswith(REACHED) for it in open_parts) else Result.NOT_WHOLLY_READ)
+    return min(found, key=_WORST.index, default=Result.SAME)
+
+
+# What the verdict on a kind, with or without the same bytes, is for two pictures, where that is another result
+_NO_BLOCK = {Result.LEFT_OUT: Result.SAME_BUT, Result.ABSENT: Result.SAME}
+_OF_PICTURES = {False: _NO_BLOCK, True: {**_NO_BLOCK, Result.NOT_KNOWN: Result.SAME, **_SAME_BYTES}}
+# The results of two pictures, the worst first: a difference that is known comes before what isn't known, and that before how it is the same
+_WORST = (
+    Result.DIFFERENT,
+    Result.DIFFERENT_REPAIRED,
+    Result.REFUSED,
+    Result.UNREADABLE,
+    Result.NOT_KNOWN,
+    Result.ONLY_REACHED,
+    Result.NOT_WHOLLY_READ,
+    Result.SAME_REPAIRED,
+    Result.MOVED_NOTE,
+    Result.SAME_BUT,
+    Result.SAME_NUMBERS,
+    Result.REFUSED_SAME,
+    Result.UNREADABLE_SAME,
+    Result.SAME,
+)
 
 
 Turns = Mapping[str, Mapping[Result, Result]]  # what becomes of the verdict on each kind

@@ -233,25 +233,21 @@ XMP_REMEDIES: Dict[str, str] = {
     "TooLong": "No packet of a real picture is so long. Keep what is long, such as masks of an editor, outside of the picture.",
     "LongNamespace": "No real namespace is so long. `exifnorm-pictures mend` makes a copy without its properties, where ExifTool reads the packet.",
     "LongLanguage": "No real language is so long. Put another one in its place.",
-    "TooRare": _WRITE_AGAIN,
-    "Markup": _WRITE_AGAIN,
     "NotText": _WRITE_AGAIN,
     "DocumentType": "Remove the declaration from the packet; nothing in XMP needs one.",
     "NotWellFormed": _WRITE_AGAIN,
     "NoRDF": _WRITE_AGAIN,
     "TooDeep": _WRITE_AGAIN,
-    "NotRDF": _WRITE_AGAIN,
+    "RareForm": _WRITE_AGAIN,
     "SeveralSubjects": "`exiftool -XMP:all` shows which statements are about the picture; `mend` keeps those that ExifTool reads.",
     "Repeated": _WRITE_AGAIN,
-    "Shared": _WRITE_AGAIN,
     "ExtensionMissing": _WHOLE_COPY,
     "ExtensionNotNamed": _WHOLE_COPY,
     "ExtensionDamaged": _WHOLE_COPY,
-    "NeedsRdflib": "Install python3-rdflib first: with it the packet may be read as it is. The same `index` then reads these pictures again.",
 }
 # Those of packets over a limit. They make other programs slow too, so `explain` doesn't let these try what helps: on 2,000 elements in one
 # another, 68 kB, ExifTool 12.57 takes 16 seconds of a processor.
-OVER_LIMITS = ("TooLong", "LongNamespace", "LongLanguage", "TooRare", "TooDeep")
+OVER_LIMITS = ("TooLong", "LongNamespace", "LongLanguage", "TooDeep")
 # Of blocks whose form is too long, that are compressed, or for which the memory didn't suffice: these have no cause of the grammar.
 OTHER_REMEDIES: Dict[str, Tuple[str, str]] = {
     "NormalTooLong": (
@@ -269,8 +265,8 @@ OTHER_REMEDIES: Dict[str, Tuple[str, str]] = {
 def words_of(cause: str, kind: str = "") -> Optional[Tuple[str, str]]:
     """The meaning and the remedy of any cause that a block of a catalogue can have. TooLong is a cause of blocks, and another one of XMP.
 
-    >>> words_of("NeedsRdflib")[1][:23], words_of("Unsorted")[0], words_of("TooLong", XMP)[1][:34]
-    ('Install python3-rdflib ', "The tags of a directory don't ascend.", 'No packet of a real picture is so ')
+    >>> words_of("RareForm")[1][:26], words_of("Unsorted")[0], words_of("TooLong", XMP)[1][:34]
+    ('`exifnorm-pictures mend`, ', "The tags of a directory don't ascend.", 'No packet of a real picture is so ')
     """
     if cause in OF_BLOCKS and kind != XMP:
         return OF_BLOCKS[cause]

@@ -193,15 +193,21 @@ def _copy(source: Union[bytes, str], name: str) -> None:
 
 
 def _others(name: str, taken: Blocks) -> Dict[str, str]:
-    """Digests by name of what is no metadata of a file: of each of its parts, or, if these aren't known, of those that were not read."""
+    """Digests by name of what a remedy must keep: of the meaning of each accepted block without a MakerNote, which has offsets; of the coded
+    picture and each part of the rest, or, if these aren't known, of the parts that were not read."""
+    blocks = {it.name: it.digest or "" for it in judge_all(taken, False) if it.is_accepted and it.note is None}
     try:
         with contextlib.closing(File(*opening.opened(os.fsencode(name)), Budget(True))) as file:
             coded, found = coded_picture.followed(file, file.budget)
             if coded:
-                return {"coded picture": coded, **digests(file, (it for it in found if it.name != "JFIF"))}  # which ExifTool writes anew
+                return {
+                    **blocks,
+                    "coded picture": coded,
+                    **digests(file, (it for it in found if it.name != "JFIF")),
+                }  # which ExifTool writes anew
     except (Broken, TooMuch):
         pass
-    return {it.what.partition(" (")[0]: it.digest for it in taken.not_read}
+    return {**blocks, **{it.what.partition(" (")[0]: it.digest for it in taken.not_read}}
 
 
 def _best(session: Session, picture: bytes, taken: Blocks, repair: Optional[_Repair], room: str) -> Optional[Attempt]:
@@ -280,7 +286,7 @@ def _rebuild(session: Session, name: str) -> bool:
 
 
 _REMEDIES: Dict[Remedy, Callable[[Session, str], bool]] = {Remedy.TOUCH: _touch, Remedy.EXIV2: _by_exiv2, Remedy.REBUILD: _rebuild}
-_OFFSETS = re.compile(rb"Offset|Start |Padding|IPTCDigest")
+_OFFSETS = re.compile(rb"Offset|Start |Padding|IPTCDigest|XMPToolkit")  # and who wrote a packet
 
 
 def _printed(session: Session, name: str) -> "Counter[str]":

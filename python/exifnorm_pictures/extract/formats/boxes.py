@@ -12,10 +12,12 @@ from ...model.budgets import BOXES, BOX_BYTES, budget_of
 from ...model.found import CUT, REST, SIX, XMP, Blocks, Broken, NotRead, damage
 from ...model.tiff_types import HEADS
 from .packet_start import begins_packet
+from .parts import CREDENTIALS
 from .streams import Stream, digest_of_rest, leave, leave_rest, read_at, size_of
 
 _LONGEST_HEAD = 32
 XMP_UUID = bytes.fromhex("be7acfcb97a942e89c71999491e3afac")  # XMP part 3, 1.1.4
+C2PA_UUID = bytes.fromhex("d8fec3d61b0e483c92975828877ec481")  # Content Credentials, A.5
 
 
 class Box(NamedTuple):
@@ -34,6 +36,8 @@ class Box(NamedTuple):
         >>> Box(0, b"xml ", 8, 9).name, Box(0, b"\\xa9day", 8, 9).name
         ('xml box', 'a9646179 box')
         """
+        if self.uuid == C2PA_UUID:
+            return CREDENTIALS
         word = self.kind.decode("latin-1").strip()
         word = word if word.isascii() and word.isalnum() else self.kind.hex()
         return f"{word} box {self.uuid.hex()}" if self.uuid else f"{word} box"
@@ -94,6 +98,12 @@ def _leave_rest(blocks: Blocks, stream: Stream, at: int, why: str) -> None:
         blocks.name(NotRead(f"{REST} ({why})", digest_of_rest(stream, at, size_of(stream)) or ""))
     else:
         leave_rest(blocks, stream, at)
+
+
+def credentials_in(stream: Stream, box: Box) -> str:
+    """The name of a box of JUMBF that has content credentials; empty of any other."""
+    is_theirs = box.kind == b"jumb" and b"c2pa" in read_at(stream, box.start, min(64, box.end - box.start))
+    return CREDENTIALS if is_theirs else ""
 
 
 def content(stream: Stream, box: Box) -> bytes:

@@ -10,6 +10,7 @@ from typing import Callable, Dict
 from ...model.budgets import BLOCK_BYTES, EXTENSIONS, budget_of
 from ...model.found import IPTC, XMP, Blocks, Broken
 from . import photoshop
+from .parts import CREDENTIALS
 from .streams import PIECE, Stream, leave, leave_rest, size_of
 
 STARTS = (b"GIF87a", b"GIF89a")
@@ -18,6 +19,7 @@ _APPLICATION = 0xFF
 _OTHERS = (0xFE, 0xF9, 0x01)  # extensions without metadata: comments, controls of the next image, plain texts
 # After a packet of XMP. Whatever byte of it a reader of blocks takes as a length leads to the zero at its end.
 _MAGIC = b"\x01" + bytes(range(255, -1, -1)) + b"\0"
+_CREDENTIALS = {b"C2PA_GIF\1\0\0": CREDENTIALS}  # Content Credentials, A.4
 _WITHOUT = frozenset((b"NETSCAPE2.0", b"ANIMEXTS1.0", b"ICCRGBG1012"))
 
 
@@ -100,7 +102,8 @@ class _Reader:
             return
         self.skip()
         if label not in _OTHERS and name not in _WITHOUT:
-            leave(self.blocks, f"application extension {_word(name)}" if name else f"extension {label:02x}", self.stream, start, self.at)
+            word = _CREDENTIALS.get(name) or f"application extension {_word(name)}"
+            leave(self.blocks, word if name else f"extension {label:02x}", self.stream, start, self.at)
 
     def _xmp(self, where: str) -> None:
         start = self.at

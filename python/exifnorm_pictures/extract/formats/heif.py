@@ -23,7 +23,7 @@ _TYPE_OF_XMP = b"application/rdf+xml"
 _WITHOUT = frozenset((b"mdat", b"free", b"skip", b"wide"))
 _WITHOUT_IN_META = frozenset((b"dinf", b"grpl", b"free", b"skip"))
 # Properties without texts (ISO/IEC 23008-12, 6.5; ISO/IEC 23000-22; AV1 image file format)
-_PROPERTIES = frozenset(
+PROPERTIES = frozenset(
     b"ispe pixi pasp colr auxC irot imir clap rloc lsel hvcC av1C avcC j2kH jpgC vvcC evcC a1op a1lx clli mdcv cclv amve iscl oinf tols lhvC"
     b" cmpd uncC ster cmex cmin reve ndwt prdi free skip".split()
 )
@@ -47,7 +47,7 @@ def read(stream: Stream, whole: bool = False) -> Blocks:
             if meta is not None:
                 raise Broken("the file has two meta boxes")
             meta = box
-            _Reader(stream, blocks).read(box)
+            Reader(stream, blocks).read(box)
         elif box.uuid == XMP_UUID:
             add_xmp(blocks, stream, box)
         elif box.kind not in _WITHOUT and box.at:  # the first one is ftyp
@@ -59,13 +59,14 @@ def _is_whole(kinds: Set[bytes]) -> bool:
     return b"mdat" in kinds and (b"meta" in kinds or b"moov" in kinds)
 
 
-class _Reader:
+class Reader:
     """The meta box of one file."""
 
     def __init__(self, stream: Stream, blocks: Blocks) -> None:
         self.stream = stream
         self.blocks = blocks
         self.items = Items(stream)
+        self.taken: Dict[int, int] = {}  # items that are blocks, each with the bytes before its block
 
     def read(self, meta: Box) -> None:
         """Adds the blocks of all items."""
@@ -98,7 +99,7 @@ class _Reader:
         for box in boxes(self.stream, iprp.start, iprp.end):
             if box.kind == b"ipco":
                 for inner in boxes(self.stream, box.start, box.end):
-                    if inner.kind not in _PROPERTIES:
+                    if inner.kind not in PROPERTIES:
                         self._leave(inner.name.replace(" box", " property"), inner)
             elif box.kind != b"ipma":
                 self._leave(f"{box.name} in iprp", box)
@@ -107,18 +108,21 @@ class _Reader:
         """Adds the block of an item, or names it."""
         part = self.items.part_of(item, names)
         what = item.words + (f" of {part}" if part else "")
-        ranges = self._ranges(item)
+        ranges = self.ranges(item)
         if ranges is None or item.is_protected:
             self.blocks.name(NotRead(f"{what}, protected or kept elsewhere", ""))
         elif not any(end > start for start, end in ranges):
             return  # ExifTool deletes an item so
         elif item.kind == b"Exif":
-            block = exif_in(self._data(ranges))
+            data = self._data(ranges)
+            block = exif_in(data)
             if block is None:
                 self.blocks.name(NotRead(f"{what} without a header", digest_of_parts(self.stream, ranges)))
             else:
+                self.taken[item.number] = len(data) - len(block)
                 self.blocks.add(EXIF, block, f"Exif item at {ranges[0][0]}", part)
         elif item.type == _TYPE_OF_XMP and (packet := self._packet(item, ranges)) is not None:
+            self.taken[item.number] = 0
             self.blocks.add(XMP, packet, f"XMP item at {ranges[0][0]}", part)
         else:
             self.blocks.name(NotRead(what, digest_of_parts(self.stream, ranges)))
@@ -136,9 +140,9 @@ class _Reader:
         except zlib.error:
             return None
         self.blocks.budget.spend(BOX_BYTES, len(packet))
-        return packet if opened.eof else None
+        return packet if opened.eof and not opened.unused_data else None
 
-    def _ranges(self, item: Item) -> Optional[List[Tuple[int, int]]]:
+    def ranges(self, item: Item) -> Optional[List[Tuple[int, int]]]:
         """The parts of the file that an item has; None if it is elsewhere, or consists of other items."""
         place = self.items.places.get(item.number)
         idat = self.items.idat

@@ -2,7 +2,7 @@
 
 from __future__ import annotations
 
-from typing import Callable, Dict, List, NamedTuple, Optional, Set
+from typing import Callable, Dict, List, NamedTuple, Optional, Set, Tuple
 
 from ...model.budgets import EXTENTS, ITEMS, budget_of
 from ...model.found import Broken
@@ -58,6 +58,7 @@ class Items:
         self.places: Dict[int, Place] = {}
         self.idat: Optional[Box] = None
         self.primary: Optional[int] = None
+        self.references: List[Tuple[bytes, int, List[int]]] = []  # each with its kind, its item and the items that it names
         self._described: Dict[int, List[int]] = {}  # the pictures that an item describes
         self._tiles: Set[int] = set()
         self._auxiliary: List[int] = []
@@ -143,6 +144,7 @@ class Items:
             numbers = Fields(content(self.stream, box), box.name)
             item = numbers.number(size)
             others = [numbers.number(size) for _ in range(self._counted(numbers.number(2)))]
+            self.references.append((box.kind, item, others))
             if box.kind == b"cdsc":
                 self._described.setdefault(item, []).extend(others)
             elif box.kind == b"dimg":

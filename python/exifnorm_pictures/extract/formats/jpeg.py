@@ -16,9 +16,9 @@ from ...model.found import CUT, EXIF, REST, SIX, XMP, Blocks, Broken, NotRead
 from ...model.texts import in_words
 from . import mpf, photoshop
 from .extended_xmp import HEAD as EXTENDED, Pieces
-from .jpeg_segments import APP0, APP1, APP13, APP14, APP15, APP2, APP3, COM, EOI, SOI
+from .jpeg_segments import APP0, APP1, APP13, APP14, APP15, APP2, APP3, COM, SOI
 from .jpeg_segments import EXIF_PIECE, PHOTOSHOP_PIECE, XMP_PACKET, Head, blocks_of, not_compared, read_head
-from .jpeg_tail import WINDOW, Markers, Tail, is_scan, tail
+from .jpeg_tail import ALONE, WINDOW, Markers, Tail, is_scan, segments, tail
 from .parts import COMMENT, CREDENTIALS, METADATA, PICTURE, REST as THE_REST, STRUCTURE, Part, Range, word
 from .streams import Stream, digest_of, digest_of_rest, read_at, size_of
 from .trailers import add_blocks, known_trailer
@@ -197,7 +197,6 @@ def _kind_of_rest(stream: Stream, at: int, end: int) -> str:
     return "second picture" if first.startswith(START) else "trailer"
 
 
-_ALONE = frozenset((0x01, *range(0xD0, 0xD8)))  # markers without a segment
 _BESIDE = frozenset((*range(APP0, APP14), APP15, COM))  # markers of segments that say nothing of how to decode the picture
 SCAN = "scan"  # the name of the parts from the first scan on
 
@@ -242,7 +241,7 @@ def _of_picture(stream: Stream, head: Head, start: int, end: int, budget: Budget
             yield Part(STRUCTURE, at, first + mark)
         elif piece or what in (EXIF, XMP):
             yield from (Part(STRUCTURE, at, first + mark), Part(METADATA, first + mark, first + length))
-        elif marker in _ALONE or what == _INDEX:
+        elif marker in ALONE or what == _INDEX:
             yield Part(STRUCTURE, at, first + length)
         elif marker in _BESIDE:
             last = CREDENTIALS if what == "JUMBF" and (b"c2pa" in data[:64] or last == CREDENTIALS) else what
@@ -254,18 +253,12 @@ def _of_picture(stream: Stream, head: Head, start: int, end: int, budget: Budget
     yield from (it._replace(name=it.name + of) for it in photoshop.parts(runs, octets, budget.left[RESOURCES]))
     begin = start + head.parts[-1][3] - 4
     yield Part(STRUCTURE, at, begin)
-    markers, passed = Markers(stream, begin, end), 0
-    while (marker := markers.following()) not in (0, EOI):
-        passed += 1
-        if not passed & 4095:
-            budget.check_time()
-        if marker >= 0xC0 and marker not in _ALONE and marker != SOI:
-            here = markers.at - 2
-            markers.pass_over()
-            if marker in _BESIDE:
-                yield Part(kind, begin, here, name or SCAN)
-                yield Part(THE_REST, here, markers.at, f"segment behind the first scan{of}")
-                begin = markers.at
+    markers = Markers(stream, begin, end)
+    for marker, here in segments(markers):
+        if marker in _BESIDE:
+            yield Part(kind, begin, here, name or SCAN)
+            yield Part(THE_REST, here, markers.at, f"segment behind the first scan{of}")
+            begin = markers.at
     if marker == 0 and not name:
         raise Broken(NO_END_MARK)
     yield Part(kind, begin, markers.at, name or SCAN)

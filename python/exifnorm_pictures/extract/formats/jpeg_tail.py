@@ -8,16 +8,17 @@ the rest is assumed to be picture data; otherwise everything is read.
 from __future__ import annotations
 
 import re
-from typing import List, NamedTuple
+from typing import Iterator, List, NamedTuple, Tuple
 
 from ...model.budgets import SCAN_SEGMENTS, TooMuch, budget_of
-from .jpeg_segments import APP1, APP13, EOI, SOI
+from .jpeg_segments import APP1, APP13, EOI
 from .streams import CHUNK, Stream
 from .trailers import known_trailer
 
 WINDOW = 1 << 16  # bytes
 
 _MARKER = re.compile(rb"\xff[\x01-\xcf\xd8-\xfe]")
+ALONE = frozenset((0x01, *range(0xD0, 0xDA)))  # markers without a segment
 _TABLES = frozenset((0xC4, 0xCC, 0xDA, 0xDB, 0xDD))  # DHT, DAC, SOS, DQT, DRI
 
 
@@ -105,23 +106,29 @@ def _is_plain(markers: Markers) -> bool:
         markers.pass_over()
 
 
-def _scanned(markers: Markers) -> Tail:
-    """Reads all bytes after the first scan's header."""
-    places: "List[tuple[int, int]]" = []
-    budget = budget_of(markers.stream)
-    passed = 0
-    while True:
+def segments(markers: Markers) -> Iterator[Tuple[int, int]]:
+    """The marker and the offset of each segment from the first scan on, once `markers` is behind it; at last 0 or the end mark."""
+    budget, passed, marker = budget_of(markers.stream), 0, -1
+    while marker not in (0, EOI):
         passed += 1
         if not passed & 4095:  # markers; no other limit counts them
             budget.check_time()
         marker = markers.following()
-        if marker in (0, EOI):
-            return Tail(places, markers.at, marker == EOI)
-        if marker < 0xC0 or marker == SOI:
-            continue  # no marker that may be here: damaged picture data
         at = markers.at - 2
-        length = markers.pass_over() + 2
-        if marker in (APP1, APP13):
-            places.append((at, length))
-            if len(places) > SCAN_SEGMENTS:
-                raise TooMuch(f"more than {SCAN_SEGMENTS:,} metadata segments after the first scan")
+        is_segment = marker >= 0xC0 and marker not in ALONE  # otherwise it is none that may be here: damaged picture data
+        if is_segment:
+            markers.pass_over()
+        if is_segment or marker in (0, EOI):
+            yield marker, at
+
+
+def _scanned(markers: Markers) -> Tail:
+    """Reads all bytes after the first scan's header."""
+    places: "List[tuple[int, int]]" = []
+    last = 0
+    for last, at in segments(markers):
+        if last in (APP1, APP13):
+            places.append((at, markers.at - at))
+        if len(places) > SCAN_SEGMENTS:
+            raise TooMuch(f"more than {SCAN_SEGMENTS:,} metadata segments after the first scan")
+    return Tail(places, markers.at, last == EOI)

@@ -11,7 +11,7 @@ from typing import Optional, Set
 
 from ...model.budgets import budget_of
 from ...model.found import COMPRESSED, EXIF, XMP, Blocks, Broken
-from .boxes import XMP_UUID, Box, add_xml, add_xmp, boxes_of_file, content, exif_in, leave_cut
+from .boxes import XMP_UUID, Box, add_xml, add_xmp, boxes_of_file, content, credentials_in, exif_in, leave_cut
 from .streams import Stream, leave, read_at
 
 START = b"\0\0\0\x0cJXL \r\n\x87\n"
@@ -19,7 +19,7 @@ BARE = b"\xff\x0a"
 _BRAND = b"jxl "
 _IS_LAST = b"\x80"  # the bit of a piece's number that only the last piece has
 _WITHOUT = frozenset(b"jxlc jxlp jxll jxli free skip".split())
-_IN_BROB = {b"Exif": EXIF, b"xml ": XMP}
+IN_BROB = {b"Exif": EXIF, b"xml ": XMP}
 
 
 def read(stream: Stream, whole: bool = False) -> Blocks:
@@ -44,6 +44,11 @@ def _is_whole(kinds: Set[bytes]) -> bool:
     return b"jxlc" in kinds or b"jxlp" in kinds
 
 
+def block_in(stream: Stream, box: Box) -> Optional[bytes]:
+    """The block in a box Exif; None if it has none. Raises `TooMuch`."""
+    return exif_in(content(stream, box))
+
+
 def _take(blocks: Blocks, stream: Stream, box: Box) -> None:
     what = box.name
     if box.kind == b"xml ":
@@ -51,13 +56,13 @@ def _take(blocks: Blocks, stream: Stream, box: Box) -> None:
     if box.uuid == XMP_UUID:
         return add_xmp(blocks, stream, box)
     if box.kind == b"Exif":
-        block = exif_in(content(stream, box))
+        block = block_in(stream, box)
         if block is not None:
             return blocks.add(EXIF, block, f"Exif box at {box.at}")
         what = "Exif box without a header"
     elif box.kind == b"brob":
-        kind = _IN_BROB.get(read_at(stream, box.start, min(4, box.end - box.start)))
+        kind = IN_BROB.get(read_at(stream, box.start, min(4, box.end - box.start)))
         if kind is not None:
             return blocks.add(kind, COMPRESSED + content(stream, box), f"brob box at {box.at}")
-    leave(blocks, what, stream, box.start, box.end)
+    leave(blocks, credentials_in(stream, box) or what, stream, box.start, box.end)
     return None

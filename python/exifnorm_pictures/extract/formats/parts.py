@@ -9,13 +9,21 @@ from __future__ import annotations
 
 import hashlib
 from bisect import bisect_right
+from heapq import heappop, heappush
+from itertools import accumulate
 from typing import Dict, Iterable, Iterator, List, NamedTuple, Sequence, Tuple
 
 from ...model.budgets import BYTES_READ, budget_of
 from .streams import Stream, is_blank, pieces, size_of
 
 METADATA, PICTURE, STRUCTURE, REST = "metadata", "picture", "structure", "rest"
-COMMENT, CREDENTIALS, PROFILE, TRAILER, UNCLAIMED = "comment", "content credentials (JUMBF)", "colour profile", "trailer", "unclaimed bytes"
+COMMENT, CREDENTIALS, PROFILE, TRAILER, UNCLAIMED = (
+    "comment",
+    "content credentials (not validated)",
+    "colour profile",
+    "trailer",
+    "unclaimed bytes",
+)
 
 Range = Tuple[int, int]
 
@@ -49,34 +57,49 @@ def whole(stream: Stream, claims: Iterable[Part]) -> List[Part]:
 
 
 def _disjoint(claims: Iterable[Part], size: int) -> List[Part]:
-    starts: List[int] = []
+    """What the claims get, in their order in the file."""
+    waiting = sorted((it.start, number, min(it.end, size), it) for number, it in enumerate(claims) if it.start < min(it.end, size))
+    bounds = sorted({bound for start, _, end, _ in waiting for bound in (start, end)})
+    open_: List[Tuple[int, int, Part]] = []  # the claims to the bytes at a bound, the first one in front
     taken: List[Part] = []
-    for claim in claims:
-        place = bisect_right(starts, claim.start)
-        at = max(claim.start, taken[place - 1].end) if place else claim.start
-        end = min(claim.end, size)
-        while at < end:
-            stop = min(starts[place], end) if place < len(starts) else end
-            if at < stop:
-                starts.insert(place, at)
-                taken.insert(place, claim._replace(start=at, end=stop))
-                place += 1
-            at = taken[place].end if place < len(starts) else end
+    place, last = 0, -1
+    for at, end in zip(bounds, bounds[1:]):
+        while place < len(waiting) and waiting[place][0] == at:
+            heappush(open_, waiting[place][1:])
             place += 1
+        while open_ and open_[0][1] <= at:
+            heappop(open_)
+        number, _, claim = open_[0] if open_ else (-1, 0, None)
+        if claim and taken and last == number and taken[-1].end == at:
+            taken[-1] = taken[-1]._replace(end=end)
+        elif claim:
+            taken.append(claim._replace(start=at, end=end))
+        last = number
     return taken
 
 
-def placed(ranges: Sequence[Range], start: int, end: int) -> Iterator[Range]:
-    """Where some bytes of several ranges, joined, are in the file.
+class Joined:
+    """Several ranges of a file, joined.
 
-    >>> list(placed([(10, 13), (20, 29)], 2, 5))
+    >>> list(Joined([(10, 13), (20, 29)]).placed(2, 5))
     [(12, 13), (20, 22)]
     """
-    for first, last in ranges:
-        length = last - first
-        if start < length and end > 0:
-            yield first + max(start, 0), first + min(end, length)
-        start, end = start - length, end - length
+
+    def __init__(self, ranges: Sequence[Range]) -> None:
+        self.ranges = ranges
+        self._begin = [0, *accumulate(end - start for start, end in ranges)]  # where each range begins in all of them
+        self.length = self._begin[-1]
+
+    def placed(self, start: int, end: int) -> Iterator[Range]:
+        """Where some of these bytes are in the file."""
+        place = bisect_right(self._begin, start) - 1
+        while start < min(end, self.length):
+            first, last = self.ranges[place]
+            at = first + start - self._begin[place]
+            stop = min(last, at + end - start)
+            if at < stop:
+                yield at, stop
+            place, start = place + 1, self._begin[place + 1]
 
 
 def word(data: bytes) -> str:

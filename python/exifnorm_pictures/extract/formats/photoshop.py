@@ -12,7 +12,7 @@ import exifnorm
 
 from ...model.budgets import LIMITS, RESOURCES, TooMuch
 from ...model.found import EXIF, FEW, IPTC, SIX, XMP, Blocks
-from .parts import METADATA, REST, STRUCTURE, Part, Range, placed
+from .parts import METADATA, REST, STRUCTURE, Joined, Part, Range
 
 HEAD = b"Photoshop 3.0\0"
 OLD_HEAD = b"Adobe_Photoshop2.5:"
@@ -21,8 +21,8 @@ SIGNATURES = (b"8BIM", b"PHUT", b"AgHg", b"DCSR", b"MeSa")  # Photoshop, PhotoDe
 
 _KINDS = {0x0404: IPTC, 0x0422: EXIF, 0x0424: XMP}
 _MORE_EXIF = 0x0423
-KEPT = (*_KINDS, _MORE_EXIF)  # the resources that are looked at
-_SUM = 0x0425  # a check sum of the IPTC
+_SUM = 0x0425  # MD5 of the record for which Photoshop wrote the packet of XMP
+KEPT = (*_KINDS, _MORE_EXIF, _SUM)  # the resources that are looked at
 _HEAD = 12  # bytes of a resource without a name before its data
 _NAMES = {
     0x03ED: "resolution",
@@ -78,7 +78,9 @@ def add_one(blocks: Blocks, number: int, data: bytes, where: str, part: str = ""
     kind = _KINDS.get(number)
     if not data and kind == IPTC:  # which counts as none (docs/FORMAT.md, 9)
         return
-    if kind is None:
+    if number == _SUM:
+        blocks.iptc_digest = blocks.iptc_digest or data[:16]
+    elif kind is None:
         blocks.leave(place, data)
     else:
         blocks.add(kind, data.removeprefix(SIX) if kind == EXIF else data, place, part)
@@ -90,17 +92,17 @@ def parts(runs: Sequence[Sequence[Range]], data: Sequence[bytes], most: int = LI
         runs, data = [[it for run in runs for it in run]], [b"".join(data)]
     for ranges, octets in zip(runs, data):
         rows, rest = resources(octets, most)
-        at = 0
+        joined, at = Joined(ranges), 0
         for number, start, size in rows:
             kind = METADATA if number in _KINDS else STRUCTURE if number == _SUM else REST
             name = " ".join(filter(None, [f"Photoshop resource {number:04x}", f"({_NAMES[number]})" if number in _NAMES else ""]))
             head = REST if kind == REST or start - at > _HEAD else STRUCTURE
             end = start + size
             for what, first, last in ((head, at, start), (kind, start, end), (STRUCTURE, end, min(end + size % 2, len(octets)))):
-                yield from (Part(what, *it, name if what == REST else "") for it in placed(ranges, first, last))
+                yield from (Part(what, *it, name if what == REST else "") for it in joined.placed(first, last))
             at = end + size % 2
         behind = (REST, "bytes behind the Photoshop resources") if rest else (STRUCTURE, "")
-        yield from (Part(behind[0], *it, behind[1]) for it in placed(ranges, at, len(octets)))
+        yield from (Part(behind[0], *it, behind[1]) for it in joined.placed(at, joined.length))
 
 
 def has_rest(data: bytes) -> bool:

@@ -34,6 +34,7 @@ class Parts:
 
     def __init__(self, size: int, budget: Optional[Budget] = None) -> None:
         self.size, self.budget = size, budget or Budget()
+        self.budget.check_size(size)
         self._at = 0
         self._head = self._part(0, min(size, HEAD))
 
@@ -71,9 +72,9 @@ class Parts:
 class File(Parts):
     """A regular file that is open."""
 
-    def __init__(self, number: int, size: int, budget: Optional[Budget] = None) -> None:
-        """Takes over the file of this number."""
-        self.number = number
+    def __init__(self, number: int, size: int, budget: Optional[Budget] = None, path: bytes = b"") -> None:
+        """Takes over the file of this number; the path is given if the picture is read by another name."""
+        self.number, self._path = number, path
         try:
             super().__init__(size, budget)
         except BaseException:
@@ -85,7 +86,7 @@ class File(Parts):
 
     def as_file(self, name: bytes) -> bytes:
         """Its own path."""
-        return name
+        return self._path or name
 
     def close(self) -> None:
         os.close(self.number)
@@ -171,7 +172,7 @@ def is_blank(stream: Stream, start: int, end: int) -> bool:
     return not any(it.strip(b"\0") for it in pieces(stream, start, end))
 
 
-def digest_of_file(path: opening.Place, most: int) -> str:
+def digest_of_file(path: bytes, most: int) -> str:
     """SHA-256 of a whole file; empty if it has more bytes than `most`, or more holes than `HOLES`."""
     with opening.reading(path) as file:
         size = os.fstat(file.fileno()).st_size

@@ -8,13 +8,14 @@ from typing import Iterable, Iterator, Tuple
 
 from ...model.budgets import CHUNKS, CHUNK_BYTES, Budget, budget_of
 from ...model.found import EXIF, SIX, XMP, Blocks, Broken
-from .parts import METADATA, PICTURE, PROFILE, REST, STRUCTURE, Part, word
+from .parts import CREDENTIALS, METADATA, PICTURE, PROFILE, REST, STRUCTURE, Part, word
 from .streams import Stream, leave_rest, read_at, size_of
 
 _FIRST = 12  # the offset of the first chunk
 PIXELS = frozenset((b"VP8 ", b"VP8L", b"ALPH", b"ANIM", b"ANMF"))  # chunks of the coded picture
 _WITHOUT = frozenset((*PIXELS, b"VP8X", b"ICCP"))  # chunks without metadata (RFC 9649, 2.6 and 2.7)
 _XMP = (b"XMP ", b"XMP\0")
+_NAMES = {b"ICCP": PROFILE, b"C2PA": CREDENTIALS}
 
 
 def is_webp(head: bytes) -> bool:
@@ -67,7 +68,7 @@ def _add(blocks: Blocks, kind: bytes, data: bytes, at: int) -> None:
     elif kind == b"EXIF":
         blocks.add(EXIF, data.removeprefix(SIX), f"EXIF chunk at {at}")
     else:
-        blocks.leave("chunk of an unknown kind", data)
+        blocks.leave(_NAMES.get(kind, "chunk of an unknown kind"), data)
 
 
 def parts(found: Iterable[Tuple[int, bytes, int]]) -> Iterator[Part]:
@@ -83,5 +84,5 @@ def parts(found: Iterable[Tuple[int, bytes, int]]) -> Iterator[Part]:
         elif kind == b"VP8X":
             yield Part(STRUCTURE, start, end)
         else:
-            yield Part(REST, start, end, PROFILE if kind == b"ICCP" else f"{word(kind)} chunk")
+            yield Part(REST, start, end, _NAMES.get(kind) or f"{word(kind)} chunk")
         yield Part(STRUCTURE, end, end + length % 2)
