@@ -2,7 +2,7 @@
 that its command line names, and its own temporary files.
 
 strace sees each call of the system, also those of SQLite, which a library that is preloaded wouldn't see if SQLite were part of Python, and
-those of other programs. Each path is judged as the kernel has it: of a file that is open where a link led, of another one below its folder.
+those of other programs. It attaches itself to a process that has imported the modules. Each path is judged as the kernel has it: of a file that is open where a link led, of another one below its folder.
 """
 
 import fnmatch
@@ -18,6 +18,8 @@ from made_blocks import BLOCKS, with_exif
 from made_files import app1_xmp, jpeg, title
 from studio import SMALL_JPEG, Studio, put
 from test_attacks import journal_that_names
+from test_law_of_kills import ATTACH
+from test_outputs import Runner
 
 from exifnorm_pictures.catalogue.store import LIST_HEAD
 from exifnorm_pictures.cli import parser
@@ -98,15 +100,17 @@ def archive(top):
         assert done.returncode < 3, (words, done)
 
 
-def run(top, words, *before):
-    environment = {
-        **Studio.environment(EXIFNORM_DEBUG=""),
-        "TMPDIR": str(top / "tmp"),
-        "HOME": str(top / "home"),
-        "PYTHONDONTWRITEBYTECODE": "1",
-    }
-    words = [*before, sys.executable, "-m", "exifnorm_pictures", *words]
+def run(top, words):
+    environment = {**Studio.environment(EXIFNORM_DEBUG=""), "TMPDIR": str(top / "tmp"), "HOME": str(top / "home")}
+    words = [sys.executable, "-m", "exifnorm_pictures", *words]
     return subprocess.run(words, cwd=top / "disk", capture_output=True, stdin=subprocess.DEVNULL, env=environment, timeout=300)
+
+
+def traced(top, traces):
+    """The setup of a run that is traced, with its programs."""
+    words = [shutil.which("strace"), "-ff", "-z", "-y", "-xx", "-s", "5000", "-o", str(traces / "t"), "-e", f"trace={','.join(CALLS)}"]
+    room = {"TMPDIR": str(top / "tmp"), "HOME": str(top / "home"), "PATH": os.environ["PATH"]}
+    return f"os.environ.update({room!r})" + ATTACH.format(words=words)
 
 
 def journals(top):
@@ -225,6 +229,13 @@ def saved(session_folder):
     return top
 
 
+@pytest.fixture(scope="module")
+def runner(saved):
+    it = Runner(saved)
+    yield it
+    it.close()
+
+
 def tree(top):
     """The files at home, and those in the folder of a report that no report writes."""
     mine = [it for it in (top / "home").rglob("*") if it.is_file()]
@@ -237,7 +248,7 @@ def test_each_command_is_there():
 
 
 @pytest.mark.parametrize("stranger", STRANGERS, ids=lambda it: it.__name__)
-def test_nothing_else_is_written(stranger, saved, tmp_path):
+def test_nothing_else_is_written(stranger, saved, runner, tmp_path):
     wrong = []
     for words, outputs in COMMANDS.items():
         shutil.rmtree(saved)
@@ -247,24 +258,9 @@ def test_nothing_else_is_written(stranger, saved, tmp_path):
         traces = tmp_path / "traces"
         shutil.rmtree(traces, ignore_errors=True)
         traces.mkdir()
-        strace = [
-            "strace",
-            "-ff",
-            "-z",
-            "-y",
-            "-xx",
-            "-s",
-            "5000",
-            "-qq",
-            "--seccomp-bpf",
-            "-o",
-            traces / "t",
-            "-e",
-            f"trace={','.join(CALLS)}",
-        ]
-        done = run(saved, words.split(), *strace)
-        if b"Traceback" in done.stderr or b"internal error" in done.stderr or done.returncode not in range(5):
-            wrong.append((words, done.returncode, done.stderr[-300:]))
+        status, said = runner.run(saved / "disk", words.split(), traced(saved, traces))
+        if status not in range(5):
+            wrong.append((words, status, said[-300:]))
         allowed = [*(str(saved / "disk" / it) for it in outputs), str(saved / "tmp" / "*"), *FREE]
         others = {it for it in written(str(saved / "disk"), traces) if not any(fnmatch.fnmatchcase(it[1], due) for due in allowed)}
         wrong += [

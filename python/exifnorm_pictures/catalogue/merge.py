@@ -7,7 +7,7 @@ import os
 from typing import Callable, Optional, Sequence
 
 from ..files import rights
-from .store import Catalogue, NoCatalogue, check_schema, unlike
+from .store import Catalogue, NoCatalogue, check_schema, roll_back, unlike
 
 _RUNS = "INSERT INTO main.runs SELECT id + ?, started, ended, exifnorm, exiftool, exiv2, sidecars, whole FROM other.runs"
 
@@ -36,6 +36,7 @@ def _check(name: str, others: Sequence[str]) -> None:
     with contextlib.ExitStack() as open_:
         first = None
         if os.path.exists(name) and os.path.getsize(name):
+            roll_back(name)
             all_ = open_.enter_context(Catalogue(name))
             first = None if all_.is_empty() else all_
         for source in others:

@@ -2,6 +2,7 @@
 
     archive.catalogue           what the last whole night has found; no other name is needed by other commands
     archive.before.catalogue    the state with which the last letter compared it
+    archive.catalogue.2026-11-29  what the last run of a day has found, of as many days as are asked for
     archive.tonight.catalogue   what a run has found so far, while it works and after it was killed
     archive.catalogue.lock      the lock, with what tonight's catalogue was made from
     archive.version6.catalogue  one of an earlier release, in place of which a new one was made
@@ -15,8 +16,10 @@ import contextlib
 import fcntl
 import itertools
 import os
+import re
 import shutil
 import stat
+import time
 from typing import IO, List, Optional, Tuple
 
 from ..files import atomic
@@ -35,8 +38,9 @@ class NotAlone(Failure):
 class Nights:
     """The catalogues of an archive by night. Use it in a `with`, which holds the lock."""
 
-    def __init__(self, name: str, about: str) -> None:
-        """`about` says what the run looks at: a run that was killed is only gone on with if it looked at the same."""
+    def __init__(self, name: str, about: str, days: int = 1) -> None:
+        """`about` says what the run looks at: a run that was killed is only gone on with if it looked at the same. Of so many days the catalogue
+        is kept under a name with the date, unless it is only one."""
         self.last = os.path.realpath(name) if os.path.islink(name) else name  # a file that is replaced is the one that a link leads to
         stem, ending = os.path.splitext(self.last)
         self.before, self.tonight = f"{stem}.before{ending}", f"{stem}.tonight{ending}"
@@ -44,6 +48,8 @@ class Nights:
         self.earlier: Optional[Earlier] = None  # the last catalogue, if it is of an earlier release ..
         self.kept = ""  # .. and the name under which it is kept
         self.is_as_last = False  # whether the last run was whole and looked at the same
+        self._days = days
+        self.of_today = f"{self.last}.{time.strftime('%Y-%m-%d')}" if days > 1 else ""
         self._about = f"{about}\n{VERSION}"
         self._lock: Optional[IO[str]] = None
         self._mark = ""
@@ -51,8 +57,20 @@ class Nights:
     @property
     def names(self) -> Tuple[str, ...]:
         """The names of all files, also of those that SQLite makes."""
-        catalogues = (self.last, self.before, self.tonight)
+        catalogues = (self.last, self.before, self.tonight, *self._of_days(), *[self.of_today] * bool(self.of_today))
         return (*(name + ending for name in catalogues for ending in ("", *_SQLITES)), self._lock_name, *[self.kept] * bool(self.kept))
+
+    @property
+    def compared(self) -> Tuple[str, str]:
+        """The names under which the catalogues of the last night and of tonight stay the longest."""
+        same = (it for it in self._of_days() if it != self.of_today and os.path.samefile(it, self.last))
+        return next(same, self.before), self.of_today or self.last
+
+    def _of_days(self) -> List[str]:
+        """The catalogues with a date in their names, the last one first."""
+        folder, name = os.path.split(self.last)
+        dated = re.compile(re.escape(name) + r"\.\d{4}-\d\d-\d\d", re.A)
+        return [os.path.join(folder, it) for it in sorted(os.listdir(folder or "."), reverse=True) if dated.fullmatch(it)]
 
     @property
     def _lock_name(self) -> str:
@@ -85,6 +103,7 @@ class Nights:
         if os.path.lexists(self.tonight) and self._noted() == self._mark:
             return
         _refuse_others(self.tonight)
+        _refuse_others(self.of_today)
         for ending in ("", *_SQLITES):
             with contextlib.suppress(FileNotFoundError):
                 os.unlink(self.tonight + ending)
@@ -100,11 +119,15 @@ class Nights:
         if os.path.lexists(f"{self.tonight}-wal"):
             raise NotAlone(f"{shown_path(self.tonight)} is open in another program, so its results are not kept")
         if has_news and not self.is_first:
-            _refuse_others(self.before)
-            self._replace_before()
+            _replace(self.last, self.before)
         if self.earlier:
             self._keep_earlier()
+        if self.of_today:
+            _replace(self.tonight, self.of_today)
         os.replace(self.tonight, self.last)
+        for name in [it for it in self._of_days() if it != self.of_today][self._days - 1 :] if self.of_today else ():
+            if _is_ours(name):
+                os.unlink(name)
 
     def _keep_earlier(self) -> None:
         """Gives a catalogue of an earlier release another name, with what SQLite has beside it after a run that was killed."""
@@ -113,15 +136,6 @@ class Nights:
         for ending in _SQLITES:
             with contextlib.suppress(FileNotFoundError):
                 os.rename(self.last + ending, self.kept + ending)
-
-    def _replace_before(self) -> None:
-        """Gives the last catalogue a second name, so that it has one at each moment."""
-        beside = f"{self.before}.new"
-        _refuse_others(beside)
-        with contextlib.suppress(FileNotFoundError):
-            os.unlink(beside)
-        _link(self.last, beside)
-        os.replace(beside, self.before)
 
     def _noted(self) -> str:
         assert self._lock
@@ -133,6 +147,17 @@ class Nights:
         self._lock.truncate(0)
         self._lock.write(_HEAD + text)
         self._lock.flush()
+
+
+def _replace(name: str, other: str) -> None:
+    """Gives a catalogue a second name, so that it has one at each moment. Raises `NotReplaced` if that is of another kind of file."""
+    beside = f"{other}.new"
+    for there in (other, beside):
+        _refuse_others(there)
+    with contextlib.suppress(FileNotFoundError):
+        os.unlink(beside)
+    _link(name, beside)
+    os.replace(beside, other)
 
 
 def _link(name: str, other: str) -> None:

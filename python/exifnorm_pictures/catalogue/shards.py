@@ -14,12 +14,13 @@ import tempfile
 from typing import BinaryIO, Iterator, List, NamedTuple, Optional, Sequence, Tuple
 
 from ..files import atomic, opening
-from ..model.errors import WrongUse
+from ..model.errors import Failure, WrongUse
 from ..model.texts import in_words, shown_path
 from .merge import merge
 from .store import LIST, LIST_HEAD, Catalogue, NoCatalogue, address, check_schema, connect, head_is_ours, list_of, unlike
 
 MOST = 10  # that SQLite attaches
+_NAMED = 3  # of those that an answer is without
 LOCK = ".lock"  # a file of a folder, for the time in which its list changes
 _TABLES = ("runs", "pictures", "blocks", "not_read", "maker_notes")
 
@@ -38,9 +39,14 @@ class Shards(NamedTuple):
 
     def notes(self) -> Iterator[str]:
         """What makes that an answer isn't about the whole archive."""
-        for what, names in (("which isn't there", self.missing), ("which its list doesn't name", self.unlisted)):
-            for name in names:
+        for what, others, names in (
+            ("which isn't there", "not there either", self.missing),
+            ("which its list doesn't name", "not in its list either", self.unlisted),
+        ):
+            for name in names[:_NAMED]:
                 yield f"the answer is without the catalogue {shown_path(os.fsencode(name))}, {what}"
+            if len(names) > _NAMED:
+                yield f"the answer is without {in_words(len(names) - _NAMED, 'more catalogue')}, {others}"
 
 
 def is_folder(name: str) -> bool:
@@ -57,10 +63,11 @@ def is_of_folder(name: str) -> bool:
 def shards_of(folder: str) -> Shards:
     """The catalogues of a folder. Raises `NoCatalogue` if none is there."""
     names = [os.path.join(folder, name) for name in listed(folder)]
-    there = list(filter(is_made, names))
+    made = [(name, is_made(name)) for name in names]
+    there = [name for name, is_there in made if is_there]
     if not there:
         raise NoCatalogue(f"{folder}: none of its {in_words(len(names), 'catalogue')} is there")
-    return Shards(folder, there, [name for name in names if name not in there], list(_unlisted(folder, there)))
+    return Shards(folder, there, [name for name, is_there in made if not is_there], list(_unlisted(folder, there)))
 
 
 def is_made(name: str) -> bool:
@@ -78,10 +85,20 @@ def listing(folder: str) -> Iterator[None]:
     """While no other run changes the list of a folder: of two that begin at once, one would list its own catalogues alone."""
     lock = os.open(os.path.join(folder, LOCK), os.O_RDWR | os.O_CREAT | os.O_CLOEXEC | os.O_NOFOLLOW, 0o666)
     try:
-        fcntl.lockf(lock, fcntl.LOCK_EX)  # which network shares have, too, as they have no flock of a folder
+        _lock(folder, lock)
         yield
     finally:
         os.close(lock)
+
+
+def _lock(folder: str, lock: int) -> None:
+    """Waits for the lock of a folder's list. Raises `Failure` where a file system has none."""
+    try:
+        fcntl.lockf(lock, fcntl.LOCK_EX)  # which network shares have, too, as they have no flock of a folder
+    except OSError as error:
+        shown = shown_path(os.fsencode(folder))
+        why = "without which two runs could write one list: give --shards a folder on another file system"
+        raise Failure(f"{shown}: its file system has no POSIX locks ({error.strerror}), {why}") from error
 
 
 def elsewhere(folder: str) -> List[str]:

@@ -238,9 +238,10 @@ def _check_head(name: str, make: bool) -> None:
         )
     version = int.from_bytes(head[60:64], "big")
     if version < VERSION:
+        option = "--catalogue" if list_of(os.path.dirname(name) or ".") is None else "--shards"
         raise NoCatalogue(
             f"{name} is a catalogue of an earlier release (version {version}, here {VERSION}), which lacks what is compared now."
-            " Make a new one: exifnorm-pictures index FOLDER --catalogue NEW"
+            f" Make a new one: exifnorm-pictures index FOLDER {option} NEW"
         )
     if version > VERSION:
         raise NoCatalogue(f"{name} is a catalogue of a later release (version {version}, here {VERSION})")
@@ -260,6 +261,21 @@ def _check_journal(name: str) -> None:
         return
     if end == _NAMES_OTHERS:
         raise NoCatalogue(f"{name} isn't written to: the journal beside it, {journal}, names another file, and none of a catalogue does")
+
+
+def roll_back(name: str, adds: bool = False) -> None:
+    """Lets one that writes roll back what a killed run has left of a catalogue, if it can't be read; `adds` as of `Catalogue`. Raises
+    `NoCatalogue`."""
+    if not os.path.exists(f"{os.path.realpath(name)}-journal"):
+        return
+    try:
+        with Catalogue(name):
+            return
+    except NoCatalogue:
+        if not os.access(name, os.W_OK):
+            raise
+    with Catalogue(name, there=not adds, adds=adds):
+        pass
 
 
 class Earlier(NamedTuple):
@@ -410,21 +426,21 @@ class Catalogue:
     all_texts: Tuple[str, ...] = ()  # the same with those that are made for a question, once they are
     _roots: Optional[Tuple[List[int], List[bytes]]] = None  # what `roots` returned last, with the state that it was of
 
-    def __init__(self, name: str, make: bool = False, adds: bool = False) -> None:
-        """Opens a catalogue to read it, or with `make` to write to it; then a missing one is made. With `adds` one that is there is written to,
-        if other runs that have it open allow it within `SHORT_WAIT`. Raises `NoCatalogue`."""
+    def __init__(self, name: str, make: bool = False, there: bool = False, adds: bool = False) -> None:
+        """Opens a catalogue to read it, or to write to it: with `make` a missing one is made, with `there` it isn't, and `adds` is as `there` if
+        other runs that have it open allow it within `SHORT_WAIT`. Raises `NoCatalogue`."""
         self.name = self.file = name
-        self._is_written = make or adds
+        self._is_written = make or there or adds
         self._was_cut = False
         _check_head(name, make)
-        if make or adds:
+        if self._is_written:
             _check_journal(name)
         with self.guarded():
-            self.base = connect(address(name, "rwc" if make else "rw" if adds else "ro"))
+            self.base = connect(address(name, "rwc" if make else "rw" if self._is_written else "ro"))
             try:
                 if adds:
                     self.base.execute(f"PRAGMA busy_timeout = {SHORT_WAIT * 1000}")
-                if make or adds:
+                if self._is_written:
                     self._prepare(SHORT_WAIT if adds else WAIT)
                     self._file, self._least = _identity(name), os.stat(name).st_size
                 else:

@@ -15,7 +15,7 @@ from typing import AnyStr, BinaryIO, Callable, Iterator, Optional, Pattern, Tupl
 
 from ..model.errors import Failure
 from ..model.texts import reason
-from . import copying, opening, rights
+from . import copying, opening, rights, signals
 
 Write = Callable[[BinaryIO], None]
 _LEFT = re.compile(rb"\.exifnorm-\d+-[0-9a-f]{12}\.part")  # as `_free_name` makes it
@@ -111,25 +111,24 @@ def sweep(folder: AnyStr, names: "Pattern[AnyStr]", remove: "Callable[[os.DirEnt
 
 
 def _remove_dead(path: bytes, allowed: Callable[[bytes], bool]) -> None:
-    """Removes a file that a killed run of this user has left, which nobody has locked, if it is of an allowed kind."""
+    """Removes a file that a killed run of this user has left, which nobody has locked, if it is empty or of an allowed kind."""
     with open(os.open(path, os.O_RDONLY | os.O_NOFOLLOW | os.O_NONBLOCK | os.O_CLOEXEC), "rb") as file:
         now = os.fstat(file.fileno())
         if not stat.S_ISREG(now.st_mode) or now.st_uid != os.geteuid():
             return
         fcntl.flock(file, fcntl.LOCK_EX | fcntl.LOCK_NB)
-        head = file.read(_HEAD)  # nothing, before a process that lives has locked it
-        if head and allowed(head):
+        head = file.read(_HEAD)
+        if not head or allowed(head):
             os.unlink(path)
 
 
 @contextlib.contextmanager
 def _written(out: bytes, write: Write, mode: int) -> Iterator[Tuple[BinaryIO, Optional[bytes]]]:
     """A file in the folder of `out` with all its bytes on the disk, and its name if it needed one. It begins with a mode, less umask."""
-    folder = os.path.dirname(out) or b"."
-    number, name = _opened(folder, out, mode)
-    with contextlib.suppress(OSError):  # a file system without locks
-        fcntl.flock(number, fcntl.LOCK_EX | fcntl.LOCK_NB)
+    folder, number, name = os.path.dirname(out) or b".", -1, None
     try:
+        with signals.signals_held():  # a signal before the file has its name here would leave it
+            number, name = _opened(folder, out, mode)
         with open(number, "wb") as file:
             write(file)
             file.flush()
@@ -142,11 +141,22 @@ def _written(out: bytes, write: Write, mode: int) -> Iterator[Tuple[BinaryIO, Op
 
 
 def _opened(folder: bytes, out: bytes, mode: int) -> Tuple[int, Optional[bytes]]:
+    """A new file that is locked, as far as the file system can, and its name if it needs one."""
     if hasattr(os, "O_TMPFILE"):
         with contextlib.suppress(OSError):
-            return os.open(folder, os.O_TMPFILE | os.O_RDWR | os.O_CLOEXEC, mode), None
-    name = _free_name(out)
-    return os.open(name, os.O_RDWR | os.O_CREAT | os.O_EXCL | os.O_CLOEXEC, mode), name
+            return _locked(os.open(folder, os.O_TMPFILE | os.O_RDWR | os.O_CLOEXEC, mode)), None
+    while True:
+        name = _free_name(out)
+        number = _locked(os.open(name, os.O_RDWR | os.O_CREAT | os.O_EXCL | os.O_CLOEXEC, mode))
+        if os.fstat(number).st_nlink:
+            return number, name
+        os.close(number)  # another run has taken it for that of a dead one, before it was locked
+
+
+def _locked(number: int) -> int:
+    with contextlib.suppress(OSError):  # a file system without locks
+        fcntl.flock(number, fcntl.LOCK_EX)
+    return number
 
 
 def _free_name(out: bytes) -> bytes:

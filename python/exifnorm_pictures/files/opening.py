@@ -7,7 +7,7 @@ import errno
 import io
 import os
 import stat
-from typing import TYPE_CHECKING, BinaryIO, Iterator, NamedTuple, Optional, Tuple, TypeVar, Union
+from typing import TYPE_CHECKING, BinaryIO, Dict, Iterator, Optional, Tuple, TypeVar, Union
 
 if TYPE_CHECKING:
     from _typeshed import WriteableBuffer
@@ -17,33 +17,30 @@ Read = TypeVar("Read")
 IRREGULAR = "it is no regular file"
 
 
-class Held(NamedTuple):
-    """A file that is open, and that `opened` opens again whatever has its name meanwhile: so all that is read of it is of one file."""
-
-    number: int
-
-
-Place = Union[bytes, str, Held]
+_held: Dict[bytes, int] = {}  # the numbers of the files that are held open, by their names
 
 
 @contextlib.contextmanager
-def held(path: bytes) -> Iterator[Place]:
-    """Holds a file open. One that can't be opened stays its path, of which `opened` raises why."""
+def held(path: bytes) -> Iterator[Optional[int]]:
+    """Holds a file open, whose number is its result: all that is read meanwhile by this name is of this file, whatever file gets the name. One
+    that can't be opened isn't held, and `opened` raises why; one that is held already stays so."""
+    number = None
+    if path not in _held:
+        with contextlib.suppress(OSError):
+            number = _held[path] = opened(path)[0]
     try:
-        number, _ = opened(path)
-    except OSError:
-        yield path
-        return
-    try:
-        yield Held(number)
+        yield _held.get(path)
     finally:
-        os.close(number)
+        if number is not None:
+            os.close(_held.pop(path))
 
 
-def opened(path: Place) -> Tuple[int, int]:
+def opened(path: Union[bytes, str]) -> Tuple[int, int]:
     """The number of a regular file that is open, and its length. A file that becomes a pipe isn't waited for. Raises `OSError`."""
-    if isinstance(path, Held):
-        return os.dup(path.number), os.fstat(path.number).st_size
+    if isinstance(path, bytes) and path in _held:
+        number = os.dup(_held[path])
+        os.lseek(number, 0, os.SEEK_SET)  # all its numbers have one offset
+        return number, os.fstat(number).st_size
     try:
         if not stat.S_ISREG(os.stat(path).st_mode):
             raise OSError(errno.EINVAL, IRREGULAR, path)
@@ -73,6 +70,6 @@ def _there(read: Optional[Read]) -> Read:
     return read
 
 
-def reading(path: Place) -> BinaryIO:
+def reading(path: Union[bytes, str]) -> BinaryIO:
     """A regular file as a stream. Raises `OSError`."""
     return io.BufferedReader(_Regular(opened(path)[0]))

@@ -27,10 +27,10 @@ class Closes(Protocol):
 class Session:
     """A session. Use it in a `with`: at its end its program ends, and its folder is removed."""
 
-    def __init__(self, seconds: float = PROGRAM_SECONDS, debug: bool = False, room: Optional[str] = None) -> None:
-        """How long a program may take for one file, whether tracebacks are printed, and the folder of the run; without `room` the session
-        makes a folder of its own, if it needs one."""
-        self.seconds = seconds
+    def __init__(self, seconds: float = PROGRAM_SECONDS, debug: bool = False, room: Optional[str] = None, programs: bool = True) -> None:
+        """How long a program may take for one file, whether tracebacks are printed, the folder of the run, and whether other programs may be
+        started; without `room` the session makes a folder of its own, if it needs one."""
+        self.seconds, self.programs = seconds, programs
         self.debug = debug or os.environ.get("EXIFNORM_DEBUG") == "1"
         self.pid = os.getpid()
         self.tool: Optional[Closes] = None  # ExifTool's process, which `exiftool` starts at the first call

@@ -13,6 +13,8 @@ from ..model.errors import Failure
 from ..model.texts import safe
 
 SIGNALS = (signal.SIGTERM, signal.SIGHUP)
+_HEEDED = (*SIGNALS, signal.SIGINT)
+_SOON = 0.01  # seconds
 
 
 class Stopped(BaseException):
@@ -40,27 +42,42 @@ def go_on_stopping() -> None:
         raise again
 
 
-def _interrupt(number: int, _: Optional[FrameType]) -> None:
+def _stop(number: int, _: Optional[FrameType]) -> None:
+    """Raises what unwinds the run. Further signals don't disturb its end."""
+    for signum in _HEEDED:
+        signal.signal(signum, signal.SIG_IGN)
     global _stopped
-    _stopped = KeyboardInterrupt()
+    _stopped = KeyboardInterrupt() if number == signal.SIGINT else Stopped(number)
     raise _stopped
 
 
-def _stop(number: int, _: Optional[FrameType]) -> None:
-    for signum in SIGNALS:
-        signal.signal(signum, signal.SIG_IGN)  # the run is cleaning up
-    global _stopped
-    _stopped = Stopped(number)
+def _lost(error: "sys.UnraisableHookArgs") -> None:
+    """What Python can't raise where a signal came, as in a weak reference's function, is raised soon afterwards; other errors are printed."""
+    if error.exc_value is None or error.exc_value is not _stopped:
+        sys.__unraisablehook__(error)
+        return
+    signal.signal(signal.SIGALRM, _stop_again)
+    signal.setitimer(signal.ITIMER_REAL, _SOON)
+
+
+def _stop_again(*_: object) -> None:
+    assert _stopped is not None
     raise _stopped
 
 
 def heed_signals() -> None:
     """From now on a signal unwinds the run, so that it removes folders and ends programs. Ignored signals stay ignored."""
-    for signum in SIGNALS:
-        if signal.getsignal(signum) == signal.SIG_DFL:
+    sys.unraisablehook = _lost
+    for signum in _HEEDED:
+        if signal.getsignal(signum) in (signal.SIG_DFL, signal.default_int_handler):
             signal.signal(signum, _stop)
-    if signal.getsignal(signal.SIGINT) in (signal.default_int_handler, signal.SIG_DFL):
-        signal.signal(signal.SIGINT, _interrupt)
+
+
+def heed_no_more() -> None:
+    """From now on a signal ends the process at once: nothing is left to be removed, and while Python ends it would print a traceback."""
+    for signum in _HEEDED:
+        if signal.getsignal(signum) == _stop:
+            signal.signal(signum, signal.SIG_DFL)
 
 
 @contextlib.contextmanager
@@ -69,7 +86,7 @@ def signals_held() -> Iterator[Set[int]]:
 
     Python calls functions of its modules around a fork, and an exception that is raised in one of them is lost.
     """
-    before = signal.pthread_sigmask(signal.SIG_BLOCK, (*SIGNALS, signal.SIGINT))
+    before = signal.pthread_sigmask(signal.SIG_BLOCK, _HEEDED)
     try:
         yield before
     finally:

@@ -15,7 +15,7 @@ from . import signals
 from .atomic import sweep
 
 PREFIX = "exifnorm-"
-_LOCK = "lock"
+_LOCK, _NEW = "lock", "new"  # a lock gets its name once it is locked
 _MARK = b"temporary files of a run of exifnorm-pictures, which the next run removes\n"  # in each lock
 _NAME = re.compile(PREFIX + "[a-z0-9_]{8}")  # as mkdtemp makes it
 
@@ -28,20 +28,43 @@ def room() -> Iterator[str]:
     sweep(base, _NAME, _remove_dead)
     name, lock = "", -1
     try:
-        with signals.signals_held():  # a signal after mkdtemp has made the folder, and before it has its name here, would leave it
-            name = tempfile.mkdtemp(prefix=PREFIX)
-        # locked before it has its name, so that no other run takes the folder for a dead one
-        lock = os.open(os.path.join(name, "new"), os.O_RDWR | os.O_CREAT | os.O_CLOEXEC, 0o600)
-        os.write(lock, _MARK)
-        fcntl.flock(lock, fcntl.LOCK_EX)
-        os.rename(os.path.join(name, "new"), os.path.join(name, _LOCK))
+        while lock < 0:
+            with signals.signals_held():  # a signal after mkdtemp has made the folder, and before it has its name here, would leave it
+                name = tempfile.mkdtemp(prefix=PREFIX)
+            with contextlib.suppress(FileNotFoundError):  # another run has taken it for a dead one, before it was locked
+                lock = _locked(name)
         yield name
     finally:
         with signals.signals_held():
             if name:
-                shutil.rmtree(name, ignore_errors=True)
+                _remove(name)
         if lock >= 0:
             os.close(lock)
+
+
+def _locked(folder: str) -> int:
+    """The number of a folder's new lock, which no other run takes for that of a dead one."""
+    new = os.path.join(folder, _NEW)
+    lock = os.open(new, os.O_RDWR | os.O_CREAT | os.O_CLOEXEC, 0o600)
+    try:
+        fcntl.flock(lock, fcntl.LOCK_EX)
+        os.write(lock, _MARK)
+        os.rename(new, os.path.join(folder, _LOCK))
+    except BaseException:
+        os.close(lock)
+        raise
+    return lock
+
+
+def _remove(folder: str) -> None:
+    """Removes a folder, and its lock last: if this run is killed meanwhile, the next one removes the rest."""
+    with contextlib.suppress(OSError), os.scandir(folder) as entries:
+        for entry in sorted(entries, key=lambda entry: entry.name == _LOCK):
+            if entry.is_dir(follow_symlinks=False):
+                shutil.rmtree(entry.path, ignore_errors=True)
+            else:
+                os.unlink(entry.path)
+        os.rmdir(folder)
 
 
 def _remove_dead(entry: "os.DirEntry[str]") -> None:
@@ -49,14 +72,19 @@ def _remove_dead(entry: "os.DirEntry[str]") -> None:
     status = entry.stat(follow_symlinks=False)
     is_own = stat.S_ISDIR(status.st_mode) and stat.S_IMODE(status.st_mode) == 0o700 and status.st_uid == os.geteuid()
     if is_own and _is_dead(entry.path):
-        shutil.rmtree(entry.path, ignore_errors=True)
+        _remove(entry.path)
 
 
 def _is_dead(folder: str) -> bool:
-    """Whether a folder has our lock file, and no process has locked it."""
-    lock = os.open(os.path.join(folder, _LOCK), os.O_RDWR | os.O_NOFOLLOW | os.O_NONBLOCK | os.O_CLOEXEC)
+    """Whether a folder has our lock file, and no process has locked it; or has no file besides, as before it has a lock, and after."""
+    names = os.listdir(folder)
+    if not names:
+        return True
+    name = _NEW if names == [_NEW] else _LOCK
+    lock = os.open(os.path.join(folder, name), os.O_RDWR | os.O_NOFOLLOW | os.O_NONBLOCK | os.O_CLOEXEC)
     try:
-        if not stat.S_ISREG(os.fstat(lock).st_mode) or os.read(lock, len(_MARK) + 1) != _MARK:
+        mark = os.read(lock, len(_MARK) + 1) if stat.S_ISREG(os.fstat(lock).st_mode) else None
+        if mark != _MARK and (mark or name == _LOCK):
             return False
         fcntl.flock(lock, fcntl.LOCK_EX | fcntl.LOCK_NB)
     except OSError:

@@ -1,0 +1,194 @@
+"""The law of kills: a command that was killed, and is given again, leaves what one run leaves, and no other file.
+
+strace kills the run before one of its calls that write, those of SQLite too. It attaches itself to a process that has imported the modules.
+A short form tries some calls of each command; with --long each is tried.
+"""
+
+import contextlib
+import os
+import re
+import shlex
+import shutil
+import signal
+import sqlite3
+from collections import Counter
+
+import pytest
+from test_outputs import COMMANDS, Runner, needs_xlsx, runner  # noqa: F401 (a fixture)
+
+pytestmark = pytest.mark.skipif(not shutil.which("strace"), reason="not installed: strace")
+
+MORE = {
+    "index, shards": ["index", "p", "q", "--shards", "shards", "--quiet", "--jobs", "1"],
+    "index, several processes": ["index", "p", "--catalogue", "c", "--quiet", "--jobs", "2"],
+    "forget, shards": ["forget", "p/a.jpg", "--catalogue", "s"],
+    "list, shards": ["list", "s", "--with", "title"],
+    "merge, shards": ["merge", "s", "--catalogue", "out"],
+}
+WRITING = {name: words for name, words in {**COMMANDS, **MORE}.items() if name not in ("history", "explain")}  # which write nothing
+# so that few pictures are several transactions
+SMALL = "from exifnorm_pictures.scan import index; index.BATCH = 1\nfrom exifnorm_pictures.catalogue import kept_texts; kept_texts.AT_ONCE = 2\n"
+WAYS = {
+    "here": SMALL,
+    # where SQLite keeps a journal, and no file is without a name
+    "on a share": SMALL + "from exifnorm_pictures.files import mounts; mounts.is_on_network = lambda _: True; del os.O_TMPFILE\n",
+}
+KILLS = {"here": 4, "on a share": 4}  # of each command in the short form, spread over a run, and here the first of each call
+READS = 3  # of so many kills one is followed by a command that reads
+
+COPY = re.compile(r"(^|/)\.exifnorm-\d+-[0-9a-f]{12}\.part$")  # on a share, where it has a name
+PYTHONS = re.compile("[a-z0-9_]{8}")  # a file by which Python tries whether it can write to TMPDIR
+CALLS = (
+    "write pwrite64 fsync fdatasync ftruncate rename renameat renameat2 link linkat unlink unlinkat rmdir mkdir mkdirat symlink fchmod fchown"
+    " utimensat openat"
+).split()
+OPENED_TO_WRITE = re.compile(r"O_WRONLY|O_RDWR|O_CREAT")
+ATTACH = """
+import ctypes, subprocess
+ctypes.CDLL(None).prctl(0x59616D61, ctypes.c_ulong(-1), 0, 0, 0)  # PR_SET_PTRACER, where only relatives are allowed to trace
+tracer = subprocess.Popen({words!r} + ["-p", str(os.getpid())], stdin=-3, stdout=-3, stderr=-1)
+assert b"attached" in tracer.stderr.readline()
+"""
+
+
+def traced(trace, way, *more):
+    """The setup of a run that is traced."""
+    words = [shutil.which("strace"), "-s", "0", "-e", f"trace={','.join(CALLS)}", "-e", "signal=none", "-o", str(trace), *more]
+    return WAYS[way] + ATTACH.format(words=words)
+
+
+def places(trace):
+    """The calls of a run that write to files, in their order: each with its number among those of its name."""
+    counts = Counter()
+    for line in trace.read_text().splitlines():
+        call, _, rest = line.partition("(")
+        if call in CALLS:
+            counts[call] += 1
+            is_stream = call == "write" and rest[:2] in ("1,", "2,")
+            if not is_stream and (call != "openat" or OPENED_TO_WRITE.search(rest)):
+                yield call, counts[call]
+
+
+def chosen(known, way):
+    """Some places spread over a run, of which the last is one; and the first of each call."""
+    firsts = {call: (call, number) for call, number in reversed(known)}.values() if way == "here" else ()
+    count = KILLS[way]
+    return sorted({*firsts, *(known[len(known) * at // count - 1] for at in range(1, count + 1))}, key=known.index)
+
+
+# What is there
+
+
+def rows(path):
+    """What a catalogue or an export has, but for the numbers and times of runs: pictures by their paths."""
+    with contextlib.closing(sqlite3.connect(path)) as base:
+        assert base.execute("PRAGMA integrity_check").fetchall() == [("ok",)]
+        names = [it for it, in base.execute("SELECT name FROM sqlite_master WHERE type = 'table'")]
+        paths = dict(base.execute("SELECT id, path FROM pictures"))
+        found = {}
+        for name in names:
+            cursor = base.execute(f"SELECT * FROM {name}")
+            columns = [it[0] for it in cursor.description]
+            found[name] = sorted(TIME.sub("", repr(plain(dict(zip(columns, row)), paths))) for row in cursor)
+        found.pop("runs", None)
+        return found
+
+
+TIME = re.compile(r"\d{4}-\d\d-\d\d[T ]\d\d:\d\d(:\d\d)?|[0-9a-f]{64}  ")  # and the digests of pages with one
+OF_A_RUN = ("id", "run", "device", "inode", "changed")  # of a row, and of a copy of the archive
+
+
+def plain(row, paths):
+    if "picture" in row:
+        row["picture"] = paths.get(row["picture"])
+    return {name: it for name, it in row.items() if name not in OF_A_RUN}
+
+
+def content(path):
+    octets = path.read_bytes() if path.exists() else b""  # which SQLite has removed
+    if octets.startswith(b"SQLite"):
+        try:
+            return rows(path)
+        except (sqlite3.Error, AssertionError) as error:
+            return str(error)
+    return TIME.sub("", octets.decode("latin-1")) if not octets.startswith(b"PK") else "a sheet"
+
+
+def state(folder):
+    """Each file of a folder, or the error of a catalogue. A lock has what is about one run alone. A copy is read, because SQLite rolls back."""
+    copy = folder.with_name("copy")
+    shutil.rmtree(copy, ignore_errors=True)
+    shutil.copytree(folder, copy, symlinks=True)
+    names = [str(it.relative_to(folder)) for it in folder.rglob("*") if not it.is_dir()]
+    return {name: b"" if name.endswith("lock") else content(copy / name) for name in names if not name.startswith("tmp/")}
+
+
+def left(archive, here):
+    """What is in TMPDIR. A run that makes a folder there removes those of killed ones."""
+    if os.listdir(here / "tmp"):
+        archive.run(here, ["export", "c", "swept", "--quiet"])
+    return [it for it in os.listdir(here / "tmp") if not PYTHONS.fullmatch(it)]
+
+
+def differing(now, due, had_all, is_mend):
+    """The files that differ. If there was nothing left to write, what SQLite keeps beside a catalogue stays until a command writes to it; and
+    no run looks for a copy of another one, of which a folder can have many."""
+    names = {it for it in {*now, *due} if now.get(it) != due.get(it) and not (is_mend and COPY.search(it))}
+    return {it for it in names if not (had_all and it.endswith(("-wal", "-shm", "-journal")))}
+
+
+def difference(now, due):
+    """Where two contents differ, or that one is missing."""
+    if not isinstance(now, dict) or not isinstance(due, dict):
+        return str(now)[:100], str(due)[:100]
+    return [(table, set(now.get(table, ())) ^ set(due.get(table, ()))) for table in {*now, *due} if now.get(table) != due.get(table)]
+
+
+def folders(folder):
+    return {str(it.relative_to(folder)) for it in folder.rglob("*") if it.is_dir() and it.parent != folder / "tmp"}
+
+
+@pytest.fixture(scope="module")
+def archive(runner):  # noqa: F811
+    """The archive of the other tests of outputs, with a folder of catalogues."""
+    here = runner.fresh()
+    assert runner.run(here, ["index", "p", "q", "--shards", "s", "--quiet", "--jobs", "1"])[0] == 0
+    shutil.rmtree(runner.archive)
+    shutil.copytree(here, runner.archive)
+    return runner
+
+
+@pytest.mark.parametrize("way", WAYS)
+@pytest.mark.parametrize("name", WRITING)
+def test_given_again(name, way, archive, tmp_path, pytestconfig):
+    needs_xlsx(name) if name in COMMANDS else None
+    words, trace, wrong = WRITING[name], tmp_path / "trace", []
+    here = archive.fresh()
+    status, _ = archive.run(here, words, traced(trace, way))
+    due, due_folders, told = state(here), folders(here), archive.printed
+    archive.run(here, words, WAYS[way])
+    twice, known = state(here), list(places(trace))
+    assert known, "the calls of the run are seen"
+    for at, (call, number) in enumerate(known if pytestconfig.getoption("--long") else chosen(known, way)):
+        here = archive.fresh()
+        killed, _ = archive.run(here, words, traced(trace, way, "-e", f"inject={call}:signal=KILL:when={number}"))
+        first = archive.printed
+        had_all = due.items() <= state(here).items()
+        about = (shlex.join(words), way, call, number, killed)
+        if killed not in (-signal.SIGKILL, status):
+            wrong.append((about, "ended"))
+        if at % READS == 0:
+            read, said = archive.run(here, ["same", "c"], WAYS[way])
+            if "readonly" in said or read not in (0, 1, 2, 4):
+                wrong.append((about, "same", read, said))
+        again, said = archive.run(here, words, WAYS[way])
+        second = archive.printed
+        if again != status and not had_all:
+            wrong.append((about, "again", again, said))
+        now, one = state(here), twice if had_all else due
+        wrong += [(about, it, *difference(now.get(it), one.get(it))) for it in differing(now, one, had_all, words[0] == "mend")]
+        wrong += [(about, "folder", it) for it in folders(here) ^ due_folders if not had_all]  # verify stops at its whole evidence
+        wrong += [(about, "left", it) for it in left(archive, here)]
+        if name == "nightly" and told not in (first, second):
+            wrong.append((about, "told", first, second))
+    assert not wrong, "\n".join(map(str, wrong))
