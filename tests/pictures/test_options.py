@@ -1,5 +1,6 @@
 """An option that a command accepts has an effect, or is refused."""
 
+import argparse
 import csv
 import importlib
 import io
@@ -15,7 +16,7 @@ from meanings import ASCII, BYTE, UNDEFINED
 from studio import TOP
 
 from exifnorm_pictures.cli import parser
-from exifnorm_pictures.cli.options import Options
+from exifnorm_pictures.cli.options import Fields, Files, Least, Output, Run
 from exifnorm_pictures.files.session import Session
 from exifnorm_pictures.model import budgets
 from exifnorm_pictures.scan import batches
@@ -45,16 +46,9 @@ COMMANDS = {
 }
 
 
-class Recorded(Options):
-    """Arguments that record which of them were read, and so does each copy of them."""
-
-    def __init__(self, **words):
-        super().__init__(**{"read": set(), **words})
-
-    def __getattribute__(self, name):
-        if not name.startswith("_") and name != "read":
-            self.read.add(name)
-        return super().__getattribute__(name)
+def recorded(kind, names, monkeypatch):
+    """Adds to `names` what is read of each object of a kind."""
+    monkeypatch.setattr(kind, "__getattribute__", lambda self, name: names.add(name) or object.__getattribute__(self, name))
 
 
 @pytest.fixture
@@ -70,14 +64,18 @@ def archive(folder, called):
 
 
 @pytest.mark.parametrize("command", [name for name, *_ in parser._COMMANDS])
-def test_each_option_is_looked_at(command, archive, capsys):
-    """An option that no statement looks at would be accepted and have no effect. `main` itself looks at --debug, --limit and --xlsx."""
+def test_each_option_is_looked_at(command, archive, capsys, monkeypatch):
+    """An option that no statement looks at would be accepted and have no effect. `main` itself looks at --debug, --limit and --xlsx. A record of
+    options is made of all that a command has, so what counts is what is read of the record."""
     words = (*COMMANDS[command], *(("--evidence", "sums") if command == "verify" else ()))  # by which --form is looked at
     given = vars(parser.parsers()[0].parse_args([command, *words]))
     accepted = set(given) - {"command", "version", "debug", "limit", "xlsx"}
-    arguments = Recorded(**given, session=Session())
+    read = set()
+    arguments = type("Recorded", (argparse.Namespace,), {})(**given, session=Session(), least=Least())
+    for kind in (type(arguments), Files, Fields, Output, Run):
+        recorded(kind, read, monkeypatch)
     importlib.import_module(f"exifnorm_pictures.cli.{command}").run(arguments)
-    assert accepted <= arguments.read, "an option of this command is never looked at"
+    assert accepted <= read, "an option of this command is never looked at"
 
 
 def options():
@@ -330,7 +328,7 @@ def test_a_catalogue_that_is_missing_or_given_twice(words, archive, called, caps
 @pytest.mark.parametrize(
     "words, why",
     [
-        (("index", "p", "--catalogue", "d", "--elsewhere", "/mnt"), "--scheduler"),
+        (("index", "p", "--catalogue", "d", "--scheduler", "tcp://127.0.0.1:9"), "give --shards DIR"),
         (("changed", "c", "c", "--pixels"), "for folders"),
         (("changed", "c", "c", "--whole"), "for folders"),
         (("changed", "c", "c", "--sidecars"), "without --sidecars"),

@@ -72,6 +72,8 @@ VALUES = {
     "--kind": "iptc",
     "--least-fields": "3",
     "--limit": "50",
+    "--match": "stem",
+    "--nights": "2",
     "--link-to": "'https://dam.example/{path}' --html page.html",
     "--list": "missing",
     "--lossless": "",
@@ -328,7 +330,7 @@ def test_each_option_is_taken_by_a_line(archive):
 )
 def test_options_that_exclude_each_other_are_refused_by_name(command, pair, archive):
     line = LINES[command][0].partition(" --")[0]
-    values = {"--catalogue": "c", "--bag": "bag", "--shards": "parts", "--elsewhere": "p", "--block": ""}
+    values = {"--catalogue": "c", "--bag": "bag", "--shards": "parts", "--block": ""}
     words = [f"{it} {values[it] if it in values else FORMS[it][len(it):] if it in FORMS else value_of(command, it)}" for it in pair]
     for one, other in (words, words[::-1]):
         found = outcome(f"{line} {one} {other}", archive)

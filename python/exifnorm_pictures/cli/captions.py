@@ -16,10 +16,11 @@ from ..model.texts import Members, escaped, shown_path
 from ..picture import Picture
 from .columns import width
 from .exit_codes import SUCCESS, UNKNOWN
-from .labelled import is_of_many, is_open, members, not_read, origins, pictures, refused, together
+from .labelled import is_open, members, not_read, origins, pictures, refused, together
 from .names import is_list
 from .not_read import no_block, not_found, picture_cut, unread
 from .objects import print_object
+from .options import Files, Output, Run, group_of
 from .output import print_lines, table_of
 
 if TYPE_CHECKING:
@@ -31,20 +32,19 @@ _WIDTH = max(map(len, LABEL_WORDS)) + 1
 
 def run(arguments: argparse.Namespace) -> int:
     """Lists captions of Exif, IPTC and XMP."""
-    worst = SUCCESS
-    table = table_of(arguments, ["picture", *LABEL_WORDS, "latitude", "longitude", "camera's text", "contradicts itself", "not read"])
-    has_heads = is_list(arguments, arguments.pictures) or arguments.catalogue is not None
-    has_heads = has_heads or any(is_of_many(os.fsencode(name)) for name in arguments.pictures[:1])
-    for picture in pictures(arguments):
+    files, output, worst = group_of(Files, arguments), group_of(Output, arguments), SUCCESS
+    table = table_of(output, ["picture", *LABEL_WORDS, "latitude", "longitude", "camera's text", "contradicts itself", "not read"])
+    alone = None if is_list(files) else {*map(os.fsencode, files.names)}
+    for picture in pictures(files, group_of(Run, arguments)):
         worst = max(worst, UNKNOWN if is_open(picture) else SUCCESS)
         if table:
             table.row(*_row(picture))
-        elif arguments.json:
+        elif output.json:
             about = _members(picture)
             worst = max(worst, UNKNOWN if about["has_more_captions"] else SUCCESS)
             print_object("captions", "picture", about)
         else:
-            print_lines([*[f"== {shown_path(picture.path)}"] * has_heads, *_lines(picture)])
+            print_lines([*[f"== {shown_path(picture.path)}"] * ({picture.path} != alone), *_lines(picture)])
     return worst
 
 

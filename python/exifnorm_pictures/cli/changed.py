@@ -9,7 +9,7 @@ import os
 import shutil
 import sys
 from collections import Counter
-from typing import Callable, Iterable, Iterator, List
+from typing import Callable, Iterable, Iterator, List, Sequence
 
 from ..catalogue.store import Catalogue, NoCatalogue, of_day
 from ..comparison import changed as changes
@@ -28,43 +28,53 @@ from .choice import choice_of, listings_of, note_absent, refuse_unknown
 from .exit_codes import status_of_results
 from .looking import catalogue_of, files_of, is_of_pictures
 from .names import from_list, refuse_pictures, say_unknown
-from .options import Options
+from .options import Fields, Files, Output, Run, group_of
 from .output import print_line, print_lines, say_notes, table_of
 from .summary import lines
 
 
-def run(arguments: Options) -> int:
+def run(arguments: argparse.Namespace) -> int:
     """Prints the differences between two states."""
-    _refuse_missing(arguments.before, arguments.after)
-    refuse_pictures(arguments.before, arguments.after)
-    _refuse_for_catalogues(arguments)
-    names = from_list(arguments)
+    sides = (arguments.before, arguments.after)
+    run, output, fields = group_of(Run, arguments), group_of(Output, arguments), group_of(Fields, arguments)
+    _refuse_missing(*sides)
+    refuse_pictures(*sides)
+    _refuse_for_catalogues(run, *sides)
+    names = from_list(group_of(Files, arguments))
     only = None if names is None else {place for it in names for place in (os.path.normpath(it), os.path.abspath(it))}
     counts: "Counter[Result]" = Counter()
     pictures: "Counter[Coded]" = Counter()  # by what is known of the coded ones
-    notes = _Notes(arguments, pictures)
+    notes = _Notes(sides, fields, pictures)
     with contextlib.ExitStack() as open_:
-        arguments = _with_sidecars(arguments)
-        before, after = (open_.enter_context(catalogue_of(it, arguments, True)) for it in (arguments.before, arguments.after))
+        run = _with_sidecars(run, *sides)
+        before, after = (open_.enter_context(catalogue_of(it, run, True)) for it in sides)
         if before.has_digests() and after.has_digests():
             notes.pixels = ""
-        choice = choice_of(arguments)
+        choice = choice_of(fields)
         refuse_unknown(choice, listings_of(before, after))
         comparisons = changes.changed(
-            before, after, counts, only, arguments.all, None if arguments.no_exiftool else arguments.session, choice, pictures
+            before,
+            after,
+            counts,
+            only,
+            arguments.all,
+            None if arguments.no_exiftool else run.session,
+            choice,
+            None if arguments.match else pictures,
+            bool(arguments.match),
         )
         comparisons = _then_noted(comparisons, choice, before, after)
         listed = (it for it in comparisons if arguments.all or it.result.has_changed is not False or notes.has_news_of(it))
-        table = table_of(arguments, changed_tables.HEADS)
+        table = table_of(output, changed_tables.HEADS)
         if table:
             changed_tables.print_table(table, listed, choice)
             say_notes(*notes.of_pictures())
-        elif arguments.json:
+        elif output.json:
             changed_tables.print_objects(listed, counts, choice, pictures)
-        elif arguments.each or arguments.all or arguments.exact:
-            _print_each(arguments, listed, counts, choice, notes)
+        elif arguments.each or arguments.all or output.exact:
+            _print_each(output.exact, listed, counts, choice, notes)
         else:
-            _print_summary(comparisons, counts, choice, notes)
+            _print_summary(comparisons, counts, choice, notes, bool(arguments.match))
         if names:
             say_unknown(names, _knows(before, after))
     return status_of_results(counts)
@@ -82,10 +92,10 @@ def _then_noted(comparisons: Comparisons, choice: Choice, before: Catalogue, aft
 class _Notes:
     """What was compared of the coded pictures, once all are compared."""
 
-    def __init__(self, arguments: argparse.Namespace, counts: "Counter[Coded]") -> None:
-        folders = sum(map(is_of_pictures, (arguments.before, arguments.after)))
+    def __init__(self, sides: Sequence[str], fields: Fields, counts: "Counter[Coded]") -> None:
+        folders = sum(map(is_of_pictures, sides))
         self.pixels = ("index --pixels", "index --pixels, and --pixels here,", "--pixels")[folders]
-        self.is_asked = not (arguments.only or arguments.only_file)  # the words of --only are all that is asked
+        self.is_asked = not (fields.only or fields.only_file)  # the words of --only are all that is asked
         self.counts = counts
 
     def has_news_of(self, comparison: changes.Compared) -> bool:
@@ -97,23 +107,24 @@ class _Notes:
         return list(filter(None, [sentence_of_coded(self.counts, self.pixels)])) if self.is_asked else []
 
 
-def _print_each(arguments: argparse.Namespace, comparisons: Comparisons, counts: "Counter[Result]", choice: Choice, notes: _Notes) -> None:
+def _print_each(exact: bool, comparisons: Comparisons, counts: "Counter[Result]", choice: Choice, notes: _Notes) -> None:
     with contextlib.closing(changes.Equal()) as equal:
         for comparison in comparisons:
-            equal.add(json.dumps(_parts_of(comparison, arguments.exact)), comparison.name, comparison.moved_to is not None)
+            parts = json.dumps(_parts_of(comparison, exact))
+            equal.add(parts, comparison.name, (comparison.moved_to or comparison.partner) is not None)
         _print_equal(equal)
     print_line(", ".join(f"{counts[it]} {it}" for it in Result if counts[it]) or "no picture")
     print_lines([*notes.of_pictures(), *lines_of_choice(choice, True)])
 
 
-def _print_summary(comparisons: Comparisons, counts: "Counter[Result]", choice: Choice, notes: _Notes) -> None:
+def _print_summary(comparisons: Comparisons, counts: "Counter[Result]", choice: Choice, notes: _Notes, by_stem: bool) -> None:
     counted = Summary(choice)
     for comparison in comparisons:
         counted.add(comparison)
     is_terminal = sys.stdout.isatty()
     screen = shutil.get_terminal_size().columns if is_terminal else None
     colours = is_terminal and not os.environ.get("NO_COLOR") and os.environ.get("TERM", "dumb") != "dumb"
-    for line in lines(counted, counts, [*notes.of_pictures(), *lines_of_choice(choice, True)], screen, colours):
+    for line in lines(counted, counts, [*notes.of_pictures(), *lines_of_choice(choice, True)], screen, colours, by_stem):
         print(line) if "\x1b" in line else print_line(line)  # all texts in it were made safe
 
 
@@ -139,29 +150,30 @@ def _refuse_missing(*names: str) -> None:
             pass
 
 
-def _refuse_for_catalogues(arguments: argparse.Namespace) -> None:
+def _refuse_for_catalogues(run: Run, *names: str) -> None:
     """Raises `WrongUse` if an option is for folders, and two catalogues are compared."""
-    given = [it for it in ("pixels", "whole") if getattr(arguments, it)]
-    if given and not any(map(is_of_pictures, (arguments.before, arguments.after))):
+    given = [word for word, is_given in (("pixels", run.pixels), ("whole", run.whole)) if is_given]
+    if given and not any(map(is_of_pictures, names)):
         raise WrongUse(f"--{given[0]} is for folders: a catalogue has what index --{given[0]} read")
 
 
-def _with_sidecars(arguments: Options) -> Options:
+def _with_sidecars(run: Run, *names: str) -> Run:
     """A folder is read with XMP sidecars if the catalogue that it is compared with has them. Raises `WrongUse`."""
     has_sidecars = False
-    for name in (arguments.before, arguments.after):
+    for name in names:
         for file in files_of(name):
             with Catalogue(file) as catalogue:
-                if arguments.sidecars and not catalogue.has_sidecars() and not catalogue.is_empty():
+                if run.sidecars and not catalogue.has_sidecars() and not catalogue.is_empty():
                     raise WrongUse(f"{catalogue.name} was made without --sidecars: leave it out, or make a new catalogue")
                 has_sidecars = has_sidecars or catalogue.has_sidecars()
-    return arguments.but(sidecars=arguments.sidecars or has_sidecars)
+    return run._replace(sidecars=run.sidecars or has_sidecars)
 
 
 def _parts_of(comparison: changes.Compared, exact: bool) -> List[object]:
     """The changes of a picture, without its name."""
     note = f" ({comparison.note})" if comparison.note else ""
     to = "" if comparison.moved_to is None else f" to {tell_apart([shown_path(comparison.name), shown_path(comparison.moved_to)])[1]}"
+    to += "" if comparison.partner is None else f", compared with {shown_path(comparison.partner)}"
     return [
         bool(comparison.changes),
         f"{comparison.result}{to}{note}",

@@ -29,7 +29,20 @@ if TYPE_CHECKING:
 Comparisons = Iterable[Compared]
 
 _MAKER_NOTE = group_name(*MAKER_NOTE)
-HEADS = ("picture", "result", "moved to", "field", "before", "after", "exact before", "exact after", "note", "coded picture", "edit")
+HEADS = (
+    "picture",
+    "result",
+    "moved to",
+    "field",
+    "before",
+    "after",
+    "exact before",
+    "exact after",
+    "note",
+    "coded picture",
+    "edit",
+    "partner",
+)
 
 
 def print_table(table: Table, comparisons: Comparisons, choice: Choice) -> None:
@@ -38,14 +51,22 @@ def print_table(table: Table, comparisons: Comparisons, choice: Choice) -> None:
         about = (comparison.name, comparison.result, comparison.moved_to)
         for change in comparison.changes:
             values = (None,) * 4 if change.note else (*plain_sides(change), exact_side(change.before), exact_side(change.after))
-            table.row(*about, change.name, *values, change.note or comparison.note, comparison.picture, line_of(edit_of(change)))
+            table.row(
+                *about,
+                change.name,
+                *values,
+                change.note or comparison.note,
+                comparison.picture,
+                line_of(edit_of(change)),
+                comparison.partner,
+            )
         for value in comparison.maker_note or ():
             sides = (value.before, value.after, None, None)
-            table.row(*about, f"{_MAKER_NOTE} {value.name}", *sides, "as ExifTool reads it", comparison.picture, None)
+            table.row(*about, f"{_MAKER_NOTE} {value.name}", *sides, "as ExifTool reads it", comparison.picture, None, comparison.partner)
         if not comparison.changes:
-            table.row(*about, *(None,) * 5, comparison.note, comparison.picture, None)
+            table.row(*about, *(None,) * 5, comparison.note, comparison.picture, None, comparison.partner)
     for text in lines(choice, True):
-        table.row(*(None,) * 8, text, None, None)
+        table.row(*(None,) * 8, text, None, None, None)
 
 
 def print_objects(comparisons: Comparisons, counts: "Counter[Result]", choice: Choice, pictures: "Counter[Coded]") -> None:
@@ -72,6 +93,7 @@ def _members(comparison: Compared) -> Members:
     members["coded_picture"] = comparison.picture
     members["damage"] = {word: damage or None for word, damage in zip(("before", "after"), comparison.damage)}
     members["moved_to"] = None if comparison.moved_to is None else path_members(comparison.moved_to)
+    members["partner"] = None if comparison.partner is None else path_members(comparison.partner)
     members["kinds"] = {one.kind: one.result for one in comparison.verdicts}
     members["maker_note"] = None
     if comparison.maker_note is not None:

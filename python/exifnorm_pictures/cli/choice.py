@@ -2,7 +2,6 @@
 
 from __future__ import annotations
 
-import argparse
 from typing import Iterable, Iterator, Sequence, Tuple
 
 from ..catalogue.store import Catalogue
@@ -11,19 +10,20 @@ from ..fields.field import Field
 from ..fields.packing import unpacked
 from ..model.found import NAMES
 from ..model.texts import escaped, reason
+from .options import Fields
 
 LONGEST_FILE = 1 << 20  # bytes of a file with names
 
 
-def choice_of(arguments: argparse.Namespace) -> Choice:
+def choice_of(fields: Fields) -> Choice:
     """The choice of a command line. Raises `UnknownField`."""
-    ignored = [*arguments.ignore, *_of_files(arguments.ignore_file)]
-    return Choice(ignored, [*arguments.only, *_of_files(arguments.only_file)], arguments.equal_numbers)
+    ignored = [*fields.ignore, *_of_files(fields.ignore_file)]
+    return Choice(ignored, [*fields.only, *_of_files(fields.only_file)], fields.equal_numbers)
 
 
-def choice_for(arguments: argparse.Namespace, *catalogues: Catalogue) -> Choice:
+def choice_for(fields: Fields, *catalogues: Catalogue) -> Choice:
     """The same, once it is known which words fit no field of these catalogues. Raises `UnknownField`."""
-    choice = choice_of(arguments)
+    choice = choice_of(fields)
     refuse_unknown(choice, listings_of(*catalogues))
     note_absent(choice, *catalogues)
     return choice

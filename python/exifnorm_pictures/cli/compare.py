@@ -15,6 +15,7 @@ from ..fields.choosing import Choice
 from ..fields.field import Field
 from ..fields.left_out import lines, members_of
 from ..fields.typed import together
+from ..files.opening import held
 from ..model.budgets import COMPARED_FIELDS
 from ..model.found import XMP_FILE
 from ..model.problems import NO_BYTES
@@ -27,6 +28,7 @@ from .columns import columns
 from .exit_codes import SUCCESS, UNKNOWN, status_of_results
 from .names import refuse_folders
 from .objects import picture_object, print_object, unread_members
+from .options import Fields, Output, Run, group_of
 from .output import note_sidecar, print_lines, table_of
 
 if TYPE_CHECKING:
@@ -35,31 +37,34 @@ if TYPE_CHECKING:
 
 def run(arguments: argparse.Namespace) -> int:
     """Compares two pictures."""
-    refuse_folders(arguments.before, arguments.after)
-    how = How(1, whole=arguments.whole, pixels=True, seconds=arguments.limit, debug=arguments.session.debug)
-    (old, head), (new, other) = (read(os.fsencode(it), how, arguments.session) for it in (arguments.before, arguments.after))
-    choice = _choice(arguments, old, new)
-    session = None if arguments.no_exiftool else arguments.session
-    comparison = compare(old, new, session, choice, (head, other))
-    rows = rows_of(comparison, arguments.exact)
-    rows = rows if arguments.exact else with_position(rows, old, new)
+    run, output = group_of(Run, arguments), group_of(Output, arguments)
+    how = How(1, whole=run.whole, pixels=True, seconds=run.limit, debug=run.session.debug)
     names = [os.fsencode(it) for it in (arguments.before, arguments.after)]
+    paths = [os.path.abspath(it) for it in names]
+    with held(paths[0]), held(paths[1]):
+        refuse_folders(arguments.before, arguments.after)
+        (old, head), (new, other) = (read(it, how, run.session) for it in paths)
+    choice = _choice(group_of(Fields, arguments), old, new)
+    session = None if arguments.no_exiftool else run.session
+    comparison = compare(old, new, session, choice, (head, other))
+    rows = rows_of(comparison, output.exact)
+    rows = rows if output.exact else with_position(rows, old, new)
     choice.add_left_out(comparison.left_out)
     for name in names:
         note_sidecar(name)
-    table = table_of(arguments, ["field", "before", "after", "exact before", "exact after", "note"])
-    if arguments.json:
+    table = table_of(output, ["field", "before", "after", "exact before", "exact after", "note"])
+    if output.json:
         print_object("compare", "comparison", _members(comparison, rows, names, choice))
     elif table:
         _print_table(table, comparison, rows, names, list(lines(choice)))
     else:
-        print_lines(_lines(comparison, rows, names, arguments.exact, list(lines(choice))))
+        print_lines(_lines(comparison, rows, names, output.exact, list(lines(choice))))
     return _status(comparison)
 
 
-def _choice(arguments: argparse.Namespace, *records: PictureRecord) -> Choice:
+def _choice(fields: Fields, *records: PictureRecord) -> Choice:
     """The fields that count. Raises `UnknownField` for a name that is no field's, and that neither picture has."""
-    choice = choice_of(arguments)
+    choice = choice_of(fields)
     if choice and _sees_all(choice, [block for record in records for block in record.blocks]):
         refuse_unknown(choice, ())
         choice.absent = choice.unseen_words()

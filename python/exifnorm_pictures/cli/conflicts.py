@@ -20,6 +20,7 @@ from .exit_codes import DIFFERENCE, SUCCESS, UNKNOWN
 from .labelled import is_open, members, not_read, origins, pictures, refused, together
 from .objects import print_object
 from .not_read import picture_cut, unread
+from .options import Fields, Files, Output, Run, group_of
 from .output import print_line, print_lines, table_of
 
 if TYPE_CHECKING:
@@ -45,39 +46,40 @@ class _Counts:
 
 def run(arguments: argparse.Namespace) -> int:
     """Lists contradictions inside pictures."""
-    counts, chosen = _Counts(), _chosen(arguments)
-    table = table_of(arguments, ["picture", "label", "kind", "detail", *STANDARDS])
-    for picture in pictures(arguments):
+    files, output = group_of(Files, arguments), group_of(Output, arguments)
+    counts, chosen = _Counts(), _chosen(group_of(Fields, arguments))
+    table = table_of(output, ["picture", "label", "kind", "detail", *STANDARDS])
+    for picture in pictures(files, group_of(Run, arguments)):
         every = [one for one in conflicts(picture.labelled.texts, picture.labelled.located) if not one.is_alike]
         counted = [one for one in every if one.label in chosen]
         counts.left_out.update(one.label for one in every if one.is_real and one.label not in chosen)
         _count(counts, picture, counted)
         if table:
             _print_rows(table, picture, [one for one in counted if one.is_real or arguments.all])
-        elif arguments.json:
-            if counted or is_open(picture) or picture.damage or arguments.files_from:  # a program may wait for the answer to its name
+        elif output.json:
+            if counted or is_open(picture) or picture.damage or files.files_from:  # a program may wait for the answer to its name
                 print_object("conflicts", "picture", _members(picture, counted))
         else:
             _print(picture, [one for one in counted if one.is_real or arguments.all])
-    if arguments.json:
+    if output.json:
         print_object("conflicts", "summary", vars(counts))
     elif not table:
         print_lines(_summary(counts, arguments.all))
     return UNKNOWN if counts.not_wholly_read else DIFFERENCE if counts.contradicting else SUCCESS
 
 
-def _chosen(arguments: argparse.Namespace) -> Set[str]:
+def _chosen(labels: Fields) -> Set[str]:
     """The labels that count. Raises `UnknownField`."""
     known = [*(it.word for it in LABELS), POSITION]
     given = {}
-    for word in (*arguments.ignore, *arguments.only):
+    for word in (*labels.ignore, *labels.only):
         given[word] = label_of(word) or ""
         if given[word] not in known:
             near = difflib.get_close_matches(word.casefold(), known, 1)
             which = f" (perhaps {near[0]} is meant)" if near else f", which are: {', '.join(known)}"
             raise UnknownField(f"{escaped(word)} is no label of texts that are compared{which}")
-    only = {given[it] for it in arguments.only} or set(known)
-    return only - {given[it] for it in arguments.ignore}
+    only = {given[it] for it in labels.only} or set(known)
+    return only - {given[it] for it in labels.ignore}
 
 
 def _count(counts: _Counts, picture: Picture, counted: Sequence[Conflict]) -> None:

@@ -2,17 +2,18 @@
 
 from __future__ import annotations
 
-import argparse
 import os
 from typing import Callable, Iterator, List
 
 from ..extract.named import blocks_of_named
+from ..files.opening import held
 from ..model.problems import Problem
 from ..model.texts import escaped, shown_path
 from ..picture import Block, Picture
 from .exit_codes import SUCCESS, UNKNOWN
 from .names import each_name, is_catalogue, is_list
 from .not_read import lacks_some, no_block, picture_cut, unread
+from .options import Files, Run
 from .output import note_sidecar, print_lines
 
 
@@ -24,26 +25,28 @@ def status_of(picture: Picture, is_about_file: bool = False) -> int:
     return UNKNOWN if lacks_some(picture, picture.not_read) or (is_about_file and picture.damage) else SUCCESS
 
 
-def each_picture(arguments: argparse.Namespace) -> Iterator[Picture]:
+def each_picture(files: Files, run: Run) -> Iterator[Picture]:
     """The pictures that are named. What is printed of one is written before the next name of standard input is read."""
-    for name in each_name(arguments, arguments.pictures):
-        if not arguments.block:
+    for name in each_name(files):
+        if not run.block:
             note_sidecar(name)
-        yield Picture.of(name, blocks_of_named(name, arguments.session, arguments.whole, arguments.block))
+        with held(name):
+            yield Picture.of(name, blocks_of_named(name, run.session, run.whole, run.block))
 
 
 def each_block(
-    arguments: argparse.Namespace,
+    files: Files,
+    run: Run,
     describer: Callable[[], Describe],
     refused_too: bool = False,
     of_rest: Callable[[Picture], List[str]] = picture_cut,
 ) -> int:
     """Prints something about each block of each picture, for which `describer` is called once, and what `of_rest` says of one that is damaged. Returns the greatest status."""
     worst = SUCCESS
-    has_heads = is_list(arguments, arguments.pictures)
-    for picture in each_picture(arguments):
+    has_heads = is_list(files)
+    for picture in each_picture(files, run):
         worst = max(worst, status_of(picture, refused_too))
-        _print(arguments, picture, [f"== {shown_path(picture.path)}"] if has_heads else [], describer(), refused_too)
+        _print(files.command, picture, [f"== {shown_path(picture.path)}"] if has_heads else [], describer(), refused_too)
         print_lines(of_rest(picture))
         if picture.not_read and not picture.problem:
             print_lines([f"not wholly read: {', '.join(unread(picture, picture.not_read))}"])
@@ -53,11 +56,11 @@ def each_block(
 _OF_CATALOGUE = f"{Problem.NO_PICTURE}: a catalogue, and no picture. captions and list print its texts, report explains what is refused"
 
 
-def _print(arguments: argparse.Namespace, picture: Picture, head: List[str], describe: Describe, refused_too: bool) -> None:
+def _print(command: str, picture: Picture, head: List[str], describe: Describe, refused_too: bool) -> None:
     if picture.problem:
         line = f"{picture.problem}: {picture.detail}"
         if os.path.isdir(picture.path):
-            line = _of_folder(arguments.command, picture.path)
+            line = _of_folder(command, picture.path)
         elif picture.problem == Problem.NO_PICTURE and is_catalogue(picture.name):
             line = _OF_CATALOGUE
         print_lines([*head, line])

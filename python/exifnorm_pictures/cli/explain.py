@@ -21,6 +21,7 @@ from .each_block import each_block, each_picture, status_of
 from .exit_codes import SUCCESS
 from .not_read import damage_lines, damage_members, damage_remedy
 from .objects import block_object, picture_object, print_object
+from .options import Files, Output, Run, group_of
 from .output import waiting
 
 Try = Callable[[bytes], Union[mend.Mended, str]]  # what `mend` does with a picture, or why that isn't known
@@ -28,10 +29,11 @@ Try = Callable[[bytes], Union[mend.Mended, str]]  # what `mend` does with a pict
 
 def run(arguments: argparse.Namespace) -> int:
     """Explains refusals, and tries whether `mend` helps."""
-    tried: Try = functools.lru_cache(maxsize=1)(functools.partial(_tried, arguments.session))
-    tried = (lambda _: "") if arguments.block else tried
-    if arguments.json:
-        return _print_objects(arguments, tried)
+    files, run = group_of(Files, arguments), group_of(Run, arguments)
+    tried: Try = functools.lru_cache(maxsize=1)(functools.partial(_tried, run.session))
+    tried = (lambda _: "") if run.block else tried
+    if group_of(Output, arguments).json:
+        return _print_objects(files, run, tried)
 
     def describe(picture: Picture, block: Block) -> List[str]:
         if block.is_accepted:
@@ -39,7 +41,7 @@ def run(arguments: argparse.Namespace) -> int:
         mended = _tried_of(picture, tried)
         return [f"{block.name}: {block.record.line}", *_explained(block, mended).lines()[1:], *_repair(block), *_lines(mended)]
 
-    return each_block(arguments, lambda: describe, True, damage_lines)
+    return each_block(files, run, lambda: describe, True, damage_lines)
 
 
 def _explained(block: Block, mended: Union[mend.Mended, str]) -> explain.Explanation:
@@ -97,10 +99,10 @@ def _repair(block: Block) -> List[str]:
 _WITHOUT: Members = {"sentence": None, "meaning": None, "here": [], "bytes": [], "writers": [], "remedy": None, "cost": None}
 
 
-def _print_objects(arguments: argparse.Namespace, tried: Try) -> int:
+def _print_objects(files: Files, run: Run, tried: Try) -> int:
     """An object for each block, and one for a picture that wasn't read wholly or has no block."""
     worst = SUCCESS
-    for picture in each_picture(arguments):
+    for picture in each_picture(files, run):
         worst = max(worst, status_of(picture, True))
         for block in picture.blocks:
             mended = "" if block.is_accepted else _tried_of(picture, tried)

@@ -7,6 +7,7 @@ import os
 import shutil
 import sys
 from datetime import datetime, timezone
+from typing import Sequence
 
 import exifnorm
 
@@ -21,27 +22,28 @@ from .exit_codes import SUCCESS
 from .looking import files_of, opened
 from .names import chosen_paths, say_unknown
 from .objects import print_object
-from .options import Options
+from .options import Files, Output, Run, group_of
 from .output import print_line
 from .sources import settle
 
 
-def run(arguments: Options) -> int:
+def run(arguments: argparse.Namespace) -> int:
     """Writes a catalogue as plain tables of SQLite."""
     _refuse_table(arguments.file)
-    chosen = chosen_paths(arguments)
-    arguments = settle(arguments)
-    with opened(arguments.catalogue, arguments) as catalogue:
-        file = os.path.join(arguments.session.room, "export")
+    files, run = group_of(Files, arguments), group_of(Run, arguments)
+    chosen = chosen_paths(files)
+    name = settle(files)
+    with opened(name, run) as catalogue:
+        file = os.path.join(run.session.room, "export")
         with tables(file) as written:
             _add_about(written, catalogue)
             only = None if chosen is None else catalogue.choose(chosen)
-            work = Export(catalogue, written, only, None if arguments.no_look else arguments.session)
-            work.all(arguments.quiet or not sys.stderr.isatty())
-        _put(file, arguments)
+            work = Export(catalogue, written, only, None if arguments.no_look else run.session)
+            work.all(run.quiet or not sys.stderr.isatty())
+        _put(file, arguments.file, files_of(name))
         say_unknown(chosen or (), catalogue.has)
     counts = {name: written.counts.get(name, 0) for name in ("pictures", "fields", "captions", "conflicts", "groups")}
-    if arguments.json:
+    if group_of(Output, arguments).json:
         left_out = {"texts_not_kept": work.missing, "absent_groups": work.groups.absent, "maker_notes_not_read": work.maker_notes}
         print_object("export", "summary", {**path_members(os.fsencode(arguments.file)), "rows": counts, **left_out})
     else:
@@ -82,11 +84,10 @@ def _add_about(written: Tables, catalogue: Catalogue) -> None:
     written.add("about", list(about.items()))
 
 
-def _put(text: str, arguments: argparse.Namespace) -> None:
+def _put(text: str, name: str, kept: Sequence[str]) -> None:
     """Copies the tables to their place, where they may replace an earlier export and no other file."""
     with open(text, "rb") as whole:
         try:
-            kept = tuple(files_of(arguments.catalogue))
-            atomic.replace(os.fsencode(arguments.file), lambda file: shutil.copyfileobj(whole, file), head_is_ours, kept)
+            atomic.replace(os.fsencode(name), lambda file: shutil.copyfileobj(whole, file), head_is_ours, tuple(kept))
         except atomic.NotReplaced as error:
-            raise atomic.NotReplaced(atomic.not_written(arguments.file, error)) from None
+            raise atomic.NotReplaced(atomic.not_written(name, error)) from None

@@ -15,6 +15,7 @@ from .changed_tables import field_members
 from .exit_codes import SUCCESS, UNKNOWN, status_of_results
 from .looking import opened
 from .objects import print_object
+from .options import Output, Run, group_of
 from .output import local_time, print_lines
 from .parser import refuse
 
@@ -26,10 +27,10 @@ def run(arguments: argparse.Namespace) -> int:
     if not names:
         refuse("history", "give the catalogues: exifnorm-pictures history PICTURE CATALOGUE ..")
     with contextlib.ExitStack() as open_:
-        catalogues = [open_.enter_context(opened(name, arguments, in_one_file=True)) for name in names]
+        catalogues = [open_.enter_context(opened(name, group_of(Run, arguments), in_one_file=True)) for name in names]
         for state in history(os.fsencode(arguments.picture), catalogues):
             status = max(status, _status(state))
-            if arguments.json:
+            if group_of(Output, arguments).json:
                 print_object("history", "state", _members(state))
             else:
                 print_lines(_lines(state))

@@ -2,7 +2,6 @@
 
 from __future__ import annotations
 
-import argparse
 import os
 from typing import Dict, Iterator, List, Sequence
 
@@ -19,28 +18,34 @@ from ..scan.walk import Unlisted, below
 from .names import each_name, is_catalogue
 from .not_read import damage_members, lacks_some
 from .objects import picture_object
+from .options import Files, Run
 from .output import note_sidecar
 from .parser import refuse
 
 
-def pictures(arguments: argparse.Namespace) -> Iterator[Picture]:
+def pictures(files: Files, run: Run) -> Iterator[Picture]:
     """The pictures that are named, and those of folders and catalogues that are named. Other files in these are passed over."""
-    if arguments.catalogue is not None:
-        if arguments.pictures:
-            refuse(arguments.command, "--catalogue is given alone")
-        yield from _in_catalogue(arguments, os.fsencode(arguments.catalogue))
+    if files.catalogue is not None:
+        if files.names:
+            refuse(files.command, "--catalogue is given alone")
+        yield from _in_catalogue(files.command, run, os.fsencode(files.catalogue))
         return
-    if arguments.whole and not arguments.block and any(is_catalogue(it) and is_of_many(os.fsencode(it)) for it in arguments.pictures):
-        _refuse_whole(arguments)  # before anything is printed
-    for name in each_name(arguments, arguments.pictures):
-        if arguments.block or not is_of_many(name):
-            if not arguments.block:
-                note_sidecar(name)
-            yield _reading(arguments, name)
-        elif os.path.isdir(name) and not is_catalogue(os.fsdecode(name)):
-            yield from _in_folder(arguments, name)
-        else:
-            yield from _in_catalogue(arguments, name)
+    if run.whole and not run.block and any(is_catalogue(it) and is_of_many(os.fsencode(it)) for it in files.names):
+        _refuse_whole(files.command, run)  # before anything is printed
+    for name in each_name(files):
+        with opening.held(name):
+            yield from _named(files.command, run, name)
+
+
+def _named(command: str, run: Run, name: bytes) -> Iterator[Picture]:
+    if run.block or not is_of_many(name):
+        if not run.block:
+            note_sidecar(name)
+        yield _reading(run, name)
+    elif os.path.isdir(name) and not is_catalogue(os.fsdecode(name)):
+        yield from _in_folder(run, name)
+    else:
+        yield from _in_catalogue(command, run, name)
 
 
 def is_of_many(name: bytes) -> bool:
@@ -59,19 +64,19 @@ def is_of_many(name: bytes) -> bool:
     return head_is_ours(head)
 
 
-def _refuse_whole(arguments: argparse.Namespace) -> None:
-    if arguments.whole:
-        refuse(arguments.command, "--whole is for pictures and folders: a catalogue has what index --whole read")
+def _refuse_whole(command: str, run: Run) -> None:
+    if run.whole:
+        refuse(command, "--whole is for pictures and folders: a catalogue has what index --whole read")
 
 
-def _in_catalogue(arguments: argparse.Namespace, name: bytes) -> Iterator[Picture]:
+def _in_catalogue(command: str, run: Run, name: bytes) -> Iterator[Picture]:
     """The pictures of a catalogue as they were when it looked at them. Their files aren't needed."""
     from ..catalogue.texts import texts_of
 
     from .looking import opened
 
-    _refuse_whole(arguments)
-    with opened(os.fsdecode(name), arguments) as catalogue:
+    _refuse_whole(command, run)
+    with opened(os.fsdecode(name), run) as catalogue:
         for picture in catalogue.pictures():
             if picture.problem in (Problem.NO_PICTURE, *NOT_THERE):
                 continue
@@ -84,11 +89,11 @@ def _in_catalogue(arguments: argparse.Namespace, name: bytes) -> Iterator[Pictur
             yield Picture(picture.path, read, [block for block, _ in blocks], texts=texts)
 
 
-def _in_folder(arguments: argparse.Namespace, folder: bytes) -> Iterator[Picture]:
+def _in_folder(run: Run, folder: bytes) -> Iterator[Picture]:
     closed: List[Unlisted] = []
     top, count = os.path.abspath(folder), 0
     for file in below([folder], closed.append):
-        picture = _reading(arguments, os.path.join(folder, os.path.relpath(file.path, top)))
+        picture = _reading(run, os.path.join(folder, os.path.relpath(file.path, top)))
         if picture.problem not in (Problem.NO_PICTURE, Problem.NOT_A_FILE):
             count += 1
             yield picture
@@ -99,8 +104,8 @@ def _in_folder(arguments: argparse.Namespace, folder: bytes) -> Iterator[Picture
     yield from (Picture(it.path, Blocks(problem=Problem.UNREADABLE, detail=it.reason), []) for it in closed)
 
 
-def _reading(arguments: argparse.Namespace, name: bytes) -> Picture:
-    return Picture.of(name, blocks_of_named(name, arguments.session, arguments.whole, arguments.block))
+def _reading(run: Run, name: bytes) -> Picture:
+    return Picture.of(name, blocks_of_named(name, run.session, run.whole, run.block))
 
 
 def refused(picture: Picture) -> List[str]:

@@ -2,7 +2,6 @@
 
 from __future__ import annotations
 
-import argparse
 import contextlib
 import os
 import sys
@@ -17,6 +16,7 @@ from ..scan.batches import How, Lines
 from ..scan.index import OF_XMP, IndexOptions, index, number_of
 from ..scan.progress import Progress
 from .exit_codes import UNKNOWN
+from .options import Files, Run
 from .output import closed_folder, say_notes
 from .parser import refuse
 
@@ -24,28 +24,27 @@ from .parser import refuse
 _DEBIAN = f"Debian: {programs.PACKAGES['exiftool']}"
 
 
-def how_of(arguments: argparse.Namespace, room: str, lines: Optional[Lines] = None) -> How:
+def how_of(run: Run, room: str, lines: Optional[Lines] = None) -> How:
     """How a command looks at pictures."""
-    notes, pixels, sidecars = (getattr(arguments, it, False) for it in ("maker_notes", "pixels", "sidecars"))
-    if notes and not getattr(arguments, "scheduler", None) and not programs.is_there("exiftool"):
+    if run.maker_notes and not run.scheduler and not programs.is_there("exiftool"):
         say_notes(f"no MakerNote is read, because ExifTool isn't installed ({_DEBIAN}); later runs ask again")
-    return How(arguments.jobs, notes, arguments.whole, pixels, sidecars, arguments.limit, room, arguments.session.debug, lines)
+    return How(run.jobs, run.maker_notes, run.whole, run.pixels, run.sidecars, run.limit, room, run.session.debug, lines)
 
 
-def opened(name: str, arguments: argparse.Namespace, in_one_file: bool = False) -> Catalogue:
+def opened(name: str, run: Run, in_one_file: bool = False) -> Catalogue:
     """A catalogue, or all of a folder of catalogues as one."""
     if not shards.is_folder(name):
         return Catalogue(name)
     known = shards.shards_of(name)
-    say_missing(known, arguments)
-    return shards.opened(known, arguments.session.room, in_one_file)
+    say_missing(known, run)
+    return shards.opened(known, run.session.room, in_one_file)
 
 
-def say_missing(known: shards.Shards, arguments: argparse.Namespace) -> None:
+def say_missing(known: shards.Shards, run: Run) -> None:
     """Says which catalogues of a folder an answer is without; the status is 2 at least then."""
     for note in known.notes():
         say_notes(note)
-        arguments.least.status = UNKNOWN
+        run.least.status = UNKNOWN
 
 
 def files_of(name: str) -> List[str]:
@@ -66,17 +65,17 @@ def is_of_pictures(name: str) -> bool:
 
 
 @contextlib.contextmanager
-def catalogue_of(name: str, arguments: argparse.Namespace, in_one_file: bool = False) -> Iterator[Catalogue]:
+def catalogue_of(name: str, run: Run, in_one_file: bool = False) -> Iterator[Catalogue]:
     """A catalogue, or a new one of a folder, which is removed with the session. Raises `NoCatalogue`, also if a folder below can't be read."""
     if not is_of_pictures(name):
-        with opened(name, arguments, in_one_file) as catalogue:
+        with opened(name, run, in_one_file) as catalogue:
             yield catalogue
         return
-    room = tempfile.mkdtemp(dir=arguments.session.room)
+    room = tempfile.mkdtemp(dir=run.session.room)
     with Catalogue(os.path.join(room, "catalogue"), make=True) as catalogue:
         closed: List[str] = []
-        how = how_of(arguments, room, closed_folder)
-        index(IndexOptions([os.fsencode(name)], quiet=_is_quiet(arguments), how=how, print_line=closed.append), catalogue)
+        how = how_of(run, room, closed_folder)
+        index(IndexOptions([os.fsencode(name)], quiet=_is_quiet(run), how=how, print_line=closed.append), catalogue)
         if closed:  # its pictures would seem to be missing
             raise NoCatalogue("; ".join(closed))
         if not number_of(catalogue, "problem IS NOT 'NoPicture'"):
@@ -89,15 +88,15 @@ def note_no_picture(folder: bytes) -> None:
     say_notes(f"no picture is below {shown_path(folder)}: is its disk mounted?")
 
 
-def _is_quiet(arguments: argparse.Namespace) -> bool:
-    return getattr(arguments, "quiet", False) or not sys.stderr.isatty()
+def _is_quiet(run: Run) -> bool:
+    return run.quiet or not sys.stderr.isatty()
 
 
 class Preparing:
     """Shows on a terminal for how many pictures the texts for questions are ready."""
 
-    def __init__(self, arguments: argparse.Namespace) -> None:
-        self._is_quiet = _is_quiet(arguments)
+    def __init__(self, run: Run) -> None:
+        self._is_quiet = _is_quiet(run)
         self._progress: Optional[Progress] = None
 
     def report(self, done: int, due: int) -> None:
@@ -109,19 +108,19 @@ class Preparing:
             self._progress.clear()
 
 
-def catalogue_for_questions(name: str, arguments: argparse.Namespace) -> ContextManager[Catalogue]:
+def catalogue_for_questions(name: str, run: Run) -> ContextManager[Catalogue]:
     """The same catalogue as of `catalogue_of`; one that is a file keeps the texts of its pictures, if it can be written."""
     if not is_of_pictures(name):
-        keep_texts(name, arguments)
-    return catalogue_of(name, arguments)
+        keep_texts(name, run)
+    return catalogue_of(name, run)
 
 
-def keep_texts(name: str, arguments: argparse.Namespace) -> None:
+def keep_texts(name: str, run: Run) -> None:
     """Lets a catalogue, or each of a folder of catalogues, keep the texts of its pictures, if it can be written."""
     from ..catalogue import kept_texts  # which takes long to import
 
     for file in [] if shards.elsewhere(name) else files_of(name):
-        kept_texts.keep(file, Preparing(arguments).report)
+        kept_texts.keep(file, Preparing(run).report)
 
 
 def xmp_files_alone(count: int) -> str:
@@ -129,15 +128,15 @@ def xmp_files_alone(count: int) -> str:
     return "1 XMP file counts as a file of its own" if count == 1 else f"{count:,} XMP files count as files of their own"
 
 
-def note_sidecars(catalogue: Catalogue, source: str, arguments: argparse.Namespace) -> None:
+def note_sidecars(catalogue: Catalogue, source: str, run: Run) -> None:
     """Says that the XMP files of a folder are none of its pictures' metadata: a picture would seem to lack what the file beside it has."""
-    count = 0 if arguments.sidecars or not is_of_pictures(source) else number_of(catalogue, OF_XMP)
+    count = 0 if run.sidecars or not is_of_pictures(source) else number_of(catalogue, OF_XMP)
     if count:
         say_notes(f"{xmp_files_alone(count)}: --sidecars takes those beside pictures as metadata of them")
 
 
-def refuse_for_catalogues(arguments: argparse.Namespace, source: str) -> None:
+def refuse_for_catalogues(files: Files, run: Run, source: str) -> None:
     """Refuses options that say how pictures are read, if these were read by `index`."""
-    given = [option for option in ("whole", "sidecars") if getattr(arguments, option)]
+    given = [option for option, is_given in (("whole", run.whole), ("sidecars", run.sidecars)) if is_given]
     if given and not is_of_pictures(source):
-        refuse(arguments.command, f"--{given[0]} is for folders: a catalogue has what index --{given[0]} read")
+        refuse(files.command, f"--{given[0]} is for folders: a catalogue has what index --{given[0]} read")

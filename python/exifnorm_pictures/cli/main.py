@@ -6,6 +6,7 @@ from . import search_path
 
 search_path.leave_out_current_folder()  # before other modules are imported
 
+import argparse
 import ctypes
 import gc
 import importlib
@@ -19,7 +20,7 @@ from ..model import errors
 from ..model.budgets import OWN_PAGES, PROGRAM_SECONDS
 from ..model.texts import described, reason, shown_path
 from .exit_codes import FAILURE, STOPPED, USAGE
-from .options import Least, Options
+from .options import Least
 from .parser import parsed
 
 COLLECTED = 50_000  # objects after which Python looks for rings of objects: what a picture needs makes none, so mostly it looks in vain
@@ -31,6 +32,22 @@ _OTHERS = (("exifnorm", "LibraryMissing"), ("sqlite3", "OperationalError"))  # e
 def main(words: Optional[Sequence[str]] = None) -> int:
     """Runs the command; its status."""
     try:
+        try:
+            return _heeding(words)
+        finally:  # also after --help
+            signals.heed_no_more()
+    except KeyboardInterrupt:  # before the command began, or after it
+        return STOPPED
+    except signals.Stopped as stopped:
+        signals.end_children()
+        signals.drop(sys.stdout)
+        signals.end_by(stopped.number)
+        return 128 + stopped.number
+
+
+def _heeding(words: Optional[Sequence[str]]) -> int:
+    """Runs the command, which heeds signals, with all that it prints; its status."""
+    try:
         signals.ready_streams()
         signals.heed_signals()
         _give_memory_back()
@@ -39,11 +56,6 @@ def main(words: Optional[Sequence[str]] = None) -> int:
         return status
     except signals.ClosedOutput as error:
         return _failed(str(error))
-    except signals.Stopped as stopped:
-        signals.end_children()
-        signals.drop(sys.stdout)
-        signals.end_by(stopped.number)
-        return 128 + stopped.number
     except OSError as error:  # standard output, at the last flush
         return _output_failed(error)
 
@@ -62,7 +74,7 @@ def _run(words: Optional[Sequence[str]]) -> int:
     command, session, goes_on = "", Session(), False
     try:
         given, least = parsed(words), Least()
-        arguments = Options(**vars(given), session=session, sheet=None, least=least)
+        arguments = argparse.Namespace(**vars(given), session=session, least=least)
         session.debug = session.debug or arguments.debug
         session.seconds = getattr(arguments, "limit", PROGRAM_SECONDS)
         # importing the modules of all commands would take longer than most commands do
@@ -84,12 +96,12 @@ def _run(words: Optional[Sequence[str]]) -> int:
         return _failed_by(error, session.debug)
 
 
-def _with_spreadsheet(module: ModuleType, arguments: Options) -> int:
+def _with_spreadsheet(module: ModuleType, arguments: argparse.Namespace) -> int:
     """Runs a command whose table goes to a file."""
     from . import sheets
 
     with sheets.written(arguments.xlsx, arguments.session) as sheet:
-        return int(module.run(arguments.but(csv=True, sheet=sheet)))
+        return int(module.run(argparse.Namespace(**{**vars(arguments), "csv": True, "sheet": sheet})))
 
 
 def _failed_by(error: Exception, debug: bool) -> int:

@@ -6,10 +6,12 @@ import argparse
 import os
 import shlex
 from collections import Counter
-from typing import Dict, Iterator, List, Optional, Sequence, Tuple, Type
+from typing import Dict, Iterator, List, Optional, Sequence, Set, Tuple, Type
 
 from ..extract import programs
 from ..files import atomic
+from ..files.opening import held
+from ..files.session import Session
 from ..model import steps
 from ..model.budgets import TooMuch
 from ..model.errors import WrongUse
@@ -22,22 +24,29 @@ from .names import chosen_paths, each_of_list, is_catalogue
 from .not_read import REMEDY
 from .objects import picture_object, print_object
 from .output import print_line, print_lines
-from .options import Options
+from .options import Files, Output, Run, group_of
 from .parser import refuse
 
 
-def run(arguments: Options) -> int:
+def run(arguments: argparse.Namespace) -> int:
     """Writes copies whose blocks are accepted; of several pictures also counts."""
-    arguments = _settled(arguments)
+    names = [name for name in (arguments.picture, arguments.out) if name is not None]
+    with held(os.fsencode(arguments.picture or "")):  # which may be a catalogue, or the picture
+        files = _settled(group_of(Files, arguments)._replace(names=names))
+        return _mended(files, group_of(Run, arguments), group_of(Output, arguments), arguments.lossless)
+
+
+def _mended(files: Files, run: Run, output: Output, lossless: bool) -> int:
     worst, damaged = SUCCESS, 0
     counts: "Counter[str]" = Counter()
-    folder = _folder(arguments)
-    for picture, out in _pairs(arguments, folder):
-        status, result, is_damaged = _mend_one(arguments, picture, out, folder)
+    folder = _folder(files)
+    for picture, out in _pairs(files, run, folder):
+        with held(picture):
+            status, result, is_damaged = _mend_one(output, run.session, picture, out, folder, lossless)
         worst, damaged = max(worst, status), damaged + is_damaged
         counts[result] += 1
     if folder is not None:
-        if arguments.json:
+        if output.json:
             print_object("mend", "summary", {"counts": {it: counts[it] for it in COUNTED}, "damaged": damaged})
         else:
             print_line(_counted(counts) + f"; {damaged:,} cut off or damaged, which no copy mends" * bool(damaged))
@@ -58,18 +67,20 @@ def _counted(counts: "Counter[str]") -> str:
     return pictures_in_words(sum(counts.values())) + f": {many}" * bool(many)
 
 
-def _mend_one(arguments: argparse.Namespace, picture: bytes, out: bytes, folder: Optional[bytes] = None) -> Tuple[int, str, bool]:
+def _mend_one(
+    output: Output, session: Session, picture: bytes, out: bytes, folder: Optional[bytes] = None, lossless: bool = False
+) -> Tuple[int, str, bool]:
     """The status of a picture, by what it is counted, and whether its file is cut off or damaged."""
     try:
-        mended = mend.mend(picture, out, arguments.session, folder, arguments.lossless)
+        mended = mend.mend(picture, out, session, folder, lossless)
     except (mend.NotWritten, programs.Failed, programs.Missing, TooMuch) as error:
         names: Dict[Type[Exception], str] = {mend.NotWritten: "NotWritten", TooMuch: Problem.TOO_MUCH, programs.TooSlow: Problem.TOO_SLOW}
         names.update({programs.Missing: Problem.NEEDS_EXIFTOOL, mend.NeedsExifTool: Problem.NEEDS_EXIFTOOL})
         problem = names.get(type(error), Problem.TOOL_FAILED)
         line = f"{shown_path(picture)}: {atomic.not_written(shown_path(out), error)}"
-        _print(arguments, [line], _mended_members(picture, None, problem, str(error)))
+        _print(output, [line], _mended_members(picture, None, problem, str(error)))
         return FAILURE if isinstance(error, mend.NotWritten) else UNKNOWN, "not mended", False
-    _print(arguments, _mended_lines(picture, mended), _mended_members(picture, mended))
+    _print(output, _mended_lines(picture, mended), _mended_members(picture, mended))
     is_damaged = bool(mended.damage or mended.cut_off)
     if not mended.is_written:
         return UNKNOWN, "not mended", is_damaged
@@ -77,17 +88,17 @@ def _mend_one(arguments: argparse.Namespace, picture: bytes, out: bytes, folder:
     return UNKNOWN if is_damaged else DIFFERENCE if mended.lost else SUCCESS, result, is_damaged
 
 
-def _settled(arguments: Options) -> Options:
-    """The options with a catalogue that is the first name as `catalogue`."""
-    if arguments.catalogue is None and arguments.picture is not None and is_catalogue(arguments.picture):
-        return arguments.but(catalogue=arguments.picture, picture=arguments.out, out=None)
-    return arguments
+def _settled(files: Files) -> Files:
+    """With the first name as the catalogue, if it is one."""
+    if files.catalogue is None and files.names and is_catalogue(files.names[0]):
+        return files._replace(catalogue=files.names[0], names=files.names[1:])
+    return files
 
 
-def _folder(arguments: argparse.Namespace) -> Optional[bytes]:
-    """The folder of the copies, if there may be several. `picture` and `out` are the names of one picture and its copy otherwise."""
-    names = [name for name in (arguments.picture, arguments.out) if name is not None]
-    if arguments.catalogue is None and not arguments.files_from:
+def _folder(files: Files) -> Optional[bytes]:
+    """The folder of the copies, if there may be several. The names are those of one picture and its copy otherwise."""
+    names = files.names
+    if files.catalogue is None and not files.files_from:
         if len(names) != 2:
             refuse("mend", "give PICTURE and OUT, or CATALOGUE and OUT")
         if os.path.isdir(names[0]):
@@ -106,20 +117,21 @@ def _folder(arguments: argparse.Namespace) -> Optional[bytes]:
     return os.fsencode(names[0])
 
 
-def _pairs(arguments: argparse.Namespace, folder: Optional[bytes]) -> Iterator[Tuple[bytes, bytes]]:
+def _pairs(files: Files, run: Run, folder: Optional[bytes]) -> Iterator[Tuple[bytes, bytes]]:
     """The pictures and their copies. Of a catalogue those with a block that isn't accepted."""
     if folder is None:
-        yield os.fsencode(arguments.picture), os.fsencode(arguments.out)
+        picture, out = map(os.fsencode, files.names)
+        yield picture, out
         return
-    listed = _refused(arguments) if arguments.catalogue else ((it, _below(it)) for it in each_of_list(arguments))
+    only = chosen_paths(files) if files.catalogue else None
+    listed = _refused(files.catalogue, run, only) if files.catalogue else ((it, _below(it)) for it in each_of_list(files))
     yield from ((picture, os.path.join(folder, below)) for picture, below in listed)
 
 
-def _refused(arguments: argparse.Namespace) -> Iterator[Tuple[bytes, bytes]]:
+def _refused(name: str, run: Run, only: Optional[Set[bytes]]) -> Iterator[Tuple[bytes, bytes]]:
     """The pictures of a catalogue with a block that isn't accepted, and the names of their copies: below the folder that was indexed, if that
-    is one alone. With --files-from only those of the list."""
-    only = chosen_paths(arguments)
-    with opened(arguments.catalogue, arguments) as catalogue:
+    is one alone; of `only` some, if it is no None."""
+    with opened(name, run) as catalogue:
         roots = catalogue.roots()
         root = roots[0].rstrip(b"/") + b"/" if len(roots) == 1 else b"/"
         for path in catalogue.refused():
@@ -157,8 +169,8 @@ def _mended_lines(picture: bytes, mended: mend.Mended) -> List[str]:
     return lines
 
 
-def _print(arguments: argparse.Namespace, lines: Sequence[str], members: Members) -> None:
-    if arguments.json:
+def _print(output: Output, lines: Sequence[str], members: Members) -> None:
+    if output.json:
         print_object("mend", "picture", members)
     else:
         print_lines(lines)

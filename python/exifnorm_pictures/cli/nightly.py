@@ -2,6 +2,7 @@
 
 from __future__ import annotations
 
+import argparse
 import contextlib
 import os
 import shlex
@@ -14,7 +15,7 @@ from ..catalogue.checking import Checked
 from ..catalogue.nights import Nights
 from ..catalogue.store import Catalogue, NoCatalogue, earlier_release
 from ..comparison.coded import sentence_of_coded
-from ..comparison.news import Between, Kind, News, Tally
+from ..comparison.news import Between, Kind, News, Tally, Values
 from ..comparison.newly_broken import newly_broken, newly_unread
 from ..comparison.pairs import heads_of
 from ..fields.rules import Rule
@@ -30,7 +31,7 @@ from .index import going_on, not_read_again, say_unused
 from .letter import command, letter
 from .looking import how_of
 from .objects import print_object
-from .options import Options
+from .options import Files, Output, Run, group_of
 from .output import local_time, print_lines, say_notes
 from .page_file import write_report
 from .sources import settle_first
@@ -41,14 +42,15 @@ Broken = Optional[Tuple[int, int]]  # how many pictures break a rule tonight, an
 class Night:
     """A run, and what it has found."""
 
-    def __init__(self, arguments: Options, nights: Nights, folders: List[bytes], rules: Sequence[Rule]) -> None:
-        self.arguments, self.nights, self.folders, self.rules = arguments, nights, folders, rules
+    def __init__(self, run: Run, output: Output, nights: Nights, folders: List[bytes], rules: Sequence[Rule]) -> None:
+        self.run, self.output, self.nights, self.folders, self.rules = run, output, nights, folders, rules
         self.is_first = nights.is_first
-        self.excluded = Excluded(arguments.exclude)
+        self.excluded = Excluded(run.exclude)
         self.closed: List[PictureRecord] = []  # folders that can't be read
         self.since = ""
         self.pictures = self.with_news = 0
         self.news: List[News] = []
+        self.values: List[Values] = []
         self.broken: Broken = None
         self.notes: List[str] = []
         self.unread: "Counter[str]" = Counter()  # pictures that lack what an option reads
@@ -62,15 +64,14 @@ class Night:
 
     def look(self) -> None:
         """Fills tonight's catalogue."""
-        session = self.arguments.session
         with Catalogue(self.nights.tonight, make=True) as tonight:
-            arguments, earlier = self.arguments, self.nights.earlier
+            run, earlier = self.run, self.nights.earlier
             if earlier:  # which went on with both
-                arguments = arguments.but(sidecars=arguments.sidecars or earlier.sidecars, pixels=arguments.pixels or earlier.pixels)
-            arguments = going_on(arguments, tonight)
+                run = run._replace(sidecars=run.sidecars or earlier.sidecars, pixels=run.pixels or earlier.pixels)
+            run = going_on(run, tonight)
             quiet = not sys.stderr.isatty()
-            own = [*self.nights.names, *[self.arguments.html] * bool(self.arguments.html)]
-            how = how_of(arguments, session.room)
+            own = [*self.nights.names, *([self.output.html] if self.output.html else [])]
+            how = how_of(run, run.session.room)
             options = IndexOptions(self.folders, quiet=quiet, how=how, excluded=self.excluded, lines=self._note, own=own)
             index(options, tonight)
             self.unread = lacking(options, tonight)
@@ -104,12 +105,12 @@ class Night:
             kept_texts.keep(self.nights.tonight)
         with Catalogue(self.nights.last) as last, Catalogue(self.nights.tonight, make=True) as tonight:
             self.since = next(iter(reversed(last.runs())), ("",))[0]
-            between = Between(last, tonight, self.folders, self.arguments.session)
+            between = Between(last, tonight, self.folders, self.run.session)
             between.absent.hold(last, tonight)
             self._add_closed(between, last)
             if self.rules:
                 self._check(between, last, tonight)
-            self.news = between.tally.all()
+            self.news, self.values = between.tally.all(), between.values
             self.pictures, self.with_news = between.pictures, between.with_news
             self.notes = list(filter(None, [sentence_of_coded(between.coded, "--pixels")]))
 
@@ -133,30 +134,30 @@ class Night:
             self.broken = (now.pictures_broken(), before.pictures_broken())
 
 
-def run(arguments: Options) -> int:
+def run(arguments: argparse.Namespace) -> int:
     """Looks at the folders, tells what is new, and keeps tonight's catalogue as the last one."""
-    arguments = settle_first(arguments)
-    name = arguments.catalogue
+    name, files = settle_first(group_of(Files, arguments))
+    run, output = group_of(Run, arguments), group_of(Output, arguments)
     if shards.is_folder(name):
         raise NoCatalogue(
             f"{name} is a folder of catalogues, and nightly keeps one catalogue. What is new of a folder of them: cp -r {shlex.quote(name)}"
             f" BEFORE, then exifnorm-pictures index FOLDER --shards {shlex.quote(name)}, then exifnorm-pictures changed BEFORE"
             f" {shlex.quote(name)} --each"
         )
-    folders = list(dict.fromkeys(os.path.abspath(os.fsencode(it)) for it in arguments.folders))
+    folders = list(dict.fromkeys(os.path.abspath(os.fsencode(it)) for it in files.names))
     for folder in folders:
         if os.path.lexists(folder) and not os.path.isdir(folder):
             raise WrongUse(f"{shown_path(folder)} is no folder")
-    _refuse_unknown(folders, arguments.catalogue)
-    if arguments.html:
+    _refuse_unknown(folders, name)
+    if output.html:
         from ..report.templating import check  # which takes long to import
 
         check()  # which may be missing
     rules = rules_of_file(arguments.rules) if arguments.rules else []
-    about = repr((folders, arguments.sidecars, arguments.pixels, arguments.maker_notes, arguments.whole, arguments.exclude))
-    with Nights(arguments.catalogue, about) as nights:
-        nights.begin(arguments.session.room)
-        night = Night(arguments, nights, folders, rules)
+    about = repr((folders, run.sidecars, run.pixels, run.maker_notes, run.whole, run.exclude))
+    with Nights(name, about, arguments.nights) as nights:
+        nights.begin(run.session.room)
+        night = Night(run, output, nights, folders, rules)
         night.look()
         if not nights.is_as_last:  # then cron sends this once
             say_notes(*not_read_again(night.unread))
@@ -199,27 +200,27 @@ def _no_picture(folders: Sequence[bytes]) -> WrongUse:
 def _print_news(night: Night) -> None:
     """Prints the letter and writes the page, before tonight's catalogue becomes the last one: if this is killed, the news is in tomorrow's
     letter."""
-    if night.arguments.json:
+    if night.output.json:
         _print_objects(night)
     else:
-        print_lines(letter(_head(night), night.news, _end(night)))
+        print_lines(letter(_head(night), night.news, _end(night), night.values))
     sys.stdout.flush()
     say_unused(night.excluded.unused())
-    if night.arguments.html:
-        _write_page(night)
+    if night.output.html:
+        _write_page(night, night.output.html)
 
 
-def _write_page(night: Night) -> None:
+def _write_page(night: Night, name: str) -> None:
     from ..report import book, contents  # which take long to import
 
     with contextlib.ExitStack() as open_:
         tonight = open_.enter_context(Catalogue(night.nights.tonight))
         last = None if night.is_first else open_.enter_context(Catalogue(night.nights.last))
-        about = contents.About(tonight, last, session=night.arguments.session, rules=night.rules)
+        about = contents.About(tonight, last, session=night.run.session, rules=night.rules)
         try:
-            write_report(about, night.arguments.html, night.nights.names)
+            write_report(about, name, night.nights.names)
         except book.TooLarge as error:  # the letter is printed all the same
-            say_notes(f"{night.arguments.html} isn't written: {error}")
+            say_notes(f"{name} isn't written: {error}")
 
 
 # The letter
@@ -242,7 +243,7 @@ def _end(night: Night) -> List[str]:
         lines.append(f"{many}." if night.is_first else f"{many}, {before:,} last night.")
     lines += night.notes
     if not night.is_first:
-        words = [escaped(shlex.quote(name)) for name in (night.nights.before, night.nights.last)]
+        words = [escaped(shlex.quote(name)) for name in night.nights.compared]
         lines += command(*words)
     return lines
 

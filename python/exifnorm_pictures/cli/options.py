@@ -1,11 +1,16 @@
-"""The options of a command: they are read once, and nobody changes them."""
+"""The options of a command: a record for each group of them, made once from its line, which nobody changes."""
 
 from __future__ import annotations
 
 import argparse
-from typing import Any
+from typing import TYPE_CHECKING, NamedTuple, Optional, Sequence, Type, TypeVar
 
+from ..files.session import Session
+from ..model.budgets import PROGRAM_SECONDS
 from .exit_codes import SUCCESS
+
+if TYPE_CHECKING:
+    from .sheets import Sheet
 
 
 class Least:
@@ -14,15 +19,63 @@ class Least:
     status = SUCCESS
 
 
-class Options(argparse.Namespace):
-    """The words of a command line with their values, and the run that they are of."""
+class Files(NamedTuple):
+    """The catalogue and the names that a command gets."""
 
-    def __init__(self, **words: Any) -> None:
-        vars(self).update(words)
+    command: str
+    source: Optional[str] = None  # the first name, which may be a catalogue
+    catalogue: Optional[str] = None  # of --catalogue
+    names: Sequence[str] = ()
+    files_from: Optional[str] = None
+    null: bool = False  # the names of that list end with NUL
 
-    def __setattr__(self, name: str, value: object) -> None:
-        raise AttributeError(f"options are read once: {name}")
 
-    def but(self, **words: Any) -> Options:
-        """The same with other values of some words."""
-        return type(self)(**{**vars(self), **words})
+class Fields(NamedTuple):
+    """The fields that count, or the labels."""
+
+    ignore: Sequence[str] = ()
+    ignore_file: Sequence[str] = ()
+    only: Sequence[str] = ()
+    only_file: Sequence[str] = ()
+    equal_numbers: bool = False
+
+
+class Output(NamedTuple):
+    """The form of the answer."""
+
+    json: bool = False
+    csv: bool = False  # also of --xlsx, with a sheet
+    sheet: Optional[Sheet] = None
+    geojson: bool = False
+    exact: bool = False
+    html: Optional[str] = None
+
+
+class Run(NamedTuple):
+    """The run, and how it reads pictures."""
+
+    session: Session
+    least: Least
+    jobs: int = 0
+    quiet: bool = False
+    again: bool = False
+    exclude: Sequence[str] = ()
+    scheduler: Optional[str] = None
+    block: bool = False
+    whole: bool = False
+    pixels: bool = False
+    sidecars: bool = False
+    maker_notes: bool = False
+    limit: float = PROGRAM_SECONDS
+
+
+Group = TypeVar("Group", Files, Fields, Output, Run)
+
+
+def group_of(kind: Type[Group], arguments: argparse.Namespace) -> Group:
+    """A group of the options of a command. Those that the command lacks are as if they weren't given.
+
+    >>> group_of(Output, argparse.Namespace(json=True, columns="title"))
+    Output(json=True, csv=False, sheet=None, geojson=False, exact=False, html=None)
+    """
+    return kind(**{name: value for name, value in vars(arguments).items() if name in kind._fields})

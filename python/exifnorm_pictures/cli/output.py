@@ -9,6 +9,7 @@ import shutil
 import sys
 from collections import Counter
 from datetime import datetime, timezone
+from itertools import islice
 from typing import TYPE_CHECKING, Iterable, Iterator, List, Optional, Sequence
 
 from ..files import signals
@@ -20,8 +21,7 @@ from ..model.texts import safe, shown_path
 from .columns import NARROWEST, folded
 
 if TYPE_CHECKING:
-    import argparse
-
+    from .options import Output
     from .tables import Table
 
 
@@ -38,6 +38,18 @@ def print_lines(lines: Iterable[str]) -> None:
     """Prints lines one by one, as they are made."""
     for line in lines:
         print_line(line)
+
+
+MOST_NAMED = 20  # pictures below an answer, of which it isn't known whether they belong to it
+
+
+def named(head: str, paths: Iterable[bytes], count: int) -> List[str]:
+    """The first pictures of some, and how many more there are; no line if there are none."""
+    if not count:
+        return []
+    lines = [head, *(f"  {shown_path(path)}" for path in islice(paths, MOST_NAMED))]
+    more = count - MOST_NAMED
+    return lines + [f"  and {more:,} more, which --json names"] * (more > 0)
 
 
 def say_notes(*texts: str) -> None:
@@ -74,13 +86,13 @@ def note_sidecar(picture: bytes) -> None:
         say_notes(f"{shown_path(sidecar)} isn't read: index --sidecars takes it as metadata of its picture")
 
 
-def table_of(arguments: argparse.Namespace, heads: Sequence[str]) -> Optional[Table]:
+def table_of(output: Output, heads: Sequence[str]) -> Optional[Table]:
     """The table that --csv or --xlsx asks for, if one of them was given."""
-    if not arguments.csv:
+    if not output.csv:
         return None
     from .tables import Table  # whose regular expressions take long to compile
 
-    return Table(arguments.sheet, heads)
+    return Table(output.sheet, heads)
 
 
 # What ExifTool says of a file that is no picture, but may have been one

@@ -63,7 +63,7 @@ class _Version(argparse.Action):
 def parsed(words: Optional[Sequence[str]] = None) -> argparse.Namespace:
     """The arguments of a command line; `help COMMAND` is `COMMAND --help`. Wrong ones end the process, after the usage of their command.
 
-    >>> parsed(["show", "a.jpg", "--json", "b.jpg"]).pictures
+    >>> parsed(["show", "a.jpg", "--json", "b.jpg"]).names
     ['a.jpg', 'b.jpg']
     """
     given = list(sys.argv[1:] if words is None else words)
@@ -250,12 +250,12 @@ def _first_arguments(parser: argparse.ArgumentParser, folder: str, words: str = 
     """For a command with a catalogue and folders."""
     first = "an existing catalogue, unless --catalogue is given"
     parser.add_argument("source", nargs="?", type=_first_name, metavar="CATALOGUE", help=first)
-    _path(parser, "folders", "FOLDER", folder, nargs="*")
+    _path(parser, "names", "FOLDER", folder, nargs="*")
     _path(parser, "--catalogue", "FILE", words)
 
 
 def _many_names_arguments(parser: argparse.ArgumentParser) -> None:
-    _path(parser, "pictures", "PICTURE", "a picture, a folder with all below it, or a catalogue", nargs="*")
+    _path(parser, "names", "PICTURE", "a picture, a folder with all below it, or a catalogue", nargs="*")
     _path(parser, "--catalogue", "FILE", "a catalogue, in place of PICTURE")
 
 
@@ -269,8 +269,8 @@ def _index_arguments(parser: argparse.ArgumentParser) -> None:
     _flag(parser, "--again", "read all pictures, even if they haven't changed")
     _flag(parser, "--maker-notes", _MAKER_NOTES)
     _more_arguments(parser)
-    parser.add_argument("--scheduler", metavar="tcp://HOST:PORT", help="read the pictures on the workers of this Dask cluster")
-    _path(parser, "--elsewhere", "PATH", "the path of FOLDER on the workers")
+    words = "with --shards: each worker of this Dask cluster reads folders, and keeps their catalogues"
+    parser.add_argument("--scheduler", metavar="tcp://HOST:PORT", help=words)
     _looking_arguments(parser)
     _jobs_argument(parser)
     _flag(parser, "--quiet", "print only the counts, without progress, pictures and next steps")
@@ -339,6 +339,8 @@ def _changed_arguments(parser: argparse.ArgumentParser) -> None:
     _flag(parser, "--all", "as --each, with unchanged pictures too")
     words = "as --each, with tags, types and exact values, and with each value of a MakerNote that ExifTool reads differently"
     _flag(parser, "--exact", words)
+    words = "compare pictures whose names differ only in folders and endings, as a master 7.tif and its copy web/7.jpg"
+    parser.add_argument("--match", choices=("stem",), metavar="stem", help=words)
     _flag(parser, "--no-exiftool", _NO_EXIFTOOL)
     _choice_arguments(parser)
     _more_arguments(parser)
@@ -385,7 +387,7 @@ def _compare_arguments(parser: argparse.ArgumentParser) -> None:
 
 
 def _pictures_arguments(parser: argparse.ArgumentParser) -> None:
-    _path(parser, "pictures", "PICTURE", "a picture", nargs="*")
+    _path(parser, "names", "PICTURE", "a picture", nargs="*")
     _flag(parser, "--block", "each PICTURE is a block that was extracted before")
     _looking_arguments(parser)
 
@@ -431,19 +433,25 @@ def _list_arguments(parser: argparse.ArgumentParser) -> None:
 
 _FIRST = """The first list or check after index reads the texts of new pictures from the
 catalogue, and keeps them in it."""
-_QUESTIONS = """A question compares labels by =, !=, has, like (with * and ?), and dates and
-numbers by <, <=, >, >=. Join comparisons by and, or, not and brackets:
+_QUESTIONS = """A question compares labels by =, !=, has, like (with *, ?, and # for a digit),
+and dates and numbers by <, <=, >, >=. Join comparisons by and, or, not and
+brackets:
   keywords = clay and not creator like 'Otto*'
   date created < 1950 or without credit
   rights end < today + 30 days or Orientation = upright
+  credit one of "Riverside Museum", "Public domain"
+  date created = impossible            (30 February, or 25 o'clock)
 A label is one of captions, or position, serial, owner, rights end, embargo,
-digital source, data mining or damage, or the name of a field as this program,
-ExifTool, exiv2 or the standards have it, such as FNumber, EXIF:Model or
-Exif.Photo.DateTimeDigitized. A question about a field takes longer; its value
-may be as show or exiftool prints it, or the number: f/11, 1/60 s, upright, 1.
-Capitals, spaces and composed letters make no difference. If you give several
-options, a picture must fit all. A text that a camera writes by itself doesn't
-count."""
+digital source, data mining, person shown or damage, or the name of a field as
+this program, ExifTool, exiv2 or the standards have it, such as FNumber,
+EXIF:Model or Exif.Photo.DateTimeDigitized. A question about a field takes
+longer; its value may be as show or exiftool prints it, or the number: f/11,
+1/60 s, upright, 1.
+A picture fits if some text of the label does. Capitals, spaces and composed
+letters make no difference, but after is, one of, and from FILE (a text on
+each line), which take only the very text. In double quotes "" is one of them.
+If you give several options, a picture must fit all. A text that a camera
+writes by itself doesn't count."""
 
 
 def _check_arguments(parser: argparse.ArgumentParser) -> None:
@@ -464,7 +472,13 @@ _RULES = """Rules:
   keywords from words.txt
   position, serial never in web/ except web/press/
   caption at most 2000 characters
-  date created not after today"""
+  date created not after today
+  city = Zürich
+
+A rule is about every text of a label; the answer names the one that breaks
+it. is, one of, from and like take only the very text, and = also one with
+other capitals, as in list --where. In like, # is a digit. A date that no
+calendar has, as 30 February, breaks each rule about it but never."""
 
 
 def _nightly_arguments(parser: argparse.ArgumentParser) -> None:
@@ -476,6 +490,8 @@ def _nightly_arguments(parser: argparse.ArgumentParser) -> None:
     _path(parser, "--html", "NAME", "if there is news, also write a report about it, as report --html does")
     parser.add_argument("--exclude", action="append", default=[], type=_name, metavar="PATTERN", help=_EXCLUDE)
     _flag(parser, "--maker-notes", _MAKER_NOTES)
+    words = "keep the catalogues of the last N days, under the name of the catalogue and the date, so that a letter's command answers as on its night"
+    parser.add_argument("--nights", type=_positive, default=1, metavar="N", help=words)
     _more_arguments(parser)
     _looking_arguments(parser)
     _jobs_argument(parser)
@@ -548,7 +564,7 @@ _TABLES = {
 
 # Options of which one may be given, beside those that argparse knows, and why two exclude each other
 _APART: Dict[str, Tuple[Tuple[str, ...], ...]] = {
-    "index": (("--shards", "--catalogue"), ("--shards", "--keep-old"), ("--shards", "--elsewhere")),
+    "index": (("--shards", "--catalogue"), ("--shards", "--keep-old")),
     "verify": (("--bag", "--catalogue"),),
     "list": (("-0", "--geojson", "--csv", "--xlsx", "--json"), ("-0", "--count"), ("--geojson", "--count"), ("-0", "--columns")),
     "changed": (("--each", "--csv", "--xlsx", "--json"), ("--exact", "--csv", "--xlsx", "--json")),
@@ -560,7 +576,6 @@ _APART: Dict[str, Tuple[Tuple[str, ...], ...]] = {
 _ONLY_WITH = {"--title": "--html", "--link-to": "--html", "--form": "--evidence", "--null": "--files-from"}
 _WHY = {
     ("--shards", "--keep-old"): ", which copies one catalogue: copy the folder of --shards before the run",
-    ("--shards", "--elsewhere"): ": FOLDER and DIR are the paths that the workers have",
     ("--catalogue", "--whole"): ": a catalogue has what index --whole read",
     **{(option, form): f": {form} has that always" for option in ("--each", "--exact", "--all") for form in ("--csv", "--xlsx", "--json")},
 }

@@ -7,20 +7,20 @@ import os
 from collections import Counter
 
 from ..catalogue import shards
-from ..catalogue.store import Catalogue, NoCatalogue
+from ..catalogue.store import Catalogue, NoCatalogue, roll_back
 from ..model.errors import WrongUse
 from ..model.texts import path_members, shown_path
 from ..scan.relocating import ABSENT, AS_BEFORE, CHANGED, relocated
 from .exit_codes import DIFFERENCE, SUCCESS
 from .objects import print_object
-from .options import Options
+from .options import Files, Output, group_of
 from .output import print_line
 from .sources import settle
 
 
-def run(arguments: Options) -> int:
+def run(arguments: argparse.Namespace) -> int:
     """Gives pictures of a catalogue their names below another folder; the files stay."""
-    name, old, new = settle(arguments).catalogue, os.fsencode(arguments.old), os.fsencode(arguments.new)
+    name, old, new = settle(group_of(Files, arguments)), os.fsencode(arguments.old), os.fsencode(arguments.new)
     if not os.path.isdir(new):
         raise WrongUse(f"{shown_path(new)} is no folder: give the folder where the pictures of {shown_path(old)} are now")
     if os.path.abspath(new).startswith(os.path.abspath(old).rstrip(b"/") + b"/"):
@@ -30,18 +30,19 @@ def run(arguments: Options) -> int:
             f"{shown_path(os.fsencode(name))}: each catalogue of a folder is named after its folder of pictures, by which index finds it, so none"
             " is relocated. Merge them, and relocate the merged one: exifnorm-pictures merge FOLDER --catalogue NEW"
         )
+    roll_back(name)
     with Catalogue(name) as catalogue:  # it is one; a missing one isn't made
         if next(catalogue.below(os.path.abspath(old)), None) is None:
             raise WrongUse(f"{name} has no picture below {shown_path(old)}")
     with Catalogue(name, make=True) as catalogue:
         counts = relocated(catalogue, os.path.abspath(old), os.path.abspath(new))
-    _print(arguments, old, new, counts)
+    _print(group_of(Output, arguments), old, new, counts)
     return DIFFERENCE if counts[CHANGED] or counts[ABSENT] else SUCCESS
 
 
-def _print(arguments: argparse.Namespace, old: bytes, new: bytes, counts: "Counter[str]") -> None:
+def _print(output: Output, old: bytes, new: bytes, counts: "Counter[str]") -> None:
     numbers = {"as_before": counts[AS_BEFORE], "changed": counts[CHANGED], "absent": counts[ABSENT]}
-    if arguments.json:
+    if output.json:
         print_object("relocate", "summary", {"old": path_members(old), "new": path_members(new), **numbers})
         return
     total = sum(numbers.values())

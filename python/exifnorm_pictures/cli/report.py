@@ -2,6 +2,7 @@
 
 from __future__ import annotations
 
+import argparse
 import contextlib
 
 from ..report import contents, links
@@ -12,31 +13,32 @@ from .exit_codes import SUCCESS
 from .looking import files_of, opened
 from .names import chosen_paths, say_unknown
 from .objects import print_object
-from .options import Options
+from .options import Fields, Files, Output, Run, group_of
 from .page_file import write_report
 from .parser import refuse
 from .sources import settle
 
 
-def run(arguments: Options) -> int:
+def run(arguments: argparse.Namespace) -> int:
     """Writes a page or a folder of pages about a catalogue, or the same as JSON."""
-    if not arguments.html and not arguments.json:
+    files, output = group_of(Files, arguments), group_of(Output, arguments)
+    if not output.html and not output.json:
         refuse("report", "give --html PAGE, --json, or both")
-    name = settle(arguments).catalogue
-    if arguments.html:
+    name, run = settle(files), group_of(Run, arguments)
+    if output.html:
         check()
     address = links.check(arguments.link_to) if arguments.link_to else ""
     rules = rules_of_file(arguments.rules) if arguments.rules else []
-    chosen = chosen_paths(arguments)
+    chosen = chosen_paths(files)
     with contextlib.ExitStack() as open_:
-        catalogue = open_.enter_context(opened(name, arguments, bool(arguments.since)))
-        old = open_.enter_context(opened(arguments.since, arguments, True)) if arguments.since else None
-        choice = choice_for(arguments, *filter(None, (catalogue, old)))
-        about = contents.About(catalogue, old, chosen, not arguments.no_look, choice, arguments.session, arguments.title, address, rules)
-        if arguments.html:
+        catalogue = open_.enter_context(opened(name, run, bool(arguments.since)))
+        old = open_.enter_context(opened(arguments.since, run, True)) if arguments.since else None
+        choice = choice_for(group_of(Fields, arguments), *filter(None, (catalogue, old)))
+        about = contents.About(catalogue, old, chosen, not arguments.no_look, choice, run.session, arguments.title, address, rules)
+        if output.html:
             names = [name, *[arguments.since] * bool(old)]
-            write_report(about, arguments.html, [file for one in names for file in files_of(one)])
-        if arguments.json:
+            write_report(about, output.html, [file for one in names for file in files_of(one)])
+        if output.json:
             for record, members in contents.objects(about):
                 print_object("report", record, members)
         say_unknown(chosen or (), catalogue.has)

@@ -11,9 +11,8 @@ from typing import TYPE_CHECKING, Dict, Iterator, List, NamedTuple, Optional, Se
 from ..catalogue.store import Catalogue
 from ..comparison.group import Basis, Group, Link
 from ..comparison.group_sentence import sentence_of
-from ..comparison.groups import Groups, after_repair, but_for_parts, coded_pictures, left_out, whole_files
-from ..comparison.keeping import KEEP_ALL, NO_PICTURE, NOT_KNOWN, Keep, damaged, keeping
-from ..comparison.readings import of_unknown
+from ..comparison.groups import Groups, after_repair, but_for_notes, but_for_parts, coded_pictures, left_out, of_notes, whole_files
+from ..comparison.keeping import NO_PICTURE, NOT_KNOWN, Keep, damaged, keeping
 from ..fields.choosing import Choice
 from ..fields.folding import folded
 from ..fields.left_out import BY_LISTING, members_of, of_labels
@@ -29,7 +28,7 @@ from .exit_codes import UNKNOWN, status_of_results
 from .looking import Preparing, keep_texts, opened
 from .names import chosen_paths, say_unknown
 from .objects import line_of, print_object
-from .options import Options
+from .options import Fields, Files, Output, Run, group_of
 from .output import print_line, print_lines, say_notes, table_of
 from .parser import FILE, PIXELS
 from .sources import settle
@@ -42,9 +41,11 @@ if TYPE_CHECKING:
 class _Listed:
     """What `same` lists, and the numbers of it."""
 
-    def __init__(self, arguments: argparse.Namespace, choice: Choice, texts: "_Texts") -> None:
-        self.arguments, self.choice, self.texts = arguments, choice, texts
-        self.table = table_of(arguments, (*_HEADS, *listed_texts.heads(texts.labels)))
+    def __init__(self, kind: str, has_keep: bool, output: Output, choice: Choice, texts: "_Texts") -> None:
+        self.kind, self.choice, self.texts = kind, choice, texts
+        self._has_keep = has_keep  # whether it is said which pictures to keep
+        self._is_json = output.json
+        self.table = table_of(output, (*_HEADS, *listed_texts.heads(texts.labels)))
         self.groups: "Counter[str]" = Counter()  # of pictures, and of other files
         self.pictures: "Counter[str]" = Counter()  # in them
         self.bases: "Counter[Basis]" = Counter()  # of the groups of pictures
@@ -63,9 +64,8 @@ class _Listed:
         self.partial += group.shared.is_partial
         self.results.update([group.result] if group.result else [])
         number = sum(self.groups.values())
-        has_keep = self.arguments.kind == "all" and not self.arguments.no_look and not self.choice
-        keeps = keeping(group, bool(self.arguments.json or self.table)) if has_keep else {}
-        if self.arguments.json:
+        keeps = keeping(group, bool(self._is_json or self.table)) if self._has_keep else {}
+        if self._is_json:
             _print_group(number, group, keeps, self.texts)
         elif self.table:
             _print_rows(self.table, number, group, keeps, self.texts)
@@ -77,10 +77,10 @@ class _Listed:
 class _Texts:
     """The texts of the labels of --columns and --differ, of each picture that is listed."""
 
-    def __init__(self, catalogue: Catalogue, arguments: argparse.Namespace) -> None:
-        self._label = given_label(arguments.differ) if arguments.differ else None
-        columns = listed_texts.labels_in(arguments.columns) if arguments.columns else []
-        self.labels = list(dict.fromkeys([*columns, *([] if self._label is None else [self._label])]))
+    def __init__(self, catalogue: Catalogue, columns: Optional[str], differ: Optional[str], run: Run, is_json: bool) -> None:
+        self._label = given_label(differ) if differ else None
+        asked = listed_texts.labels_in(columns) if columns else []
+        self.labels = list(dict.fromkeys([*asked, *([] if self._label is None else [self._label])]))
         self.alike = 0  # groups that aren't listed
         self.not_known = 0  # those of them that may differ, because a picture was not wholly read
         self.has_unread = False  # whether a text of one that is listed isn't known
@@ -88,7 +88,12 @@ class _Texts:
         if self.labels:
             from ..catalogue import asking  # which most groups don't need
 
-            self._answer = asking.Answer(catalogue, None, None, Preparing(arguments).report, self.labels, not arguments.json)
+            self._answer = asking.Answer(catalogue, None, None, Preparing(run).report, self.labels, not is_json)
+
+    @property
+    def has_label(self) -> bool:
+        """Whether pictures have to differ in a label."""
+        return self._label is not None
 
     def of(self, picture: PictureRecord) -> Texts:
         """The texts of a picture, for each label."""
@@ -117,23 +122,26 @@ class _Texts:
             yield "Where a text is not known, the picture was not wholly read"
 
 
-def run(arguments: Options) -> int:
+def run(arguments: argparse.Namespace) -> int:
     """Lists the groups of pictures with the same metadata."""
-    arguments = settle(arguments)
+    files, run, output = group_of(Files, arguments), group_of(Run, arguments), group_of(Output, arguments)
+    name = settle(files)
     kinds = KINDS if arguments.kind in ("all", PIXELS, FILE) else (arguments.kind,)
-    chosen = chosen_paths(arguments)
+    chosen = chosen_paths(files)
     if arguments.columns or arguments.differ:
-        keep_texts(arguments.catalogue, arguments)
+        keep_texts(name, run)
     with contextlib.ExitStack() as open_:
-        catalogue = open_.enter_context(opened(arguments.catalogue, arguments))
+        catalogue = open_.enter_context(opened(name, run))
         only = None if chosen is None else catalogue.choose(chosen)
-        choice = choice_for(arguments, catalogue)
-        groups = Groups(catalogue, only, not arguments.no_look, None if arguments.kind in (PIXELS, FILE) else arguments.session)
-        listed = _Listed(arguments, choice, _Texts(catalogue, arguments))
-        for group in _asked(groups, arguments, kinds, choice):
+        choice = choice_for(group_of(Fields, arguments), catalogue)
+        groups = Groups(catalogue, only, not arguments.no_look)
+        texts = _Texts(catalogue, arguments.columns, arguments.differ, run, output.json)
+        has_keep = arguments.kind == "all" and not arguments.no_look and not choice
+        listed = _Listed(arguments.kind, has_keep, output, choice, texts)
+        for group in _asked(groups, arguments.kind, kinds, choice, arguments.least_fields):
             listed.add(group)
         left = _left_out(catalogue, arguments.kind, kinds, only, choice)
-        if arguments.json:
+        if output.json:
             print_object("same", "summary", _summary(listed, groups, left))
         elif listed.table:
             _add_notes(listed.table, listed, groups, left)
@@ -141,13 +149,10 @@ def run(arguments: Options) -> int:
                 listed.table.row(*(None,) * 6, text)
             say_notes(*listed.texts.end())
         else:
-            print_lines(_totals(listed, groups, left))
+            print_lines(_totals(listed, groups, left, arguments.least_fields))
         say_unknown(chosen or (), catalogue.has)
-    return (
-        UNKNOWN
-        if left.is_open or groups.unknown or listed.texts.not_known or listed.texts.has_unread
-        else status_of_results(listed.results)
-    )
+    is_open = left.is_open or listed.texts.not_known or listed.texts.has_unread
+    return UNKNOWN if is_open else status_of_results(listed.results)
 
 
 class _Left(NamedTuple):
@@ -155,12 +160,13 @@ class _Left(NamedTuple):
 
     undecided: int  # they can't be in a group of the kind that was asked for
     but_for_parts: int = 0  # they mean the same as others but for parts that were not read
+    but_for_notes: int = 0  # .. but for MakerNotes
     after_repair: int = 0  # they are compared after a repair, so this is known
 
     @property
     def is_open(self) -> bool:
         """Whether others may be the same."""
-        return bool(self.undecided or self.but_for_parts)
+        return bool(self.undecided or self.but_for_parts or self.but_for_notes)
 
 
 def _left_out(catalogue: Catalogue, kind: str, kinds: Sequence[str], only: Optional[str], choice: Choice) -> _Left:
@@ -169,18 +175,18 @@ def _left_out(catalogue: Catalogue, kind: str, kinds: Sequence[str], only: Optio
         return _Left(whole_files(catalogue, only).unreadable)
     if kind == PIXELS:
         return _Left(coded_pictures(catalogue, only).undecided)
-    parts = but_for_parts(catalogue, kinds, only, choice)
-    return _Left(left_out(catalogue, kinds, only), parts, after_repair(catalogue, kinds, only))
+    about = (catalogue, kinds, only)
+    return _Left(left_out(*about), but_for_parts(*about, choice), but_for_notes(*about, choice), after_repair(*about))
 
 
-def _asked(groups: Groups, arguments: argparse.Namespace, kinds: Sequence[str], choice: Choice) -> Iterator[Group]:
+def _asked(groups: Groups, kind: str, kinds: Sequence[str], choice: Choice, least_fields: int) -> Iterator[Group]:
     """The groups of the kind that is asked for. Raises `WrongUse`."""
-    if arguments.kind not in (PIXELS, FILE):
-        return groups.by_meaning(kinds, choice, arguments.least_fields)
-    is_of_files = arguments.kind == FILE
-    if choice or arguments.least_fields:
+    if kind not in (PIXELS, FILE):
+        return groups.by_meaning(kinds, choice, least_fields)
+    is_of_files = kind == FILE
+    if choice or least_fields:
         what = "all bytes of files" if is_of_files else "coded pictures and no fields"
-        raise WrongUse(f"--kind {arguments.kind} compares {what}: leave out the options for fields")
+        raise WrongUse(f"--kind {kind} compares {what}: leave out the options for fields")
     about = (groups.catalogue, groups.only)
     count = whole_files(*about).not_requested if is_of_files else coded_pictures(*about).not_requested
     if count:
@@ -194,24 +200,23 @@ def _asked(groups: Groups, arguments: argparse.Namespace, kinds: Sequence[str], 
 Keeps = Dict[int, Keep]  # by the number of a picture; empty if no file was looked at, or fields are left out
 
 
-def _totals(listed: _Listed, groups: Groups, left: _Left) -> Iterator[str]:
+def _totals(listed: _Listed, groups: Groups, left: _Left, least_fields: int) -> Iterator[str]:
     count, files = listed.groups["pictures"], listed.groups["files"]
     yield from [""] * (count + files > 1)
     more = f", and {files} group{'s' * (files != 1)} of {listed.pictures['files']} files that are no pictures" if files else ""
     yield f"{count} group{'s' * (count != 1)} of {listed.pictures['pictures']} pictures{_of_bases(listed)}{more}"
     if groups.small:
         are = "are" if groups.small > 1 else "is"
-        yield f"{groups.small} more, of pictures with fewer than {listed.arguments.least_fields} fields, {are} not listed"
+        yield f"{groups.small} more, of pictures with fewer than {least_fields} fields, {are} not listed"
     if groups.absent:
         yield _of_absent(groups.absent)
     yield from listed.texts.end()
     yield from _of_left(listed, left)
-    yield from [of_unknown(groups.unknown)] * bool(groups.unknown)
     yield from of_labels(listed.choice)
     yield from [BY_LISTING] * bool(listed.partial)
     yield from [_ONLY_METADATA] * bool(listed.unknown_pictures)
-    yield from _compared_files(listed.arguments.kind, groups)
-    yield from [_NOT_FOUND] * (listed.arguments.kind == PIXELS)
+    yield from _compared_files(listed.kind, groups)
+    yield from [_NOT_FOUND] * (listed.kind == PIXELS)
 
 
 def _of_bases(listed: _Listed) -> str:
@@ -222,7 +227,6 @@ def _of_bases(listed: _Listed) -> str:
 
 _WEAKER = {
     Basis.BYTES: "by the same bytes",
-    Basis.MAKER_NOTE: "by MakerNotes that read the same",
     Basis.REPAIR: "only after a repair",
 }
 _BY = {Basis.MEANING: "by meaning", Basis.FIELDS: "by the fields that count", **_WEAKER}
@@ -230,11 +234,13 @@ _BY = {Basis.MEANING: "by meaning", Basis.FIELDS: "by the fields that count", **
 
 def _of_left(listed: _Listed, left: _Left) -> Iterator[str]:
     """How many pictures may be the same as others by their metadata, and how many are compared after a repair alone."""
-    if left.undecided and listed.arguments.kind not in (PIXELS, FILE):
+    if left.undecided and listed.kind not in (PIXELS, FILE):
         why = "can't be compared by meaning: a block is refused or unreadable, or the file was not wholly read"
         yield f"{pictures_in_words(left.undecided)} {why}"
     if left.but_for_parts:
         yield f"{pictures_in_words(left.but_for_parts)} may be the same as others but for parts that were not read"
+    if left.but_for_notes:
+        yield of_notes(left.but_for_notes)
     if left.after_repair:
         were = "was" if left.after_repair == 1 else "were"
         yield f"{pictures_in_words(left.after_repair)} {were} compared only after a repair in memory: a block is refused"
@@ -281,7 +287,7 @@ def _print_lines(group: Group, number: int, keeps: Keeps, texts: _Texts) -> None
         sum(one.keep is False for one in keeps.values()) == group.count - 1 > 0 and len({it.beside for it in group.members}) == 1
     )
     are_no_pictures = bool(keeps) and all(one.why == NO_PICTURE for one in keeps.values())
-    about = {} if has_same_pictures or are_no_pictures or all(one.why in (NOT_KNOWN, KEEP_ALL) for one in keeps.values()) else keeps
+    about = {} if has_same_pictures or are_no_pictures or all(one.why == NOT_KNOWN for one in keeps.values()) else keeps
     for picture in group.members:
         reason, others = group.reasons.get(picture.id, ""), group.others.get(picture.id, 0)
         more = f", and {others:,} that {'are' if others > 1 else 'is'} in a group with it above" if others else ""
@@ -295,8 +301,6 @@ def _print_lines(group: Group, number: int, keeps: Keeps, texts: _Texts) -> None
         print_line(f"    all: {NO_PICTURE}")
     if has_same_pictures:
         print_line(f"    {_ALL_THE_SAME}")
-    if group.rests_on_readings:
-        print_line(f"    {KEEP_ALL}")
     for what, paths in (("gone", group.files.gone), ("changed since it was indexed", group.files.changed)):
         print_lines(f"    not counted, {what}: {shown_path(path)}" for path in paths)
 
@@ -321,8 +325,7 @@ def _add_notes(table: Table, listed: _Listed, groups: Groups, left: _Left) -> No
     """The labels in the table, and on standard error what isn't known or listed."""
     for note in of_labels(listed.choice):
         table.row(*(None,) * 6, note)
-    unknown = [of_unknown(groups.unknown)] * bool(groups.unknown)
-    say_notes(*unknown, *_of_left(listed, left), *[_of_absent(groups.absent)] * bool(groups.absent))
+    say_notes(*_of_left(listed, left), *[_of_absent(groups.absent)] * bool(groups.absent))
 
 
 def _without_advice(picture: PictureRecord) -> Keep:
@@ -333,7 +336,7 @@ def _without_advice(picture: PictureRecord) -> Keep:
 def _note(group: Group, picture: PictureRecord, keep: Keep) -> str:
     others = group.others.get(picture.id, 0)
     more = [f"and {others:,} that {'are' if others > 1 else 'is'} in an earlier group with it"] if others else []
-    more += [keep.note or KEEP_ALL * group.rests_on_readings]
+    more += [keep.note]
     return "; ".join(filter(None, [group.reasons.get(picture.id), *more]))
 
 
@@ -350,9 +353,9 @@ def _not_counted(group: Group) -> Iterator[Tuple[bytes, str]]:
 def _summary(listed: _Listed, groups: Groups, left: _Left) -> Members:
     totals = {"groups": sum(listed.groups.values()), "pictures": sum(listed.pictures.values()), "undecided": left.undecided}
     totals.update(undecided_parts=left.but_for_parts, after_repair=left.after_repair)
-    missing = {"small_groups": groups.small, "absent_groups": groups.absent, "maker_notes_unknown": dict(groups.unknown)}
+    missing = {"small_groups": groups.small, "absent_groups": groups.absent, "maker_notes_unknown": left.but_for_notes}
     texts = listed.texts
-    alike = {"alike": texts.alike, "alike_not_known": texts.not_known} if listed.arguments.differ else {}
+    alike = {"alike": texts.alike, "alike_not_known": texts.not_known} if texts.has_label else {}
     return {**totals, **missing, **alike, **members_of(listed.choice)}
 
 

@@ -8,7 +8,6 @@ from typing import TYPE_CHECKING, Iterator, List
 from ..fields.field import Field
 from ..fields.listing import readable
 from ..fields.shown import LIMITS, Shown
-from ..fields.typed import typed
 from ..model import steps
 from ..model.found import PROGRAMS
 from ..model.texts import Members, escaped
@@ -18,6 +17,7 @@ from .each_block import Describe, each_block, each_picture, status_of
 from .exit_codes import SUCCESS, UNKNOWN
 from .not_read import damage_members, no_block, picture_cut, unread
 from .objects import block_object, picture_object, print_object
+from .options import Files, Least, Output, Run, group_of
 from .output import table_of
 
 if TYPE_CHECKING:
@@ -26,16 +26,17 @@ if TYPE_CHECKING:
 
 def run(arguments: argparse.Namespace) -> int:
     """Lists the fields of pictures."""
-    if not arguments.json and not arguments.csv:
-        return each_block(arguments, lambda: _describer(arguments))
+    files, run, output = group_of(Files, arguments), group_of(Run, arguments), group_of(Output, arguments)
+    if not output.json and not output.csv:
+        return each_block(files, run, lambda: _describer(output.exact, run.least))
     worst = SUCCESS
-    table = table_of(arguments, ["picture", "block", "field", "key", "type", "count", "value", "exact value", "note"])
-    for picture in each_picture(arguments):
+    table = table_of(output, ["picture", "block", "field", "key", "type", "count", "value", "exact value", "note"])
+    for picture in each_picture(files, run):
         worst = max(worst, status_of(picture))
         if table:
-            _print_rows(table, picture, _Shown(arguments))
+            _print_rows(table, picture, _Shown(run.least))
         else:
-            print_object("show", "picture", _members(picture, _Shown(arguments)))
+            print_object("show", "picture", _members(picture, _Shown(run.least)))
     return worst
 
 
@@ -44,15 +45,15 @@ class _Shown(Shown):
 
     has_more = False  # whether a field of the last block is left out
 
-    def __init__(self, arguments: argparse.Namespace) -> None:
+    def __init__(self, least: Least) -> None:
         super().__init__()
-        self._arguments = arguments
+        self._least = least
 
     def of(self, block: Block) -> List[Field]:
         """The fields of a block, or the first ones. If some are left out, the status says so."""
         first = self._first(block)
         if self.has_more:
-            self._arguments.least.status = UNKNOWN
+            self._least.status = UNKNOWN
         return first
 
     def _first(self, block: Block) -> List[Field]:
@@ -75,14 +76,14 @@ _MORE = f"further fields are not shown: more than {LIMITS}"
 # Lines
 
 
-def _describer(arguments: argparse.Namespace) -> Describe:
+def _describer(exact: bool, least: Least) -> Describe:
     """What makes the lines of each block of a picture."""
-    shown = _Shown(arguments)
+    shown = _Shown(least)
 
     def lines_of(_: Picture, block: Block) -> List[str]:
         by = f", extracted by {PROGRAMS[block.extractor]}" if block.extractor in PROGRAMS else ""
         fields = shown.of(block)
-        lines = list(readable(fields, block.name + by)) if arguments.exact else [f"{block.name}{by}:", *map(_plain_line, fields)]
+        lines = list(readable(fields, block.name + by)) if exact else [f"{block.name}{by}:", *map(_plain_line, fields)]
         lines += [f"  {_MORE}"] * shown.has_more
         return lines if block.is_accepted else [*_repaired(block), *lines[1:]]
 
@@ -154,5 +155,5 @@ def _block_members(block: Block, shown: _Shown) -> Members:
 def _field_members(field: Field) -> Members:
     """A field: its name for people, what identifies it, and its value for people, exactly and for programs."""
     name = {"name": field.name, "directory": field.directory, "key": field.key}
-    values = {"type": field.type, "count": field.count, "plain": field.text, "exact": field.exact, "value": typed(field)}
+    values = {"type": field.type, "count": field.count, "plain": field.text, "exact": field.exact, "value": field.json}
     return {**name, **values}

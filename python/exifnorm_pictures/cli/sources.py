@@ -4,12 +4,12 @@ from __future__ import annotations
 
 import os
 import shlex
-from typing import List, Sequence
+from typing import Sequence, Tuple
 
 from ..model.errors import WrongUse
 from ..model.texts import escaped
 from .names import is_catalogue
-from .options import Options
+from .options import Files
 from .parser import refuse
 
 # How each command with one catalogue and no further names but one is written
@@ -24,26 +24,30 @@ _LINES = {
 _MAKERS = ("index", "nightly")  # which make the catalogue of --catalogue, if it is missing
 
 
-def settle(arguments: Options) -> Options:
-    """The options with the catalogue, which is given once, as `catalogue`."""
-    given = [name for name in (arguments.source, arguments.catalogue) if name is not None]
+def settle(files: Files) -> str:
+    """The catalogue, which is given once."""
+    given = [name for name in (files.source, files.catalogue) if name is not None]
     if len(given) != 1:
-        refuse(arguments.command, f"give one catalogue: exifnorm-pictures {_LINES[arguments.command]}")
-    return arguments.but(catalogue=given[0], source=None)
+        refuse(files.command, f"give one catalogue: exifnorm-pictures {_LINES[files.command]}")
+    return given[0]
 
 
-def settle_first(arguments: Options) -> Options:
-    """The options with the catalogue of --catalogue, or the first name, as `catalogue`, and the other names as `folders`. Raises `WrongUse`: a
-    name alone is never taken for a new catalogue, because it may be that of a folder which isn't mounted."""
-    names: List[str] = [*([] if arguments.source is None else [arguments.source]), *arguments.folders]
-    catalogue = arguments.catalogue
-    if catalogue is None:
-        if not names:
-            refuse(arguments.command, f"give a catalogue: exifnorm-pictures {_line(arguments.command, names)}")
-        if not is_catalogue(names[0]):
-            raise WrongUse(_why(names[0]) + f". Write: exifnorm-pictures {_line(arguments.command, names)}")
-        catalogue, *names = names
-    return arguments.but(catalogue=catalogue, source=None, folders=names)
+def with_first(files: Files) -> Files:
+    """The names with the first one, which is no catalogue."""
+    return files if files.source is None else files._replace(source=None, names=[files.source, *files.names])
+
+
+def settle_first(files: Files) -> Tuple[str, Files]:
+    """The catalogue of --catalogue, or the first name, and the other names. Raises `WrongUse`: a name alone is never taken for a new catalogue,
+    because it may be that of a folder which isn't mounted."""
+    files = with_first(files)
+    if files.catalogue is not None:
+        return files.catalogue, files
+    if not files.names:
+        refuse(files.command, f"give a catalogue: exifnorm-pictures {_line(files.command, files.names)}")
+    if not is_catalogue(files.names[0]):
+        raise WrongUse(_why(files.names[0]) + f". Write: exifnorm-pictures {_line(files.command, files.names)}")
+    return files.names[0], files._replace(names=files.names[1:])
 
 
 def _why(name: str) -> str:

@@ -30,12 +30,11 @@ STATUSES: Dict[str, Dict[int, str]] = {
     },
     "same": {
         0: "the pictures of each group have the same metadata, or what --kind asks for, and no others may",
-        1: "MakerNotes of a group differ in bytes, and read the same",
-        2: "a group rests on a repair or on a MakerNote that moved, or others may have the same metadata, or a text of --columns isn't known",
+        2: "a group rests on a repair, or others may have the same metadata, or a text of --columns isn't known",
     },
     "changed": {
         0: "nothing that was compared differs",
-        1: "metadata or a coded picture differ, or a picture was moved or is missing",
+        1: "metadata, a coded picture or another part of a file differ, or a picture was moved or is missing",
         2: _NOT_COMPARED,
     },
     "history": {0: "nothing that was compared has changed", 1: "something has changed", 2: _NOT_COMPARED},

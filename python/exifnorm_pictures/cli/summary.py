@@ -10,7 +10,7 @@ from ..comparison.edit_groups import KINDS, Group
 from ..comparison.edit_words import BRACKETS, head_of, steps_of
 from ..comparison.marking import IN, KEPT, OUT, Step
 from ..comparison.summary import MOST_NAMES, Summary
-from ..comparison.summary_lines import LONGEST_NAMES, fitting, results_of, sentence, shown_name
+from ..comparison.summary_lines import LONGEST_NAMES, fitting, results_of, sentence, sentence_of_partners, shown_name
 from ..model.results import Result
 from ..model.texts import pictures_in_words, safe
 from .columns import width
@@ -23,7 +23,12 @@ COLOURS = {OUT: "\x1b[31;9m", IN: "\x1b[32;4m"}  # red and struck through, green
 
 
 def lines(
-    summary: Summary, counts: "Counter[Result]", notes: Sequence[str] = (), screen: Optional[int] = None, colours: bool = False
+    summary: Summary,
+    counts: "Counter[Result]",
+    notes: Sequence[str] = (),
+    screen: Optional[int] = None,
+    colours: bool = False,
+    by_stem: bool = False,
 ) -> Iterator[str]:
     """The page, with some notes after the results. `screen` has the columns of a terminal."""
     results = [*map(safe, results_of(summary, counts)), *map(safe, notes)]
@@ -32,7 +37,7 @@ def lines(
     room = LINES - len(results) - 6
     texts = [[*_group(it, screen, colours)] for it in reversed(alike)]
     shown = _fitting(texts, LEAST, room - min(sum(2 + len(it.edits) for it in odd), room // 2))
-    yield sentence(counts)
+    yield sentence_of_partners(counts) if by_stem else sentence(counts)
     if odd:
         pictures = [[*_picture(it, screen, colours)] for it in odd[:LINES]]
         many = _fitting(pictures, ODD, room - sum(map(len, texts[:shown])))

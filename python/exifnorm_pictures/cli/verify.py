@@ -8,7 +8,7 @@ import os
 import sys
 from collections import Counter
 from datetime import datetime, timezone
-from typing import BinaryIO, Callable, Dict, Iterable, Iterator, List, Sequence, Tuple
+from typing import BinaryIO, Callable, Dict, Iterable, Iterator, List, Optional, Sequence, Tuple
 
 from ..catalogue import bags
 from ..catalogue.store import Catalogue, NoCatalogue
@@ -24,9 +24,9 @@ from .exit_codes import DIFFERENCE, SUCCESS, UNKNOWN
 from .looking import opened
 from .names import named
 from .objects import print_object
-from .options import Options
+from .options import Files, Output, Run, group_of
 from .output import closed_folder, print_line, print_lines
-from .sources import settle_first
+from .sources import settle_first, with_first
 
 SHOWN = 10  # files that are named of each state
 # The words of --list, and the states of the files that are listed then
@@ -35,60 +35,54 @@ LISTS = {
     "missing": (State.MISSING,),
     "other": (State.OTHER, State.OTHER_FILE, State.NOT_LISTED_SO, State.PARTS),
     "captioned": (State.CAPTIONED, State.AGAIN),
-    "moved": (State.MOVED,),
+    "moved": (State.MOVED, State.RENUMBERED),
     "unknown": (State.UNREADABLE, State.NO_DIGEST),
 }
 
 
-def run(arguments: Options) -> int:
+def run(arguments: argparse.Namespace) -> int:
     """Compares the files that are there with a catalogue."""
-    arguments = _settle(arguments)
+    files, run, output = group_of(Files, arguments), group_of(Run, arguments), group_of(Output, arguments)
+    name, files = (arguments.bag, with_first(files)) if arguments.bag else settle_first(files)
     if arguments.evidence and os.path.lexists(arguments.evidence):
         raise atomic.NotReplaced(atomic.not_written(escaped(arguments.evidence), "it is there already"))
-    told = Told(arguments)
+    form, told = arguments.form or "sha256sum", Told(output, arguments.list)
     with contextlib.ExitStack() as open_:
-        before = open_.enter_context(_of_bag(arguments)) if arguments.bag else open_.enter_context(opened(arguments.catalogue, arguments))
-        given = bool(arguments.folders or arguments.files_from)
-        names = named(arguments, arguments.folders) if given else []
+        before = open_.enter_context(_of_bag(name, run)) if arguments.bag else open_.enter_context(opened(name, run))
+        given = bool(files.names or files.files_from)
+        names = named(files) if given else []
         if arguments.bag and not given:
-            names = [bags.payload(arguments.bag)]
+            names = [bags.payload(name)]
         folders = _folders(names, before)
-        now, earlier = open_.enter_context(_read_again(folders, arguments, before))
+        now, earlier = open_.enter_context(_read_again(folders, run, arguments.state, before))
         for file in verified.verified(before, now, folders):
             told.add(file)
         counts = told.counts
         new = verified.new_files(before, now) - counts[State.MOVED]
-        size, files = next(now.rows("SELECT ifnull(sum(size), 0), count(*) FROM pictures WHERE sha256 != ''"))
-        is_nothing = not (files or told.counts)
+        size, count = next(now.rows("SELECT ifnull(sum(size), 0), count(*) FROM pictures WHERE sha256 != ''"))
+        is_nothing = not (count or told.counts)
         if arguments.evidence and not is_nothing:
-            _write_evidence(arguments, now)
+            _write_evidence(arguments.evidence, form, now)
     if is_nothing:
-        _remove_state(arguments)
+        _remove_state(arguments.state)
         below = f" below {', '.join(map(shown_path, folders))}" if folders else ""
-        raise WrongUse(f"{arguments.bag or arguments.catalogue} has no file{below}, and none is there, so nothing is verified")
-    if arguments.json:
+        raise WrongUse(f"{name} has no file{below}, and none is there, so nothing is verified")
+    if output.json:
         about = {"counts": dict(counts), "damaged_before": told.old, "new": new}
-        print_object("verify", "summary", {**about, "files": files, "bytes": size, "earlier": earlier})
+        print_object("verify", "summary", {**about, "files": count, "bytes": size, "earlier": earlier})
     else:
         of_earlier = f"; {earlier:,} of them by a run that was stopped" * bool(earlier)
-        print_line(f"{in_words(files, 'file')} read again, {_size(size)}{of_earlier}.")
+        print_line(f"{in_words(count, 'file')} read again, {_size(size)}{of_earlier}.")
         print_lines(told.lines())
         if new:
             print_line(f"{new:>11,} that the {'manifest' if arguments.bag else 'catalogue'} doesn't know")
         if arguments.evidence:
-            print_line(f"{escaped(arguments.evidence)}: SHA-256 of {in_words(files, 'file')}, {_READERS[_form(arguments)]}")
-    _remove_state(arguments)
+            print_line(f"{escaped(arguments.evidence)}: SHA-256 of {in_words(count, 'file')}, {_READERS[form]}")
+    _remove_state(arguments.state)
     if any(it.is_good is None for it in counts):
         return UNKNOWN
     is_more = bool(arguments.bag and (new or counts[State.MOVED]))  # a bag has no other files than its manifest, nor other names
     return DIFFERENCE if is_more or any(it.is_good is False for it in counts) else SUCCESS
-
-
-def _settle(arguments: Options) -> Options:
-    """The options with the catalogue that is given as `catalogue`, unless a bag is."""
-    if arguments.bag is None:
-        return settle_first(arguments)
-    return arguments.but(folders=[*([] if arguments.source is None else [arguments.source]), *arguments.folders])
 
 
 def _folders(names: Sequence[bytes], catalogue: Catalogue) -> List[bytes]:
@@ -101,19 +95,18 @@ def _folders(names: Sequence[bytes], catalogue: Catalogue) -> List[bytes]:
 
 
 @contextlib.contextmanager
-def _of_bag(arguments: argparse.Namespace) -> Iterator[Catalogue]:
+def _of_bag(bag: str, run: Run) -> Iterator[Catalogue]:
     """A catalogue of the manifest of a bag."""
-    with Catalogue(os.path.join(arguments.session.room, "manifest"), make=True) as catalogue:
-        bags.fill(catalogue, arguments.bag)
+    with Catalogue(os.path.join(run.session.room, "manifest"), make=True) as catalogue:
+        bags.fill(catalogue, bag)
         yield catalogue
 
 
 @contextlib.contextmanager
-def _read_again(folders: Sequence[bytes], arguments: argparse.Namespace, before: Catalogue) -> Iterator[Tuple[Catalogue, int]]:
+def _read_again(folders: Sequence[bytes], run: Run, state: Optional[str], before: Catalogue) -> Iterator[Tuple[Catalogue, int]]:
     """A new catalogue of the files that are there now, each read once if it is as the catalogue has it; and how many a run has read which was
     stopped. With --state that run has left its catalogue for this one."""
-    room, state = arguments.session.room, arguments.state
-    name = os.path.join(room, "catalogue")
+    name = os.path.join(run.session.room, "catalogue")
     if state:
         _check_state(state)
         with contextlib.suppress(FileExistsError):
@@ -122,10 +115,8 @@ def _read_again(folders: Sequence[bytes], arguments: argparse.Namespace, before:
     with Catalogue(name, make=True) as catalogue:
         closed: List[str] = []
         # sidecars are files like all others here, each with its own digest
-        how = How(arguments.jobs, False, False, True, False, arguments.limit, room, arguments.session.debug, closed_folder)
-        options = IndexOptions(
-            folders, quiet=arguments.quiet or not sys.stderr.isatty(), how=how, print_line=closed.append, look=looker(before)
-        )
+        how = How(run.jobs, False, False, True, False, run.limit, run.session.room, run.session.debug, closed_folder)
+        options = IndexOptions(folders, quiet=run.quiet or not sys.stderr.isatty(), how=how, print_line=closed.append, look=looker(before))
         earlier = index(options, catalogue)["unchanged"]
         if closed:
             raise NoCatalogue("; ".join(closed))
@@ -135,12 +126,12 @@ def _read_again(folders: Sequence[bytes], arguments: argparse.Namespace, before:
 _KEPT = "verified.catalogue"
 
 
-def _remove_state(arguments: argparse.Namespace) -> None:
+def _remove_state(state: Optional[str]) -> None:
     """Removes what a run could go on from, once its answer is out."""
     sys.stdout.flush()
-    if arguments.state:
-        os.unlink(os.path.join(arguments.state, _KEPT))
-        os.rmdir(arguments.state)
+    if state:
+        os.unlink(os.path.join(state, _KEPT))
+        os.rmdir(state)
 
 
 def _check_state(folder: str) -> None:
@@ -155,8 +146,8 @@ def _check_state(folder: str) -> None:
 class Told:
     """How many files have each state, and the first names of each."""
 
-    def __init__(self, arguments: argparse.Namespace) -> None:
-        self._arguments = arguments
+    def __init__(self, output: Output, listed: Optional[str]) -> None:
+        self._output, self._list = output, listed
         self.counts: "Counter[State]" = Counter()
         self.old = 0  # files that were damaged before, and in which nothing else is damaged now
         self._names: Dict[State, List[str]] = {}
@@ -167,12 +158,12 @@ class Told:
         self.counts[file.state] += 1
         is_old = bool(file.damage and file.state.is_good)
         self.old += is_old
-        if self._arguments.list:
-            if file.state in LISTS[self._arguments.list] or (self._arguments.list == "damaged" and file.damage):
-                _print_one(self._arguments, file)
-        elif self._arguments.json:
+        if self._list:
+            if file.state in LISTS[self._list] or (self._list == "damaged" and file.damage):
+                _print_one(self._output, file)
+        elif self._output.json:
             if file.state != State.AS_IT_WAS or is_old:
-                _print_one(self._arguments, file)
+                _print_one(self._output, file)
         else:
             self._keep(file, is_old)
 
@@ -201,9 +192,9 @@ def _first(names: Sequence[str]) -> Iterator[str]:
     yield from ["              .."] * (len(names) > SHOWN)
 
 
-def _print_one(arguments: argparse.Namespace, result: verified.Verified) -> None:
+def _print_one(output: Output, result: verified.Verified) -> None:
     """Prints an object, or the line of a file with its state."""
-    if arguments.json:
+    if output.json:
         place = None if result.place is None else path_members(result.place)
         print_object("verify", "picture", {**path_members(result.path), "state": result.state, "note": result.note or None, "place": place})
     else:
@@ -216,7 +207,11 @@ def _words(result: verified.Verified) -> List[str]:
     if result.place is None:
         return [result.note] * bool(result.note)
     place = shown_path(result.place)
-    return [f"to {place}", *[result.note] * bool(result.note)] if result.state == State.MOVED else [f"{result.note} {place}"]
+    return (
+        [f"to {place}", *[result.note] * bool(result.note)]
+        if result.state in (State.MOVED, State.RENUMBERED)
+        else [f"{result.note} {place}"]
+    )
 
 
 def _size(octets: int) -> str:
@@ -234,22 +229,18 @@ def _size(octets: int) -> str:
 # --evidence
 
 
-def _write_evidence(arguments: argparse.Namespace, now: Catalogue) -> None:
+def _write_evidence(name: str, form: str, now: Catalogue) -> None:
     """Writes the digest of each file, in the form that is asked for."""
-    lines = _FORMS[_form(arguments)]
+    lines = _FORMS[form]
 
     def write(file: BinaryIO) -> None:
         rows = now.rows("SELECT path, sha256, size FROM pictures WHERE sha256 != '' ORDER BY path")
-        file.writelines(lines(rows, os.path.dirname(os.path.abspath(os.fsencode(arguments.evidence)))))
+        file.writelines(lines(rows, os.path.dirname(os.path.abspath(os.fsencode(name)))))
 
     try:
-        atomic.replace(os.fsencode(arguments.evidence), write, lambda _: False)
+        atomic.replace(os.fsencode(name), write, lambda _: False)
     except atomic.NotReplaced as error:
-        raise atomic.NotReplaced(atomic.not_written(escaped(arguments.evidence), error)) from None
-
-
-def _form(arguments: argparse.Namespace) -> str:
-    return arguments.form or "sha256sum"
+        raise atomic.NotReplaced(atomic.not_written(escaped(name), error)) from None
 
 
 _Files = Iterable[Tuple[bytes, str, int]]  # each with its SHA-256 and its bytes

@@ -40,7 +40,7 @@ class Export:
         self.catalogue, self.tables, self.only, self.session = catalogue, tables, only, session
         self.missing = 0  # pictures with a text that is too long to be kept
         self.maker_notes = 0  # pictures with a MakerNote that ExifTool wasn't asked about
-        self.groups = Groups(catalogue, only, bool(session), session)
+        self.groups = Groups(catalogue, only, bool(session))
         self._fields = FieldRows()
 
     def all(self, quiet: bool) -> None:

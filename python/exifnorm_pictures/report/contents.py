@@ -130,12 +130,11 @@ def _summary_members(about: About) -> Members:
 
 
 def _group_members(about: About) -> Objects:
-    by_files = groups.Groups(about.catalogue, about.table(), about.look, about.session)
-    for group in by_files.by_meaning(choice=about.choice):
+    for group in groups.Groups(about.catalogue, about.table(), about.look).by_meaning(choice=about.choice):
         of_group = {"basis": group.basis, "same_bytes": group.same_bytes, "wholly_read": group.is_wholly_read}
         yield "group", {"same": [path_members(path) for path in group.pictures()], "description": sentence_of(group), **of_group}
-    if by_files.unknown:
-        yield "unknown", {"maker_notes_unknown": dict(by_files.unknown)}
+    if unknown := groups.but_for_notes(about.catalogue, only=about.table(), choice=about.choice):
+        yield "unknown", {"maker_notes_unknown": unknown}
 
 
 def _unread_members(about: About) -> Objects:

@@ -14,8 +14,6 @@ from ..catalogue.store import PICTURE_COLUMNS
 from ..comparison import groups
 from ..comparison.conflicts import Conflict
 from ..comparison.group_sentence import sentence_of
-from ..comparison.keeping import KEEP_ALL
-from ..comparison.readings import Unknown
 from ..fields.rules import Rule
 from ..model.found import each_kind
 from ..model.problems import NOT_THERE, Problem
@@ -35,7 +33,7 @@ class Counts:
     states: "Counter[str]" = field(default_factory=Counter)
     causes: "Counter[str]" = field(default_factory=Counter)
     groups: Tuple[int, int] = (0, 0)  # and pictures in them
-    unknown: Unknown = field(default_factory=Counter)  # pictures that may be in a group by their MakerNotes, by why nobody knows
+    unknown: int = 0  # pictures that may be the same as others but for their MakerNotes
     contradictions: Contradictions = field(default_factory=Contradictions)
     unread: int = 0
     damaged: int = 0  # cut off, or with a damaged picture
@@ -123,12 +121,11 @@ class Same(NamedTuple):
 
 def same(about: About, counts: Counts) -> Iterator[Entry]:
     """The groups, the largest first."""
-    by_files = groups.Groups(about.catalogue, about.table(), about.look, about.session)
-    for group in by_files.by_meaning(choice=about.choice):
-        sentence = sentence_of(group) + f"; {KEEP_ALL}" * group.rests_on_readings
+    for group in groups.Groups(about.catalogue, about.table(), about.look).by_meaning(choice=about.choice):
+        sentence = sentence_of(group)
         for number, pictures in enumerate(chunks(group.pictures(), lambda path: path)):
             yield Entry(Same(group.count, sentence, pictures, not number), tuple(pictures), 1, not number)
-    counts.unknown = by_files.unknown
+    counts.unknown = groups.but_for_notes(about.catalogue, only=about.table(), choice=about.choice)
 
 
 class Mendable(NamedTuple):

@@ -99,7 +99,8 @@ class SmallPictures:
         """The address of a small picture, which is looked for once if there are few: most pictures are in several lists."""
         address = self._known.get(path)
         if address is None:
-            address = self._address(path, whole)
+            with opening.held(path):
+                address = self._address(path, whole)
             if len(self._known) < _MOST_KNOWN:
                 self._known[path] = address
         return address

@@ -7,7 +7,7 @@ from pathlib import Path
 from typing import TYPE_CHECKING, Any, Callable, Dict
 
 from ..comparison.edit_words import head_of, steps_of
-from ..comparison.readings import of_unknown
+from ..comparison.groups import of_notes
 from ..fields.left_out import of_maker_notes
 from ..model.errors import Failure
 from ..model.problems import COUNTED, TEXTS
@@ -77,7 +77,7 @@ _FILTERS: Dict[str, Callable[..., Any]] = {
     "path": shown_path,
     "escaped": escaped,
     "rows": lambda counts, tone: [(name, count, tone) for name, count in Counter(dict(counts)).most_common()],  # of a chart
-    "unknown": of_unknown,
+    "unknown": of_notes,
     "maker_notes": of_maker_notes,
     "state": lambda state: STATE_WORDS.get(state, state),
     "tone": lambda state: _TONES.get(state, "odd"),
