@@ -161,6 +161,28 @@ def test_a_stopped_run_leaves_no_process(gate, tmp_path):
         assert started.returncode == 1, (number, output)
 
 
+@pytest.mark.parametrize("refused", ["", "zsh"])
+def test_each_package_is_installed_although_one_is_refused(gate, refused):
+    script = 'case " $* " in *" update "*) ;; *" {} "*) exit 100 ;; *) shift 3; printf "%s\\n" "$@" >>installed ;; esac'
+    put(gate, **{"apt-get": script.format(refused or "none")})
+    assert call(gate, "--install").returncode == bool(refused)
+    assert {*(gate / "installed").read_text(encoding="ascii").split()} == {*call(gate, "--packages").stdout.split()} - {refused}
+
+
+def test_the_quick_form_proves_nothing(gate):
+    """It builds by the two launchers and calls pytest with what they built."""
+    put(gate, rt="echo proving", make="echo building")
+    for name, script in {"exifnorm": "echo quick/exifnorm", "exifnorm-pictures": "true"}.items():
+        (gate / name).write_text(f"#!/bin/sh\n{script}\n", encoding="ascii")
+        (gate / name).chmod(0o755)
+    for name in ("crates/px_c/include/exifnorm.h", "out/quick/libexifnorm.so.1"):
+        (gate / name).parent.mkdir(parents=True, exist_ok=True)
+        (gate / name).touch()
+    ran = call(gate, "--quick")
+    assert (ran.returncode, last_line(ran)) == (0, "5 passed, 0 failed"), ran
+    assert "--program quick/exifnorm" in ran.stdout and "proving" not in ran.stdout and "building" not in ran.stdout, ran
+
+
 def test_packages_are_in_debian(gate):
     """The command is for apt-get install, so it prints nothing but names of packages."""
     names = call(gate, "--packages").stdout.split()

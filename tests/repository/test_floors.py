@@ -51,3 +51,30 @@ def test_only_the_command_line_prints_and_ends() -> None:
             if prints or called in ENDS:
                 wrong.append(f"{path}, line {node.lineno}: {ast.unparse(node)}")
     assert not wrong, "below cli, and prints or ends the process:\n" + "\n".join(sorted(wrong))
+
+
+def test_only_a_command_knows_its_line() -> None:
+    """Its `run` makes records of the options, which the functions below it take; nobody writes to the parsed line, or passes it on. `main` and
+    `parser` make it."""
+    wrong = []
+    for path, _, tree in modules():
+        if path in ("cli/main.py", "cli/parser.py"):
+            continue
+        for function in (node for node in ast.walk(tree) if isinstance(node, ast.FunctionDef)):
+            if path == "cli/options.py" or (path.startswith("cli/") and function.name == "run"):
+                wrong += [f"{path}, line {it.lineno}: {ast.unparse(it)}" for it in ast.walk(function) if _uses_the_line(it)]
+            elif any(
+                "Namespace" in ast.unparse(it.annotation) for it in ast.walk(function.args) if isinstance(it, ast.arg) and it.annotation
+            ):
+                wrong.append(f"{path}, line {function.lineno}: {function.name} takes the line")
+    assert not wrong, "knows the command line, or writes to it:\n" + "\n".join(sorted(wrong))
+
+
+def _uses_the_line(node: ast.AST) -> bool:
+    """Whether a part of `run` writes to `arguments`, or passes them on other than to make a record."""
+    if isinstance(node, ast.Attribute):
+        return ast.unparse(node.value) == "arguments" and not isinstance(node.ctx, ast.Load)
+    if not isinstance(node, ast.Call) or ast.unparse(node.func) in ("vars", "group_of"):
+        return False
+    given = [*node.args, *(word.value for word in node.keywords)]
+    return any(isinstance(it, ast.Name) and it.id == "arguments" for it in given)

@@ -164,7 +164,7 @@ def test_a_row_of_the_table_of_changes(row: List[str]) -> None:
 def definition_files() -> List[Tuple[str, str]]:
     """The files of definitions that the page of the crates lists, in its order, as (crate, file)."""
     text = (TOP / "crates" / "README.md").read_text(encoding="utf-8")
-    rows = re.findall(r"(?ms)^## (px_\w+)$(?:(?!^## ).)*?^- Definitions, \d+ lines: (.*?)$", text)
+    rows = re.findall(r"(?ms)^### (px_\w+)$(?:(?!^### ).)*?^- Definitions, \d+ lines: (.*?)$", text)
     return [(crate, file) for crate, files in rows for file in quoted(files)]
 
 

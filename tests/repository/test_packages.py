@@ -284,7 +284,7 @@ class TestDebian:
             self.field("exifnorm-pictures", "Depends")
         )
         assert self.field("exifnorm-pictures", "Suggests") == ["libheif-examples", "python3-distributed", "python3-xlsxwriter"]
-        assert {"exifnorm", "exiv2", "python3-rdflib"} <= set(self.field("exifnorm-pictures", "Recommends"))
+        assert {"exifnorm", "exiv2"} <= set(self.field("exifnorm-pictures", "Recommends"))
         assert f"libexifnorm1 (>= {VERSION})" in self.field("python3-exifnorm", "Depends")
         assert self.field("libexifnorm-dev", "Depends") == [f"libexifnorm1 (= {VERSION}-1)"]
         for name in ("exifnorm", "libexifnorm1"):

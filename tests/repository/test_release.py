@@ -113,7 +113,7 @@ def uses(program, pictures, samples, **more):
         assert run(program, "compare", TOP / "README.md", "/dev/null", status=2, env=surroundings).startswith("refused")
         assert run(program, "--version", env=surroundings).startswith("exifnorm ")
     said = run(pictures, *changed_words(samples), status=1, env=surroundings)
-    assert "Copyright" in said and "Anna Wirth" in said, said
+    assert "Riverside Museum" in said and "Anna Wirth" in said, said
 
 
 # ---- the files
@@ -185,7 +185,7 @@ def test_the_packages_ask_for_what_exifnorm_pictures_uses(made):
     package = one(made, "exifnorm-pictures_*_all.deb")
     assert "libimage-exiftool-perl" in run("dpkg-deb", "-f", package, "Depends")
     recommended = run("dpkg-deb", "-f", package, "Recommends")
-    assert {"exiv2", "python3-rdflib"} <= set(re.findall(r"[\w-]+", recommended)), recommended
+    assert "exiv2" in re.findall(r"[\w-]+", recommended), recommended
 
 
 def test_the_wheel_is_used_in_a_venv(made, tmp_path):
@@ -212,9 +212,7 @@ def test_the_wheel_has_a_description_and_extras(made, tmp_path):
     run(PYTHON, "-m", "zipfile", "-e", one(made, "*x86_64.whl"), tmp_path)
     code = "import importlib.metadata as m, json; it = m.metadata('exifnorm'); print(it.get_all('Provides-Extra'), it.get_payload()[:10], m.requires('exifnorm'))"
     said = run(PYTHON, "-c", code, env=environment(PYTHONPATH=str(tmp_path)))
-    assert (
-        "'xmp'" in said and "'cluster'" in said and "'all'" in said and "# exifnorm" in said and "rdflib" in said and "distributed" in said
-    )
+    assert "'cluster'" in said and "'all'" in said and "# exifnorm" in said and "distributed" in said
 
 
 def test_the_archive_is_used_where_it_is_unpacked(made, tmp_path):
