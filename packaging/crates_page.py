@@ -14,9 +14,26 @@ from pathlib import Path
 CRATES = Path(__file__).resolve().parent.parent / "crates"
 PAGE, LIST = CRATES / "README.md", CRATES.parent / "crates.txt"
 USED = re.compile(r"(?m)^(?:pub )?use Rattle\.(px_\w+)\.specs\.([A-Z]\w*)\b")
+# from the ground up
+GROUPS = {
+    "Ground": "px_bytes",
+    "IPTC": "px_iim",
+    "Exif": "px_field px_meaning px_tree px_layout px_plans",
+    "XMP": "px_xmp_text px_xmp_marks px_xmp_attributes px_xmp_tree px_xmp_forms px_xmp_spaces px_xmp_document px_xmp px_xmp_lines",
+    "Engine": "px_text px_engine",
+    "Pictures": "px_jpeg px_pictures px_xmp_pictures",
+    "Doors": "px_c px_words px_jobs px_runs px_cli",
+    "Tests": "px_devices px_calls px_picture_calls",
+}
 HEAD = """# The crates
 
-This page is printed by `python3 packaging/crates_page.py`. Each crate comes after those that it uses. `.rt` files are code, `.antt` files definitions (`specs/`) and proofs (`proofs/`).
+This page is printed by `python3 packaging/crates_page.py`. A crate uses only crates to its left in its row of this map, and crates in the rows below:
+
+```
+{}
+```
+
+`.rt` files are code, `.antt` files definitions (`specs/`) and proofs (`proofs/`).
 
 What a call promises stands in its contract, above its body in `crates/NAME/src`, and in words in the comment above that. To trust a contract, read it and the definitions that it names; [READING](../docs/READING.md) explains their words, and [PROOFS](../docs/PROOFS.md) lists the promises of the library and the program. To trust all of them, read the definitions below in this order, together with [FORMAT](../docs/FORMAT.md). Two folders need no reading: `specs/lemmas` has what is proved of the definitions, as `proofs/` has, and `specs/calls` has definitions for single calls.
 """
@@ -66,18 +83,33 @@ def section(crate: str, uses: str) -> str:
         (f"Definitions, {lines} lines", [f"`{it.stem}`" for it in files]),
     ]
     listed = "".join(f"- {title}: {', '.join(names)}\n" for title, names in rows if names)
-    return f"\n## {crate}\n\n{first_paragraph(source)}\n\n{listed}"
+    return f"\n### {crate}\n\n{first_paragraph(source)}\n\n{listed}"
+
+
+def drawn() -> str:
+    """The map: a row for each group, the ground lowest."""
+    return "\n".join(f"{title.lower():10}{names.replace(' ', '  ')}" for title, names in reversed(list(GROUPS.items())))
+
+
+def checked(uses: dict[str, str]) -> None:
+    """That the map has each crate, and is true."""
+    ordered = [name for names in GROUPS.values() for name in names.split()]
+    if sorted(ordered) != sorted(uses):
+        sys.exit(f"crates_page: GROUPS and crates.txt differ by {sorted(set(ordered) ^ set(uses))}")
+    for at, name in enumerate(ordered):
+        if above := set(uses[name].split()) & set(ordered[at:]):
+            sys.exit(f"crates_page: {name} uses {sorted(above)}, which come after it in GROUPS")
 
 
 def page() -> str:
     """The whole page."""
     rows = [line.partition(":") for line in LIST.read_text(encoding="utf-8").splitlines() if line.strip()]
     uses = {name.split()[0]: used for name, _, used in rows}
-    left, ordered = list(uses), []
-    while left:
-        ordered.append(next(it for it in left if not set(uses[it].split()) & set(left)))
-        left.remove(ordered[-1])
-    return HEAD + "".join(section(it, uses[it]) for it in ordered)
+    checked(uses)
+    parts = [HEAD.format(drawn())]
+    for title, names in GROUPS.items():
+        parts += [f"\n## {title}\n", *(section(it, uses[it]) for it in names.split())]
+    return "".join(parts)
 
 
 def main(words: list[str]) -> int:

@@ -14,7 +14,9 @@ COMMENTS = re.compile(r"^ */\*[\s\S]*?\*/\n|^ *//.*\n|^ +", re.M)
 # those that read pictures, each after those that it imports from
 READING = [
     f"javascript/{name}.js"
-    for name in "xmp engine sha256 md5 values listing xmp_values parts inflate png webp tiff_directories tiff heif_items heif formats head rows".split()
+    for name in (
+        "xmp engine sha256 md5 values listing xmp_values parts inflate png webp tiff_directories notes tiff heif_items heif formats jpeg head own rows"
+    ).split()
 ]
 
 

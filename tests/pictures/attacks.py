@@ -7,7 +7,7 @@ import zlib
 
 from made_blocks import ASCII, segment
 from made_boxes import PICTURE, RDF, box, cr3, full, heif, jp2, jxl
-from made_files import EXTENSION_HEAD, SPACES, app1_xmp, app13, chunk, jpeg, packed_zeros, page, png, png_xmp, profile, tiff, webp, xmp
+from made_files import EXTENSION_HEAD, app1_xmp, app13, chunk, jpeg, packed_zeros, page, png, png_xmp, profile, tiff, webp, xmp
 from made_more_files import gif, psd
 from made_raw import rw2, whole_raf
 from studio import SMALL_JPEG
@@ -36,19 +36,6 @@ def extended(packets, length):
     ]
     naming = (app1_xmp(xmp("", f"note:HasExtendedXMP='{name}' xmp:Rating='{number}'")) for number in range(packets))
     return jpeg(*naming, *pieces)
-
-
-def rare(nodes):
-    """A packet of many nodes that have names of their own, which only rdflib reads."""
-    inside = "".join(
-        f"<rdf:Description rdf:nodeID='n{number}'><dc:a rdf:nodeID='n{number + 1}'/></rdf:Description>" for number in range(nodes)
-    )
-    return f"<rdf:RDF {SPACES}>{inside}</rdf:RDF>".encode()
-
-
-def rare_text(text):
-    """A packet with a text in a form of RDF that only rdflib reads."""
-    return xmp(f"<dc:a rdf:nodeID='n'/><rdf:_1>{text}</rdf:_1>")
 
 
 def many_values(number, size, step):
@@ -99,25 +86,6 @@ A_TEXT = "x" * 14_000_000
 # The name of each file, and a word that the catalogue has for it: a problem, a cause of a block that isn't accepted, a kind of part
 # that was not read, or nothing if all of it was read.
 FILES = {
-    "rare.png": (written(lambda: png(png_xmp(rare(20_000), packed=True))), "TooRare"),
-    "lines.png": (written(lambda: png(png_xmp(rare_text("a\n" * 1_000_000), packed=True))), ""),
-    "references.png": (written(lambda: png(png_xmp(rare_text("&lt;" * 2_000_000), packed=True))), ""),
-    "markup.jpg": (written(lambda: jpeg(app1_xmp(xmp("<dc:a rdf:parseType='Literal'>" + "a\n" * 25_000 + "</dc:a>")))), "Markup"),
-    "typed-markup.png": (
-        written(
-            lambda: png(
-                png_xmp(
-                    xmp(
-                        "<dc:a rdf:datatype='http://www.w3.org/1999/02/22-rdf-syntax-ns#XMLLiteral'>"
-                        + "<![CDATA[<a/>]]>" * 90_000
-                        + "</dc:a>"
-                    ),
-                    packed=True,
-                )
-            )
-        ),
-        "Markup",
-    ),
     "shared-values.png": (written(lambda: png(chunk(b"eXIf", many_values(23_000, 5, 0)))), "Overlap"),
     "neighbouring-values.png": (written(lambda: png(chunk(b"eXIf", many_values(23_000, 5, 5)))), "Overlap"),
     "growing-values.png": (written(lambda: png(chunk(b"eXIf", many_values(23_000, 1_000_000, 0)))), "Overlap"),

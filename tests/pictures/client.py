@@ -11,13 +11,18 @@ from datetime import datetime
 from fractions import Fraction
 from typing import Iterator, Optional, Tuple
 
+import exifnorm
 import exifnorm_pictures as pictures
+from exifnorm import blocks
 
 
 def described(picture: pictures.Picture) -> str:
     """The camera, the exposure and the year."""
     time, iso, when = picture["ExifIFD:ExposureTime"], picture.get("ISO"), picture["DateTimeOriginal"]
     assert isinstance(time, Fraction) and isinstance(iso, int) and isinstance(when, datetime)
+    speed: Optional[int] = picture.get("ISO", type=int)
+    camera: str = picture.get("Model", "", type=str)
+    assert speed == iso and camera == picture["Model"] and dict(picture) == dict(picture.items()) and len(picture)
     taken: Optional[datetime] = picture.taken
     assert taken == when and picture.position is None
     return f"{picture.find('model')[0].text} {time} {iso} {when.year}"
@@ -25,7 +30,10 @@ def described(picture: pictures.Picture) -> str:
 
 def main(before: str, after: str) -> None:
     """Prints five lines."""
-    picture = pictures.read(before)
+    picture: exifnorm.Picture = exifnorm.read(before)
+    assert picture == pictures.read(before) and blocks.kind(picture.blocks[0].data) == "exif"
+    with exifnorm.Reader(programs=False, seconds=30, most=1 << 20) as reader:
+        assert reader.read(before, name="a.jpg") == picture
     print(described(picture))
     keywords: Tuple[str, ...] = picture.texts("keywords")
     print(f"{'; '.join(picture.texts('title'))}: {', '.join(keywords)}")

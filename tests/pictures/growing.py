@@ -35,7 +35,6 @@ from exifnorm_pictures.model import budgets
 
 BYTE = 1
 EXIF, IPTC, XMP = KINDS = ("exif", "iptc", "xmp")  # as `show --json` names them
-MARKUP = "http://www.w3.org/1999/02/22-rdf-syntax-ns#XMLLiteral"
 
 
 class Parts(NamedTuple):
@@ -230,34 +229,26 @@ def with_packet(packet, texts=1, cause=None):
     return Whole(png(png_xmp(packet, packed=True)), {XMP: texts} if texts else {}, cause)
 
 
-def typed(inside):
-    """A packet with a typed node, which is rare in XMP. It has two members: its type is one of them."""
-    return with_packet(xmp(f"<dc:a><x:T xmlns:x='urn:x#'><x:p>{inside}</x:p></x:T></dc:a>"), 2)
+def rare_text(inside):
+    """A packet whose name isn't ASCII, which the library leaves to the reader in Python."""
+    return with_packet(xmp(f"<x:\u00e9 xmlns:x='urn:x#'>{inside}</x:\u00e9>"))
 
 
 def lines(number, mark):
-    return typed(mark.decode() + "\n" * number)
+    return rare_text(mark.decode() + "\n" * number)
 
 
 def references(number, mark):
-    return typed(mark.decode() + "&lt;" * number)
+    return rare_text(mark.decode() + "&lt;" * number)
 
 
 def pieces_of_text(number, mark):
-    return typed(mark.decode() + "<![CDATA[x]]><!-- x --><?x y?>" * number)
+    return rare_text(mark.decode() + "<![CDATA[x]]><!-- x --><?x y?>" * number)
 
 
 def rare_nodes(number, mark):
     inside = "".join(f"<x:p{it}>{mark.decode()}</x:p{it}>" for it in range(number))
-    return with_packet(xmp(f"<dc:a><x:T xmlns:x='urn:x#'>{inside}</x:T></dc:a>"), number + 1)  # its type is one, too
-
-
-def literal_lines(number, mark):
-    return with_packet(xmp(f"<dc:a rdf:parseType='Literal'>{mark.decode()}" + "\n" * number + "</dc:a>"), 0, "Markup")
-
-
-def literal_elements(number, mark):
-    return with_packet(xmp(f"<dc:a rdf:datatype='{MARKUP}'>{mark.decode()}" + "<![CDATA[<a/>]]>" * number + "</dc:a>"), 0, "Markup")
+    return with_packet(xmp(f"<x:\u00e9 xmlns:x='urn:x#' rdf:parseType='Resource'>{inside}</x:\u00e9>"), number)
 
 
 def attributes(number, mark):
@@ -454,8 +445,6 @@ OTHERS = {
     "references of a rare text": ("png", Growth(references, 3000, 30_000)),
     "pieces of a rare text": ("png", Growth(pieces_of_text, 1000, 10_000)),
     "rare nodes": ("png", Growth(rare_nodes, 200, 5000)),
-    "lines of markup": ("png", Growth(literal_lines, 1500, 15_000)),
-    "elements of markup": ("png", Growth(literal_elements, 1500, 15_000)),
     "attributes": ("png", Growth(attributes, 500, 5000)),
     "namespaces": ("png", Growth(spaces, 500, 5000)),
     "a long name": ("png", Growth(long_name, 20_000, 1_000_000)),

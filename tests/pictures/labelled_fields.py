@@ -25,6 +25,7 @@ FIELDS = {
     "rights end": ["IPTC:ExpirationDate", "XMP-plus:LicenseEndDate"],
     "embargo": ["IPTC:ReleaseDate"],
     "digital source": ["XMP-iptcExt:DigitalSourceType"],
+    "person shown": ["XMP-iptcExt:PersonInImage"],
     "data mining": [],  # which the ExifTool of Debian 12 can't write
     "position": ["GPS:GPSLatitude", "XMP-exif:GPSLongitude"],
 }

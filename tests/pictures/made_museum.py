@@ -10,10 +10,11 @@ from typing import Dict, NamedTuple, Union
 
 import made_raw
 from growing import FORMATS, Parts, big_tiff
-from made_blocks import ASCII, BLOCKS, LONG, UNDEFINED, segment, with_exif, with_iptc
+from made_blocks import ASCII, BLOCKS, LONG, SHORT, UNDEFINED, segment, with_exif, with_iptc
 from made_boxes import PICTURE, Item, heif, item_exif
 from made_files import (
     RATIONAL,
+    Placed,
     app1,
     app1_xmp,
     app13,
@@ -155,7 +156,7 @@ def states() -> Files:
         "states/packet-broken.png": broken,
         "states/rots.jpg": captioned(46),
         "states/sum-wrong.png": png(chunk(b"eXIf", small_tiff(*camera()), wrong=1)),
-        "states/trailer.jpg": whole + b"unknown bytes",
+        "states/trailer.jpg": whole[:2] + segment(0xE5, b"Salt\0one") + whole[2:] + b"unknown bytes",
         "states/two-blocks.jpg": jpeg(app1(small_tiff(*camera())), app1(small_tiff(*camera(artist=b"Ben"))), base=picture(47)),
     }
 
@@ -231,17 +232,28 @@ def rare() -> Files:
     blocks = [Item(b"Exif", item_exif(small_tiff(*camera(artist=artist))), b"", (it,)) for it, artist in ((2, b"Anna"), (4, b"Ben"))]
     tile = (Item(b"grid", bytes(8), references=((b"dimg", (2, 3)),)), PICTURE, PICTURE, PICTURE, *blocks)
     kinds = "<dc:subject><rdf:Bag><rdf:type rdf:resource='http://www.w3.org/1999/02/22-rdf-syntax-ns#Seq'/><rdf:li>clay</rdf:li></rdf:Bag></dc:subject>"
+    numbered = "<dc:creator><rdf:Seq><rdf:_2>Ben</rdf:_2><rdf:_1>Anna</rdf:_1></rdf:Seq></dc:creator>"
+    thumbnail = [(0x0103, SHORT, 6), (0x0201, LONG, Placed(b"tiny")), (0x0202, LONG, 4)]
     return {
         "rare/empty-directories.jpg": jpeg(
             app1(small_tiff((0x010F, ASCII, b"Leica\0"), (0x8769, LONG, []), (0x8825, LONG, []))), base=picture(190)
         ),
         "rare/main-tile.heic": heif(*tile, primary=2),
         "rare/no-directory.tif": b"MM\0*" + bytes(4),
+        "rare/numbered.jpg": jpeg(app1_xmp(xmp(numbered)), base=picture(193)),
+        "rare/second-jpeg.rw2": made_raw.rw2(b"Anna", (0x0127, UNDEFINED, made_raw.inner(b"Eva", "other"))),
         "rare/second-type.jpg": jpeg(app1_xmp(xmp(kinds)), base=picture(191)),
         "rare/shared-by-nine.jpg": jpeg(app1(shared + bytes(4) + b"A" * 59 + b"\0"), base=picture(192)),
+        "rare/tiny-thumbnail.jpg": jpeg(app1(tiff([(0x010F, ASCII, b"Leica\0")], thumbnail)), base=picture(194)),
         "rare/two-frames.raf": raf,
+        "rare/unknown-item.heic": unknown_item(b"one"),
         "rare/unknown-type.btf": big_tiff(Parts(((0x013B, ASCII, b"Anna\0"), (0xA500, 99, b"abcdefgh")))),
     }
+
+
+def unknown_item(data: bytes) -> bytes:
+    """A HEIF with a part that nobody reads, of which only a digest is known."""
+    return heif(PICTURE, Item(b"Exif", item_exif(small_tiff(*camera())), b"", (1,)), Item(b"salt", data))
 
 
 def contradictions() -> Files:
@@ -376,6 +388,7 @@ def second_night() -> Files:
         "drawer/changed.jpg": captioned(159, title="A jug"),
         "notes/goes.jpg": jpeg(app1(small_tiff((0x010F, ASCII, b"Canon\0"), (0x013B, ASCII, b"Eva\0"), order=">"))),
         "refused/Doubled.jpg": with_exif(picture(300 + [*BLOCKS].index("Doubled")), BLOCKS["Unsorted"]),
+        "rare/unknown-item.heic": unknown_item(b"two"),
         "states/rots.jpg": bytes(rotten),
         "states/trailer.jpg": captioned(40) + b"other bytes..",
         "work/dated.jpg": dated(86, "2025:03:31 14:30:00"),

@@ -15,6 +15,7 @@ from exifnorm_pictures.cli import main
 NOW = datetime.datetime(2026, 1, 3, 4, 5, 6, tzinfo=datetime.timezone.utc)
 CLOCKS = ("report.rendering", "cli.verify", "cli.export", "scan.index")  # the modules that print or keep the time of now
 CATALOGUES = ("before", "plain", "full", "full.before", "few")
+KEPT = ("one", "archive", "bag")
 WHOLE = " --pixels --maker-notes --sidecars"
 
 
@@ -93,6 +94,13 @@ def make(folder):
     put_bag(folder / "bag")
 
 
+def state(folder):
+    """The files that are there for each test, as they are on the disk."""
+    tops = [it for it in folder.iterdir() if it.name in KEPT or it.name.startswith(".") and not it.name.startswith((".out", ".messages"))]
+    found = {path: path.lstat() for top in tops for path in (top, *(top.rglob("*") if top.is_dir() else ()))}
+    return {path: (it.st_ino, it.st_mode, it.st_mtime_ns, 0 if path.is_dir() else it.st_size) for path, it in found.items()}
+
+
 def made(folder, make):
     """A folder that `make` fills while the clock stands."""
     with standing_clock(), contextlib.chdir(folder):
@@ -102,17 +110,22 @@ def made(folder, make):
 
 @pytest.fixture(scope="session")
 def museum_of_this_process(tmp_path_factory):
-    return made(tmp_path_factory.mktemp("museum"), make)
+    folder = made(tmp_path_factory.mktemp("museum"), make)
+    return folder, state(folder)
 
 
 @pytest.fixture
 def museum(museum_of_this_process):
     """The folder in which commands are called: `one` and `archive` are the pictures of both nights, `before` and `plain` their catalogues,
     `full.before` and `full` these with --pixels --maker-notes --sidecars, `few` a catalogue of few pictures."""
-    with standing_clock(), contextlib.chdir(museum_of_this_process):
-        for path in museum_of_this_process.iterdir():  # what an earlier test has written
-            if path.name not in ("one", "archive", "bag") and not path.name.startswith("."):
-                shutil.rmtree(path) if path.is_dir() else path.unlink()
+    folder, as_made = museum_of_this_process
+    with standing_clock(), contextlib.chdir(folder):
+        is_as_made = state(folder) == as_made
+        for path in folder.iterdir():  # what an earlier test has written
+            if not is_as_made or path.name not in KEPT and not path.name.startswith("."):
+                shutil.rmtree(path) if path.is_dir() and not path.is_symlink() else path.unlink()
+        if not is_as_made:  # a mistake has written into it
+            make(folder)
         for name in CATALOGUES:
             shutil.copy(f".{name}", name)
-        yield museum_of_this_process
+        yield folder

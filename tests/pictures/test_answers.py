@@ -5,7 +5,6 @@ import os
 import re
 
 import pytest
-from made_boxes import PICTURE, box, heif, jxl, mime
 from made_files import A, app1, app1_xmp, app13, exif, jpeg, resource, title
 from made_more_files import gif, gif_xmp, psd
 from studio import TOP, put
@@ -121,8 +120,6 @@ T = title("Bowl")
 # Files of formats whose pictures aren't read, each before and after another picture took the place of its own
 UNSEEN = {
     "a.gif": (gif(gif_xmp(T)), gif(gif_xmp(T), own_colours=1)),
-    "a.heic": tuple(heif(PICTURE._replace(data=octet * 50), mime(T, (1,))) for octet in (b"\1", b"\2")),
-    "a.jxl": tuple(jxl(box(b"xml ", T), pixels=box(b"jxlc", b"\xff\x0a" + octet)) for octet in (b"\1", b"\2")),
     "a.psd": (psd(resource(0x0424, T)), psd(resource(0x0424, T)).replace(b"\x55" * 6, b"\x66" * 6)),
 }
 

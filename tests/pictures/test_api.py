@@ -12,6 +12,7 @@ import re
 import struct
 import subprocess
 import sys
+from collections.abc import Mapping
 from datetime import date, datetime, time, timedelta, timezone
 from fractions import Fraction
 from pathlib import Path
@@ -79,6 +80,23 @@ def test_a_name_of_no_field_is_told_with_the_one_that_is_meant(name, meant):
     said = str(raised.value)
     assert meant in said and ("(" in said) == bool(meant) and len(said) < 300 and raised.value.args == (name,)
     assert str(pickle.loads(pickle.dumps(raised.value))) == said
+
+
+def test_a_picture_is_a_mapping():
+    bowl, again, phone = (pictures.read(BEFORE / it) for it in (BOWL, BOWL, PHONE))
+    assert isinstance(bowl, Mapping) and dict(bowl.items()) == dict(zip(bowl.keys(), bowl.values())) == dict(bowl)
+    assert len(bowl) == len(bowl.names) and tuple(bowl.keys()) == bowl.names
+    assert bowl == again and len({bowl, again}) == 1 and bowl != dict(bowl)
+    assert pictures.read(BEFORE / VASE) == pictures.read(AFTER / VASE) != bowl
+    assert phone == phone != pictures.read(BEFORE / PHONE)  # with a refused block it is like no other
+    plain = pictures.read_bytes(SMALL_JPEG)
+    assert not plain and len(plain) == 0 and plain == pictures.read_bytes(SMALL_JPEG)
+
+
+def test_a_value_of_a_type():
+    bowl = pictures.read(BEFORE / BOWL)
+    assert bowl.get("ISO", type=int) == 200 and bowl.get("Model", type=int) is None and bowl.get("Model", 0, type=int) == 0
+    assert bowl.get("IPTC:Keywords", type=tuple) == ("bowl", "celadon") and bowl.get("Artist", "unknown", type=str) == "unknown"
 
 
 def test_names_are_also_those_of_the_standards():
@@ -353,6 +371,41 @@ def test_a_path_bytes_and_a_file_are_read_alike(ending, tmp_path):
     assert list(found[0].fields)
 
 
+GUESSED = "character set guessed: Windows-1252"
+
+
+@pytest.mark.parametrize(
+    "field, text, guess",
+    [
+        (Field("main", "013b", "ASCII", 8, b"Krop\xe1\xe8\0"), "Kropáè", GUESSED),
+        (Field("main", "013b", "ASCII", 8, "Kropá\0".encode()), "Kropá", "character set guessed: UTF-8"),
+        (Field("main", "013b", "UTF8", 8, "Kropá\0".encode()), "Kropá", ""),
+        (Field("iptc", "2:80", "octets", 6, "Kropá".encode()), "Kropá", "character set guessed: UTF-8"),
+        (Field("iptc", "2:0", "octets", 2, b"\1\xe1"), "481", ""),
+        (Field("exif", "9286", "UNDEFINED", 13, b"ASCII\0\0\0\xe1bcde"), "ábcde", GUESSED),
+        (Field("exif", "9286", "UNDEFINED", 20, b"UNICODE\0" + "Kropáč".encode("utf-16-be")), "Kropáč", ""),
+        (Field("gps", "001c", "UNDEFINED", 20, b"UNICODE\0" + "Marin".encode("utf-16")), "Marin", ""),
+        (Field("exif", "9286", "UNDEFINED", 20, "Low angle".encode("utf-16-le")), "Low angle", "character set guessed: UTF-16"),
+        (Field("exif", "9286", "UNDEFINED", 20, "\ufeffKropáč\0".encode("utf-16-be")), "Kropáč", "character set guessed: UTF-16"),
+        (Field("exif", "927c", "UNDEFINED", 2, b"\xe1\xe8"), "0xe1e8", ""),
+        (Field("main", "8298", "ASCII", 12, b"Lena\0Museum\0"), "Lena\nMuseum", ""),
+        (Field("main", "9c9b", "BYTE", 4, "á\0".encode("utf-16-le")), "á", ""),
+    ],
+)
+def test_a_guessed_character_set_is_marked(field, text, guess):
+    assert (field.text, field.guess) == (text, guess)
+    assert field.value is None or not isinstance(field.value, str) or (field.json == text and "\ufeff" not in field.value)
+
+
+def test_a_record_that_declares_utf_8_has_no_guess():
+    declared = data_set(90, b"\x1b%G", 1)
+    for sets, guess in (([declared], ""), ([], "character set guessed: UTF-8"), ([declared, declared], "character set guessed: UTF-8")):
+        found = pictures.read_bytes(jpeg(with_record(b"".join(sets) + data_set(80, "Kropáč".encode()))))
+        (field,) = found.find("IPTC:By-line")
+        assert (field.guess, pickle.loads(pickle.dumps(field)).guess, field.in_block("second IPTC").guess) == (guess,) * 3
+        assert [it.guess for it in found.captions] == [guess] and field == Field(*field.identity)
+
+
 def test_a_broken_block_is_a_sentence_and_no_key():
     broken = pictures.read(BEFORE / PHONE)
     assert [str(it) for it in broken.refusals] == ["Exif: A directory has no entry (byte 442)."]
@@ -441,7 +494,7 @@ def test_the_commands_print_the_same(path, called):
     )
     table = csv.DictReader(io.StringIO(called("captions", "--csv", str(path))[1].lstrip("\ufeff"), newline=""))
     for row in table:
-        for label in ("title", "caption", "creator", "keywords", "copyright"):
+        for label in {"title", "caption", "creator", "keywords", "copyright"} - {it.label for it in ours.conflicts}:
             assert "; ".join(ours.texts(label)) == row[label].lstrip("'"), label
 
 
@@ -659,6 +712,14 @@ def test_no_command_line_is_loaded():
         env={**os.environ, "PYTHONPATH": f"{TOP}/python"},
     )
     assert done.stdout == "False\n"
+
+
+def test_reading_loads_no_more_than_it_needs():
+    """One picture is read without what starts processes, and without what few pictures need."""
+    code = "import sys; from exifnorm_pictures import read; read(sys.argv[1])['IFD0:Model']; print(*sys.modules)"
+    words = [sys.executable, "-S", "-c", code, str(BEFORE / BOWL)]
+    done = subprocess.run(words, stdout=subprocess.PIPE, text=True, check=True, env={**os.environ, "PYTHONPATH": f"{TOP}/python"})
+    assert not {"multiprocessing", "concurrent.futures", "socket", "logging", "subprocess", "tempfile", "shutil"} & {*done.stdout.split()}
 
 
 def test_each_name_has_words():

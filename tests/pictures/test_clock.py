@@ -29,7 +29,7 @@ from exifnorm_pictures.report import thumbnails
 OF_FORMATS = {
     name: (ending, make, "parts" if name not in ("JPEG", "RAF", "NAME.xmp") else "packets") for name, (ending, make) in FORMATS.items()
 }
-OF_MEANING = ("lines of a rare text", "neighbouring values", "unsorted entries")
+OF_MEANING = ("neighbouring values", "unsorted entries")
 # What each command is given that reads pictures. P and Q are folders with the picture a and another one, c a catalogue of P
 READS = {
     "index": "index P --catalogue new --quiet --jobs 1 --pixels --sidecars",

@@ -472,7 +472,7 @@ class TestChanged:
 
     def test_written_again_with_the_same_metadata(self, folder, moved):
         put(folder, {"b/x.jpg": jpeg(app1(A)), "a/y.jpg": jpeg(segment(0xFE, b"comment"), app1(A))})
-        assert moved()[1] == {"x.jpg": ("moved", "y.jpg")}
+        assert moved()[1] == {"x.jpg": ("moved and edited", "y.jpg")}, "the comment came"
 
     def test_a_copy_is_not_guessed(self, folder, moved):
         """With two pictures that it may be, a picture is missing; unless one of them has its name."""

@@ -16,7 +16,7 @@ from made_files import app1, app1_xmp, exif, jpeg, xmp
 from made_more_files import gif
 from studio import SMALL_JPEG, TOP, needs, put, tool
 from test_captions import data_set, with_record, with_texts
-from test_groups import FILES as TWINS, with_short_note
+from test_groups import FILES as TWINS
 from test_maker_notes import noted
 
 from exifnorm_pictures.export.rows import FieldRows
@@ -232,16 +232,6 @@ def test_values_of_maker_notes(run, folder):
     names = {f"{group.partition(':')[0]}:{group.partition(':')[2]}": str(value) for group, value in read.items() if group != "SourceFile"}
     rows = asked(sqlite3.connect("t"), "SELECT name, value FROM maker_notes JOIN pictures ON id = picture WHERE path LIKE '%a.jpg'")
     assert dict(rows) == names and names["Canon:OwnerName"] == "Annette"
-
-
-def test_groups_by_maker_notes(run, folder):
-    """ExifTool is asked, as by `same`. None is marked to keep, since nobody knows which MakerNote is whole."""
-    (folder / "p").mkdir()
-    for number, moved in enumerate((0, 64)):
-        (folder / "p" / f"{number}.jpg").write_bytes(with_short_note(moved))
-    run("index", "p", "--catalogue", "c", "--quiet")
-    run("export", "c", "t")
-    assert asked(sqlite3.connect("t"), "SELECT kind, keep FROM groups") == [("maker note", None), ("maker note", None)]
 
 
 # The page

@@ -459,21 +459,6 @@ class Outputs(WithPictures):
                 self.assertIn(name, said)
                 self.assertNotIn(".part", said)
 
-    def test_killed_when_the_copy_gets_its_name(self):
-        """If `mend` and `report` are killed when a file of this folder gets its name, it isn't there, and no other new file."""
-        call = (
-            "import os, signal, sys; from exifnorm_pictures.cli.main import main\n"
-            "def is_here(name): return os.path.dirname(os.path.abspath(os.fsdecode(name))) == os.getcwd()\n"
-            "def hook(event, it): event in ('os.link', 'os.rename') and is_here(it[1]) and os.kill(os.getpid(), signal.SIGKILL)\n"
-            "sys.addaudithook(hook)\nsys.exit(main(sys.argv[1:]))"
-        )
-        there = sorted(os.listdir(self.folder))
-        for words in (["mend", "p/a.jpg", "out.jpg"], ["report", "--catalogue", "c", "--html", "page"]):
-            with self.subTest(words[0]):
-                done = run([sys.executable, "-c", call, *words], self.folder, TMPDIR=Studio.room)
-                self.assertEqual(done.returncode, -signal.SIGKILL, done)
-                self.assertEqual(sorted(os.listdir(self.folder)), there)
-
     def test_page(self):
         write(self.path("text"), b"a text\n")
         os.symlink("c", self.path("link"))

@@ -114,9 +114,8 @@ def test_whoever_keeps_one_of_each_group_loses_nothing(tmp_path_factory, files, 
             change_file(number, name, afterwards)
         before = contents("p")
         *groups, _ = map(json.loads, printed("same", "--catalogue", "c", "--json", most=2))
-        kept = [[it["keep"] for it in group["pictures"]].count(True) for group in groups]
-        assert kept == [group["basis"] != "maker note" for group in groups], "nobody knows which MakerNote is whole"
-        for group in (it for it, has_keep in zip(groups, kept) if has_keep):
+        assert all([it["keep"] for it in group["pictures"]].count(True) == 1 for group in groups)
+        for group in groups:
             kept = next(it["path"] for it in group["pictures"] if it["keep"]) if by_keep else random.choice(group["pictures"])["path"]
             for it in group["pictures"]:
                 if it["path"] != kept and os.path.lexists(it["path"]):
@@ -309,16 +308,16 @@ def with_note(owner, moved=0, wrong=False):
 
 @needs("exiftool")
 @pytest.mark.parametrize(
-    "other, result, status, basis",
+    "other, result, status, groups",
     [
-        (with_note(b"Annette"), "same", 0, "meaning"),
-        (with_note(b"Annette", 64), "the same but for a MakerNote that moved", 2, "maker note"),
-        (with_note(b"Ottilie"), "only MakerNote differs", 1, None),
-        (with_note(b"Ottilie", 64), "different", 1, None),
+        (with_note(b"Annette"), "same", 0, 1),
+        (with_note(b"Annette", 64), "the same but for a MakerNote that moved", 2, 0),
+        (with_note(b"Ottilie"), "only MakerNote differs", 1, 0),
+        (with_note(b"Ottilie", 64), "different", 1, 0),
     ],
     ids=["itself", "moved", "of another owner", "moved, and of another owner"],
 )
-def test_maker_notes(asked, folder, other, result, status, basis):
+def test_maker_notes(asked, folder, other, result, status, groups):
     one = with_note(b"Annette")
     for side, octets in (("before", one), ("after", other)):
         (folder / side).mkdir()
@@ -328,7 +327,7 @@ def test_maker_notes(asked, folder, other, result, status, basis):
     values = [(it["before"], it["after"]) for it in (found["maker_note"] or {"values": []})["values"]]
     assert (("Annette", "Ottilie") in values) is (b"Ottilie" in other)
     indexed(asked, "before", "after")
-    assert [it["basis"] for it in asked("same", "--catalogue", "c", status=2 if basis == "maker note" else 0)[:-1]] == [basis] * bool(basis)
+    assert len(asked("same", "--catalogue", "c", status=0 if groups else 2)[:-1]) == groups
 
 
 @needs("exiftool")
@@ -343,8 +342,7 @@ def test_a_maker_note_that_only_moved(asked, folder):
     assert found["result"] == "not wholly read"
     indexed(asked, "p0", "p1", "p2")
     *found, _ = asked("same", "--catalogue", "c", status=2)
-    assert [(it["basis"], it["count"]) for it in found] == [("meaning", 2), ("maker note", 2)]
-    assert [it["basis"] for it in asked("same", "--catalogue", "c", "--no-look", status=2)[:-1]] == ["meaning"]
+    assert [(it["basis"], it["count"]) for it in found] == [("meaning", 2)]
 
 
 @needs("exiftool")

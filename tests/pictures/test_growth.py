@@ -94,7 +94,7 @@ LAWS = {
 def test_what_is_bad(law):
     calls, is_bad = LAWS[law]
     start, once, twice, four = ({"a": Work(0, int(calls(n)), *[0] * 7, b"", "")} for n in (1, 1000, 2000, 4000))
-    assert bool(but_for_steps(check(start, once, twice), start, twice, four)) == is_bad
+    assert bool(but_for_steps(check(start, once, twice), start, once, twice, four)) == is_bad
 
 
 class Archive:
@@ -158,11 +158,21 @@ def check(start, once, twice):
     return bad
 
 
-def but_for_steps(bad, start, twice, four):
+def but_for_steps(bad, start, once, twice, four):
     """What is bad at the second doubling, too. A cache that is full between two sizes, or a file that is no longer in memory as a whole, makes a
-    step, after which twice as much is at most 2.3 times the work again. What grows faster than the input does so at each doubling."""
+    step, after which twice as much is at most 2.3 times the work again. What grows faster than the input does so at each doubling, and what
+    the second doubling adds is more than 2.3 times what the first one adds, whatever part of the work isn't about the input."""
     again = check(start, {words: twice[words] for words, _ in bad}, four)
-    return {what: work for what, work in bad.items() if what in again}
+    return {
+        (words, what): work
+        for (words, what), work in bad.items()
+        if (words, what) in again and adds_more(what, once[words], twice[words], four[words])
+    }
+
+
+def adds_more(what, once, twice, four):
+    first, second, third = (getattr(it, what) for it in (once, twice, four))
+    return third - second > TIMES * (second - first) + FEW[what]
 
 
 def check_seconds(start, once, four):
@@ -185,9 +195,10 @@ def grown(counting, start, folder, put, size, is_long, commands, look):
     twice = of_size(counting, folder, put, 2 * size).works(commands)
     bad = check(start, once, twice)
     if bad or is_long:
-        again = commands if is_long else list(dict.fromkeys(words for words, _ in bad))
+        # with the commands before them, which leave texts in the catalogue
+        again = commands if is_long else commands[: 1 + max(commands.index(words) for words, _ in bad)]
         four = of_size(counting, folder, put, 4 * size).works(again)
-        bad = but_for_steps(bad, start, twice, four)
+        bad = but_for_steps(bad, start, once, twice, four)
     if is_long:
         bad.update(check_seconds(start, once, four))
     return bad, once, twice

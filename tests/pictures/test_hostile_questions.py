@@ -8,7 +8,7 @@ from studio import put
 from test_attacks import RAW, run_each
 from test_list import picture
 
-from exifnorm_pictures.fields import questions, rules
+from exifnorm_pictures.fields import questions, tokens
 
 TEXT = "a" * 60_000  # which is kept whole
 
@@ -160,7 +160,7 @@ def test_rules_that_mean_harm(archive, name):
 
 
 def test_words_of_a_long_file(archive, called):
-    (archive / "words").write_bytes(b"a\n" * (rules.MOST_WORDS + 1))
+    (archive / "words").write_bytes(b"a\n" * (tokens.MOST_WORDS + 1))
     (archive / "rules").write_text("title from words\n")
     refused(called("check", "rules", "c"))
 

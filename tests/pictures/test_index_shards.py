@@ -1,8 +1,7 @@
 """`index --shards`: each folder directly in the archive has a catalogue of its own, and all together know what one catalogue would."""
 
+import errno
 import os
-import shutil
-import signal
 import subprocess
 import sys
 
@@ -12,13 +11,11 @@ from made_files import app1, exif, jpeg
 from studio import Studio
 
 from exifnorm_pictures.catalogue import shards
-from exifnorm_pictures.catalogue.store import NUMBERS, Catalogue
+from exifnorm_pictures.catalogue.store import NUMBERS, VERSION, Catalogue
 from exifnorm_pictures.scan.batches import How
 from exifnorm_pictures.scan.index import IndexOptions
 from exifnorm_pictures.scan.looking import in_this_process
 from exifnorm_pictures.scan.parts import indexed, plan
-
-KILLS = 10  # pictures, at each of which a process is killed
 
 
 def picture(number):
@@ -196,9 +193,8 @@ def test_what_is_wrong(archive, called_lines, capsys):
     status, _, messages = called_lines("index", "p", "--shards", "mine")
     assert status == 3 and "mine.catalogue, which isn't of index --shards" in messages
     called_lines("index", "p", "--shards", "shards")
-    for words in (("--keep-old", "old"), ("--elsewhere", "/x")):
-        status, _, messages = called_lines("index", "p", "--catalogue", "shards", *words)
-        assert status == 3 and words[0] in messages and "shards is a folder" in messages
+    status, _, messages = called_lines("index", "p", "--catalogue", "shards", "--keep-old", "old")
+    assert status == 3 and "--keep-old" in messages and "shards is a folder" in messages
 
 
 def test_counts_and_next_steps(archive, called_lines):
@@ -210,73 +206,7 @@ def test_counts_and_next_steps(archive, called_lines):
     assert called_lines("same", "--catalogue", "shards")[0] == 0
 
 
-# A process that is killed
-COMMITS = """
-import os, signal, sys
-from exifnorm_pictures.scan import index, parts
-from exifnorm_pictures.scan.batches import How
-index.BATCH = 1
-left = int(sys.argv[1])
-put = index.Catalogue.put
-
-def putting(*words):
-    global left
-    left -= 1
-    if left == 0 and {before}:
-        os.kill(os.getpid(), signal.SIGKILL)
-    put(*words)
-    if left == 0:
-        os.kill(os.getpid(), signal.SIGKILL)
-
-index.Catalogue.put = putting
-planned = parts.plan("shards", [b"p"], [])
-for shard in planned.shards:
-    print(parts.indexed("shards", shard, index.IndexOptions([], quiet=True, how=How(jobs=1)), []).counts)
-"""
-
-
-@pytest.mark.parametrize("before", (True, False))
-def test_killed_at_any_picture_nothing_is_lost(archive, called_lines, before):
-    """Before or after a commit; the next process goes on, and in the end all is there once."""
-    for number in range(10, 5 + KILLS):
-        (archive / "p" / "b" / f"{number}.jpg").write_bytes(picture(number))
-    killed = 0
-    while killed < KILLS:
-        words = [sys.executable, "-c", COMMITS.replace("{before}", str(before)), str(1 + before)]
-        done = subprocess.run(words, cwd=archive, env=Studio.environment(), capture_output=True)
-        if done.returncode == 0:
-            break
-        assert done.returncode == -signal.SIGKILL, done.stderr.decode()
-        killed += 1
-    assert killed == KILLS - before, "each process commits one picture, and the last one looks at the last picture alone"
-    status, lines, _ = called_lines("index", "p", "--shards", "shards")
-    assert status == 0 and lines[0] == f"{KILLS} unchanged" and (before or "goes on from a run that was stopped" in lines[1]), lines
-    assert called_lines("index", "p", "--catalogue", "all", "--quiet")[0] == 0
-    assert [row[:2] for row in rows(archive)] == [row[:2] for row in rows(archive, "all")]
-    assert rows(archive) == rows(archive, "all")
-
-
-@pytest.mark.skipif(not shutil.which("strace"), reason="not installed: strace")
-@pytest.mark.parametrize("call", ("fdatasync", "pwrite64", "unlink", "openat"))
-def test_killed_at_any_call_the_same_command_goes_on(archive, called_lines, call):
-    """Also when a catalogue is only begun: at each time that a run waits for the disk, and at some of its other calls with the first catalogue."""
-    index = [sys.executable, "-m", "exifnorm_pictures", "index", "p", "--shards", "shards", "--quiet", "--jobs", "1"]
-    assert called_lines("index", "p", "--catalogue", "all", "--quiet")[0] == called_lines(*index[3:])[0] == 0
-    due, first, number, step = rows(archive, "all"), archive / "shards" / names(archive)[0], 1, 1 if call == "fdatasync" else 4
-    while True:
-        shutil.rmtree(archive / "shards", ignore_errors=True)
-        about = ["-f", "-qq", "-o", "trace", "-e", f"trace={call}", "-e", f"inject={call}:signal=SIGKILL:when={number}"]
-        paths = [] if call == "fdatasync" else [it for end in ("", "-journal", "-wal") for it in ("-P", f"{first}{end}")]
-        done = subprocess.run(["strace", *about, *paths, *index], cwd=archive, env=Studio.environment(), capture_output=True)
-        if not done.returncode:
-            break
-        status, _, messages = called_lines("list", "shards", "--with", "title")
-        assert status in (0, 2, 4) and "readonly" not in messages, (number, messages)
-        status, lines, messages = called_lines(*index[3:])
-        assert status == 0 and rows(archive) == due, (number, lines, messages)
-        assert sorted(os.listdir(archive / "shards")) == sorted([".lock", "catalogues", *names(archive)]), number
-        number += step
-    assert number > 4 or call == "unlink"
+# Several runs
 
 
 def test_runs_that_begin_at_once_list_the_catalogues_of_all(archive):
@@ -289,6 +219,28 @@ def test_runs_that_begin_at_once_list_the_catalogues_of_all(archive):
     assert [run.wait() for run in runs] == [0] * 8
     listed = shards.listed(str(archive / "shards"))
     assert len(listed) == 8 == len({name[:5] for name in listed}) and len(rows(archive)) == 8
+
+
+def test_a_file_system_without_locks_is_named(archive, called_lines, monkeypatch):
+    """NFS without its lock manager, for one: two runs could write one list there, of which one would lose its catalogues."""
+
+    def lockf(*_):
+        raise OSError(errno.ENOLCK, os.strerror(errno.ENOLCK))
+
+    monkeypatch.setattr(shards.fcntl, "lockf", lockf)
+    status, _, messages = called_lines("index", "p", "--shards", "shards")
+    assert (status, "shards: its file system has no POSIX locks" in messages) == (4, True), messages
+    assert shards.listed(str(archive / "shards")) == []
+
+
+def test_a_folder_of_an_earlier_version_is_named(archive, called_lines):
+    called_lines("index", "p", "--shards", "shards")
+    with open(archive / "shards" / shards.listed(str(archive / "shards"))[0], "r+b") as file:
+        file.seek(63)
+        file.write(bytes([VERSION - 1]))
+    for words in (("index", "p", "--shards", "shards"), ("same", "shards")):
+        status, _, messages = called_lines(*words)
+        assert (status, "earlier release" in messages, "--shards NEW" in messages) == (4, True, True), messages
 
 
 def test_two_processes_at_one_part_lose_nothing(archive):

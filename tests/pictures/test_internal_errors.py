@@ -115,7 +115,7 @@ def test_errors_of_sqlite_and_of_values(tmp_path, call, error, is_damaged):
 
 def test_a_signal_that_ends_a_query_is_no_error_of_the_catalogue(tmp_path):
     made = of_pictures(tmp_path / "c")
-    made.base.create_function("stop", 0, lambda: signals._interrupt(2, None))
+    made.base.create_function("stop", 0, lambda: signals._stop(2, None))
     with pytest.raises(KeyboardInterrupt), made.guarded():
         made.base.execute("SELECT stop()")
     made.close()
@@ -292,9 +292,9 @@ def test_a_file_that_has_no_bytes_yet(words, called, folder, monkeypatch):
     """As a link to the kernel's messages, /proc/kmsg, which is a regular file by its kind."""
     opened = opening.opened
 
-    def opened_as_usual(place):
-        if isinstance(place, opening.Held) or os.path.basename(os.fsencode(place)) != b"k.jpg":
-            return opened(place)
+    def opened_as_usual(path):
+        if path in opening._held or os.path.basename(os.fsencode(path)) != b"k.jpg":
+            return opened(path)
         number, other = os.pipe2(os.O_NONBLOCK)
         ends.append(other)
         return number, 0

@@ -3,7 +3,6 @@
 import json
 import os
 import random
-import signal
 import sqlite3
 import subprocess
 import sys
@@ -235,14 +234,6 @@ def test_of_another_user(catalogue, folder, mode):
     os.chmod(folder, 0o755)
     assert (done.returncode, done.stderr, done.stdout.count(b"\0")) == (0, b"", 14)
     assert prepared(catalogue) == (0, 0) and sorted(os.listdir(folder)) == ["c", "p"]
-
-
-def test_killed(catalogue, folder, called):
-    """What was added before is kept, and the next question goes on."""
-    dying = "import os\nkept_texts.AT_ONCE = 10\nkept_texts.keep('c', lambda done, due: done == 20 and os.kill(os.getpid(), 9))"
-    done = subprocess.run(as_process(before=dying), cwd=folder, env=Studio.environment(), check=False)
-    assert done.returncode == -signal.SIGKILL and prepared(catalogue) == (20, 20)
-    assert asked(called, "--where", "title = 0") == EXPECTED and prepared(catalogue) == (40, 40)
 
 
 def test_several_at_once(catalogue, folder):

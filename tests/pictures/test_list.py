@@ -428,7 +428,9 @@ def test_damage(folder, called, asked):
     assert (status, printed) == (2, f"{folder}/p/cut.jpg\0")
 
 
-UNREAD = ": their pictures were not read for damage; index --pixels reads those of JPEG, PNG, TIFF, WebP and raw files\n"
+UNREAD = (
+    ": their pictures were not read for damage; index --pixels reads those of JPEG, PNG, TIFF, WebP, HEIC, AVIF, JPEG XL and raw files\n"
+)
 
 
 # Wrong questions

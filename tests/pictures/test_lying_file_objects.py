@@ -66,6 +66,30 @@ def raising(error):
     return fails
 
 
+def released(data, _):
+    view = memoryview(data)
+    view.release()
+    return view
+
+
+def strided(data, _):
+    wide = bytearray(2 * len(data))
+    wide[::2] = data
+    return memoryview(wide)[::2]
+
+
+class Odd(bytes):
+    __bytes__ = __len__ = raising(KeyError("x"))
+
+
+class OddNumber(int):
+    __le__ = __lt__ = __add__ = __sub__ = __repr__ = __int__ = raising(KeyError("x"))
+
+
+class OddName(str):
+    __bool__ = __len__ = __str__ = raising(KeyError("x"))
+
+
 ERRORS = [raising(it) for it in (ValueError("closed"), KeyError("x"), io.UnsupportedOperation("seek"), RuntimeError("\x1b[2J"), EOFError())]
 LIES = {
     "read": [
@@ -75,11 +99,14 @@ LIES = {
         [b"a"],
         bytearray(b"abc"),
         memoryview(b"abc"),
+        released,
+        strided,
+        Odd(b"abc"),
         None,
         lambda data, _: data + b"more",
         lambda data, _: data[:1],
     ],
-    "tell": [*ERRORS, -1, 1 << 70, 1 << 60, 10_000_000, "7", None, 0.5],
+    "tell": [*ERRORS, -1, 1 << 70, 1 << 60, 10_000_000, "7", None, 0.5, OddNumber(7)],
     "seek": [*ERRORS, "stays", None, -1],
     "seekable": [*ERRORS, False, None, "no"],
 }
@@ -119,6 +146,22 @@ def test_a_call_that_raises_at_once(call, error):
             assert call != "read"
         except OSError as raised:
             assert call != "fileno" and (raised is error or raised.__cause__ is error)
+
+
+def test_a_name_that_raises():
+    with pytest.raises(OSError):
+        pictures.read(Liar(PICTURES["jpg"], "", None, OddName("x.jpg")))
+
+
+@pytest.mark.parametrize("path", ["\ud800.jpg", "a\0b", "", "/" * 5000, b"\0"])
+def test_a_path_that_no_file_has(path):
+    with pytest.raises(OSError):
+        pictures.read(path)
+
+
+def test_bytes_that_are_apart():
+    view = strided(PICTURES["jpg"], 0)
+    assert facts(pictures.read_bytes(view)) == facts(pictures.read(Liar(PICTURES["jpg"], "read", strided, "x"))) == facts(PICTURE)
 
 
 @pytest.mark.parametrize("name", ["\ud800.jpg", "\udfff", "\udc7f.xmp", "a\udcff.jpg", "\0.jpg", "", 7, b"\xff.jpg", None, "/" * 5000])

@@ -5,7 +5,7 @@ import json
 
 import pytest
 from made_blocks import segment
-from made_files import app1, app13, jpeg
+from made_files import app1, app1_xmp, app13, jpeg, xmp
 from studio import SMALL_JPEG, needs, put
 from test_parts import JUMBF, PATH, parts_of
 
@@ -41,3 +41,17 @@ def test_mend_names_what_a_remedy_leaves_out(folder, called, monkeypatch):
     status, printed, _ = called("mend", "a.jpg", "b.jpg", "--lossless", "--json")
     assert status == 2 and {"APP4 segment OURS: removed", "APP5 segment Museum: removed"} <= set(json.loads(printed)["lost"])
     assert not (folder / "b.jpg").exists()
+
+
+@needs("exiftool")
+def test_mend_names_what_another_block_loses(folder, called, monkeypatch):
+    """A packet whose unknown property a program leaves out; the name of the program that writes a packet is none."""
+    put(
+        folder,
+        {"a.jpg": jpeg(app1(BAD), app1_xmp(xmp("<dc:source>b</dc:source>", "xmlns:museum='http://example.com/museum/' museum:Room='7'")))},
+    )
+    put(folder, {"c.jpg": jpeg(app1(BAD), app1_xmp(xmp("<dc:source>b</dc:source>")))})
+    monkeypatch.setattr(mend, "_repaired", lambda *_: None)
+    monkeypatch.setattr(mend, "_REMEDIES", {mend.Remedy.REBUILD: mend._rebuild})
+    lost = [json.loads(called("mend", it, "b.jpg", "--lossless", "--json")[1])["lost"] for it in ("a.jpg", "c.jpg")]
+    assert "XMP: changed" in lost[0] and not any("XMP" in it for it in lost[1]), lost

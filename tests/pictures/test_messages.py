@@ -17,6 +17,7 @@ from studio import WithPictures, read, write
 
 from exifnorm_pictures.catalogue.store import VERSION, Catalogue, NoCatalogue
 from exifnorm_pictures.cli import main, names, objects, output, parser, report
+from exifnorm_pictures.cli.options import Files
 from exifnorm_pictures.extract import exiftool, extraction, programs
 from exifnorm_pictures.files import atomic, opening, session, signals
 from exifnorm_pictures.model import records
@@ -71,7 +72,7 @@ class CommandLine(unittest.TestCase):
             (("index", "", "--catalogue", "c"), "argument CATALOGUE or FOLDER: a name is empty"),
             (("nightly", ""), "argument CATALOGUE or FOLDER: a name is empty"),
             (("verify", "c", ""), "argument FOLDER: a name is empty"),
-            *((("index", f"--{it}", ""), f"argument --{it}: a name is empty") for it in ("catalogue", "keep-old", "elsewhere")),
+            *((("index", f"--{it}", ""), f"argument --{it}: a name is empty") for it in ("catalogue", "keep-old", "shards")),
             *((("report", f"--{it}", ""), f"argument --{it}: a name is empty") for it in ("catalogue", "since", "html")),
             (("same", "--catalogue", ""), "argument --catalogue: a name is empty"),
             (("merge", "a", "--catalogue", ""), "argument --catalogue: a name is empty"),
@@ -88,7 +89,7 @@ class CommandLine(unittest.TestCase):
             ("index a --catalogue c b", ["a", "b"]),
         ):
             found = vars(parser.parsed(words.split()))
-            given = [found.get(it) for it in ("picture", "out", "source")] + found.get("folders", found.get("pictures", []))
+            given = [found.get(it) for it in ("picture", "out", "source")] + found.get("names", [])
             self.assertEqual([it for it in given if it is not None], names_, words)
             self.assertEqual(found["command"], words.split()[0])
 
@@ -127,7 +128,7 @@ class CommandLine(unittest.TestCase):
         for words, there in (
             ("list c --col title", {"columns": "title"}),
             ("list c --where=--x", {"where": ["--x"]}),
-            ("show -- --x", {"pictures": ["--x"]}),
+            ("show -- --x", {"names": ["--x"]}),
         ):
             given = vars(parser.parsed(words.split()))
             self.assertEqual({name: given[name] for name in there}, there)
@@ -320,16 +321,15 @@ class Messages(WithPictures):
                 self.assertEqual(list(walk.names_in_list("-", by_nul)), listed)
         with mock.patch.object(sys, "stdin", None):
             self.assertEqual(self.raised(walk.BadList, list, walk.names_in_list("-", False)), "standard input is closed")
-        asked = argparse.Namespace(files_from=None, null=False, command="show")
-        self.assertEqual(self.raised(walk.BadList, names.named, asked, ["a\0b"]), "a name contains a NUL")
+        self.assertEqual(self.raised(walk.BadList, names.named, Files("show", names=["a\0b"])), "a name contains a NUL")
         with contextlib.redirect_stderr(io.StringIO()) as printed, self.assertRaises(SystemExit) as ended:
-            names.named(asked, [])
+            names.named(Files("show"))
         self.assertEqual((printed.getvalue().splitlines()[-1], ended.exception.code), ("exifnorm-pictures show: give at least one name", 3))
-        asked = argparse.Namespace(files_from=self.path("list"), null=True)
-        self.assertEqual(names.named(asked, ["x", "y"]), [b"x", b"y", b"a", b"b"])
+        asked = Files("show", names=["x", "y"], files_from=self.path("list"), null=True)
+        self.assertEqual(names.named(asked), [b"x", b"y", b"a", b"b"])
         self.assertEqual(names.chosen_paths(asked), {os.path.abspath(b"a"), os.path.abspath(b"b")})
         with contextlib.redirect_stderr(io.StringIO()) as printed, self.assertRaises(SystemExit) as ended:
-            report.run(argparse.Namespace(html=None, json=False))
+            report.run(argparse.Namespace(command="report", html=None, json=False))
         self.assertEqual(
             (printed.getvalue().splitlines()[-1], ended.exception.code), ("exifnorm-pictures report: give --html PAGE, --json, or both", 3)
         )

@@ -1,6 +1,5 @@
 """Single functions of exifnorm_pictures: at limits, orders and names that no picture of the other tests reaches."""
 
-import argparse
 import contextlib
 import hashlib
 import io
@@ -19,10 +18,11 @@ from studio import TOP, WithPictures, needs, read, tool, write
 
 from exifnorm_pictures.catalogue.store import Catalogue, NoCatalogue
 from exifnorm_pictures.cli import main, mend as mend_cli, page_file, same
+from exifnorm_pictures.cli.options import Output
 from exifnorm_pictures.comparison import differing
 from exifnorm_pictures.extract import exiftool, programs
 from exifnorm_pictures.extract.formats import png as png_
-from exifnorm_pictures.fields import labels, listing, names
+from exifnorm_pictures.fields import listing, names, plain_texts
 from exifnorm_pictures.fields.field import Field
 from exifnorm_pictures.files import session
 from exifnorm_pictures.judge import judge
@@ -113,7 +113,7 @@ class Names(unittest.TestCase):
             (b"\xe9\x81\x8d\x8f\x90\x9d", "é\\x81\\x8d\\x8f\\x90\\x9d"),
             (b"\xff\0", "ÿ"),
         ):
-            self.assertEqual(labels.decoded(octets), (text, "character set guessed: Windows-1252"))
+            self.assertEqual(plain_texts.decoded(octets), (text, "character set guessed: Windows-1252"))
 
     def test_files_in_the_order_of_their_names(self):
         """First those of a folder, then those of each folder in it; a catalogue is none, also where it is named by itself."""
@@ -334,13 +334,12 @@ class Mended(WithPictures):
             "none": (mend.Mended(mend.Remedy.NONE, {}), 2),
             "problem": (mend.Mended(mend.Remedy.NONE, {}, problem="NoPicture"), 2),
         }
-        asked = argparse.Namespace(json=False, files_from=None, catalogue=None, lossless=False, session=None)
         for name, (found, status) in ends.items():
             with mock.patch.object(mend, "mend", lambda *_, found=found: found), contextlib.redirect_stdout(io.StringIO()):
-                self.assertEqual(mend_cli._mend_one(asked, b"a", b"b")[0], status, name)
+                self.assertEqual(mend_cli._mend_one(Output(), None, b"a", b"b")[0], status, name)
         for why, status in ((mend.NotWritten("no"), 4), (programs.Failed("no"), 2)):
             with mock.patch.object(mend, "mend", mock.Mock(side_effect=why)), contextlib.redirect_stdout(io.StringIO()):
-                self.assertEqual(mend_cli._mend_one(asked, b"a", b"b")[0], status, why)
+                self.assertEqual(mend_cli._mend_one(Output(), None, b"a", b"b")[0], status, why)
 
     def test_a_link_in_the_way(self):
         """Also one that leads nowhere is a file that is there."""

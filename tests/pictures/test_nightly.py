@@ -277,33 +277,7 @@ def test_a_folder_that_was_removed(archive, night, called):
     assert night()[0] == 0
 
 
-# Runs that are killed, and others at the same time
-
-KILLED = """
-import os, signal, sys
-sys.argv, last = ["exifnorm-pictures"], int(sys.argv[1])
-from exifnorm_pictures.cli import main
-from exifnorm_pictures.scan import looking
-looking.FINE = 0
-calls = 0
-def count(*_):
-    global calls
-    calls += 1
-    if calls == last:
-        os.kill(os.getpid(), signal.SIGKILL)
-sys.setprofile(count)
-status = main.main(["nightly", "p", "--catalogue", "c.catalogue", "--jobs", "1", "--rules", "rules"])
-sys.setprofile(None)
-print(calls, file=sys.stderr)
-sys.exit(status)
-"""
-
-
-def run_until(folder, calls=0):
-    """A night in a process that is killed at a number of calls of functions: what it prints, and the calls of all of it."""
-    ran = subprocess.run([sys.executable, "-c", KILLED, str(calls)], cwd=folder, capture_output=True, env=Studio.environment())
-    assert ran.returncode in ((0, 1, 2) if not calls else (-9,)), ran.stderr
-    return ran.stdout.decode(), int(ran.stderr.split()[-1]) if not calls else 0
+# Runs at the same time, and folders that aren't there
 
 
 @pytest.mark.parametrize("names", [["typo"], ["p", "typo"]], ids="-".join)
@@ -315,34 +289,6 @@ def test_a_folder_that_no_night_has_seen(names, archive, night, called):
     status, printed, messages = called("nightly", *names, "--catalogue", "c.catalogue")
     assert (status, printed) == (3, "") and "typo" in messages
     assert night()[0] == 0
-
-
-@pytest.mark.parametrize("is_first", [True, False])
-def test_a_run_that_is_killed(is_first, archive, folder):
-    """At ten moments: the next night tells the same, unless the killed one has told all and kept it."""
-    (folder / "rules").write_text("every picture needs title\n")
-    if not is_first:
-        run_until(folder)
-        lose(archive)
-        os.rename(archive / "scans/old", archive / "scans/older")
-        shutil.rmtree(archive / "ceramics")
-        aged(archive)
-    start = folder.parent / f"{folder.name}-start"
-    shutil.copytree(folder, start)
-
-    def again():
-        shutil.rmtree(folder)
-        shutil.copytree(start, folder)
-
-    again()
-    expected, calls = run_until(folder)
-    assert expected.count("\n") > 1
-    for number in range(1, 11):
-        again()
-        told, _ = run_until(folder, calls * number // 11)
-        tomorrow, _ = run_until(folder)
-        assert tomorrow == expected or told == expected, (number, told, tomorrow)
-        assert not (folder / "c.tonight.catalogue").exists()
 
 
 def test_two_runs_at_once(archive, night, folder):
@@ -603,3 +549,34 @@ def test_names_of_the_first_letter(archive, called):
     """They are those below the folder, as in each later letter."""
     put(archive, {"web/0.orf": CUT})
     assert "1 can't be read: web/0.orf" in called("nightly", "p", "--catalogue", "n")[1]
+
+
+def test_catalogues_of_several_days(archive, called, monkeypatch):
+    """A letter's command answers days later as on its night; what isn't a catalogue is left alone."""
+    (archive.parent / "c.catalogue.2001-01-01").write_bytes(b"a diary")
+
+    def night(day):
+        monkeypatch.setattr("time.strftime", lambda *_: f"2026-11-{day:02}")
+        return called("nightly", "p", "--catalogue", "c.catalogue", "--nights", "3")
+
+    def kept():
+        return sorted(it[-2:] for it in os.listdir(archive.parent) if it.startswith("c.catalogue.2026"))
+
+    night(28)
+    assert night(29)[:2] == (0, "") and kept() == ["28", "29"]
+    put(archive, {"web/0.jpg": picture(9, title="other", credit="Museum")})
+    _, monday, _ = night(30)
+    assert "web/0.jpg title: 8 -> other\n" in monday
+    command = monday.partition("exifnorm-pictures ")[2].split()
+    assert command == ["changed", "--each", "c.catalogue.2026-11-29", "c.catalogue.2026-11-30"]
+    answer = called(*command)
+    put(archive, {"web/1.jpg": picture(9, title="third", credit="Museum")})
+    night(31)
+    assert kept() == ["29", "30", "31"] and called(*command) == answer
+    put(archive, {"web/2.jpg": picture(9, title="again", credit="Museum")})
+    _, letter, _ = night(31)
+    assert letter.partition("exifnorm-pictures ")[2].split()[2:] == ["c.before.catalogue", "c.catalogue.2026-11-31"]
+    assert kept() == ["29", "30", "31"] and called(*command) == answer
+    assert (archive.parent / "c.catalogue.2001-01-01").read_bytes() == b"a diary"
+    (archive.parent / "c.catalogue.2026-11-32").write_bytes(b"a diary")
+    assert night(32)[0] == 4 and "a file of another kind" in night(32)[2]

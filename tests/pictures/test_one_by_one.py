@@ -56,7 +56,7 @@ def answered(process, name, wanted, end=b"\n"):
 def answers(command):
     """Whether a command does something with each picture that is named."""
     arguments = {action.dest for action in command._actions}
-    return "files_from" in arguments and bool({"pictures", "names"} & arguments)
+    return {"files_from", "names"} <= arguments and "source" not in arguments
 
 
 ANSWER = [name for name, command in parser.parsers()[1].items() if answers(command)]

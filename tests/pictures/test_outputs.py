@@ -50,20 +50,19 @@ COMMANDS = {
 }
 # Names of files that commands only read, by their options and arguments
 READ = {
-    "folders",
+    "names",
     "--catalogue",
     "catalogues",
     "catalogue",
     "before",
     "after",
     "picture",
-    "pictures",
     "source",
     "rules",
     "--since",
     "--rules",
 }
-READ |= {"--exclude", "--elsewhere", "--bag", "old", "new"}
+READ |= {"--exclude", "--bag", "old", "new"}
 KEEPS = ("index", "index, new", "merge", "nightly", "verify", "list", "check")  # what they have done when they are ended, they keep
 NO_PRINT = [name for name, words in COMMANDS.items() if "--xlsx" not in words and name not in ("report", "report, folder")]
 
@@ -127,7 +126,7 @@ class Runner:
     """Runs commands in copies of an archive."""
 
     def __init__(self, folder):
-        self.here, self.archive = folder / "here", folder / "archive"
+        self.here, self.archive, self.printed = folder / "here", folder / "archive", ""
         environment = Studio.environment(EXIFNORM_DEBUG="", PATH="/nowhere")
         self.process = subprocess.Popen(
             [sys.executable, "-c", RUN], stdin=subprocess.PIPE, stdout=subprocess.PIPE, env=environment, text=True, encoding="utf-8"
@@ -143,8 +142,8 @@ class Runner:
         """How a command ended, and its messages."""
         self.process.stdin.write(json.dumps([str(here), words, setup]) + "\n")
         self.process.stdin.flush()
-        status, printed, said = json.loads(self.process.stdout.readline())
-        assert "Traceback" not in said and "internal" not in printed + said, (words, setup, printed, said)
+        status, self.printed, said = json.loads(self.process.stdout.readline())
+        assert "Traceback" not in said and "internal" not in self.printed + said, (words, setup, self.printed, said)
         return status, said
 
     def close(self):
@@ -226,8 +225,6 @@ def check(runner, whole, name, here, about):
     before, (status, after, _) = state(runner.archive), whole(name)
     now = state(here)
     for path in {*before, *after, *now}:
-        if "SIGKILL" in about and path.endswith(".part"):  # which only the system could remove then
-            continue
         is_kept = name in KEEPS and isinstance(now.get(path), dict)  # a catalogue with some of the pictures, or a state
         assert now.get(path) in (before.get(path), after.get(path)) or is_kept, (about, path, now.get(path))
     if now != after and set(now) <= set(before):
@@ -267,18 +264,18 @@ def test_no_standard_output(name, runner, whole):
 
 @pytest.mark.parametrize("name", COMMANDS)
 def test_signals(name, runner, whole):
-    """At some moments, another one of each command: the documented status, and after SIGINT and SIGTERM nothing in TMPDIR."""
+    """At some moments, another one of each command: the documented status, and nothing in TMPDIR."""
     needs_xlsx(name)
     events, turn = whole(name)[2], list(COMMANDS).index(name)
     moments = [max(1, events // 4), events // 2, events * 3 // 4, events - 3]
-    for at, (number, end) in enumerate(((signal.SIGINT, 130), (signal.SIGTERM, -15), (signal.SIGKILL, -9), (signal.SIGKILL, -9))):
+    for at, (number, end) in enumerate(((signal.SIGINT, 130), (signal.SIGTERM, -15))):
         event = moments[(at + turn) % len(moments)]
         here = runner.fresh()
         setup = f"signal.signal(signal.SIGINT, signal.default_int_handler); at_event({event}, lambda: os.kill(os.getpid(), {int(number)}))"
         status, said = runner.run(here, COMMANDS[name], setup)
         about = (COMMANDS[name], number.name, event, events, status, said)
         assert status == end or f"events {event}" not in said and status == whole(name)[0], about
-        assert number == signal.SIGKILL or not os.listdir(here / "tmp"), about
+        assert not os.listdir(here / "tmp"), about
         check(runner, whole, name, here, about)
 
 

@@ -4,7 +4,6 @@ The catalogues are made by SQL, with groups of every basis. The growths of test_
 """
 
 import gc
-import itertools
 import json
 import shutil
 import sqlite3
@@ -17,11 +16,9 @@ from test_scale import many_rows
 from exifnorm_pictures.catalogue import store
 from exifnorm_pictures.catalogue.store import Catalogue, NoCatalogue
 from exifnorm_pictures.cli.parser import parsers
-from exifnorm_pictures.comparison.groups import Groups
-from exifnorm_pictures.comparison.readings import Readings
+from exifnorm_pictures.comparison.groups import Groups, but_for_notes
 from exifnorm_pictures.fields.field import Field
 from exifnorm_pictures.fields.packing import packed
-from exifnorm_pictures.judge.maker_notes import NotesReading
 from exifnorm_pictures.model.found import EXIF
 from exifnorm_pictures.model.records import BlockRecord, PictureRecord, Stamp
 
@@ -138,30 +135,18 @@ def test_forgetting_takes_no_memory_for_each_picture(counting, tmp_path):
 
 
 def groups_of(catalogue, size):
-    """Goes through all groups, and returns of how many pictures the readings of MakerNotes weren't known."""
-    groups = Groups(catalogue, look=False)
-    assert sum(group.count for group in groups.by_meaning()) > size / 2
-    return sum(groups.unknown.values())
+    """Goes through all groups, and returns how many pictures may be the same as others but for their MakerNotes."""
+    assert sum(group.count for group in Groups(catalogue, look=False).by_meaning()) > size / 2
+    return but_for_notes(catalogue)
 
 
-def readings_of(catalogue, size):
-    """Asks for the readings of all pictures one by one, twice, and returns how often one was read from the catalogue."""
-    asked = itertools.count()
-    catalogue.maker_notes = lambda picture, _: NotesReading({"IFD0:Model": str(picture.id % 99)} if next(asked) >= 0 else {})
-    readings = Readings(catalogue, True, None)
-    for number in itertools.chain(range(size), range(size)):
-        assert readings.of([PictureRecord(number)]) == {number: (NotesReading({"IFD0:Model": str(number % 99)}).key, False)}
-    return next(asked)
-
-
-@pytest.mark.parametrize("work", [groups_of, readings_of])
-def test_no_picture_is_held_but_for_a_bit(tmp_path, work):
+def test_no_picture_is_held(tmp_path):
     few, many = 3000, 12_000
     for size in (few, many):
         make(tmp_path / str(size), size)
     gc.disable()  # a collection would give back the thousands of tuples that Python keeps after the first time
     try:
-        _, *found = (memory_of(work, tmp_path / str(size), size) for size in (many, few, many))
+        _, *found = (memory_of(groups_of, tmp_path / str(size), size) for size in (many, few, many))
     finally:
         gc.enable()
     (count_of_few, of_few), (count_of_many, of_many) = found

@@ -269,7 +269,6 @@ def test_what_a_killed_run_left_of_one_page_is_removed_by_the_next_one(
 
     others = {
         ".exifnorm-1-0123456789ab.part": b"mine",
-        ".exifnorm-1-0123456789ac.part": b"",
         ".exifnorm-1-0123456789ad.part": b"<!doctype html>",  # which is a link
         ".exifnorm-1-notes.part": b"<!doctype html>",
         ".exifnorm-1-0123456789ab.part.html": b"<!doctype html>",

@@ -271,7 +271,7 @@ class Scale(WithPictures):
             "refusals.repairs",
             "report.rendering",
         )
-        watched = {"exifnorm", "html", "jinja2", "logging", "multiprocessing", "rdflib", "subprocess", "urllib", "xml", *reading, *fields}
+        watched = {"exifnorm", "html", "jinja2", "logging", "multiprocessing", "subprocess", "urllib", "xml", *reading, *fields}
         watched.update(f"exifnorm_pictures.{it}" for it in names)
         for words, needed in (
             (["same", "--catalogue", "c"], {*fields, "exifnorm_pictures.comparison.groups"}),

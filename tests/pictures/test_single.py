@@ -1,6 +1,5 @@
 """`mend` and the temporary folders of a run: each program that is called with its arguments, each line, and each file that stays."""
 
-import argparse
 import contextlib
 import fcntl
 import gc
@@ -15,6 +14,7 @@ from unittest import mock
 from studio import WithPictures, read, write
 
 from exifnorm_pictures.cli import index, mend as mend_cli
+from exifnorm_pictures.cli.options import Files, Output
 from exifnorm_pictures.extract import named, programs
 from exifnorm_pictures.files import tempdir
 from exifnorm_pictures.files.session import Session
@@ -247,9 +247,7 @@ class Lines(WithPictures):
     def printed(self, why, as_json):
         with mock.patch.object(mend, "mend", mock.Mock(side_effect=why)), contextlib.redirect_stdout(io.StringIO()) as lines:
             self.assertEqual(
-                mend_cli._mend_one(
-                    argparse.Namespace(json=as_json, files_from=None, catalogue=None, lossless=False, session=None), b"a\xff", b"b\n"
-                )[0],
+                mend_cli._mend_one(Output(json=as_json), None, b"a\xff", b"b\n")[0],
                 4 if isinstance(why, mend.NotWritten) else 2,
             )
         return lines.getvalue()
@@ -266,10 +264,9 @@ class Lines(WithPictures):
             )
 
     def pairs(self, names, files_from=None, given=()):
-        picture, out, *_ = [*names, None, None]
-        asked = argparse.Namespace(picture=picture, out=out, files_from=files_from, catalogue=None)
+        asked = Files("mend", names=names, files_from=files_from)
         with mock.patch.object(mend_cli, "each_of_list", lambda _: list(given)):
-            return list(mend_cli._pairs(asked, mend_cli._folder(asked)))
+            return list(mend_cli._pairs(asked, None, mend_cli._folder(asked)))
 
     def test_pictures_and_their_copies(self):
         os.mkdir(self.path("out"))

@@ -8,7 +8,6 @@ from made_blocks import BLOCKS
 from made_files import A, B, app1, app1_xmp, app13, jpeg, resource, xmp
 from studio import needs, put
 from test_list import record
-from test_maker_notes import noted
 from test_nights import CUT
 from test_repairs import REFUSED
 
@@ -35,7 +34,6 @@ ARCHIVES = {
     "two creators": ({"a.jpg": TWO_CREATORS}, {}),
     "not readable": ({"a.jpg": GOOD, "b.orf": CUT}, {}),
     "now not readable": ({"a.jpg": GOOD}, {"b.orf": CUT}),
-    "other notes": ({"a.jpg": noted(inside=b"\1\2"), "b.jpg": noted(inside=b"\3\4")}, {}),
     "after repair": ({"a.jpg": jpeg(app1(REFUSED["unsorted"])), "b.jpg": jpeg(app1(REFUSED["unsorted"] + b"\0\0"))}, {}),
     "lossless": ({"a.jpg": jpeg(app1(REFUSED["unsorted"]))}, {}),
     "not mended": ({"a.jpg": b"\xff\xd8" + app1(b"II*\0\xff\xff\0\0") + b"no marker" * 9}, {}),
@@ -53,7 +51,6 @@ CASES = {
     ("verify", 1): ("gone", INDEX, "verify --catalogue c"),
     ("verify", 2): ("good", "index p --catalogue c --quiet", "verify --catalogue c"),
     ("same", 0): ("good", INDEX, "same --catalogue c"),
-    ("same", 1): ("other notes", INDEX, "same --catalogue c"),
     ("same", 2): ("after repair", INDEX, "same --catalogue c"),
     ("changed", 0): ("good", INDEX, "changed c p"),
     ("changed", 1): ("edited", INDEX, "changed c p"),
@@ -97,7 +94,7 @@ def test_each_cell_has_a_case():
 def ended(before, after, lines, folder, called):
     """How the last line ends."""
     put(folder / "p", before)
-    (folder / "rules").write_text("every picture needs title, credit\n")
+    (folder / "rules").write_text("every picture needs title\n")
     for number, line in enumerate(lines):
         if number == 1:
             for file, octets in after.items():
@@ -118,7 +115,7 @@ def test_a_status(command, status, folder, called):
 
 
 @needs("exiftool", "exiv2")
-@pytest.mark.parametrize("command", ["changed", "check", "conflicts", "nightly", "same", "verify"])
+@pytest.mark.parametrize("command", ["changed", "check", "conflicts", "nightly", "verify"])
 def test_the_greatest_status_counts(command, folder, called):
     """Of an archive with what leads to 1 in one folder, and what leads to 2 in another."""
     both = [ARCHIVES[CASES[command, status][0]] for status in (1, 2)]

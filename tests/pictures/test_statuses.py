@@ -121,20 +121,11 @@ def test_a_file_that_never_was_is_not_gone(asked):
 
 
 @pytest.mark.parametrize("there", [True, False])
-@pytest.mark.parametrize(
-    "statement",
-    [
-        "UPDATE pictures SET xmp = NULL; UPDATE blocks SET status = 'unreadable', cause = 'NeedsRdflib' WHERE kind = 'xmp'",
-        f"UPDATE pictures SET not_read = NULL; INSERT INTO not_read SELECT id, 0, '{UNREAD_TRAILER}', '' FROM pictures",
-    ],
-    ids=["rdflib", "exiftool"],
-)
-def test_what_a_missing_program_left_is_read_once_it_is_there(asked, monkeypatch, statement, there):
+def test_what_a_missing_program_left_is_read_once_it_is_there(asked, monkeypatch, there):
     asked("index", "p", "--catalogue", "c", "--quiet")
     base = sqlite3.connect("c")
-    base.executescript(statement)
+    base.executescript(f"UPDATE pictures SET not_read = NULL; INSERT INTO not_read SELECT id, 0, '{UNREAD_TRAILER}', '' FROM pictures")
     base.close()
-    monkeypatch.setattr(index.importlib.util, "find_spec", lambda _: there or None)
     monkeypatch.setattr(index.programs, "is_there", lambda _: there)
     assert asked("index", "p", "--catalogue", "c", "--quiet") == ["1 accepted" if there else "1 unchanged"]
 

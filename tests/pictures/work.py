@@ -135,8 +135,6 @@ def import_all():
             importlib.import_module(module.name)
     import json.decoder  # noqa: F401
 
-    import rdflib.plugins.parsers.rdfxml  # noqa: F401
-
 
 def status_memory(name):
     with open("/proc/self/status") as file:
