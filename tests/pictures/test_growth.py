@@ -196,7 +196,8 @@ def grown(counting, start, folder, put, size, is_long, commands, look):
     bad = check(start, once, twice)
     if bad or is_long:
         # with the commands before them, which leave texts in the catalogue
-        again = commands if is_long else commands[: 1 + max(commands.index(words) for words, _ in bad)]
+        ran = list(once)
+        again = ran if is_long else ran[: 1 + max(ran.index(words) for words, _ in bad)]
         four = of_size(counting, folder, put, 4 * size).works(again)
         bad = but_for_steps(bad, start, once, twice, four)
     if is_long:
