@@ -21,7 +21,7 @@ import tempfile
 from pathlib import Path
 from typing import Callable, Dict, Iterable, Iterator, List, Tuple
 
-import exifnorm_pictures
+import exifnorm
 from exifnorm_pictures.catalogue.asking import Answer
 from exifnorm_pictures.catalogue.store import Catalogue
 from exifnorm_pictures.cli import main
@@ -88,8 +88,8 @@ PROGRAMS: Dict[str, Callable[[str], List[str]]] = {
 def found_keys(paths: Iterable[str]) -> Iterator[Tuple[str, str, bool]]:
     """Each program with a key, and whether it finds a field; of pictures that are read as a whole."""
     for path in paths:
-        with contextlib.suppress(exifnorm_pictures.NoPicture, exifnorm_pictures.NotReadable, OSError):
-            picture = exifnorm_pictures.read(path)
+        with contextlib.suppress(exifnorm.NoPicture, exifnorm.NotReadable, OSError):
+            picture = exifnorm.read(path)
             if picture.is_whole and picture.keys():
                 for program, keys in PROGRAMS.items():
                     yield from ((program, key, key in picture) for key in keys(path) if not LEFT_OUT.search(key))

@@ -5,7 +5,7 @@
     >>> bowl["IFD0:Model"], bowl.texts("keywords")  # doctest: +SKIP
     ('Canon EOS 5D Mark II', ('bowl', 'celadon'))
 
-`read`, `read_bytes`, `read_all`, `compare` and `Reader` are about whole pictures; `exifnorm.pictures` has them too, with all of their classes. What
+`read`, `read_bytes`, `read_all`, `compare` and `Reader` are about whole pictures; `exifnorm.pictures` has them too. What
 follows is about single blocks, which `exifnorm.blocks` has too: the meaning of a block, its normal form, and whether two mean the same.
 
 A block is an Exif block, perhaps after the six bytes ``Exif\\0\\0`` that precede it in a JPEG file, or a block of IPTC-NAA IIM
@@ -25,7 +25,7 @@ whose bytes are apart, as `memoryview(block)[::2]`, raises BufferError. Calls ca
     >>> exifnorm.same(block, turned), exifnorm.normal(turned) == block
     (True, True)
     >>> exifnorm.fields(block)
-    [Field(directory='main', tag=274, type='SHORT', values=(6,))]
+    [BlockField(directory='main', tag=274, type='SHORT', values=(6,))]
 
 The functions call the library libexifnorm. Of its answers these are proved: whether two blocks of Exif or IPTC mean the same, whether two
 JPEGs have the same Exif, IPTC and XMP (`jpeg_same`), that the normal form of a packet of XMP is that of what the packet means, and that a
@@ -33,135 +33,26 @@ packet with a meaning has a form, within the limits of `xmp_normal`. The Python 
 is tested.
 """
 
+from . import blocks as blocks, pictures as pictures
+from .blocks import *  # noqa: F401
+from .pictures import __all__ as _of_pictures
+
 TYPE_CHECKING = False  # that of `typing`, which takes long to import
 if TYPE_CHECKING:
-    from . import blocks as blocks, pictures as pictures
-    from exifnorm_pictures import (
-        Comparison as Comparison,
-        Conflict as Conflict,
-        Difference as Difference,
-        NoPicture as NoPicture,
-        NotReadable as NotReadable,
-        Picture as Picture,
-        Position as Position,
-        Reader as Reader,
-        Refusal as Refusal,
-        compare as compare,
-        read as read,
-        read_all as read_all,
-        read_bytes as read_bytes,
-    )
-
-from ._calls import Block, digest, kind, normal, same, show, version
-from ._captions import Caption, captions
-from ._errors import LIMIT, HeadRefused, LibraryMissing, NormalTooLong, PictureRefused, Refused, TooMany, XmpNotRead, XmpRefused
-from ._fields import Field, Ratio, Values
-from ._jpeg import (
-    JpegBlock,
-    JpegPart,
-    NotRead,
-    Resource,
-    Unread,
-    jpeg_blocks,
-    jpeg_parts,
-    jpeg_same,
-    jpeg_same_blocks,
-    jpeg_unread,
-    jpeg_xmp,
-    photoshop_resources,
-)
-from ._library import Status
-from ._properties import XmpContainer, XmpProperty, XmpResource, XmpStructure, XmpText, XmpValue
-from ._reading import fields
-from ._xmp import xmp_normal, xmp_properties
+    from .pictures import *  # noqa: F401
 
 __version__ = "1.0.0"
 
-__all__ = [
-    "Comparison",
-    "Conflict",
-    "Difference",
-    "HeadRefused",
-    "JpegBlock",
-    "JpegPart",
-    "LIMIT",
-    "LibraryMissing",
-    "NoPicture",
-    "NormalTooLong",
-    "NotRead",
-    "NotReadable",
-    "Picture",
-    "PictureRefused",
-    "Position",
-    "Ratio",
-    "Reader",
-    "Refusal",
-    "Refused",
-    "Resource",
-    "Status",
-    "TooMany",
-    "Unread",
-    "Values",
-    "XmpContainer",
-    "XmpNotRead",
-    "XmpProperty",
-    "XmpRefused",
-    "XmpResource",
-    "XmpStructure",
-    "XmpText",
-    "XmpValue",
-    "blocks",
-    "captions",
-    "compare",
-    "digest",
-    "fields",
-    "jpeg_blocks",
-    "jpeg_parts",
-    "jpeg_same",
-    "jpeg_same_blocks",
-    "jpeg_unread",
-    "jpeg_xmp",
-    "kind",
-    "normal",
-    "photoshop_resources",
-    "pictures",
-    "read",
-    "read_all",
-    "read_bytes",
-    "same",
-    "show",
-    "version",
-    "xmp_normal",
-    "xmp_properties",
-]
-
-_OF_BLOCKS = Block, Caption, Field  # which are there as before, and not among the names above: a picture has others
-_OF_PICTURES = (
-    "Comparison",
-    "Conflict",
-    "Difference",
-    "NoPicture",
-    "NotReadable",
-    "Picture",
-    "Position",
-    "Reader",
-    "Refusal",
-    "compare",
-    "read",
-    "read_all",
-    "read_bytes",
-)
+__all__ = ["blocks", "pictures"]
+__all__ += blocks.__all__
+__all__ += pictures.__all__
 
 if not TYPE_CHECKING:  # a type checker would take any name for one of these
 
     def __getattr__(name):
         """The calls for whole pictures are imported when a program asks for one: their package takes longer than this one."""
-        from importlib import import_module
-
-        if name in ("blocks", "pictures"):
-            return import_module(f".{name}", __name__)
-        if name in _OF_PICTURES:
-            found = globals()[name] = getattr(import_module("exifnorm_pictures"), name)
+        if name in _of_pictures:
+            found = globals()[name] = getattr(pictures, name)
             return found
         raise AttributeError(f"module {__name__!r} has no attribute {name!r}")
 

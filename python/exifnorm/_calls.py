@@ -13,14 +13,15 @@ from ._words import EXIF, IPTC
 
 _Call = TypeVar("_Call", bound=Callable[..., Any])
 
-Block = Union[bytes, bytearray, memoryview, mmap]
+Octets = Union[bytes, bytearray, memoryview, mmap]
 """A block's bytes. Any other object with contiguous bytes works too, such as an array."""
 
 _KINDS = {1: EXIF, 2: IPTC}
-_TOO_LONG = LIMIT + len(b"Exif\0\0") + 1  # bytes that are too many for any block
+_PREFIX = b"Exif\0\0"  # of an Exif segment: CIPA DC-008, 4.7.2
+_TOO_LONG = LIMIT + len(_PREFIX) + 1  # bytes that are too many for any block
 
 
-def view_of(octets: Block) -> memoryview:
+def view_of(octets: Octets) -> memoryview:
     """A view of the bytes of an object. Raises `TypeError`, which says what to do with an open file."""
     try:
         return memoryview(octets)
@@ -29,7 +30,7 @@ def view_of(octets: Block) -> memoryview:
         raise TypeError(f"bytes are expected, not {type(octets).__name__}{read}") from None
 
 
-def _copied(block: Block) -> bytes:
+def _copied(block: Octets) -> bytes:
     """The bytes of an object of another type than bytes.
 
     >>> _copied(memoryview(b"Vases")[:-1])
@@ -76,7 +77,7 @@ def version() -> str:
     return library().version()
 
 
-def kind(block: Block) -> str:
+def kind(block: Octets) -> str:
     """The block's kind, "exif" or "iptc", which the program calls iim. Raises Refused if the block breaks the rules, and MemoryError.
 
     >>> kind(b"\\x1c\\x02\\x78\\x00\\x04Vase")
@@ -90,7 +91,7 @@ def kind(block: Block) -> str:
 
 
 @in_c
-def normal(block: Block) -> bytes:
+def normal(block: Octets) -> bytes:
     """The block's normal form: the same bytes for all blocks that mean the same. Raises Refused if the block breaks the rules,
     NormalTooLong if the form would be longer than `LIMIT`, and MemoryError.
 
@@ -106,7 +107,23 @@ def normal(block: Block) -> bytes:
     return form
 
 
-def digest(block: Block, algorithm: str = "sha256") -> str:
+def embeddable(block: Octets) -> bytes:
+    """The bytes of an Exif block as the segment of a JPEG has them, which Pillow's ``exif=`` and `piexif.insert` take: the six
+    bytes ``Exif\\0\\0``, if the block doesn't begin with them, and the block as it is.
+
+    Embed a block, and not its normal form, in which offsets inside a MakerNote may be invalid. Raises Refused if the block
+    breaks the rules, ValueError if it is one of IPTC, and MemoryError.
+
+    >>> embeddable(bytes.fromhex("4d4d002a00000008 0001 0112 0003 00000001 00060000 00000000"))[:10]
+    b'Exif\\x00\\x00MM\\x00*'
+    """
+    octets = block if type(block) is bytes else _copied(block)
+    if kind(octets) != EXIF:
+        raise ValueError("a block of IPTC is expected in a Photoshop resource, and only one of Exif has this prefix")
+    return octets if octets.startswith(_PREFIX) else _PREFIX + octets
+
+
+def digest(block: Octets, algorithm: str = "sha256") -> str:
     """The digest of the block's normal form in hexadecimal digits: the same for all blocks that mean the same. The algorithm is
     one of hashlib's with digests of a fixed length; any other name raises ValueError. Raises what `normal` raises, so a block
     that is refused has no digest.
@@ -121,7 +138,7 @@ def digest(block: Block, algorithm: str = "sha256") -> str:
     return counted.hexdigest()
 
 
-def same(first: Block, second: Block) -> bool:
+def same(first: Octets, second: Octets) -> bool:
     """Whether two blocks mean the same. It doesn't matter whether their normal forms can be written. Raises Refused if one of
     them breaks the rules, with its number 1 or 2 as `side`, and MemoryError.
 
@@ -137,7 +154,7 @@ def same(first: Block, second: Block) -> bool:
     return number == 1
 
 
-def show(block: Block) -> str:
+def show(block: Octets) -> str:
     """The listing of the block, a line for each directory, field and DataSet, as the command `exifnorm show` prints it.
     Raises Refused if the block breaks the rules, and MemoryError.
 
@@ -152,7 +169,7 @@ def show(block: Block) -> str:
     return listing.decode("ascii")
 
 
-def captions_text(block: Block) -> str:
+def captions_text(block: Octets) -> str:
     """The text that the command `exifnorm captions` prints.
 
     >>> captions_text(b"\\x1c\\x02\\x78\\x00\\x04Vase").splitlines()

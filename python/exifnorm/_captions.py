@@ -7,20 +7,20 @@ import re
 import struct
 from typing import List, NamedTuple, Optional
 
-from ._calls import Block, captions_text
+from ._calls import Octets, captions_text
 from ._reading import fields
 
 _ESCAPE = re.compile(rb"\\([0-9a-f]{2})")
 _UTF8 = 129  # the number of the Exif type
 
 
-class Caption(NamedTuple):
+class BlockCaption(NamedTuple):
     """A labelled text of a block.
 
     - `label`: the label that the library prints, such as "title" or "keyword" of a record, and "artist" of an Exif block
     - `data`: its bytes as they are in the block; a text of an Exif block usually ends in a zero byte
     - `text`: the text, if its encoding is known and its bytes are valid: for a record that declares UTF-8, and for the Exif types ASCII
-      and UTF-8, without the zero byte at the end. Otherwise None; `exifnorm_pictures.read(..).captions` has a guess then
+      and UTF-8, without the zero byte at the end. Otherwise None; `exifnorm.read(..).captions` has a guess then
     """
 
     label: str
@@ -46,26 +46,26 @@ def _label_of_tag(tag: int) -> str:
     return captions_text(block).partition("\n")[2].partition(": ")[0]
 
 
-def _is_utf8(block: Block, label: str) -> bool:
+def _is_utf8(block: Octets, label: str) -> bool:
     """Whether the text with this label in a main directory has the type UTF-8, which only the listing shows."""
     return any(it.directory == "main" and it.type == "UTF8" and _label_of_tag(it.tag) == label for it in fields(block))
 
 
-def _of_exif(block: Block, label: str, data: bytes) -> Caption:
+def _of_exif(block: Octets, label: str, data: bytes) -> BlockCaption:
     ended = data[:-1] if data.endswith(b"\0") else data
     if ended.isascii():
-        return Caption(label, data, ended.decode("ascii"))
-    return Caption(label, data, _decoded(ended, "utf-8" if _is_utf8(block, label) else "ascii"))
+        return BlockCaption(label, data, ended.decode("ascii"))
+    return BlockCaption(label, data, _decoded(ended, "utf-8" if _is_utf8(block, label) else "ascii"))
 
 
-def captions(block: Block) -> List[Caption]:
+def captions(block: Octets) -> List[BlockCaption]:
     """The block's captions, names, keywords and rights, in the order of `exifnorm captions`. Raises Refused if the block breaks
     the rules, and MemoryError.
 
     >>> from exifnorm import captions
     >>> block = b"\\x1c\\x01\\x5a\\x00\\x03\\x1b%G" + b"\\x1c\\x02\\x05\\x00\\x07Z\\xc3\\xbcrich"
     >>> captions(block)
-    [Caption(label='title', data=b'Z\\xc3\\xbcrich', text='Zürich')]
+    [BlockCaption(label='title', data=b'Z\\xc3\\xbcrich', text='Zürich')]
     """
     texts = []
     _, *lines = captions_text(block).splitlines()
@@ -77,7 +77,7 @@ def captions(block: Block) -> List[Caption]:
             continue
         data = _ESCAPE.sub(lambda it: bytes([int(it[1], 16)]), escaped.encode("ascii"))
         if in_record:
-            texts.append(Caption(label, data, _decoded(data, "utf-8") if declared else None))
+            texts.append(BlockCaption(label, data, _decoded(data, "utf-8") if declared else None))
         else:
             texts.append(_of_exif(block, label, data))
     return texts

@@ -122,7 +122,7 @@ class PictureRefused(Refused):
 _EXIF = (
     "this is a block of Exif or a TIFF",
     "The input is a block of Exif or a TIFF, and no packet of XMP.",
-    "Give a block to `exifnorm.normal`, and a TIFF to `exifnorm_pictures.read`.",
+    "Give a block to `exifnorm.normal`, and a TIFF to `exifnorm.read`.",
 )
 _NO_PACKETS = {
     b"\xff\xd8\xff": (

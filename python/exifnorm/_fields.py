@@ -15,7 +15,7 @@ class Ratio(NamedTuple):
 Values = Union[bytes, Tuple[int, ...], Tuple[Ratio, ...], Tuple[bytes, ...]]
 
 
-class Field(NamedTuple):
+class BlockField(NamedTuple):
     """A field of a directory, a DataSet, or a part of the thumbnail.
 
     - `directory`: "main", "exif", "interop", "gps" or "thumb"; of a DataSet "iptc"
@@ -26,10 +26,10 @@ class Field(NamedTuple):
       numbers; of RATIONAL and SRATIONAL a tuple of `Ratio`; of FLOAT and DOUBLE a tuple of bit patterns, as numbers
       (`struct.unpack(">f", pattern.to_bytes(4, "big"))` converts one); of STRIPS the bytes of each
 
-    `exifnorm_pictures.read` returns fields with names and with values of Python.
+    `exifnorm.read` returns fields with names and with values of Python.
 
-    >>> Field("main", 0x0112, "SHORT", (6,))
-    Field(directory='main', tag=274, type='SHORT', values=(6,))
+    >>> BlockField("main", 0x0112, "SHORT", (6,))
+    BlockField(directory='main', tag=274, type='SHORT', values=(6,))
     """
 
     directory: str

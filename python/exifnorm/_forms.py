@@ -8,7 +8,7 @@ from typing import Any, Callable, Dict, Iterator, List, Sequence, Set, Tuple
 
 from ._calls import kind
 from ._errors import Refused
-from ._fields import Field, Ratio
+from ._fields import BlockField, Ratio
 from ._words import DATASETS, IPTC
 
 Place = Tuple[str, int, str, int, Any]
@@ -175,11 +175,11 @@ def places(form: bytes) -> Iterator[Place]:
     return _datasets(form, 0, len(form)) if form[:1] == b"\x1c" else _Directories(form).fields()
 
 
-def fields_of_form(form: bytes) -> List[Field]:
+def fields_of_form(form: bytes) -> List[BlockField]:
     """The fields of a normal form.
 
     >>> fields_of_form(bytes.fromhex("4d4d002a00000008 0001 0112 0003 00000001 00060000 00000000"))
-    [Field(directory='main', tag=274, type='SHORT', values=(6,))]
+    [BlockField(directory='main', tag=274, type='SHORT', values=(6,))]
     """
     new = tuple.__new__  # to call the class itself takes twice as long
-    return [new(Field, (directory, tag, name, _READ[name](form, at, elements))) for directory, tag, name, elements, at in places(form)]
+    return [new(BlockField, (directory, tag, name, _READ[name](form, at, elements))) for directory, tag, name, elements, at in places(form)]

@@ -5,7 +5,7 @@ from __future__ import annotations
 import operator
 from typing import Any, Dict, Iterable, Iterator, List, Literal, NamedTuple, NoReturn, Optional, Tuple, Union
 
-from ._calls import Block, view_of
+from ._calls import Octets, view_of
 from ._errors import HeadRefused, PictureRefused, TooMany, XmpNotRead
 from ._library import PART, PLACE, RESOURCE, PictureFailure, Status, library
 from ._words import EXIF, IPTC
@@ -49,7 +49,7 @@ class JpegBlock(NamedTuple):
     data: bytes
 
 
-def _bytes_of(octets: Block) -> bytes:
+def _bytes_of(octets: Octets) -> bytes:
     """The bytes of an object of any type."""
     if type(octets) is bytes:
         return octets
@@ -85,7 +85,7 @@ def _raise(failure: Tuple[int, int, int, bytes], most: int) -> NoReturn:
     raise AssertionError(f"libexifnorm answered the status {status}")
 
 
-def jpeg_parts(picture: Block, most: Optional[int] = None) -> List[JpegPart]:
+def jpeg_parts(picture: Octets, most: Optional[int] = None) -> List[JpegPart]:
     """The parts of a JPEG's head in their order. The last one is the header of the first scan, or the end of the picture.
 
     The bytes may be a whole file or only its first bytes: what follows the head isn't looked at. Raises HeadRefused, with the first fault
@@ -118,7 +118,7 @@ def part_rows(octets: bytes, most: int) -> List[PartRow]:
     return list(rows)
 
 
-def photoshop_resources(octets: Block, most: Optional[int] = None) -> List[Resource]:
+def photoshop_resources(octets: Octets, most: Optional[int] = None) -> List[Resource]:
     """Photoshop's image resources at the start of some bytes, in their order: up to where no resource is. Raises TooMany for more
     than `most`.
 
@@ -133,7 +133,7 @@ def photoshop_resources(octets: Block, most: Optional[int] = None) -> List[Resou
     return list(map(Resource._make, RESOURCE.iter_unpack(rows)))
 
 
-def jpeg_blocks(picture: Block) -> List[JpegBlock]:
+def jpeg_blocks(picture: Octets) -> List[JpegBlock]:
     """The Exif and IPTC blocks of a JPEG in their order, each as one. Exif is in segments APP1, IPTC in Photoshop's resources of number
     0404 in segments APP13; such a resource without bytes is no block. Other programs may also have put Exif into resource 0422, which
     isn't returned. XMP isn't either: `jpeg_parts` shows where it is.
@@ -146,7 +146,7 @@ def jpeg_blocks(picture: Block) -> List[JpegBlock]:
     >>> picture = bytes.fromhex("ffd8 ffe1") + (2 + len(exif)).to_bytes(2, "big") + exif + bytes.fromhex("ffd9")
     >>> for kind, block in jpeg_blocks(picture):
     ...     print(kind, exifnorm.fields(block))
-    exif [Field(directory='main', tag=274, type='SHORT', values=(6,))]
+    exif [BlockField(directory='main', tag=274, type='SHORT', values=(6,))]
     """
     octets = _bytes_of(picture)
     answer = _places(octets)
@@ -238,7 +238,7 @@ class NotRead(NamedTuple):
         )
 
 
-def jpeg_unread(picture: Block) -> Optional[Unread]:
+def jpeg_unread(picture: Octets) -> Optional[Unread]:
     """The first place in a JPEG at which something is that other programs read as Exif or IPTC, or may, and `jpeg_same_blocks` doesn't, or the
     reverse: a segment APP1 that seems to be Exif by another mark, APP13 with another mark than Photoshop's and Adobe_CM, resource 0422,
     resource 0404 with another signature than 8BIM, or bytes other than zeros after the last resource. None if there is none: of two such
@@ -263,7 +263,7 @@ def jpeg_unread(picture: Block) -> Optional[Unread]:
     return Unread(answer[0] == 1, answer[1]) if answer else None
 
 
-def jpeg_xmp(picture: Block) -> Optional[bytes]:
+def jpeg_xmp(picture: Octets) -> Optional[bytes]:
     """The packet of XMP in a JPEG's head: the data of the segment APP1 with the mark `http://ns.adobe.com/xap/1.0/` and a zero, after that
     mark. None if no segment has it. The packet isn't read: `xmp_normal` reads it, so two JPEGs have the same XMP in these segments if both
     results are None, or if `xmp_normal` returns the same for both. XMP elsewhere, as in Photoshop's resource 0424 or after the head, isn't
@@ -291,7 +291,7 @@ def jpeg_xmp(picture: Block) -> Optional[bytes]:
     return octets[answer[0] : answer[0] + answer[1]] if answer else None
 
 
-def jpeg_same(first: Block, second: Block) -> Union[bool, NotRead]:
+def jpeg_same(first: Octets, second: Octets) -> Union[bool, NotRead]:
     """Whether two JPEGs have the same Exif, IPTC and XMP: as many blocks of each kind as `jpeg_blocks` finds, which mean the same, pair by pair,
     in their order; and no XMP, or one packet each, which have equal forms by `xmp_normal` together with their extended XMP. So two JPEGs
     without metadata are the same. Pixels, and what follows the head, are not compared. What this says of Exif and IPTC is proved, and so is
@@ -318,7 +318,7 @@ def jpeg_same(first: Block, second: Block) -> Union[bool, NotRead]:
     return _answer(library().jpeg_same(_bytes_of(first), _bytes_of(second)))
 
 
-def jpeg_same_blocks(first: Block, second: Block) -> Union[bool, NotRead]:
+def jpeg_same_blocks(first: Octets, second: Octets) -> Union[bool, NotRead]:
     """Whether two JPEGs have the same Exif and IPTC, as for `jpeg_same`: XMP is not compared. All of this answer is proved. A `NotRead` has the
     first place that `jpeg_unread` finds in one of them.
 

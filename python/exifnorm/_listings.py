@@ -4,7 +4,7 @@ from __future__ import annotations
 
 from typing import Iterator, List
 
-from ._fields import Field, Ratio, Values
+from ._fields import BlockField, Ratio, Values
 from ._words import DATASETS
 
 _BYTES = {"BYTE", "ASCII", "SBYTE", "UNDEFINED", "UTF8"}
@@ -26,12 +26,12 @@ def _values(kind: str, text: str) -> Values:
     return tuple(int(it, base) for it in text.split())
 
 
-def _dataset(name: str, text: str) -> Field:
+def _dataset(name: str, text: str) -> BlockField:
     record, number = name.split(":")
-    return Field(DATASETS, 256 * int(record) + int(number), "DATASET", bytes.fromhex(text))
+    return BlockField(DATASETS, 256 * int(record) + int(number), "DATASET", bytes.fromhex(text))
 
 
-def _read(lines: Iterator[str]) -> Iterator[Field]:
+def _read(lines: Iterator[str]) -> Iterator[BlockField]:
     """The fields of a listing's lines, after the line of the kind."""
     directory = "record"
     for line in lines:
@@ -42,21 +42,21 @@ def _read(lines: Iterator[str]) -> Iterator[Field]:
         elif words[0] == "record":
             pass  # the number of the DataSets that follow
         elif words[0] == "jpeg":
-            yield Field(directory, 0x0201, "JPEG", bytes.fromhex(text))
+            yield BlockField(directory, 0x0201, "JPEG", bytes.fromhex(text))
         elif words[0] == "strips":
             strips = [next(lines).partition(": ")[2] for _ in range(int(words[1]))]
-            yield Field(directory, 0x0111, "STRIPS", tuple(map(bytes.fromhex, strips)))
+            yield BlockField(directory, 0x0111, "STRIPS", tuple(map(bytes.fromhex, strips)))
         elif ":" in words[0]:
             yield _dataset(words[0], text)
         else:
-            yield Field(directory, int(words[0], 16), words[1], _values(words[1], text))
+            yield BlockField(directory, int(words[0], 16), words[1], _values(words[1], text))
 
 
-def fields_of_listing(listing: str) -> List[Field]:
+def fields_of_listing(listing: str) -> List[BlockField]:
     """The fields of a listing.
 
     >>> fields_of_listing("exif\\n[main]\\n0112 SHORT 1: 6\\n")
-    [Field(directory='main', tag=274, type='SHORT', values=(6,))]
+    [BlockField(directory='main', tag=274, type='SHORT', values=(6,))]
     """
     lines = iter(listing.splitlines())
     next(lines)  # the kind

@@ -4,14 +4,14 @@ from __future__ import annotations
 
 from typing import List
 
-from ._calls import Block, normal, show
+from ._calls import Octets, normal, show
 from ._errors import NormalTooLong
-from ._fields import Field
+from ._fields import BlockField
 from ._forms import fields_of_form
 from ._listings import fields_of_listing
 
 
-def fields(block: Block) -> List[Field]:
+def fields(block: Octets) -> List[BlockField]:
     """The fields of the block, in the order of `show`: those of each directory by ascending tag, the DataSets of its caption
     record after those of the main directory, and the thumbnail's JPEG and strips after those of the thumbnail. A directory
     without fields is left out. Raises what `show` raises.

@@ -4,13 +4,13 @@ from __future__ import annotations
 
 from typing import List
 
-from ._calls import Block, _copied
+from ._calls import Octets, _copied
 from ._errors import XmpRefused
 from ._library import Status, library
 from ._properties import PROPERTIES, XmpProperty, made_of_form
 
 
-def xmp_normal(packet: Block) -> bytes:
+def xmp_normal(packet: Octets) -> bytes:
     """The packet's normal form: a packet of the same properties, in one order and one way of writing. Two packets with equal forms have
     the same properties, with the same values and languages. Prefixes, the order of properties, whether one is an attribute or an element,
     white space between elements, comments, `rdf:about`, `x:xmptk` and the padding make no difference; neither does the order in an
@@ -31,7 +31,7 @@ def xmp_normal(packet: Block) -> bytes:
     return form_of(packet, sort=True)
 
 
-def form_of(packet: Block, *, sort: bool) -> bytes:
+def form_of(packet: Octets, *, sort: bool) -> bytes:
     """The packet's normal form, or its form for showing, in which the members of a Bag are in the packet's order."""
     octets = packet if type(packet) is bytes else _copied(packet)
     form = library().xmp_normalise(octets) if sort else library().xmp_unsorted(octets)
@@ -45,7 +45,7 @@ def form_of(packet: Block, *, sort: bool) -> bytes:
     raise AssertionError(f"libexifnorm answered the status {status}")
 
 
-def xmp_properties(packet: Block, *, sort: bool = True) -> List[XmpProperty]:
+def xmp_properties(packet: Octets, *, sort: bool = True) -> List[XmpProperty]:
     """The packet's properties, in the order of its normal form. Two packets have equal properties exactly if their forms are equal. So the
     members of a Bag, which have no order, are sorted; those of a Seq and an Alt are in their order.
 

@@ -4,13 +4,13 @@
     >>> blocks.kind(b"\\x1c\\x02\\x78\\x00\\x04Vase")
     'iptc'
 
-A `Block`, a `Field` and a `Caption` are those of one block here; `exifnorm.pictures` has those of a picture.
+The calls for whole pictures, such as `exifnorm.read`, are in `exifnorm.pictures`.
 """
 
-from ._calls import Block, digest, kind, normal, same, show, version
-from ._captions import Caption, captions
+from ._calls import Octets, digest, embeddable, kind, normal, same, show, version
+from ._captions import BlockCaption, captions
 from ._errors import LIMIT, HeadRefused, LibraryMissing, NormalTooLong, PictureRefused, Refused, TooMany, XmpNotRead, XmpRefused
-from ._fields import Field, Ratio, Values
+from ._fields import BlockField, Ratio, Values
 from ._jpeg import (
     JpegBlock,
     JpegPart,
@@ -32,9 +32,8 @@ from ._xmp import xmp_normal, xmp_properties
 
 
 __all__ = [
-    "Block",
-    "Caption",
-    "Field",
+    "BlockCaption",
+    "BlockField",
     "HeadRefused",
     "JpegBlock",
     "JpegPart",
@@ -42,6 +41,7 @@ __all__ = [
     "LibraryMissing",
     "NormalTooLong",
     "NotRead",
+    "Octets",
     "PictureRefused",
     "Ratio",
     "Refused",
@@ -60,6 +60,7 @@ __all__ = [
     "XmpValue",
     "captions",
     "digest",
+    "embeddable",
     "fields",
     "jpeg_blocks",
     "jpeg_parts",

@@ -1,30 +1,25 @@
-"""The calls for whole pictures, with all of their classes: those of the package `exifnorm_pictures`, which `help(exifnorm_pictures)` describes.
+"""The calls for whole pictures, and their classes. Their code is in the package `exifnorm_pictures`, from which nothing else is public.
 
     >>> from exifnorm import pictures
     >>> pictures.Field("main", "013b", "ASCII", 5, b"Otto\\0")
     Field(name='IFD0:Artist', text='Otto')
+
+- `read` and `read_bytes` return a `Picture`, whose fields are found by name; `read_all` reads many in several processes
+- `Reader` reads one after another within limits of time and size, also without starting other programs
+- `compare` returns a `Comparison` of two pictures
+- `NoPicture` and `NotReadable` are raised for what can't be read
+
+A refused block raises nothing: see `Picture.refusals`.
 """
 
-TYPE_CHECKING = False  # that of `typing`
+TYPE_CHECKING = False  # that of `typing`, which takes long to import
 if TYPE_CHECKING:
-    from exifnorm_pictures import (
-        Block as Block,
-        Caption as Caption,
-        Comparison as Comparison,
-        Conflict as Conflict,
-        Difference as Difference,
-        Field as Field,
-        NoPicture as NoPicture,
-        NotReadable as NotReadable,
-        Picture as Picture,
-        Position as Position,
-        Reader as Reader,
-        Refusal as Refusal,
-        compare as compare,
-        read as read,
-        read_all as read_all,
-        read_bytes as read_bytes,
-    )
+    from exifnorm_pictures.api import Comparison, Difference, NoPicture, NotReadable, Reader, compare, read, read_bytes
+    from exifnorm_pictures.comparison.conflicts import Conflict
+    from exifnorm_pictures.fields.field import Field
+    from exifnorm_pictures.fields.labels import Caption
+    from exifnorm_pictures.many import read_all
+    from exifnorm_pictures.picture import Block, Picture, Position, Refusal
 
 __all__ = [
     "Block",
@@ -45,14 +40,27 @@ __all__ = [
     "read_bytes",
 ]
 
-if not TYPE_CHECKING:
+_MODULES = {  # where a name is, if not in api
+    "Block": "picture",
+    "Caption": "fields.labels",
+    "Conflict": "comparison.conflicts",
+    "Field": "fields.field",
+    "Picture": "picture",
+    "Position": "picture",
+    "Refusal": "picture",
+    "read_all": "many",
+}
+
+if not TYPE_CHECKING:  # a type checker would take any name for one of these
 
     def __getattr__(name):
+        """What a program asks for is imported then: a program that reads blocks alone need not wait for it."""
         if name not in __all__:
             raise AttributeError(f"module {__name__!r} has no attribute {name!r}")
-        import exifnorm_pictures
+        from importlib import import_module
 
-        return getattr(exifnorm_pictures, name)
+        found = globals()[name] = getattr(import_module(f"exifnorm_pictures.{_MODULES.get(name, 'api')}"), name)
+        return found
 
 
 def __dir__() -> "list[str]":

@@ -62,7 +62,7 @@ def way(request, monkeypatch, shared):
     """How the package calls the built library in a test: each test with this fixture runs twice."""
     monkeypatch.setattr(_library, "_native", request.getfixturevalue("native") if request.param == "extension" else None)
     normal = _calls.in_c(_calls.normal)
-    for module in (exifnorm, _calls, _reading):
+    for module in (exifnorm, exifnorm.blocks, _calls, _reading):
         monkeypatch.setattr(module, "normal", normal)
     monkeypatch.setenv("EXIFNORM_LIBRARY", str(shared))
     _library.library.cache_clear()

@@ -7,7 +7,6 @@ from random import Random
 import pytest
 
 import exifnorm
-import exifnorm_pictures
 import jpegs
 from exifnorm import NotRead, Unread
 from small_blocks import CAPTION, ONE
@@ -216,10 +215,10 @@ def has_unknown(octets):
 def judged(first, second):
     """What `exifnorm-pictures compare` says: `True` only of the same metadata; None if it can't read one of the two."""
     try:
-        pair = [exifnorm_pictures.read_bytes(it) for it in (first, second)]
-    except (exifnorm_pictures.NoPicture, exifnorm_pictures.NotReadable):
+        pair = [exifnorm.read_bytes(it) for it in (first, second)]
+    except (exifnorm.NoPicture, exifnorm.NotReadable):
         return None
-    return exifnorm_pictures.compare(*pair).same
+    return exifnorm.compare(*pair).same
 
 
 @pytest.mark.parametrize("seed", range(4))

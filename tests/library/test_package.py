@@ -24,10 +24,9 @@ from concurrent.futures import ThreadPoolExecutor
 import pytest
 
 import exifnorm
-import exifnorm_pictures
 from exifnorm import blocks, pictures
 import made_by_tools
-from exifnorm import Caption, Field, _calls, _jpeg, _library, _listings
+from exifnorm import BlockCaption, BlockField, _calls, _jpeg, _library, _listings
 from kinds import small_kinds
 from meanings import ASCII, LABELS, LIMIT, LONG, SHORT, Exif, Layout, Record, Value, laid
 from reading import said
@@ -53,13 +52,13 @@ def test_blocks_of_tools(made):
     assert exifnorm.normal(made.block) == form and type(exifnorm.normal(made.block)) is bytes
     assert exifnorm.digest(made.block) == hashlib.sha256(form).hexdigest()
     assert exifnorm.show(made.block) == meaning.listing()
-    assert exifnorm.captions(made.block) == [Caption(*it) for it in made.captions]
+    assert exifnorm.captions(made.block) == [BlockCaption(*it) for it in made.captions]
     assert exifnorm.same(made.block, form) is True
     assert exifnorm.same(form, ONE) is False
     found = exifnorm.fields(made.block)
-    assert found == [Field(*it) for it in made.fields] and type(found) is list
+    assert found == [BlockField(*it) for it in made.fields] and type(found) is list
     ratios = [it for field in found if field.type.endswith("RATIONAL") for it in field.values]
-    assert {type(it) for it in found} | {type(it) for it in ratios} <= {Field, exifnorm.Ratio}
+    assert {type(it) for it in found} | {type(it) for it in ratios} <= {BlockField, exifnorm.Ratio}
 
 
 @pytest.mark.parametrize("call", OF_BLOCK, ids=named)
@@ -180,7 +179,7 @@ def test_older_words_are_still_understood():
 OF_XMP = [exifnorm.XmpText, exifnorm.XmpResource, exifnorm.XmpContainer, exifnorm.XmpStructure, exifnorm.XmpProperty]
 
 
-@pytest.mark.parametrize("named_tuple", [exifnorm.Field, exifnorm.JpegBlock, exifnorm.JpegPart, exifnorm.Resource, *OF_XMP], ids=named)
+@pytest.mark.parametrize("named_tuple", [exifnorm.BlockField, exifnorm.JpegBlock, exifnorm.JpegPart, exifnorm.Resource, *OF_XMP], ids=named)
 def test_help_describes_each_member(named_tuple):
     for member in named_tuple._fields:
         assert f"`{member}`" in named_tuple.__doc__, member
@@ -200,16 +199,20 @@ def test_one_tag_in_five_directories():
     inside = {0x0100: Value(LONG, [7]), 0xA002: Value(LONG, [8]), 0x83BB: Value(7, CAPTION)}
     expected = []
     for name in ("main", "exif", "interop", "gps", "thumb"):
-        expected.append(Field(name, 0x0100, "WHOLE" if name in ("main", "thumb") else "LONG", (7,)))
-        expected += [] if name == "main" else [Field(name, 0x83BB, "UNDEFINED", CAPTION)]
-        expected.append(Field(name, 0xA002, "WHOLE" if name == "exif" else "LONG", (8,)))
-        expected += [Field("iptc", 0x0278, "DATASET", b"Vase")] if name == "main" else []
+        expected.append(BlockField(name, 0x0100, "WHOLE" if name in ("main", "thumb") else "LONG", (7,)))
+        expected += [] if name == "main" else [BlockField(name, 0x83BB, "UNDEFINED", CAPTION)]
+        expected.append(BlockField(name, 0xA002, "WHOLE" if name == "exif" else "LONG", (8,)))
+        expected += [BlockField("iptc", 0x0278, "DATASET", b"Vase")] if name == "main" else []
     assert exifnorm.fields(laid(Exif(*(dict(inside) for _ in range(5))), Layout("<"))) == expected
 
 
 def test_rows_and_heights():
     rows = laid(Exif({0x0116: Value(LONG, [7])}, {0xA003: Value(LONG, [8])}, thumb={0x0116: Value(SHORT, [9])}), Layout(">"))
-    expected = [Field("main", 0x0116, "WHOLE", (7,)), Field("exif", 0xA003, "WHOLE", (8,)), Field("thumb", 0x0116, "WHOLE", (9,))]
+    expected = [
+        BlockField("main", 0x0116, "WHOLE", (7,)),
+        BlockField("exif", 0xA003, "WHOLE", (8,)),
+        BlockField("thumb", 0x0116, "WHOLE", (9,)),
+    ]
     assert exifnorm.fields(rows) == expected
 
 
@@ -221,9 +224,9 @@ def test_bytes_that_are_nearly_a_record(octets, form):
 
 def test_records():
     record = laid(Exif({0x83BB: Value(1, CAPTION + b"\0")}), Layout(">"))
-    assert exifnorm.fields(record) == [Field("iptc", 0x0278, "DATASET", b"Vase")], "a record of type BYTE"
+    assert exifnorm.fields(record) == [BlockField("iptc", 0x0278, "DATASET", b"Vase")], "a record of type BYTE"
     long = Record([(2, 120, bytes(40_000)), (2, 25, b"")]).spelled()
-    expected = [Field("iptc", 0x0219, "DATASET", b""), Field("iptc", 0x0278, "DATASET", bytes(40_000))]
+    expected = [BlockField("iptc", 0x0219, "DATASET", b""), BlockField("iptc", 0x0278, "DATASET", bytes(40_000))]
     assert exifnorm.fields(long) == expected
 
 
@@ -232,9 +235,9 @@ def test_thumbnail_with_a_jpeg_and_strips():
     strips = "0111 0003 00000002 00500053  0117 0003 00000002 00030001"
     jpeg = "0201 0004 00000001 00000054  0202 0004 00000001 00000002"
     expected = [
-        Field("main", 0x0112, "SHORT", (1,)),
-        Field("thumb", 0x0201, "JPEG", b"\xff\xd8"),
-        Field("thumb", 0x0111, "STRIPS", (b"ABC", b"X")),
+        BlockField("main", 0x0112, "SHORT", (1,)),
+        BlockField("thumb", 0x0201, "JPEG", b"\xff\xd8"),
+        BlockField("thumb", 0x0111, "STRIPS", (b"ABC", b"X")),
     ]
     assert exifnorm.fields(bytes.fromhex(f"{head} {strips} {jpeg} 00000000 414243 58 ffd8")) == expected
 
@@ -244,7 +247,7 @@ def test_forms_that_are_too_long():
     assert exifnorm.kind(block) == "exif"
     assert outcome(exifnorm.normal, block) == ("NormalTooLong",)
     assert outcome(exifnorm.digest, block) == ("NormalTooLong",)
-    assert exifnorm.fields(block) == [Field("main", 0x0116, "WHOLE", (*range(1000), *bytes(LIMIT // 4)))]
+    assert exifnorm.fields(block) == [BlockField("main", 0x0116, "WHOLE", (*range(1000), *bytes(LIMIT // 4)))]
     assert exifnorm.captions(block) == []
     assert exifnorm.same(block, block) is True
 
@@ -274,11 +277,11 @@ def test_captions_of_texts_and_a_record():
     texts = {0x010E: Value(2, b"d\xc3\xa9\0"), 0x013B: Value(129, b"\xc3\xa9\0"), 0x8298: Value(2, b"no zero")}
     record = Record([(1, 90, b"\x1b%G"), (2, 120, b"\xc3\xa9"), (2, 5, b"\xff")])
     assert exifnorm.captions(laid(Exif(texts, record=record), Layout("<"))) == [
-        Caption("description", b"d\xc3\xa9\0", None),
-        Caption("artist", b"\xc3\xa9\0", "é"),
-        Caption("copyright", b"no zero", "no zero"),
-        Caption("title", b"\xff", None),
-        Caption("caption", b"\xc3\xa9", "é"),
+        BlockCaption("description", b"d\xc3\xa9\0", None),
+        BlockCaption("artist", b"\xc3\xa9\0", "é"),
+        BlockCaption("copyright", b"no zero", "no zero"),
+        BlockCaption("title", b"\xff", None),
+        BlockCaption("caption", b"\xc3\xa9", "é"),
     ]
 
 
@@ -301,7 +304,7 @@ def test_text_of_exif_fields():
     assert [it.text for it in zeros] == ["two\0"], "a text with two zeros loses one"
     others = Exif({0x013B: Value(2, b"\xc3\xa9\0")}, thumb={0x013B: Value(129, b"\xc3\xa9\0")})
     found = exifnorm.captions(laid(others, Layout("<")))
-    assert found == [Caption("artist", b"\xc3\xa9\0", None)], "the type of the thumbnail's text is no matter"
+    assert found == [BlockCaption("artist", b"\xc3\xa9\0", None)], "the type of the thumbnail's text is no matter"
 
 
 @pytest.mark.parametrize("octets", [bytes(range(256)), b"charset: a: b", b"", b"\\0a\n"])
@@ -313,7 +316,7 @@ def test_bytes_of_a_caption(octets):
 @pytest.mark.parametrize("count", [1, 1000, 24_000, 60_000])
 def test_captions_that_are_longer_than_expected(count):
     """Each byte that is not printable takes three: the library is asked again, with more bytes."""
-    assert exifnorm.captions(Record([(2, 120, bytes(count))]).spelled()) == [Caption("caption", bytes(count), None)]
+    assert exifnorm.captions(Record([(2, 120, bytes(count))]).spelled()) == [BlockCaption("caption", bytes(count), None)]
 
 
 # ---- digests
@@ -449,7 +452,7 @@ def test_classes_of_exceptions():
 
 
 def test_objects_are_pickled_and_can_not_be_changed():
-    field, caption = exifnorm.fields(ONE)[0], Caption("title", b"T", None)
+    field, caption = exifnorm.fields(ONE)[0], BlockCaption("title", b"T", None)
     for it, name in ((field, "tag"), (caption, "label"), (exifnorm.Ratio(1, 0), "numerator")):
         assert pickle.loads(pickle.dumps(it)) == it and hash(it) == hash(pickle.loads(pickle.dumps(it)))
         with pytest.raises(AttributeError):
@@ -479,22 +482,19 @@ def test_examples(module):
 
 
 def test_public_names_are_exported():
-    """What has two meanings, for a block and for a picture, is in neither list."""
     public = {name for name, it in vars(blocks).items() if not name.startswith("_") and not hasattr(it, "__path__")}
-    assert public == {*blocks.__all__} and all(hasattr(exifnorm, name) for name in public)
-    both = {*blocks.__all__} & {*pictures.__all__}
-    assert both == {"Block", "Caption", "Field"}
-    assert {*exifnorm.__all__} == ({*blocks.__all__} | {*pictures.__all__} | {"blocks", "pictures"}) - both
-    assert {*pictures.__all__} == {*exifnorm_pictures.__all__} and {*exifnorm.__all__} <= {*dir(exifnorm)}
-    assert all(getattr(exifnorm, name) is getattr(exifnorm_pictures, name) for name in {*pictures.__all__} - both)
-    assert all(getattr(pictures, name) is getattr(exifnorm_pictures, name) for name in pictures.__all__)
+    assert public == {*blocks.__all__}
+    assert not {*blocks.__all__} & {*pictures.__all__}, "a name has two meanings"
+    for module in (blocks, pictures):
+        assert all(getattr(exifnorm, name) is getattr(module, name) for name in module.__all__)
+    assert {*exifnorm.__all__} <= {*dir(exifnorm)}
     for module in (exifnorm, pictures):
         with pytest.raises(AttributeError, match="nothing"):
             module.nothing
 
 
 def test_blocks_need_nothing_of_pictures():
-    code = "import sys, exifnorm; exifnorm.kind(b'\\x1c\\x02\\x78\\0\\4Vase'); print([it for it in sys.modules if 'pictures' in it])"
+    code = "import sys, exifnorm; exifnorm.kind(b'\\x1c\\x02\\x78\\0\\4Vase'); print([it for it in sys.modules if 'exifnorm_pictures' in it])"
     words = [sys.executable, "-c", code]
     assert (
         subprocess.run(

@@ -12,7 +12,7 @@ from fractions import Fraction
 from typing import Iterator, Optional, Tuple
 
 import exifnorm
-import exifnorm_pictures as pictures
+from exifnorm import pictures
 from exifnorm import blocks
 
 

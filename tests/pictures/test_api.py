@@ -30,7 +30,7 @@ from test_captions import data_set, with_record
 from test_cr3 import cr3, structures
 
 import exifnorm
-import exifnorm_pictures as pictures
+from exifnorm import pictures
 from exifnorm_pictures import many
 from exifnorm_pictures.catalogue import texts
 from exifnorm_pictures.extract import readers
@@ -716,7 +716,7 @@ def test_no_command_line_is_loaded():
 
 def test_reading_loads_no_more_than_it_needs():
     """One picture is read without what starts processes, and without what few pictures need."""
-    code = "import sys; from exifnorm_pictures import read; read(sys.argv[1])['IFD0:Model']; print(*sys.modules)"
+    code = "import sys; from exifnorm import read; read(sys.argv[1])['IFD0:Model']; print(*sys.modules)"
     words = [sys.executable, "-S", "-c", code, str(BEFORE / BOWL)]
     done = subprocess.run(words, stdout=subprocess.PIPE, text=True, check=True, env={**os.environ, "PYTHONPATH": f"{TOP}/python"})
     assert not {"multiprocessing", "concurrent.futures", "socket", "logging", "subprocess", "tempfile", "shutil"} & {*done.stdout.split()}

@@ -16,7 +16,7 @@ from studio import SMALL_JPEG
 from test_maker_notes import noted
 from test_repairs import REFUSED
 
-import exifnorm_pictures
+import exifnorm
 from exifnorm_pictures.cli.parser import parsers
 from exifnorm_pictures.extract import exiftool, programs
 from exifnorm_pictures.files import session
@@ -124,8 +124,8 @@ def test_what_never_ends(work, ending, make, try_each, folder):
         else:
             assert 1 <= times <= 3 and (status or command == "report"), (command, times, status)
     for source in (folder / "P" / f"a.{ending}", open(folder / "P" / f"a.{ending}", "rb")):
-        with pytest.raises(exifnorm_pictures.NotReadable, match="more than 5 seconds"):
-            exifnorm_pictures.read(source)
+        with pytest.raises(exifnorm.NotReadable, match="more than 5 seconds"):
+            exifnorm.read(source)
 
 
 def test_pixels_that_never_end(try_each):

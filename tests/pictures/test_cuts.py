@@ -7,7 +7,7 @@ import io
 import json
 import re
 
-import exifnorm_pictures as pictures
+from exifnorm import pictures
 import pytest
 from made_blocks import ASCII, LONG, UNDEFINED, segment
 from made_boxes import SMALL_J2C, XMP_UUID, PICTURE, Item, box, cr3, heif, item_exif, jp2, jxl, mime

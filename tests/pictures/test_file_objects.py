@@ -16,7 +16,7 @@ from made_files import app1, exif, jpeg
 from studio import TOP, needs
 from test_api import FORMATS
 
-import exifnorm_pictures as pictures
+from exifnorm import pictures
 from exifnorm_pictures.model.budgets import COPIED_BYTES, LIMITS
 
 BOWL = Path(TOP) / "samples/before/ceramics/2003-12-bowl.jpg"

@@ -19,7 +19,7 @@ from largest import FILLINGS, SIZES, made, of_name
 from test_attacks import NO_CLOCK, run_each
 from test_captions import data_set
 
-import exifnorm_pictures as pictures
+from exifnorm import pictures
 from exifnorm_pictures.cli.parser import parsers
 from exifnorm_pictures.model import budgets
 

@@ -12,7 +12,7 @@ from made_files import app1, exif, jpeg, png
 from studio import SMALL_JPEG
 from test_file_objects import facts
 
-import exifnorm_pictures as pictures
+from exifnorm import pictures
 from exifnorm_pictures.extract.file_objects import PIECES
 from exifnorm_pictures.model.budgets import BYTES_READ, COPIED_BYTES, LIMITS
 

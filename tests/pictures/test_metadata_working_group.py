@@ -7,7 +7,7 @@ import pytest
 from made_files import app1_xmp, app13, jpeg, resource, xmp
 from test_captions import data_set
 
-import exifnorm_pictures as pictures
+from exifnorm import pictures
 
 RECORD = data_set(116, b"of IPTC")
 RIGHTS = "<dc:rights><rdf:Alt><rdf:li xml:lang='x-default'>of XMP</rdf:li></rdf:Alt></dc:rights>"

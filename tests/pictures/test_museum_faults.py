@@ -9,7 +9,7 @@ import pytest
 from museum import done, run
 from studio import needs
 
-import exifnorm_pictures
+import exifnorm
 from exifnorm_pictures.extract import file_objects
 from exifnorm_pictures.model import budgets, found
 from exifnorm_pictures.scan import progress
@@ -21,8 +21,8 @@ LISTED = ("list", "same --no-look", "conflicts", "captions")
 def said(source, **options):
     """What is read of a picture: its fields, and what was refused or not read, or why it isn't read."""
     try:
-        read = exifnorm_pictures.read(source, **options)
-    except (exifnorm_pictures.NoPicture, exifnorm_pictures.NotReadable) as why:
+        read = exifnorm.read(source, **options)
+    except (exifnorm.NoPicture, exifnorm.NotReadable) as why:
         return str(why)
     return [(it.name, it.text) for it in read.fields], [str(it) for it in read.refusals], [*read.not_read]
 
@@ -104,7 +104,7 @@ def test_processes_and_shards_say_what_one_process_says(museum):
 def test_many_are_read_as_one_by_one(museum):
     """By the Python API in two processes, and one at a time."""
     paths = [it for it in sorted((museum / "archive").rglob("*.jpg")) if it.is_file()]
-    for path, read in exifnorm_pictures.read_all(paths, jobs=2):
+    for path, read in exifnorm.read_all(paths, jobs=2):
         known = str(read) if isinstance(read, Exception) else [(it.name, it.text) for it in read.fields]
         expected = said(path)
         assert known == (expected if isinstance(expected, str) else expected[0]), path

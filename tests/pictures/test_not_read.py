@@ -9,7 +9,7 @@ from studio import needs, put
 from test_cuts import FILES
 from test_never_the_same import reached
 
-import exifnorm_pictures as pictures
+from exifnorm import pictures
 
 MANY = webp((b"EXIF", A), *[(b"ABCD", b"what it is")] * 1200)
 PHRASE = "chunk of an unknown kind (1,200 times)"

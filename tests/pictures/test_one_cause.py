@@ -9,7 +9,7 @@ import pytest
 from made_blocks import BLOCKS, MAKE, block
 from made_files import app1, app13, iim, jpeg, png, chunk, resource
 
-import exifnorm_pictures as pictures
+from exifnorm import pictures
 
 RECORD = iim(b"one") + iim(b"two")
 BEGINNINGS = (b"\x1c", b"\x1c\x02", b"\xeb\x01Z", b"II*\0", b"MM\0*", b"Exif\0\0", b"8BIM", b"<?xpacket", b"text:", b"\0\0", b"\x1d", b"II")

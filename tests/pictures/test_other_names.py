@@ -7,7 +7,7 @@ import xml.etree.ElementTree as ET
 import pytest
 from studio import SMALL_JPEG, needs, put, tool
 
-import exifnorm_pictures
+import exifnorm
 from exifnorm_pictures.fields.field_names import is_possible, names_and_groups
 
 RECORDS = {"EnvelopeRecord": 1, "ApplicationRecord": 2, "NewsPhoto": 3, "PreObjectData": 7, "ObjectData": 8, "PostObjectData": 9}
@@ -61,7 +61,7 @@ WRITTEN = """-IFD0:Artist=A -ExifIFD:FNumber=8 -ExifIFD:CreateDate=2019:03:12 -E
 def picture(folder):
     put(folder, {"a.jpg": SMALL_JPEG})
     tool(folder, "exiftool", "-q", "-overwrite_original", *WRITTEN.split(), "a.jpg")
-    return exifnorm_pictures.read(folder / "a.jpg")
+    return exifnorm.read(folder / "a.jpg")
 
 
 @needs("exiftool", "exiv2")
@@ -83,7 +83,7 @@ def test_an_exact_name_comes_first(folder):
     put(folder, {"a.jpg": SMALL_JPEG})
     words = "-XMP-xmp:CreateDate=2001 -XMP-exif:DateTimeDigitized=2002 -XMP-dc:title=T"
     tool(folder, "exiftool", "-q", "-overwrite_original", *words.split(), "a.jpg")
-    picture = exifnorm_pictures.read(folder / "a.jpg")
+    picture = exifnorm.read(folder / "a.jpg")
     assert (picture["xmp:CreateDate"], picture["DateTimeDigitized"], picture["XMP:title"]) == ("2001", "2002", "T")
 
 

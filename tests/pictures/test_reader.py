@@ -13,7 +13,7 @@ import pytest
 from studio import TOP, needs
 from test_api import BEFORE, BOWL, FORMATS, Unseekable, facts
 
-import exifnorm_pictures as pictures
+from exifnorm import pictures
 
 # Each event by which Python starts a process
 WATCHED = """
@@ -21,7 +21,7 @@ import json, sys
 events = []
 STARTS = ("subprocess.", "os.system", "os.exec", "os.fork", "os.posix_spawn", "os.spawn", "pty.")
 sys.addaudithook(lambda event, words: events.append(str(words and words[0])) if event.startswith(STARTS) else None)
-import exifnorm_pictures as pictures
+from exifnorm import pictures
 results = []
 with pictures.Reader(programs=sys.argv[1] == "with") as reader:
     for path in sys.argv[2:]:

@@ -6,7 +6,6 @@ import re
 import pytest
 
 import exifnorm
-import exifnorm_pictures
 from exifnorm_pictures.extract.formats import xmp_file
 from exifnorm_pictures.extract.formats.packet_start import begins_packet
 from exifnorm_pictures.extract.formats.streams import HEAD
@@ -68,9 +67,9 @@ def is_accepted(packet):
 @example(b"\0\xef\xbb\xbf \xef\xbb\xbf" + LONG + BARE)
 def test_what_the_library_accepts_is_read(packet):
     if is_accepted(packet):
-        pictures = [exifnorm_pictures.read_bytes(it, name=name) for it, name in ((packet, "a.xmp"), (b"\n" + packet, "b.XMP"))]
+        pictures = [exifnorm.read_bytes(it, name=name) for it, name in ((packet, "a.xmp"), (b"\n" + packet, "b.XMP"))]
         assert [(it.type, it.refusals, it.not_read) for it in pictures] == [("XMP", (), ())] * 2
-        assert exifnorm_pictures.compare(*pictures).same is True
+        assert exifnorm.compare(*pictures).same is True
 
 
 ENCODINGS = ("utf-16-le", "utf-16-be", "utf-32-le", "utf-32-be")  # of a packet, beside UTF-8 (XMP part 1, 7.1)
@@ -84,11 +83,11 @@ def test_it_is_read_in_each_encoding(encoding, packet):
     """With a byte order mark, and without one if its first character shows what it is in (XML 1.0, F.1)."""
     text = packet.decode().lstrip("\ufeff\0 \t\r\n")
     if is_accepted(packet):
-        expected = exifnorm_pictures.read_bytes(packet, name="a.xmp")
+        expected = exifnorm.read_bytes(packet, name="a.xmp")
         for other in ("\ufeff" + text, "\ufeff \ufeff\n" + text, text):
-            read = exifnorm_pictures.read_bytes(other.encode(encoding), name="b.xmp")
+            read = exifnorm.read_bytes(other.encode(encoding), name="b.xmp")
             assert (read.type, read.refusals, read.not_read) == ("XMP", (), ())
-            assert exifnorm_pictures.compare(read, expected).same is True
+            assert exifnorm.compare(read, expected).same is True
 
 
 def test_the_law_is_about_most_packets():
@@ -321,5 +320,5 @@ def test_boxes():
         (b"<?xpacket begin='' id='W5M0MpCehiHzreSzNTczkc9d'?>\n", ["xmp"]),
         (b"<gml/>", []),
     ):
-        picture = exifnorm_pictures.read_bytes(jp2(box(b"xml ", xml)), name="a.jp2")
+        picture = exifnorm.read_bytes(jp2(box(b"xml ", xml)), name="a.jp2")
         assert ([it.kind for it in picture.blocks], bool(picture.not_read)) == (kinds, not kinds)

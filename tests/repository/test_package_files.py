@@ -40,7 +40,7 @@ class TestDebianLists:
         "lib/MACHINE/pkgconfig/exifnorm.pc": "libexifnorm-dev",
         "lib/python3/dist-packages/exifnorm/__init__.py": "python3-exifnorm",
         "lib/python3/dist-packages/exifnorm/py.typed": "python3-exifnorm",
-        "lib/python3/dist-packages/exifnorm_pictures/py.typed": "exifnorm-pictures",
+        "lib/python3/dist-packages/exifnorm_pictures/py.typed": "python3-exifnorm",
         "lib/python3/dist-packages/exifnorm_pictures/extract/formats/jpeg.py": "exifnorm-pictures",
         f"lib/python3/dist-packages/exifnorm-{VERSION}.dist-info/METADATA": "python3-exifnorm",
         "share/doc/exifnorm/FORMAT.md": "exifnorm",

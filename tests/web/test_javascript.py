@@ -16,7 +16,6 @@ import npm
 import pytest
 
 import exifnorm
-import exifnorm_pictures
 import made_files as made
 from changed import changed
 from commands import TOP, run
@@ -236,7 +235,7 @@ def test_pictures_are_those_of_exifnorm_pictures(node, module, checks):
     """The samples in each format: texts by name, captions by label, when they were taken, and what is refused."""
     files = sorted(path for path in TOP.glob("samples/*/*/*") if path.is_file())
     for path, found in zip(files, json.loads(node("--input-type=module", "-e", READ, *files, folder=module))):
-        picture, texts = exifnorm_pictures.read(path), {}
+        picture, texts = exifnorm.read(path), {}
         for field in picture.fields:
             texts.setdefault(field.name, []).append(field.text)
         due = {name: "; ".join(some) for name, some in texts.items()}
@@ -321,7 +320,7 @@ def test_names_that_each_object_has(node, module, folder):
         files[-1].write_bytes(picture(xmp_segment(packet.encode())))
     found, plain = map(json.loads, node("--input-type=module", "-e", f"{READ}\n{COUNTS}", *files, folder=module).splitlines())
     assert plain == json.loads(node("-e", COUNTS))
-    due = {it.name for it in exifnorm_pictures.read(files[0]).fields}
+    due = {it.name for it in exifnorm.read(files[0]).fields}
     assert {*found[0]["fields"]} == {*found[0]["texts"]} == due and len(due) == 2 * len(EVERY)
 
 

@@ -16,7 +16,6 @@ import pytest
 from words import causes
 
 import exifnorm
-import exifnorm_pictures
 import jpegs
 import made_files as made
 from browser import PATIENCE
@@ -153,7 +152,7 @@ def test_pairs_of_samples_are_answered_as_by_exifnorm_pictures(browser, checks):
     """The same fields differ, with the same words. A refused block is compared by exifnorm_pictures after a repair, and never here."""
     for first, second in combinations(sorted(SAMPLES.glob("*/*/*.jpg")), 2):
         browser.ask("document.getElementById('anew').click()")
-        title, expected = compare(browser, first, second), [*differences(exifnorm_pictures.compare(first, second))]
+        title, expected = compare(browser, first, second), [*differences(exifnorm.compare(first, second))]
         if REFUSED.name in (first.name, second.name):
             checks.check(f"{first} {second}: {title}", title == ("Different" if rows(browser, "What differs") else "Refused"))
             checks.check(f"{first} {second}", all(row in expected for row in rows(browser, "What differs")))
@@ -171,7 +170,7 @@ def test_made_pairs_differ_in_the_fields_that_exifnorm_pictures_has(browser, fol
         paths = put(folder, *(picture(exif(block), iptc(record)) for block, record in (first, second)))
         browser.ask("document.getElementById('anew').click()")
         checks.equal(number, compare(browser, *paths), "Different")
-        due = [name for name, *_ in differences(exifnorm_pictures.compare(*paths))]
+        due = [name for name, *_ in differences(exifnorm.compare(*paths))]
         checks.equal(number, [row[0] for row in rows(browser, "What differs")], due)
 
 
@@ -352,10 +351,10 @@ def test_pairs_with_xmp_are_answered_as_by_exifnorm_pictures(browser, folder, ch
     while browser.ask("document.querySelector('.more')?.click() === undefined && document.querySelector('.more') !== null"):
         pass
     found = {row[0]: row[1:] for row in rows(browser, "All pictures")}
-    known = [exifnorm_pictures.read(path) for path in put(folder, *some)]
+    known = [exifnorm.read(path) for path in put(folder, *some)]
     for number, other in pairs:
         verdict, details = found[f"{number}-{other}.jpg"]
-        comparison = exifnorm_pictures.compare(known[number], known[other])
+        comparison = exifnorm.compare(known[number], known[other])
         name = f"{number} {other}: {verdict}, {details}; {comparison.result}: {comparison.note}"
         checks.check(name, verdict != "the same" or comparison.same is True)
         checks.check(name, verdict != "different" or comparison.same is not True)
@@ -382,7 +381,7 @@ def test_hostile_packets(browser, folder, checks):
     browser.ask("document.querySelector('[data-filter=all]').click()")
     found = {row[0]: row[1:] for row in rows(browser, "All pictures")}
     for name, (verdict, details) in found.items():
-        comparison = exifnorm_pictures.compare(folder / "first" / name, folder / "second" / name)
+        comparison = exifnorm.compare(folder / "first" / name, folder / "second" / name)
         checks.check(f"{name}: {verdict}, {details}; {comparison.note}", verdict != "the same" or comparison.same is True)
         checks.check(f"{name}: {verdict}, {details}; {comparison.note}", verdict != "different" or comparison.same is False)
     verdicts = [verdict for verdict, _ in found.values()]
@@ -396,7 +395,7 @@ def test_words_for_xmp_are_those_of_exifnorm_pictures(browser, folder, checks):
     for one, other in combinations(some, 2):
         paths = put(folder, one, other)
         browser.ask("document.getElementById('anew').click()")
-        title, due = compare(browser, *paths), sorted(differences(exifnorm_pictures.compare(*paths)))
+        title, due = compare(browser, *paths), sorted(differences(exifnorm.compare(*paths)))
         found = sorted(rows(browser, "What differs"))
         checks.equal(f"{title}: {found}", [row[0] for row in found], [row[0] for row in due] if title == "Different" else [])
         for row, words in zip(found, due):
@@ -854,7 +853,7 @@ def test_samples_in_other_formats(browser, checks):
     for first in sorted(path for path in SAMPLES.glob("before/*/*") if path.suffix != ".jpg"):
         second = SAMPLES / "after" / first.relative_to(SAMPLES / "before")
         browser.ask("document.getElementById('anew').click()")
-        title, comparison = compare(browser, first, second), exifnorm_pictures.compare(first, second)
+        title, comparison = compare(browser, first, second), exifnorm.compare(first, second)
         checks.equal(first.name, title, "Same Exif, IPTC and XMP" if comparison.same else "Different")
         checks.equal(first.name, rows(browser, "What differs"), [*differences(comparison)])
 

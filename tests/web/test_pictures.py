@@ -15,7 +15,7 @@ from commands import TOP, run
 from made_museum import first_night, second_night
 from pairs import DIFFERENT, SAME, UNDECIDED
 
-import exifnorm_pictures
+import exifnorm
 from exifnorm_pictures.comparison import two_pictures
 from exifnorm_pictures.comparison.edits import PROGRAMS, edits_of
 import made_files as made
@@ -83,7 +83,7 @@ def test_pairs_whose_relation_is_known(answers, checks, record_property):
 
 def status_of(first, second):
     """What the program says of two pictures in memory."""
-    same = exifnorm_pictures.compare(*map(exifnorm_pictures.read_bytes, (first, second))).same
+    same = exifnorm.compare(*map(exifnorm.read_bytes, (first, second))).same
     return {True: SAME, False: DIFFERENT, None: UNDECIDED}[same]
 
 
@@ -103,8 +103,8 @@ def test_odd_heads(answers, checks, record_property):
 def blocks_of(octets, name):
     """The kind and the digest of each block that the program finds; none of what it can't read."""
     try:
-        found = exifnorm_pictures.read_bytes(octets, name=name).blocks
-    except (exifnorm_pictures.NoPicture, exifnorm_pictures.NotReadable):
+        found = exifnorm.read_bytes(octets, name=name).blocks
+    except (exifnorm.NoPicture, exifnorm.NotReadable):
         return []
     return sorted([it.kind, hashlib.sha256(it.data).hexdigest()] for it in found)
 
@@ -176,7 +176,7 @@ for (const line of readFileSync(process.argv[1], "ascii").split("\\n")) {
 
 def edits_by_program(first, second):
     """The names and the notes of the edits; those of programs count only if there are no others."""
-    records = [exifnorm_pictures.read_bytes(it).record for it in (first, second)]
+    records = [exifnorm.read_bytes(it).record for it in (first, second)]
     edits = edits_of(two_pictures.compare(*records, None).compared.changes)
     return sorted([it.name, it.note] for it in edits if it.name != PROGRAMS or len(edits) == 1)
 
