@@ -1,9 +1,4 @@
-#!/usr/bin/env python3
-"""Writes crates/README.md: of each crate the first paragraph of its lib.rt or main.rt, what it uses and exports, and its definitions.
-
-  packaging/crates_page.py            writes the page
-  packaging/crates_page.py --check    ends with 1 if the page is another one
-"""
+"""crates/README.md: of each crate the first paragraph of its lib.rt or main.rt, what it uses and exports, and its definitions."""
 
 from __future__ import annotations
 
@@ -12,7 +7,7 @@ import sys
 from pathlib import Path
 
 CRATES = Path(__file__).resolve().parent.parent / "crates"
-PAGE, LIST = CRATES / "README.md", CRATES.parent / "crates.txt"
+LIST = CRATES.parent / "crates.txt"
 USED = re.compile(r"(?m)^(?:pub )?use Rattle\.(px_\w+)\.specs\.([A-Z]\w*)\b")
 # from the ground up
 GROUPS = {
@@ -27,7 +22,7 @@ GROUPS = {
 }
 HEAD = """# The crates
 
-This page is printed by `python3 packaging/crates_page.py`. A crate uses only crates to its left in its row of this map, and crates in the rows below:
+This page is printed by `packaging/pages.py`. A crate uses only crates to its left in its row of this map, and crates in the rows below:
 
 ```
 {}
@@ -110,16 +105,3 @@ def page() -> str:
     for title, names in GROUPS.items():
         parts += [f"\n## {title}\n", *(section(it, uses[it]) for it in names.split())]
     return "".join(parts)
-
-
-def main(words: list[str]) -> int:
-    if words not in ([], ["--check"]):
-        sys.exit(__doc__)
-    if words:
-        return int(not PAGE.exists() or PAGE.read_text(encoding="utf-8") != page())
-    PAGE.write_text(page(), encoding="utf-8")
-    return 0
-
-
-if __name__ == "__main__":
-    sys.exit(main(sys.argv[1:]))

@@ -10,8 +10,8 @@ from made_more_files import gif, gif_xmp, psd
 from studio import TOP, put
 from test_list import picture
 
-with open(os.path.join(TOP, "docs", "JSON.md"), encoding="utf-8") as page:
-    ROWS = re.findall(r"^\| (\w+) \| `(\w+)`", page.read().partition("\n## report\n")[2].partition("\n## ")[0], re.M)
+with open(os.path.join(TOP, "python/exifnorm_pictures/output.schema.json"), encoding="utf-8") as schema:
+    OBJECTS = json.load(schema)["$defs"]
 REFUSED = {
     "Exif": jpeg(app1(b"II*\0\xff\xff\0\0")),
     "IPTC": jpeg(app13(resource(0x0404, b"\x1c\x02\x05\x00\x09a"))),
@@ -48,7 +48,7 @@ def test_the_records_of_the_report(folder, called):
     put(folder, {"p/a.jpg": picture([("title", "Vase")]), "p/h.jpg": names["b"]})
     called("index", "p", "--catalogue", "c", "--quiet")
     found = [json.loads(it) for it in called("report", "c", "--since", "old", "--json")[1].splitlines()]
-    keys = dict(ROWS)
+    keys = {it.partition("-")[2]: list(OBJECTS[it]["properties"])[2] for it in OBJECTS if it.startswith("report-")}
     assert {it["record"] for it in found} == keys.keys() - {"unknown"}
     assert not [it for it in found if keys[it["record"]] not in it]
 

@@ -29,7 +29,6 @@ class Documents(WithPictures):
         tool(self.folder, "exiftool", "-q", "-overwrite_original", "-Copyright=The Museum", os.path.join(after, "first.jpg"))
 
     def test_refusals_are_the_programs_own_texts(self):
-        self.assertEqual(read(os.path.join(TOP, "docs", "REFUSALS.md")).decode(), causes.page())
         self.assertEqual(list(causes.CAUSES), list(BLOCKS))
 
     def test_what_is_not_compared(self):
@@ -38,14 +37,6 @@ class Documents(WithPictures):
 
         page = read(os.path.join(TOP, "docs", "COMPARED.md")).decode()
         self.assertIn(f"these segments of a JPEG: {', '.join(words for *_, words in NOT_COMPARED)}.\n", page)
-
-    def test_the_formats(self):
-        """The page has the tables of the readers."""
-        from exifnorm_pictures.extract import readers
-
-        page = read(os.path.join(TOP, "docs", "COMPARED.md")).decode()
-        for it in (readers.table(), readers.table_of_parts()):
-            self.assertTrue(f"\n\n{it}\n" in page, f"COMPARED has another table than\n{it}")
 
     def test_each_command_is_shown(self):
         """By an example in its help, an entry of the manual page, and a command of RECIPES, which tests run."""

@@ -261,6 +261,3 @@ def test_the_page_has_the_keys_of_the_schema():
     page = (Path(TOP) / "docs" / "JSON.md").read_text(encoding="utf-8")
     described = set(re.findall(r"[\w]+", " ".join(re.findall(r"`([^`]*)`", page))))
     assert set(keys(SCHEMA)) - described == set()
-    for name in set(re.findall(r"(?m)^\| `([^|]*)` \|", page)):
-        for word in re.findall(r"[a-z_0-9]+", name):
-            assert word in {*keys(SCHEMA), "hex", "sha256"}, name

@@ -8,6 +8,7 @@ from pathlib import Path
 from typing import Dict, Iterator, List, Set, Tuple
 
 import crates_page
+import pages
 import pytest
 
 TOP = Path(__file__).resolve().parent.parent.parent
@@ -191,7 +192,6 @@ def test_promises_are_quoted_as_they_are() -> None:
 
 def test_what_must_be_read_is_all_and_in_order() -> None:
     """The page of the crates lists all definitions; each follows those that it uses, and none uses the words of single calls."""
-    assert crates_page.main(["--check"]) == 0
     listed = definition_files()
     there = {(it.parent.parent.name, it.stem) for it in TOP.glob("crates/px_*/specs/[A-Z]*.antt")} - {
         (it.name, "Lib") for it in TOP.glob("crates/*")
@@ -203,5 +203,7 @@ def test_what_must_be_read_is_all_and_in_order() -> None:
         seen.add((crate, name))
 
 
-def test_examples_of_the_page_of_the_crates() -> None:
-    assert not doctest.testmod(crates_page).failed
+def test_what_is_printed() -> None:
+    """Each page and each table that packaging/pages.py prints."""
+    assert pages.main(["--check"]) == 0
+    assert not doctest.testmod(crates_page).failed + doctest.testmod(pages).failed

@@ -1,4 +1,4 @@
-"""The tables of an export, which docs/CATALOGUE.md describes column by column."""
+"""The tables of an export. The tables of docs/CATALOGUE.md are printed from their comments."""
 
 from __future__ import annotations
 
@@ -16,100 +16,180 @@ VERSION = 2
 _ROWS = 1000  # that are written at once, or fewer if they are long
 _CACHE = 8_000  # kB
 
-SCHEMA = """
+# Of each table its columns, each after the comment that explains it and those that follow without
+# one. An export has these comments too: `.schema` of the sqlite3 shell prints them.
+SCHEMA = r"""
 CREATE TABLE about (
+    -- `schema` (the version of the tables), `exifnorm` (the version that exported), `exported`
+    -- (when, in UTC), `catalogue` (its path), `indexed` (when the last run of `index` began),
+    -- `indexed by` (its version of exifnorm)
     key TEXT PRIMARY KEY,
+    -- a text
     value TEXT NOT NULL
 ) WITHOUT ROWID;
 CREATE TABLE pictures (
+    -- a number; the other tables have it as `picture`. In the next export another picture may have
+    -- it
     id INTEGER PRIMARY KEY,
+    -- the absolute path. If it isn't UTF-8, bytes are escaped as `\xff`, and a backslash as `\\`
     path TEXT NOT NULL,
+    -- 1 for such a path, else 0
     path_is_escaped INTEGER NOT NULL,
+    -- the bytes of such a path, else NULL
     path_bytes BLOB,
+    -- the folder that was indexed
     folder TEXT NOT NULL,
+    -- the format: JPEG, PNG, WEBP, TIFF, or ExifTool's word
     type TEXT,
+    -- `accepted`: all blocks were read; `refused`: a block is refused or unreadable; `no metadata`:
+    -- there is no block; `damaged`: the file is cut off, and what is left has no block; `not read`:
+    -- the file wasn't read
     state TEXT NOT NULL,
+    -- why a file wasn't read, in a word and in a sentence
     problem TEXT,
     detail TEXT,
+    -- bytes of the file
     size INTEGER,
+    -- the time of the last change of the file, in UTC: `2024-05-02 08:12:33`
     modified TEXT,
+    -- a SHA-256 of the meaning of its blocks of that kind: equal exactly if they mean the same.
+    -- NULL if there is no block, if one is refused, or if one may be missing because the file is
+    -- cut off
     exif TEXT,
     iptc TEXT,
     xmp TEXT,
+    -- with `index --pixels`, a digest of the bytes from which the pixels are decoded. Else NULL
     coded_picture TEXT,
+    -- with `index --pixels`, SHA-256 of the file, as `sha256sum` prints it. Else NULL
     sha256 TEXT,
+    -- where the file is cut off, as `the file ends inside the segment at 2000` or `the file ends
+    -- inside its picture`; with `index --pixels` also what else is damaged in the picture. Else
+    -- NULL
     damage TEXT,
+    -- where it was taken, in degrees, north and east positive, by Exif or XMP; NULL if a part of
+    -- the position is missing
     latitude REAL,
     longitude REAL
 );
 CREATE TABLE blocks (
+    -- the picture, and the number of the block in it
     picture INTEGER NOT NULL REFERENCES pictures(id),
     block INTEGER NOT NULL,
+    -- `exif`, `iptc` or `xmp`
     kind TEXT NOT NULL,
+    -- which block it is: `Exif`, `second Exif`, `Exif of page 2` ..
     name TEXT NOT NULL,
+    -- where it is in the file
     source TEXT NOT NULL,
+    -- the program that took it out: `own`, `exiftool` or `exiv2`
     extractor TEXT NOT NULL,
+    -- `accepted`, `refused`, `unreadable`, `too long` or `failed`
     status TEXT NOT NULL,
+    -- why it is not accepted (REFUSALS.md), and at which byte
     cause TEXT,
     offset INTEGER,
+    -- its number of bytes
     length INTEGER NOT NULL,
+    -- the repair in memory after which its fields were read, in words
     repair TEXT,
+    -- SHA-256 of what it means, if it is accepted
     digest TEXT,
+    -- 1 if it has a MakerNote, else 0. Its values are in the table maker_notes
     maker_note INTEGER NOT NULL,
     PRIMARY KEY (picture, block)
 ) WITHOUT ROWID;
 CREATE TABLE fields (
+    -- the block, and the number of the field in it
     picture INTEGER NOT NULL REFERENCES pictures(id),
     block INTEGER NOT NULL,
     position INTEGER NOT NULL,
+    -- the name with its group as ExifTool has it: `IFD0:Artist`, `ExifIFD:ISO`, `GPS:GPSLatitude`,
+    -- `IPTC:Keywords`, `XMP-dc:title`
     name TEXT NOT NULL,
+    -- `main`, `exif`, `interop`, `gps`, `thumb`, `iptc` or `xmp`
     directory TEXT NOT NULL,
+    -- what identifies the field there, whatever its name is: the tag as `0x013b`, the DataSet as
+    -- `2:25`, or the property
     key TEXT NOT NULL,
+    -- the type of the standard, such as `ASCII`, and the number of its elements
     type TEXT NOT NULL,
     count INTEGER NOT NULL,
+    -- the value in plain words: 1/125 s, turn 90° clockwise to view, 2024-05-02 08:12:33
     value TEXT NOT NULL,
+    -- the value exactly, as `exifnorm-pictures show` prints it: 10/1250. Of a long value only the
+    -- beginning and a SHA-256
     exact TEXT NOT NULL,
+    -- the value as a number, if it is one number: `0.008`
     number REAL,
     PRIMARY KEY (picture, block, position)
 ) WITHOUT ROWID;
 CREATE TABLE captions (
+    -- the picture, and the number of the text in it
     picture INTEGER NOT NULL REFERENCES pictures(id),
     position INTEGER NOT NULL,
+    -- `title`, `caption`, `headline`, `creator`, `creator's job`, `credit`, `source`, `copyright`,
+    -- `keywords`, `job identifier`, `date created`, `location`, `city`, `state`, `country`,
+    -- `instructions`, `usage terms` or `comment`
     label TEXT NOT NULL,
+    -- `Exif`, `IPTC` or `XMP`
     standard TEXT,
+    -- the field that has the text: `IPTC:Caption-Abstract`
     field TEXT,
+    -- which block it is in; NULL for the first one of its kind
     block TEXT,
+    -- the text; a list such as keywords has a row for each. NULL if it could not be read
     text TEXT,
+    -- how the character set was found out, if it isn't declared
     guess TEXT,
+    -- 1 for a caption or comment that a camera or a program writes by itself, such as `OLYMPUS
+    -- DIGITAL CAMERA`; else 0
     own INTEGER,
     PRIMARY KEY (picture, position)
 ) WITHOUT ROWID;
 CREATE TABLE maker_notes (
+    -- the picture, and the number of the value in it
     picture INTEGER NOT NULL REFERENCES pictures(id),
     position INTEGER NOT NULL,
+    -- the name with its group as ExifTool has it: `Canon:SerialNumber`, `Nikon:ISO`
     name TEXT NOT NULL,
+    -- the value as ExifTool prints it with `-n`; of a long one the beginning and a SHA-256
     value TEXT NOT NULL,
     PRIMARY KEY (picture, position)
 ) WITHOUT ROWID;
 CREATE TABLE conflicts (
+    -- the picture, and the label
     picture INTEGER NOT NULL REFERENCES pictures(id),
     label TEXT NOT NULL,
+    -- `different` for a contradiction; `another order`, `empty`, `camera's text`, `joined`, `cut`
+    -- or `character set` for a difference of form
     kind TEXT NOT NULL,
+    -- the difference in words, or NULL
     detail TEXT,
     PRIMARY KEY (picture, label)
 ) WITHOUT ROWID;
 CREATE TABLE not_read (
+    -- the picture, and the number of the part
     picture INTEGER NOT NULL REFERENCES pictures(id),
     position INTEGER NOT NULL,
+    -- the part in words
     part TEXT NOT NULL,
     PRIMARY KEY (picture, position)
 ) WITHOUT ROWID;
 CREATE TABLE groups (
+    -- the number of the group
     number INTEGER NOT NULL,
+    -- what it rests on: `meaning`, `bytes` or `repair`, see COMPARED.md
     kind TEXT NOT NULL,
+    -- what is the same, in a sentence
     description TEXT NOT NULL,
+    -- the picture
     picture INTEGER NOT NULL REFERENCES pictures(id),
+    -- 0 for a file that you can delete, because the file with 1 has the same metadata and the same
+    -- picture: neither is damaged, and they have the same `coded_picture`, and the file with 1 all
+    -- other parts of the one with 0, or they have the same bytes. NULL for every other picture; for
+    -- a file that is no picture, such as an XMP file, and may belong to one; and with `--no-look`
     keep INTEGER,
+    -- which picture it equals, or why `keep` is NULL
     keep_note TEXT,
     PRIMARY KEY (number, picture)
 ) WITHOUT ROWID;

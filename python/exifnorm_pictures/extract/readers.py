@@ -206,7 +206,3 @@ def table_of_parts() -> str:
     """The table of other parts for docs/COMPARED.md."""
     rows = ((it.name, it.by_bytes, it.not_read, it.not_compared) for it in FORMATS)
     return _lines(("Format", "Compared by its bytes", "Not read, so never the same", "Not compared"), *(it for it in rows if any(it[1:])))
-
-
-if __name__ == "__main__":
-    print(table(), table_of_parts(), sep="\n", end="")

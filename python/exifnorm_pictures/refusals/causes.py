@@ -365,7 +365,3 @@ def _wrapped(text: str) -> str:
 
 def _filled(paragraph: str) -> str:
     return " ".join(paragraph.split())
-
-
-if __name__ == "__main__":
-    print(page(), end="")

@@ -1,0 +1,117 @@
+#!/usr/bin/env python3
+"""Prints the pages, and the tables of pages, whose words are in the sources.
+
+  packaging/pages.py            writes them
+  packaging/pages.py --check    names those that differ from what it would write, and ends with 1
+"""
+
+from __future__ import annotations
+
+import json
+import re
+import sys
+from pathlib import Path
+from typing import Any, Callable, Dict, Iterator, List, Tuple
+
+import crates_page
+
+TOP = Path(__file__).resolve().parent.parent
+sys.path.insert(0, str(TOP / "python"))
+
+from exifnorm_pictures.export.tables import SCHEMA as TABLES  # noqa: E402
+from exifnorm_pictures.extract import readers  # noqa: E402
+from exifnorm_pictures.refusals import causes  # noqa: E402
+
+OBJECTS = TOP / "python" / "exifnorm_pictures" / "output.schema.json"
+PAGES: Dict[str, Callable[[], str]] = {
+    "crates/README.md": crates_page.page,
+    "docs/REFUSALS.md": causes.page,
+}
+WITH_TABLES = ("docs/CATALOGUE.md", "docs/COMPARED.md", "docs/JSON.md")
+# a comment that names a table, and the table
+MARKED = re.compile(r"(<!-- printed: ([\w-]+) -->\n\n)(?:\|.*\n)*")
+Rows = Iterator[Tuple[str, str]]
+
+
+def table(title: str, rows: Rows) -> str:
+    r"""A table of names, of which those with the same words share a row.
+
+    >>> table("Key", iter([("a", "one"), ("b", "two"), ("c", "one")]))
+    '| Key | Value |\n|---|---|\n| `a`, `c` | one |\n| `b` | two |\n'
+    """
+    names: Dict[str, List[str]] = {}
+    for name, words in rows:
+        names.setdefault(words, []).append(f"`{name}`")
+    cells = [f"| {', '.join(several)} | {words} |\n" for words, several in names.items()]
+    return f"| {title} | Value |\n|---|---|\n" + "".join(cells)
+
+
+def keys(schema: Dict[str, Any], before: str = "") -> Rows:
+    """The keys of an object that have a description, with those inside them.
+
+    >>> list(keys({"properties": {"a": {"description": "of:", "enum": ["x", "y"]}, "b": {}}}))
+    [('a', 'of: `x` or `y`')]
+    """
+    for name, value in schema.get("properties", {}).items():
+        if words := value.get("description"):
+            if words.endswith(":"):
+                *some, last = (f"`{it}`" for it in value["enum"])
+                words += f" {', '.join(some)} or {last}"
+            yield before + name, words
+        yield from keys(value.get("items", {}), f"{before}{name}[].")
+
+
+def of_objects() -> Dict[str, str]:
+    """The tables of the objects of --json, by the names that the schema has for them."""
+    schemas = json.loads(OBJECTS.read_text(encoding="utf-8"))["$defs"]
+    commands = [name.partition("-")[0] for name in schemas]
+    found = {}
+    for name, schema in schemas.items():
+        command, _, record = name.partition("-")
+        title = f"Key of `{record}`" if commands.count(command) > 1 else "Key"
+        found[name] = table(title, keys(schema))
+    return found
+
+
+def columns(lines: str) -> Rows:
+    r"""The columns of a table of SQL, each with the comment before it or before those before it.
+
+    >>> list(columns("    -- a\n    -- b\n    one TEXT,\n    two TEXT,\n    PRIMARY KEY (one)\n"))
+    [('one', 'a b'), ('two', 'a b')]
+    """
+    for comment, following in re.findall(r"((?:    -- .*\n)+)((?:    [a-z].*\n)*)", lines):
+        words = " ".join(comment.replace("-- ", "").split())
+        for name in re.findall(r"(?m)^    (\w+)", following):
+            yield name, words
+
+
+def of_tables() -> Dict[str, str]:
+    """The tables of the columns of an export, by the names of its tables."""
+    found = re.findall(r"(?ms)^CREATE TABLE (\w+) \(\n(.*?)^\)", TABLES)
+    return {name: table("Column", columns(lines)) for name, lines in found}
+
+
+def printed(page: str) -> str:
+    """What a page is to have."""
+    if page in PAGES:
+        return PAGES[page]()
+    of_formats = {"formats": readers.table(), "parts": readers.table_of_parts()}
+    known = {**of_formats, **of_objects(), **of_tables()}
+    text = (TOP / page).read_text(encoding="utf-8")
+    return MARKED.sub(lambda it: it[1] + known[it[2]], text)
+
+
+def main(words: List[str]) -> int:
+    if words not in ([], ["--check"]):
+        sys.exit(__doc__)
+    pages = {TOP / page: printed(page) for page in (*PAGES, *WITH_TABLES)}
+    others = [it for it, text in pages.items() if it.read_text(encoding="utf-8") != text]
+    for it in others:
+        print(it.relative_to(TOP), "is not as printed" if words else "is written")
+        if not words:
+            it.write_text(pages[it], encoding="utf-8")
+    return int(bool(words and others))
+
+
+if __name__ == "__main__":
+    sys.exit(main(sys.argv[1:]))
