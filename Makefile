@@ -73,7 +73,7 @@ packages = $(eval packages := $(patsubst python/%/__init__.py,%,$(shell find pyt
 pages = $(wildcard docs/*.1 docs/*.3)
 headers = $(addprefix $(built)/,$(notdir $(wildcard crates/px_c/include/*.h)))
 # the licences, and the documents that installed pages, documents and modules refer to, with their pictures
-papers = LICENSE-APACHE LICENSE-MIT CHANGELOG.md $(addprefix docs/,BLOCKS.md CATALOGUE.md COMPARED.md DECISIONS.md FORMAT.md JSON.md LARGE-ARCHIVES.md PYTHON.md RECIPES.md REFUSALS.md TUTORIAL.md) docs/one-form.svg $(wildcard docs/*.png)
+papers = LICENSE-APACHE LICENSE-MIT CHANGELOG.md $(addprefix docs/,BLOCKS.md CATALOGUE.md COMPARED.md DECISIONS.md FORMAT.md JSON.md LARGE-ARCHIVES.md PYTHON.md RECIPES.md REFUSALS.md TUTORIAL.md) $(wildcard docs/*.svg docs/*.png)
 # all that is installed, before it is copied to its folder
 stage = out/stage
 

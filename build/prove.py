@@ -41,7 +41,10 @@ TOP = Path(__file__).resolve().parent.parent
 MEMORY = 3 << 30
 SIDE_BY_SIDE, JOBS = 3, 4
 
-NO_TOOLCHAIN = "this has to be built, and there is no command rt: put the Rattle toolchain's bin folder on the PATH"
+NO_TOOLCHAIN = (
+    "this has to be built, and there is no command rt: put the Rattle toolchain's bin folder on"
+    " the PATH; without it use a download, or open docs/exifnorm.html in a browser"
+)
 STOPS = (signal.SIGHUP, signal.SIGINT, signal.SIGTERM)
 
 # The system may give a signal to a thread that waits for a compiler. What is to be done then is done by the main thread, which that

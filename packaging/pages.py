@@ -1,5 +1,5 @@
 #!/usr/bin/env python3
-"""Prints the pages, and the tables of pages, whose words are in the sources.
+"""Prints the pages, the tables and the drawings that are made from sources.
 
   packaging/pages.py            writes them
   packaging/pages.py --check    names those that differ from what it would write, and ends with 1
@@ -14,6 +14,7 @@ from pathlib import Path
 from typing import Any, Callable, Dict, Iterator, List, Tuple
 
 import crates_page
+import drawings
 
 TOP = Path(__file__).resolve().parent.parent
 sys.path.insert(0, str(TOP / "python"))
@@ -26,6 +27,9 @@ OBJECTS = TOP / "python" / "exifnorm_pictures" / "output.schema.json"
 PAGES: Dict[str, Callable[[], str]] = {
     "crates/README.md": crates_page.page,
     "docs/REFUSALS.md": causes.page,
+    "docs/catalogue.svg": drawings.catalogue,
+    "docs/refusal.svg": drawings.refusal,
+    "docs/trust.svg": drawings.trust,
 }
 WITH_TABLES = ("docs/CATALOGUE.md", "docs/COMPARED.md", "docs/JSON.md")
 # a comment that names a table, and the table
@@ -91,12 +95,22 @@ def of_tables() -> Dict[str, str]:
     return {name: table("Column", columns(lines)) for name, lines in found}
 
 
+def matrix() -> str:
+    """What is read of each format, as signs."""
+    titles = ("Format", "Exif", "IPTC", "XMP", "Other parts", "Parts that are not read")
+    lines = [f"| {' | '.join(titles)} |", "|" + "---|" * len(titles)]
+    for it in readers.FORMATS:
+        cells = (it.exif, it.iptc, it.xmp, it.by_bytes, it.not_read)
+        lines.append(f"| {it.name} | {' | '.join('●' if cell else '–' for cell in cells)} |")
+    return "\n".join([*lines, ""])
+
+
 def printed(page: str) -> str:
     """What a page is to have."""
     if page in PAGES:
         return PAGES[page]()
     of_formats = {"formats": readers.table(), "parts": readers.table_of_parts()}
-    known = {**of_formats, **of_objects(), **of_tables()}
+    known = {"matrix": matrix(), **of_formats, **of_objects(), **of_tables()}
     text = (TOP / page).read_text(encoding="utf-8")
     return MARKED.sub(lambda it: it[1] + known[it[2]], text)
 
@@ -105,7 +119,8 @@ def main(words: List[str]) -> int:
     if words not in ([], ["--check"]):
         sys.exit(__doc__)
     pages = {TOP / page: printed(page) for page in (*PAGES, *WITH_TABLES)}
-    others = [it for it, text in pages.items() if it.read_text(encoding="utf-8") != text]
+    there = {it: it.read_text(encoding="utf-8") if it.exists() else "" for it in pages}
+    others = [it for it, text in pages.items() if there[it] != text]
     for it in others:
         print(it.relative_to(TOP), "is not as printed" if words else "is written")
         if not words:

@@ -281,6 +281,8 @@ Find out here why a block was refused, and what to do. `exifnorm-pictures explai
 picture. A block that breaks the rules (`FORMAT.md`, section 5) is refused with its first fault and the byte offset of that fault, and its
 file is never changed. `show`, `changed` and `same` also read it after a repair in memory, which is tested, and not proved.
 
+![The bytes of a refused block, in which the GPS pointer leads to a directory without entries](refusal.svg)
+
 Counts of cameras and programs, by the pictures' own Make and Software, were {MEASURED}: 232 of them have an Exif block, and 35 real
 pictures had a refused one. Readers were tried on the smallest block that has the fault: {READERS}.
 
