@@ -6,11 +6,12 @@ from html import escape
 from pathlib import Path
 from typing import Iterator, List, Sequence, Tuple
 
-REFUSED = Path(__file__).resolve().parent.parent / "samples/before/arrivals/IMG_20240502.jpg"
+TOP = Path(__file__).resolve().parent.parent
+REFUSED = TOP / "samples/before/arrivals/IMG_20240502.jpg"
 PLAIN, PROVED, TESTED, FAULT = "#eef1f5", "#cfe8cf", "#f6e0c0", "#f4b6ae"
 STYLE = (
     "text{font-family:system-ui,sans-serif;font-size:13px;fill:#222}.title{font-weight:bold}"
-    ".byte{font-family:ui-monospace,Menlo,Consolas,monospace;text-anchor:middle}"
+    ".byte,.mono{font-family:ui-monospace,Menlo,Consolas,monospace}.byte{text-anchor:middle}"
     "line{stroke:#555;stroke-width:1.5;marker-end:url(#tip)}.middle{text-anchor:middle}"
 )
 TIP = (
@@ -112,6 +113,23 @@ def trust() -> str:
             yield text(left + 24, 441, words)
 
     return drawing("Which parts are proved, and which tested or trusted", 860, 460, parts())
+
+
+def letter() -> str:
+    """The letter of nightly that RECIPES shows, which its test compares with what is printed."""
+    recipes = (TOP / "docs/RECIPES.md").read_text(encoding="utf-8")
+    _, _, shown = recipes.partition("tail -n +3 letter\n```\n\n```text\n")
+    lines = shown.partition("```")[0].splitlines()
+
+    def parts() -> Parts:
+        yield from box(10, 10, 660, ["A letter in the morning"])
+        height = 18 * len(lines) + 20
+        yield f'<rect x="10" y="44" width="660" height="{height}" fill="none" stroke="#777"/>'
+        for at, line in enumerate(lines):
+            indent = len(line) - len(line.lstrip())
+            yield text(24 + 8 * indent, 66 + 18 * at, line, "mono")
+
+    return drawing("A letter of exifnorm-pictures nightly", 680, 18 * len(lines) + 78, parts())
 
 
 # rows of 16 bytes of the refused block, and the bytes that are marked: range, colour, words

@@ -28,6 +28,7 @@ PAGES: Dict[str, Callable[[], str]] = {
     "crates/README.md": crates_page.page,
     "docs/REFUSALS.md": causes.page,
     "docs/catalogue.svg": drawings.catalogue,
+    "docs/letter.svg": drawings.letter,
     "docs/refusal.svg": drawings.refusal,
     "docs/trust.svg": drawings.trust,
 }
