@@ -1,11 +1,6 @@
-#!/usr/bin/env python3
-"""Draws docs/one-form.svg: two blocks of tests/program/cases that differ in nearly every byte, and the one normal form of both.
+"""docs/one-form.svg: two blocks of tests/program/cases that differ in nearly every byte, and the one normal form of both.
+packaging/pages.py writes it."""
 
-  docs/draw.py            writes the picture beside this file
-  docs/draw.py --check    ends with 1 where the picture there isn't the one that it would write
-"""
-
-import argparse
 import os
 import sys
 
@@ -18,7 +13,6 @@ import json
 
 from blocks import Blocks
 
-PICTURE = os.path.join(HERE, "one-form.svg")
 COLOURS = {"header": "#dbe7f6", "table": "#f3e3c3", "value": "#cfe8cf", "gap": "#f0f0f0"}
 CELL, ROW, LEFT, TOP = 30, 30, 20, 56
 COLUMNS = 8
@@ -71,21 +65,9 @@ def picture(first, second, normal):
     return "\n".join([*lines, "</svg>", ""])
 
 
-def main():
-    words = argparse.ArgumentParser(description=__doc__, formatter_class=argparse.RawDescriptionHelpFormatter)
-    words.add_argument("--check", action="store_true", help="compare, and write nothing")
-    words = words.parse_args()
+def page():
+    """What docs/one-form.svg is to have."""
     with open(os.path.join(TESTS, "program", "cases", "blocks.json"), encoding="utf-8") as it:
         blocks = Blocks(json.load(it)["blocks"])
     names = ("ASCII before its directory", "ASCII at an even offset, least first", "ASCII in normal form")
-    expected = picture(*map(blocks.named, names))
-    if words.check:
-        with open(PICTURE, encoding="utf-8") as it:
-            return 0 if it.read() == expected else 1
-    with open(PICTURE, "w", encoding="utf-8") as it:
-        it.write(expected)
-    return 0
-
-
-if __name__ == "__main__":
-    sys.exit(main())
+    return picture(*map(blocks.named, names))

@@ -9,6 +9,7 @@ from __future__ import annotations
 
 import json
 import re
+import runpy
 import sys
 from pathlib import Path
 from typing import Any, Callable, Dict, Iterator, List, Tuple
@@ -29,6 +30,7 @@ PAGES: Dict[str, Callable[[], str]] = {
     "docs/REFUSALS.md": causes.page,
     "docs/catalogue.svg": drawings.catalogue,
     "docs/letter.svg": drawings.letter,
+    "docs/one-form.svg": lambda: str(runpy.run_path(str(TOP / "docs/draw.py"))["page"]()),
     "docs/refusal.svg": drawings.refusal,
     "docs/trust.svg": drawings.trust,
 }

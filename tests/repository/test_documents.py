@@ -335,7 +335,3 @@ def test_a_manual_page_has_no_mistake_of_roff(page: Path) -> None:
             check=False,
         )
         assert (ran.stdout or "", ran.stderr) == ("", "")
-
-
-def test_the_picture_of_the_readme_is_drawn_of_the_cases() -> None:
-    assert subprocess.run([sys.executable, TOP / "docs" / "draw.py", "--check"], check=False).returncode == 0
