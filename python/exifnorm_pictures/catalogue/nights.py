@@ -218,8 +218,5 @@ def copy_over(catalogue: Catalogue, name: str, room: str) -> None:
     copy = os.path.join(room, "old")
     catalogue.copy_to(copy)
     with open(copy, "rb") as source:
-        try:
-            atomic.replace(os.fsencode(name), lambda file: shutil.copyfileobj(source, file), head_is_ours, (catalogue.name,))
-        except atomic.NotReplaced as error:
-            raise atomic.NotReplaced(atomic.not_written(name, error)) from None
+        atomic.put(name, lambda file: shutil.copyfileobj(source, file), head_is_ours, (catalogue.name,))
     os.unlink(copy)

@@ -11,8 +11,7 @@ from ..fields.packing import unpacked
 from ..model.found import NAMES
 from ..model.texts import escaped, reason
 from .options import Fields
-
-LONGEST_FILE = 1 << 20  # bytes of a file with names
+from .word_files import words_of_file
 
 
 def choice_of(fields: Fields) -> Choice:
@@ -33,16 +32,9 @@ def _of_files(names: Sequence[str]) -> Iterator[str]:
     """The names in some files: one in each line. A line that begins with # is a comment."""
     for name in names:
         try:
-            with open(name, "rb") as file:
-                octets = file.read(LONGEST_FILE + 1)
-            lines = octets.decode("utf-8-sig").splitlines()
+            yield from words_of_file(name)
         except OSError as error:
             raise UnknownField(f"{escaped(name)}: {reason(error)}") from None
-        except UnicodeDecodeError:
-            raise UnknownField(f"{escaped(name)} is no list of names in UTF-8") from None
-        if len(octets) > LONGEST_FILE:
-            raise UnknownField(f"{escaped(name)} is longer than {LONGEST_FILE:,} bytes")
-        yield from (line.strip() for line in lines if line.strip() and not line.lstrip().startswith("#"))
 
 
 Listed = Tuple[str, Sequence[Field]]  # the fields of a block, with its name if it isn't the first one of its kind

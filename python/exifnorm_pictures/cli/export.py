@@ -87,7 +87,4 @@ def _add_about(written: Tables, catalogue: Catalogue) -> None:
 def _put(text: str, name: str, kept: Sequence[str]) -> None:
     """Copies the tables to their place, where they may replace an earlier export and no other file."""
     with open(text, "rb") as whole:
-        try:
-            atomic.replace(os.fsencode(name), lambda file: shutil.copyfileobj(whole, file), head_is_ours, tuple(kept))
-        except atomic.NotReplaced as error:
-            raise atomic.NotReplaced(atomic.not_written(name, error)) from None
+        atomic.put(name, lambda file: shutil.copyfileobj(whole, file), head_is_ours, tuple(kept))

@@ -97,8 +97,5 @@ def written(name: str, session: Session) -> Iterator[Sheet]:
     yield sheet
     sheet.close()
     with open(table, "rb") as whole:
-        try:
-            atomic.replace(os.fsencode(name), lambda file: shutil.copyfileobj(whole, file), lambda _: False)
-        except atomic.NotReplaced as error:
-            raise atomic.NotReplaced(atomic.not_written(escaped(name), error)) from None
+        atomic.put(name, lambda file: shutil.copyfileobj(whole, file), lambda _: False)
     print_line(f"{escaped(name)}: {max(0, sheet.rows - 1):,} row{'s' * (sheet.rows != 2)}")

@@ -237,10 +237,7 @@ def _write_evidence(name: str, form: str, now: Catalogue) -> None:
         rows = now.rows("SELECT path, sha256, size FROM pictures WHERE sha256 != '' ORDER BY path")
         file.writelines(lines(rows, os.path.dirname(os.path.abspath(os.fsencode(name)))))
 
-    try:
-        atomic.replace(os.fsencode(name), write, lambda _: False)
-    except atomic.NotReplaced as error:
-        raise atomic.NotReplaced(atomic.not_written(escaped(name), error)) from None
+    atomic.put(name, write, lambda _: False)
 
 
 _Files = Iterable[Tuple[bytes, str, int]]  # each with its SHA-256 and its bytes

@@ -147,9 +147,6 @@ def dictionary() -> Tuple[Names, Tuple[str, ...]]:
     return names, tuple(dict.fromkeys([*printed, *(it.partition(":")[2] for it in printed)]))
 
 
-_NUMBER = re.compile(r"0x[0-9a-f]{4}|\d+:\d+")  # of a field that has a name in other programs alone: nobody means it by another one
-
-
 def _place_of(group: str, key: str, whole: str) -> Tuple[str, str]:
     return ("iptc", whole) if group.isdigit() else (group, key) if group in _DIRECTORIES[:5] and len(key) == 4 else ("xmp", whole)
 

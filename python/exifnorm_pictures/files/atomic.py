@@ -14,7 +14,7 @@ import stat
 from typing import AnyStr, BinaryIO, Callable, Iterator, Optional, Pattern, Tuple
 
 from ..model.errors import Failure
-from ..model.texts import reason
+from ..model.texts import reason, shown_path
 from . import copying, opening, rights, signals
 
 Write = Callable[[BinaryIO], None]
@@ -60,6 +60,14 @@ def replace(out: bytes, write: Write, allowed: Callable[[bytes], bool], kept: Tu
         _replace(there, write, kept)
     except OSError as error:  # the file that it names may be the one that gets its name in the end
         raise NotReplaced(reason(error)) from None
+
+
+def put(name: str, write: Write, allowed: Callable[[bytes], bool], kept: Tuple[str, ...] = ()) -> None:
+    """The same for a name of the command line, which the error names."""
+    try:
+        replace(os.fsencode(name), write, allowed, kept)
+    except NotReplaced as error:
+        raise NotReplaced(not_written(shown_path(name), error)) from None
 
 
 def _replace(there: bytes, write: Write, sources: Tuple[str, ...]) -> None:
