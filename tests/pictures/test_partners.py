@@ -5,11 +5,13 @@ import json
 import os
 import shutil
 
+import pytest
 from exifnorm_pictures.comparison.partners import File, partners
 from hypothesis import given
 from hypothesis import strategies as st
 from studio import put
 from test_list import picture
+from test_renumbered import MOVES, archive, move
 
 TYPES = {"dng": "DNG", "tif": "TIFF", "psd": "PSD", "png": "PNG", "jpg": "JPEG", "jpeg": "JPEG", "xmp": "XMP"}
 NAMES = st.builds(
@@ -71,3 +73,21 @@ def test_a_master_and_its_copies(folder, called):
     put(folder / "web", {"9.jpg": words[""]})
     first = called("changed", "masters", "web", "--match", "stem")[1].splitlines()[0]
     assert first == "No pair by name. Without a partner: 4 before, 1 after."
+
+
+@pytest.mark.parametrize("name", MOVES)
+def test_names_that_other_pictures_have_got(name, folder, called):
+    """With --match stem a name is all that counts: a picture under the name of another one is compared with that, and none has moved."""
+    moves = MOVES[name]
+    archive(folder, len(moves))
+    shutil.copytree("in", "first")
+    move(folder, moves)
+    status, lines, _ = called("changed", "first", "in", "--match", "stem", "--json")
+    *objects, summary = map(json.loads, lines.splitlines())
+    found = {it["path"]: (it["result"], it["moved_to"], it["partner"]) for it in objects if it["record"] == "picture"}
+    both = moves.keys() & set(moves.values())
+    due = {it: "different" for it in both}
+    due.update({it: "missing after" for it in moves.keys() - both})
+    due.update({it: "missing before" for it in set(moves.values()) - both})
+    assert found == {it: (result, None, None) for it, result in due.items()}
+    assert status == 1 and sum(summary["counts"].values()) == len(due)
