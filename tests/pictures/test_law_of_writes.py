@@ -198,6 +198,7 @@ COMMANDS = {
     "same p --xlsx same.xlsx": ["same.xlsx", FILE],
     "changed old c": [],
     "changed p q --csv": [],
+    "changed p q --undo undo.args": ["undo.args", FILE],
     "history p/a.jpg old c": [],
     "compare p/a.jpg q/a.jpg": [],
     "list c --with title": ASKED,

@@ -116,6 +116,7 @@ CALLS = {
         changed one archive --quiet --equal-numbers --debug --files-from some
         changed one archive --quiet --files-from some0 -0
         changed before plain --xlsx changed.xlsx
+        changed full.before full --undo undo.args --only creator --only title --only caption
         changed one/desk archive/copies --match stem
     """,
     "history": """

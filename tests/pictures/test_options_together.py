@@ -90,6 +90,7 @@ VALUES = {
     "--sidecars": "",
     "--since": "2026-01-03",
     "--state": "state",
+    "--undo": "undo.args",
     "--title": "'The museum' --html page.html",
     "--where": "'title = \"A vase\" or with caption'",
     "--whole": "",

@@ -33,6 +33,7 @@ COMMANDS = {
     "verify": ["verify", "--catalogue", "c", "--evidence", "out", "--state", "state", "--quiet", "--jobs", "1"],
     "same": ["same", "--catalogue", "c", *XLSX],
     "changed": ["changed", "c", "d", *XLSX],
+    "changed, undo": ["changed", "d", "c", "--undo", "out"],
     "history": ["history", "p/a.jpg", "c", "d"],
     "compare": ["compare", "p/a.jpg", "p/refused.jpg", *XLSX],
     "list": ["list", "c", "--with", "title", *XLSX],

@@ -9,11 +9,12 @@ import os
 import shutil
 import sys
 from collections import Counter
-from typing import Callable, Iterable, Iterator, List, Sequence
+from typing import Callable, Iterable, Iterator, List, NamedTuple, Sequence
 
 from ..catalogue.store import Catalogue, NoCatalogue, of_day
 from ..comparison import changed as changes
 from ..comparison.coded import Coded, sentence_of_coded
+from ..comparison.pairs import heads_of
 from ..comparison.summary import Summary
 from ..comparison.wording import NONE, line_of, tell_apart
 from ..fields.choosing import Choice
@@ -25,12 +26,13 @@ from ..model.results import Result
 from ..model.texts import shown_path
 from . import changed_tables
 from .choice import choice_of, listings_of, note_absent, refuse_unknown
-from .exit_codes import status_of_results
+from .exit_codes import UNKNOWN, status_of_results
 from .looking import catalogue_of, files_of, is_of_pictures
 from .names import from_list, refuse_pictures, say_unknown
 from .options import Fields, Files, Output, Run, group_of
 from .output import print_line, print_lines, say_notes, table_of
 from .summary import lines
+from .undo import Undo
 
 
 def run(arguments: argparse.Namespace) -> int:
@@ -64,20 +66,44 @@ def run(arguments: argparse.Namespace) -> int:
             bool(arguments.match),
         )
         comparisons = _then_noted(comparisons, choice, before, after)
-        listed = (it for it in comparisons if arguments.all or it.result.has_changed is not False or notes.has_news_of(it))
-        table = table_of(output, changed_tables.HEADS)
-        if table:
-            changed_tables.print_table(table, listed, choice)
-            say_notes(*notes.of_pictures())
-        elif output.json:
-            changed_tables.print_objects(listed, counts, choice, pictures)
-        elif arguments.each or arguments.all or output.exact:
-            _print_each(output.exact, listed, counts, choice, notes)
-        else:
-            _print_summary(comparisons, counts, choice, notes, bool(arguments.match))
+        undo = None
+        if arguments.undo:
+            undo = Undo(open_.enter_context(open(os.path.join(run.session.room, "undo"), "w+b")))
+            comparisons = undo.seen(comparisons)
+        form = _Form(output, arguments.each, arguments.all, bool(arguments.match))
+        _print(form, comparisons, counts, choice, notes)
+        if undo:
+            kept = [file for side in sides for file in files_of(side)]
+            said = undo.put(arguments.undo, heads_of((before, after))[1], kept)
+            say_notes(*said) if output.csv or output.json else print_lines(said)
         if names:
             say_unknown(names, _knows(before, after))
-    return status_of_results(counts)
+    return max(status_of_results(counts), UNKNOWN * bool(undo and undo.left))
+
+
+class _Form(NamedTuple):
+    """The form of the answer."""
+
+    output: Output
+    has_each: bool  # picture, in place of the summary
+    has_same: bool  # ones, too
+    by_stem: bool  # are the pictures paired
+
+
+def _print(form: _Form, comparisons: Comparisons, counts: "Counter[Result]", choice: Choice, notes: _Notes) -> None:
+    """Prints the comparisons."""
+    output = form.output
+    listed = (it for it in comparisons if form.has_same or it.result.has_changed is not False or notes.has_news_of(it))
+    table = table_of(output, changed_tables.HEADS)
+    if table:
+        changed_tables.print_table(table, listed, choice)
+        say_notes(*notes.of_pictures())
+    elif output.json:
+        changed_tables.print_objects(listed, counts, choice, notes.counts)
+    elif form.has_each or form.has_same or output.exact:
+        _print_each(output.exact, listed, counts, choice, notes)
+    else:
+        _print_summary(comparisons, counts, choice, notes, form.by_stem)
 
 
 Comparisons = Iterable[changes.Compared]

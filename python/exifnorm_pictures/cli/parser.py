@@ -341,6 +341,8 @@ def _changed_arguments(parser: argparse.ArgumentParser) -> None:
     _flag(parser, "--exact", words)
     words = "compare pictures whose names differ only in folders and endings, as a master 7.tif and its copy web/7.jpg"
     parser.add_argument("--match", choices=("stem",), metavar="stem", help=words)
+    words = "write arguments for exiftool -@ FILE, which put the earlier texts of labels back"
+    _path(parser, "--undo", "FILE", words)
     _flag(parser, "--no-exiftool", _NO_EXIFTOOL)
     _choice_arguments(parser)
     _more_arguments(parser)
@@ -567,7 +569,11 @@ _APART: Dict[str, Tuple[Tuple[str, ...], ...]] = {
     "index": (("--shards", "--catalogue"), ("--shards", "--keep-old")),
     "verify": (("--bag", "--catalogue"),),
     "list": (("-0", "--geojson", "--csv", "--xlsx", "--json"), ("-0", "--count"), ("--geojson", "--count"), ("-0", "--columns")),
-    "changed": (("--each", "--csv", "--xlsx", "--json"), ("--exact", "--csv", "--xlsx", "--json")),
+    "changed": (
+        ("--each", "--csv", "--xlsx", "--json"),
+        ("--exact", "--csv", "--xlsx", "--json"),
+        ("--match", "--undo"),
+    ),
     "show": (("--exact", "--csv", "--xlsx", "--json"),),
     "captions": (("--catalogue", "--files-from"), ("--catalogue", "--block"), ("--catalogue", "--whole")),
     "conflicts": (("--catalogue", "--files-from"), ("--catalogue", "--whole"), ("--all", "--json")),

@@ -35,7 +35,7 @@ STATUSES: Dict[str, Dict[int, str]] = {
     "changed": {
         0: "nothing that was compared differs",
         1: "metadata, a coded picture or another part of a file differ, or a picture was moved or is missing",
-        2: _NOT_COMPARED,
+        2: f"{_NOT_COMPARED}, or --undo can't put a text back",
     },
     "history": {0: "nothing that was compared has changed", 1: "something has changed", 2: _NOT_COMPARED},
     "compare": {0: "nothing that was compared differs", 1: "something differs", 2: _NOT_COMPARED},
