@@ -6,6 +6,7 @@ import io
 import json
 import random
 import re
+import shlex
 import sqlite3
 import struct
 import unicodedata
@@ -568,3 +569,12 @@ def test_the_names_of_many_pictures_are_read_from_the_index_of_paths(question, f
         plan = [row[3] for statement in statements for row in catalogue.base.execute(f"EXPLAIN QUERY PLAN {statement}")]
         assert [it.path for it, _ in answer.pictures()] == names and len(names) == 2
     assert plan and all("COVERING INDEX" in step for step in plan), plan
+
+
+@pytest.mark.parametrize("words", ("'creator = Anna'", "creator = Anna", "--where creator = Anna"))
+def test_a_question_without_its_option(words, called, capsys):
+    """One line says how it is written, and no usage is in its way."""
+    with pytest.raises(SystemExit, match="3"):
+        called("list", "c", *shlex.split(words))
+    meant = "exifnorm-pictures list c --where 'creator = Anna'"
+    assert capsys.readouterr().err == f"exifnorm-pictures: a question follows --where: {meant}\n"

@@ -4,6 +4,7 @@ from __future__ import annotations
 
 import argparse
 import itertools
+import shlex
 import sys
 from typing import IO, Any, Callable, Dict, NoReturn, Optional, Sequence, Tuple
 
@@ -79,12 +80,20 @@ def parsed(words: Optional[Sequence[str]] = None) -> argparse.Namespace:
         commands.get(given[0], whole).error("a file that is called -- is given as ./--")
     arguments, others = whole.parse_known_args(given)
     if others:
+        _refuse_question(whole, arguments, others)
         if given[0] != arguments.command:
             whole.error(f"unrecognized arguments: {' '.join(others)}")
         # an option between names, which a parser of commands takes for the end of the names; this one also names what is wrong
         arguments = commands[given[0]].parse_intermixed_args(given[1:], argparse.Namespace(command=given[0]))
     _refuse_apart(commands[arguments.command], arguments)
     return arguments
+
+
+def _refuse_question(whole: _Parser, arguments: argparse.Namespace, others: Sequence[str]) -> None:
+    """Refuses a question that has no option before it, and says how it is written."""
+    if arguments.command == "list" and not any(it.startswith("-") for it in others):
+        words = shlex.join(["list", arguments.source, "--where", " ".join([*arguments.where, *others])])
+        whole.exit(USAGE, f"exifnorm-pictures: a question follows --where: exifnorm-pictures {safe(words)}\n")
 
 
 def _refuse_apart(parser: _Parser, arguments: argparse.Namespace) -> None:
