@@ -162,6 +162,8 @@ def test_names_of_no_field_and_of_several(asked, called):
         ("XResolution = 72", "XResolution stands for IFD0:XResolution, IFD1:XResolution"),
     ):
         assert called("list", "c", "--where", question)[1].splitlines()[-1].endswith(f"; {end}")
+    for group in ("IFD0", "IPTC", "GPS*"):  # which is meant so
+        assert "stands for" not in called("list", "c", "--where", f"with {group}")[1]
 
 
 def test_a_day_is_given(asked, called, folder, monkeypatch):

@@ -15,11 +15,11 @@ from typing import Callable, Dict, Iterable, Iterator, List, NamedTuple, Optiona
 
 from ..fields.folding import bare, compose, folded
 from ..fields.forms import clock_of, number_of, words_of
-from ..fields.choosing import kinds_of
+from ..fields.choosing import is_of_several, kinds_of
 from ..fields.dates import EXPECTED, asked_date, is_asked_impossible, is_impossible, plain_date
 from ..fields.labels import DAMAGE, DATED, POSITION, UNCLEAR_POSITION, fields_by_label, is_in_maker_notes
 from ..fields.listing import LONGEST_TEXT
-from ..fields.questions import ORDERED, All, Any, Condition, Not, Question, Unsure, With, WrongQuestion, conditions_of, fields_in, labels_of
+from ..fields.questions import ORDERED, All, Any, Condition, Not, Question, With, WrongQuestion, conditions_of, fields_in, labels_of
 from ..fields.plain_names import group_name
 from ..model.columns import Damaged
 from ..model.found import EXIF, IPTC, XMP
@@ -416,9 +416,6 @@ class Answer:
         self._places: Places = {}
         if fields:
             self._places = add_fields(catalogue, fields, report)
-        for word in fields:
-            if isinstance(word, Unsure) and not self._places[word]:
-                raise word.why
         self.labels = labels_of(question) if question else []  # that are asked for
         self._finder = _Finder(catalogue)
         self._total = catalogue.count()
@@ -438,9 +435,9 @@ class Answer:
         return [word for word, places in self._places.items() if not places]
 
     def ambiguous(self) -> Dict[str, List[str]]:
-        """The words that stand for several fields of the pictures, and the names of these; no patterns, which are meant so."""
-        names = {word: sorted({group_name(*place) for place in places}) for word, places in self._places.items()}
-        return {word: of_word for word, of_word in names.items() if len(of_word) > 1 and not {"*", "?"} & set(word)}
+        """The words that stand for several fields of the pictures, and the names of these; no patterns and groups, which are meant so."""
+        names = {word: sorted({group_name(*place) for place in places}) for word, places in self._places.items() if not is_of_several(word)}
+        return {word: of_word for word, of_word in names.items() if len(of_word) > 1}
 
     def _refuse_impossible(self, condition: Condition) -> None:
         """Raises `WrongQuestion` if no text of a field can ever compare so: it is a number or a date in each picture, and the value is none, and

@@ -12,7 +12,7 @@ from typing import Dict, Iterator, List, NamedTuple, Optional, Sequence, Tuple
 from ..fields.folding import compose, folded
 from ..fields.labels import DATED, POSITION, UNCLEAR_POSITION
 from ..fields.plain_names import group_name
-from ..fields.questions import Condition, Unsure, fields_in
+from ..fields.questions import Condition, fields_in
 from ..fields.rules import AFTER, BEFORE, EQUAL, LENGTH, LIKE, NEEDS, NEVER, VALUES, Rule
 from ..model.records import has, has_short
 from ..model.texts import escaped, pictures_in_words, shown_path
@@ -59,9 +59,6 @@ class Checked:
         make_ready(catalogue, report)
         fields = fields_in(label for rule in rules for label in rule.labels)
         self._places = add_fields(catalogue, fields, report) if fields else {}
-        for word in fields:
-            if isinstance(word, Unsure) and not self._places[word]:
-                raise word.why
         self._catalogue = catalogue
         self.rules = rules
         base = catalogue.base

@@ -18,6 +18,7 @@ from ..fields.labels import DAMAGE
 from ..fields.listing import LONGEST_TEXT, is_rest
 from ..fields.places import is_angle, signed_degrees
 from ..fields.plain_values import plain
+from ..fields.questions import Unsure
 from ..fields.structures import has_members, members_of
 from ..fields.typed import typed
 from ..model.found import NAMES
@@ -44,7 +45,8 @@ Places = Dict[str, Set[Tuple[str, str]]]  # the fields that some words stand for
 
 def add_fields(catalogue: Catalogue, words: Sequence[str], report: Report = say_nothing) -> Places:
     """Makes the name `texts` stand for the texts of these fields, too, each with its word as a label. The texts by label are ready. Of damage
-    the fields of no picture are read. Returns the fields that were seen."""
+    the fields of no picture are read. Returns the fields that were seen. Raises `WrongQuestion` for a name that may be one, if no picture has
+    it."""
     base = catalogue.base
     with catalogue.guarded():
         has_others = base.execute("SELECT 1 FROM sqlite_temp_master WHERE name = 'other_texts'").fetchone()
@@ -61,6 +63,9 @@ def add_fields(catalogue: Catalogue, words: Sequence[str], report: Report = say_
     if choices:
         due = catalogue.number_of("SELECT count(*) FROM pictures")
         fill(catalogue, _FIELDS, "SELECT id FROM pictures", due, partial(_rows, choices, seen), report)
+    for word, _ in choices:
+        if isinstance(word, Unsure) and not seen[word]:
+            raise word.why
     return seen
 
 

@@ -61,6 +61,11 @@ def _of_form(folded: str, names: Iterable[str]) -> Iterator[str]:
     return (it for it in names if (":" in it) == (":" in folded) and ("<" in it) == ("<" in folded))
 
 
+def is_of_several(pattern: str) -> bool:
+    """Whether a pattern is meant for several fields: it has wildcards, or is a group."""
+    return bool(_WILD.search(pattern)) or pattern.casefold() in {"iptc", "xmp", *EXIF_GROUPS, *XMP_GROUPS}
+
+
 def kinds_of(pattern: str) -> FrozenSet[str]:
     """The kinds of blocks that can have a field of a pattern.
 
