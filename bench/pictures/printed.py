@@ -2,9 +2,9 @@
 
     python3 bench/pictures/printed.py FOLDER
 
-It prints for each program how many keys `in` finds (those of ExifTool's -G1, -G and no group, and exiv2's), and how many values of `show` the
-question NAME = VALUE finds. A base is `apt-get source libimage-exiftool-perl exiv2 pillow`.
-Left out: MakerNotes, File, Composite, ICC profiles, attributes of the packet, pointers, and further pages.
+It prints for each program how many keys `in` finds (those of ExifTool's -G1, -G and no group, and exiv2's), how many it leaves out and why,
+and how many values of `show` the question NAME = VALUE finds. A base is `apt-get source libimage-exiftool-perl exiv2 pillow`.
+MakerNotes, File, Composite and ICC profiles aren't asked for.
 """
 
 from __future__ import annotations
@@ -25,13 +25,19 @@ import exifnorm
 from exifnorm_pictures.catalogue.asking import Answer
 from exifnorm_pictures.catalogue.store import Catalogue
 from exifnorm_pictures.cli import main
-from exifnorm_pictures.fields.questions import question_of
+from exifnorm_pictures.fields.questions import LONGEST, question_of
 
 AT_ONCE = 40  # names that are asked together
 GROUPS = ("-EXIF:all", "-IPTC:all", "-XMP:all")
-LEFT_OUT = re.compile(
-    r"XMPToolkit|:About$|SubIFD|IFD[1-9]|Tag$|[\[/]|Offsets?$|ByteCounts$|ThumbnailLength$|XMLPacket|Exif\.(?!(Image|Photo|GPSInfo|Iop)\.)"
-)
+LEFT_OUT = {  # keys that are no fields here, by why
+    "attributes of the packet": re.compile("XMPToolkit|(^|:)About$"),
+    "further pages and directories": re.compile("SubIFD|IFD[1-9]"),
+    "exiv2's other directories, such as MakerNotes": re.compile(r"Exif\.(?!(Image|Photo|GPSInfo|Iop)\.)"),
+    "pointers": re.compile("Tag$|Offsets?$|ByteCounts$|ThumbnailLength$"),
+    "members of structures as exiv2 has them": re.compile(r"[\[/]"),
+    "blocks": re.compile("XMLPacket|Exif.Image.(ImageResources|IPTCNAA)$"),
+}
+OF_SIDECAR = "Exif and IPTC that exiv2 makes of XMP"
 
 
 def printed(*words: str) -> str:
@@ -62,6 +68,8 @@ def found_values(name: str, values: Dict[str, Dict[str, set[str]]]) -> Iterator[
             answer = Answer(catalogue, None, shown=some)
             for word, text in ((word, text) for word in some for text in values[word]):
                 doubled = text.replace('"', '""')
+                if len(word) + len(doubled) > LONGEST - 10:  # which a question refuses
+                    continue
                 found = answer._finder.of(question_of(f'"{word}" = "{doubled}"')).sure
                 yield word, text, all(numbers[it] in found for it in values[word][text] if it in numbers)
 
@@ -85,14 +93,27 @@ PROGRAMS: Dict[str, Callable[[str], List[str]]] = {
 }
 
 
+def reason(path: str, program: str, key: str) -> str:
+    """Why a key is left out; empty if it isn't."""
+    if program == "exiv2" and path.lower().endswith(".xmp") and not key.startswith("Xmp"):
+        return OF_SIDECAR
+    return next((why for why, pattern in LEFT_OUT.items() if pattern.search(key)), "")
+
+
 def found_keys(paths: Iterable[str]) -> Iterator[Tuple[str, str, bool]]:
     """Each program with a key, and whether it finds a field; of pictures that are read as a whole."""
+    left: "collections.Counter[Tuple[str, str]]" = collections.Counter()
+    count = 0
     for path in paths:
         with contextlib.suppress(exifnorm.NoPicture, exifnorm.NotReadable, OSError):
             picture = exifnorm.read(path)
             if picture.is_whole and picture.keys():
-                for program, keys in PROGRAMS.items():
-                    yield from ((program, key, key in picture) for key in keys(path) if not LEFT_OUT.search(key))
+                count += 1
+                keys = [(program, key) for program, keys_of in PROGRAMS.items() for key in keys_of(path)]
+                left.update((program, why) for program, key in keys for why in [reason(path, program, key)] if why)
+                yield from ((*it, it[1] in picture) for it in keys if not reason(path, *it))
+    print(f"{count:,} pictures that are read as a whole")
+    print(*(f"left out of {program}: {number:,} {why}" for (program, why), number in sorted(left.items())), sep="\n")
 
 
 def say(what: str, results: Iterable[Tuple[str, str, bool]]) -> None:
