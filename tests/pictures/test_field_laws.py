@@ -224,8 +224,8 @@ def packet(properties, chance):
 def test_fields_of_xmp_are_equal_exactly_if_they_mean_the_same(one, other, chance):
     other = one if other is None else other
     is_same = meaning_of(one) == meaning_of(other)
-    found = [statements_of.statements(packet(it, chance), {}, set()) for it in (one, other)]
-    assert (statements_of.digest_of_packet(found[0]) == statements_of.digest_of_packet(found[1])) is is_same
+    found = [statements_of.statements(packet(it, chance), statements_of.Extensions({}), set()) for it in (one, other)]
+    assert (statements_of.digest_of_statements(found[0]) == statements_of.digest_of_statements(found[1])) is is_same
     fields = [xmp_properties.fields_of_statements(it) for it in found]
     assert (fields[0] == fields[1]) is is_same
     again = [unpacked(packed(it).octets) for it in fields]

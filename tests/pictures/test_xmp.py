@@ -27,14 +27,14 @@ LI = "<rdf:li>{}</rdf:li>"
 def said(packet, extensions=None):
     from exifnorm_pictures import xmp as reading
 
-    return reading.digest_of_packet(reading.statements(packet, extensions or {}, set()))
+    return reading.digest_of_statements(reading.statements(packet, reading.Extensions(extensions or {}), set()))
 
 
 def cause(packet, extensions=None):
     from exifnorm_pictures import xmp as reading
 
     try:
-        reading.statements(packet, extensions or {}, set())
+        reading.statements(packet, reading.Extensions(extensions or {}), set())
     except reading.Unreadable as why:
         return why.cause
     return None
@@ -231,7 +231,7 @@ class Packets(unittest.TestCase):
         from exifnorm_pictures.fields import listing
 
         def fields(packet):
-            return xmp_properties.fields_of_statements(reading.statements(packet, {}, set()))
+            return xmp_properties.fields_of_statements(reading.statements(packet, reading.Extensions({}), set()))
 
         one = fields(xmp("<dc:format>one</dc:format><dc:subject><rdf:Bag><rdf:li>b</rdf:li><rdf:li>a</rdf:li></rdf:Bag></dc:subject>"))
         other = fields(xmp("<dc:format>two</dc:format><dc:subject><rdf:Bag><rdf:li>a</rdf:li><rdf:li>b</rdf:li></rdf:Bag></dc:subject>"))

@@ -146,7 +146,7 @@ def test_rdflib_reads_the_deepest_forms(end):
     for step in STEPS:
         packets = (packet_of("", step * count + end) for count in range(10, 101))
         packet, form = [(it, form) for it in packets if isinstance(form := form_of(it), bytes)][-1]
-        one, other = (reading.digest_of_packet(by_rdflib.statements(rdf_of(it))) for it in (packet, form))
+        one, other = (reading.digest_of_statements(by_rdflib.statements(rdf_of(it))) for it in (packet, form))
         assert one == other
 
 

@@ -28,7 +28,7 @@ SAMPLES, FORMAT = TOP / "samples", TOP / "docs" / "FORMAT.md"
 def said(packet):
     """The digest of a packet's statements by the Python reader, or None if it is unreadable."""
     try:
-        return reading.digest_of_packet(reader.statements(packet))
+        return reading.digest_of_statements(reader.statements(packet))
     except reading.Unreadable:
         return None
 
@@ -97,7 +97,7 @@ def test_packets_of_the_samples():
 def test_usual_packets_are_read_by_the_library(monkeypatch):
     """Without it each packet would still be read, in twice the time and after a parser of XML was imported."""
     monkeypatch.delattr(reader, "statements")
-    assert reading.statements(PACKET.encode(), {}, set())
+    assert reading.statements(PACKET.encode(), reading.Extensions({}), set())
 
 
 @settings(max_examples=400)
@@ -120,7 +120,7 @@ def test_equal_forms_are_equal_statements(some):
 def test_agrees_with_rdflib(packet):
     form = form_of(packet)
     if isinstance(form, bytes):
-        one, other = (reading.digest_of_packet(by_rdflib.statements(rdf_of(it))) for it in (packet, form))
+        one, other = (reading.digest_of_statements(by_rdflib.statements(rdf_of(it))) for it in (packet, form))
         assert one == other
 
 

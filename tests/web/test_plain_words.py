@@ -198,7 +198,7 @@ def is_accepted(call, octets):
 
 def described(packet):
     """The properties as exifnorm_pictures has them. The form has the members of a Bag in another order than the packet."""
-    for field in fields_of_statements(xmp.statements(exifnorm.xmp_normal(packet), {}, set())):
+    for field in fields_of_statements(xmp.statements(exifnorm.xmp_normal(packet), xmp.Extensions({}), set())):
         yield [field.name, field.text, shortened(field.exact), [text for one in field.content for text in texts_in(one)]]
 
 

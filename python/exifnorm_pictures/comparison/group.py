@@ -123,9 +123,9 @@ class Group:
         """Whether all of their metadata were read, and mean the same."""
         return not self.not_read and self.basis == Basis.MEANING
 
-    def pictures(self, most: int = -1) -> Iterator[bytes]:
-        """Each picture of the group, or the first ones, by path."""
-        return (it.path for it in (self.members if most < 0 else self.members[:most]))
+    def pictures(self) -> Iterator[bytes]:
+        """Each picture of the group, by path."""
+        return (it.path for it in self.members)
 
     @property
     def are_pictures(self) -> bool:

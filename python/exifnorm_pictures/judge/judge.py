@@ -105,10 +105,8 @@ def _with_notes(block: BlockRecord, at: FoundBlock, blocks: Blocks) -> BlockReco
 
 def judge_all(blocks: Blocks, packs: bool = False) -> List[BlockRecord]:
     """Judges all blocks of a picture, in their order. Extended XMP is judged with the packet that refers to it. Raises `TooMuch`."""
-    if any([_says_nothing(it) for it in blocks.blocks if it.kind != XMP]):
-        blocks.blocks = [it for it in blocks.blocks if not _says_nothing(it)]
+    blocks.blocks = [it for it in blocks.blocks if it.kind == XMP or not _says_nothing(it)]
     extended = _Extended(blocks) if any([it.extends for it in blocks.blocks]) else None
-    none = xmp.Extensions({}, blocks.budget)
     known: Dict[Tuple[str, bytes], BlockRecord] = {}
     many = len(blocks.blocks) > FEW
     judged: List[BlockRecord] = []
@@ -117,23 +115,27 @@ def judge_all(blocks: Blocks, packs: bool = False) -> List[BlockRecord]:
         if at.extends:
             continue
         block = known.get((at.kind, at.data)) if many else None
-        if block is not None:
-            kept += len(block.fields or b"")
-            note = block.note if at.note is None else at.note
-            judged.append(_within(block._replace(name=at.name, source=at.where, extractor=at.extractor, note=note), kept))
-            continue
-        if at.kind == XMP and not at.data.startswith(COMPRESSED):
-            block = extended.judge(at, packs) if extended else _judge_xmp(at, none, {}, packs)
+        if block is None:
+            block = _judged(at, blocks, extended, packs)
+            if many:  # pages of a TIFF can share a value
+                blocks.budget.check_time()
+                known[at.kind, at.data] = block
         else:
-            block = judge(at.kind, at.data, packs, at, blocks.budget)
-            if at.kind == EXIF and (block.digest or block.repaired):
-                block = _with_notes(block, at, blocks)
-        if many:  # pages of a TIFF can share a value
-            blocks.budget.check_time()
-            known[at.kind, at.data] = block
+            note = block.note if at.note is None else at.note
+            block = block._replace(name=at.name, source=at.where, extractor=at.extractor, note=note)
         kept += len(block.fields or b"")
         judged.append(block if kept <= KEPT_BYTES else _within(block, kept))
     return judged + extended.not_named() if extended else judged
+
+
+def _judged(at: FoundBlock, blocks: Blocks, extended: Optional[_Extended], packs: bool) -> BlockRecord:
+    """One block of a picture."""
+    if at.kind == XMP and not at.data.startswith(COMPRESSED):
+        if extended:
+            return extended.judge(at, packs)
+        return _judge_xmp(at, xmp.Extensions({}, blocks.budget), {}, packs)
+    block = judge(at.kind, at.data, packs, at, blocks.budget)
+    return _with_notes(block, at, blocks) if at.kind == EXIF and (block.digest or block.repaired) else block
 
 
 def _within(block: BlockRecord, kept: int) -> BlockRecord:
@@ -196,7 +198,7 @@ def _judge_xmp(at: FoundBlock, extensions: xmp.Extensions, left: Dict[str, bytes
         left.pop(name, None)
     if statements is None:
         return _unreadable(XMP, at, len(at.data), octets.hexdigest(), cause)
-    digest = xmp.digest_of_packet(statements)
+    digest = xmp.digest_of_statements(statements)
     accepted = (XMP, *at[2:5], Status.ACCEPTED, digest, None, None, len(at.data), octets.hexdigest())
     if packs:
         return BlockRecord(*accepted, None, None, None, *packed(xmp_properties.fields_of_statements(statements)))

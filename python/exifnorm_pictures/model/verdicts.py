@@ -22,11 +22,6 @@ class Verdict(NamedTuple):
     same_bytes: bool = False
 
     @property
-    def is_open(self) -> bool:
-        """Whether the result is unknown: a block is refused or unreadable, or may be missing, and its bytes are not the same."""
-        return (self.result == Result.NOT_KNOWN or self.result in _SAME_BYTES) and not self.same_bytes
-
-    @property
     def may_differ(self) -> bool:
         """Whether there is a block, and it isn't known to be the same."""
         return self.result not in (Result.SAME, Result.ABSENT) and not self.same_bytes

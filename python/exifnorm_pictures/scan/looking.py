@@ -4,7 +4,7 @@ from __future__ import annotations
 
 import os
 import time
-from typing import TYPE_CHECKING, Iterable, Iterator, List, Optional, Sequence, Tuple
+from typing import Iterable, Iterator, List, Optional, Sequence, Tuple
 
 from exifnorm import LibraryMissing
 
@@ -21,8 +21,6 @@ from ..model.texts import reason
 from .batches import How
 from .walk import FoundFile
 
-if TYPE_CHECKING:
-    from ..judge.maker_notes import NotesReading
 
 # Nanoseconds in which two edits may have one time: twice a tick of the slowest kernel; and of file systems without parts of a second,
 # of which FAT has two seconds, and others one.
@@ -49,7 +47,7 @@ def _look(file: FoundFile, how: How, session: Session, packs: bool) -> PictureRe
         whole_file = file_digest(file.path, blocks, how.whole)
         if file.sidecars:
             whole_file = sidecars.with_sidecars(whole_file, file.path, file.sidecars)
-        reading, is_known = _maker_notes(session, file.path, blocks, judged) if how.maker_notes else (None, True)
+        notes, is_known = _maker_notes(session, file.path, blocks, judged) if how.maker_notes else (None, True)
         pixels = _pixels(file.path, blocks) if how.pixels else (None, "", "", None)
     except LibraryMissing:  # an OSError too, but not of this file
         raise
@@ -64,7 +62,7 @@ def _look(file: FoundFile, how: How, session: Session, packs: bool) -> PictureRe
     except Exception as error:  # an error of a reader affects only this file
         return PictureRecord.of_blocks(file.path, file.root, file.stamp, extraction.failed_here(error, session))
     coded, beside, damage, whole = pixels
-    notes = None if reading is None else _packed(reading)
+
     more = {"notes": notes, "coded_picture": coded, "beside": beside, "damage": damage, "sha256": whole, "sidecars": marks}
     stamp = _unless_changed(file, began)
     if stamp and not is_known:
@@ -87,27 +85,23 @@ def _read(file: FoundFile, how: How, session: Session, packs: bool) -> Tuple[Blo
         return Blocks(problem=Problem.TOO_SLOW, detail=str(error)), []
 
 
-def _maker_notes(session: Session, path: bytes, blocks: Blocks, judged: Sequence[BlockRecord]) -> "Tuple[Optional[NotesReading], bool]":
-    """What ExifTool reads of the MakerNotes of a picture that has one, and whether that is known. If it fails at them, they are a part that was
-    not read; without it the picture is as it is if nobody asks for them."""
+def _maker_notes(session: Session, path: bytes, blocks: Blocks, judged: Sequence[BlockRecord]) -> Tuple[Optional[bytes], bool]:
+    """What ExifTool reads of the MakerNotes of a picture that has one, for a catalogue, and whether that is known.
+
+    If it fails at them, they are a part that was not read; without it the picture is as it is if nobody asks for them.
+    """
     with_note = [block.octets for block in judged if block.note is not None]
     if not with_note:
         return None, True
     from ..judge import maker_notes
 
     try:
-        return maker_notes.readings_of(session, [path])[0], True
+        return maker_notes.packed_reading(maker_notes.readings_of(session, [path])[0]), True
     except programs.Failed:
         blocks.leave(UNREAD_NOTES, "".join(with_note).encode("ascii"))
         return None, False
     except programs.Missing:
         return None, False
-
-
-def _packed(reading: "NotesReading") -> bytes:
-    from ..judge import maker_notes
-
-    return maker_notes.packed_reading(reading)
 
 
 def _pixels(path: bytes, blocks: Blocks) -> Tuple[Optional[str], str, str, Optional[str]]:

@@ -16,7 +16,7 @@ entity is expanded and nothing is fetched.
 """
 
 from .packets import CAUSES, Unreadable
-from .reading import Extensions, digest_of_packet, statements
-from .tree import Statements
+from .reading import Extensions, statements
+from .tree import Statements, digest_of_statements
 
-__all__ = ["CAUSES", "Extensions", "Statements", "Unreadable", "digest_of_packet", "statements"]
+__all__ = ["CAUSES", "Extensions", "Statements", "Unreadable", "digest_of_statements", "statements"]

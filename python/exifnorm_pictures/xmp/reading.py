@@ -3,12 +3,12 @@
 from __future__ import annotations
 
 import hashlib
-from typing import Dict, Mapping, Optional, Set, Tuple, Union
+from typing import Dict, Mapping, Optional, Set, Tuple
 
 from ..model.budgets import Budget
 from . import usual
 from .packets import Unreadable, spend
-from .tree import Literal, Statements, digest_of_statements
+from .tree import Literal, Statements
 
 NOTE = "http://ns.adobe.com/xmp/note/HasExtendedXMP"
 
@@ -37,17 +37,15 @@ class Extensions:
         return self._parsed[name]
 
 
-def statements(packet: bytes, extensions: Union[Extensions, Mapping[str, bytes]], used: Set[str]) -> Statements:
+def statements(packet: bytes, extensions: Extensions, used: Set[str]) -> Statements:
     """The statements of a packet with the extended XMP of its picture; the digests in use go to `used`.
 
     Raises `Unreadable`.
 
     >>> rdf = b"<r:RDF xmlns:r='http://www.w3.org/1999/02/22-rdf-syntax-ns#' xmlns:d='http://d/'>"
-    >>> statements(rdf + b"<r:Description r:about='' d:a='1'/></r:RDF>", {}, set())
+    >>> statements(rdf + b"<r:Description r:about='' d:a='1'/></r:RDF>", Extensions({}), set())
     (Statement(predicate='http://d/a', value=Literal(text='1', language='', datatype='')),)
     """
-    if not isinstance(extensions, Extensions):
-        extensions = Extensions(extensions)
     if len(packet) <= _SMALL and extensions.budget.small_packets:
         extensions.budget.small_packets -= 1
     else:
@@ -75,8 +73,3 @@ def _parsed(packet: bytes) -> Statements:
 def _named(statements: Statements) -> Tuple[str, ...]:
     """The digests of the extended XMP that some statements refer to."""
     return tuple(dict.fromkeys(it.value.text.upper() for it in statements if it.predicate == NOTE and isinstance(it.value, Literal)))
-
-
-def digest_of_packet(statements: Statements) -> str:
-    """SHA-256 of some statements, in any order."""
-    return digest_of_statements(statements)

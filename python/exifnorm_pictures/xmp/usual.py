@@ -34,8 +34,4 @@ def _container(kind: str, members: Tuple[Value, ...]) -> Node:
     return Node((_TYPES[kind], *[Statement(f"{RDF}_{number}", it) for number, it in enumerate(members, 1)]))
 
 
-def _statement(namespace: str, name: str, value: Value) -> Statement:
-    return Statement(namespace + name, value)
-
-
-_STATEMENTS = Makers(Literal, Uri, _container, Node, _statement)
+_STATEMENTS = Makers(Literal, Uri, _container, Node, lambda namespace, name, value: Statement(namespace + name, value))

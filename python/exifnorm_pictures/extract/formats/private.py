@@ -74,7 +74,7 @@ class Private:
 
     def _place_of(self, entry: Entry) -> Optional[Tuple[int, int]]:
         """The range of a value of bytes that is a file by itself."""
-        return self.directories.place_of(entry) if entry.size > IN_ENTRY and entry.type in _BYTES else None
+        return self.directories.place_of(entry) if entry.type in _BYTES else None
 
     def _compare(self, entry: Entry, what: str) -> bool:
         """A value that is compared by its bytes. Returns whether there is one."""
@@ -123,7 +123,7 @@ class Private:
 
     def _value(self, entry: Entry) -> bytes:
         """The bytes of a value, and those of an entry that has a type that isn't known. Raises `Broken`."""
-        place = self.directories.place_of(entry) if entry.size > IN_ENTRY else None
+        place = self.directories.place_of(entry)
         if entry.size > IN_ENTRY and place is None:
             raise Broken(f"the value of tag {entry.tag:04x} isn't in the file")
         if place:
@@ -154,8 +154,7 @@ class Private:
 
 def _parts(directories: Directories, directory: Directory) -> List[Tuple[int, int]]:
     """The parts of a file that a directory with its header and its values takes."""
-    places = [directories.place_of(entry) for entry in directory.entries if entry.size > IN_ENTRY]
-    return [(0, 8), (directory.at, directory.end), *(place for place in places if place)]
+    return [(0, 8), (directory.at, directory.end), *filter(None, map(directories.place_of, directory.entries))]
 
 
 def add_directory(blocks: Blocks, directories: Directories, directory: Directory, kept: List[Entry], where: str, part: str) -> None:

@@ -48,8 +48,7 @@ def read(stream: Stream, whole: bool = False) -> Blocks:
         if start + length > size:
             raise Broken(f"the file ends inside the part at {start}")
         elif at in _DIRECTORIES:
-            digest = digest_of_rest(stream, start, start + length)
-            blocks.name(NotRead("Fujifilm's directory of the raw data", digest or ""))
+            blocks.name(NotRead("Fujifilm's directory of the raw data", digest_of_rest(stream, start, start + length) or ""))
         elif read_at(stream, start, 4) in HEADS:
             _add_own(blocks, Window(stream, start, length), start)
     leave_rest(blocks, stream, end)

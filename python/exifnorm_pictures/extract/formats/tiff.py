@@ -137,7 +137,8 @@ class Reader:
         if entries and part.count("SubIFD") >= DEEPEST:
             raise Broken(f"more than {DEEPEST} SubIFDs below one another")
         if entries:  # they count when they are named, since a list of them may be long, and when they are read
-            self.directories.budget.spend(DIRECTORIES, sum(entry.elements for entry in entries if self.directories.place_of(entry)))
+            named = (entry.elements for entry in entries if entry.size <= IN_ENTRY or self.directories.place_of(entry))
+            self.directories.budget.spend(DIRECTORIES, sum(named))
         places = [place for entry in entries for place in self.directories.numbers(entry)]
         return [(place, f"SubIFD {number} of {part}", 1) for number, place in enumerate(places, 1)]
 
@@ -152,7 +153,7 @@ class Reader:
 
     def _values_reach(self, entries: List[Entry]) -> None:
         for entry in entries:
-            place = self.directories.place_of(entry) if entry.size > IN_ENTRY else None
+            place = self.directories.place_of(entry)
             if place:
                 self._reached.add(place[1], place[0])
             elif not self._cut and self.directories.is_cut(entry):
@@ -217,7 +218,7 @@ class Reader:
             self.blocks.add(IPTC, data, where, part)
         elif entry.tag == _PHOTOSHOP and data:
             photoshop.add_resources(self.blocks, [(where, data)], part)
-        elif entry.tag == _LAYERS and entry.size > IN_ENTRY and (place := self.directories.place_of(entry)):
+        elif entry.tag == _LAYERS and (place := self.directories.place_of(entry)):
             self.blocks.name(NotRead(f"Photoshop's layers of {of}", digest_of_rest(self.directories.stream, *place) or ""))
         else:
             if entry.tag in OTHER_POINTERS and entry.type in (LONG, IFD):
@@ -243,7 +244,7 @@ class Reader:
             variant = self.directories.variant
             length = 4 + 2 * variant.offset  # of an entry: its tag, its type, and two numbers
             for at, entry in zip(itertools.count(page.directory.at + variant.number, length), page.directory.entries):
-                place = self.directories.place_of(entry) if entry.size > IN_ENTRY else None
+                place = self.directories.place_of(entry)
                 if entry.tag in self._private.tags:
                     with contextlib.suppress(Broken):
                         self._private.takes(entry, page.part or "page 1")

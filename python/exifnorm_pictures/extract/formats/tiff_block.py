@@ -49,12 +49,7 @@ class Layout:
         for table in self._tables:  # which grows meanwhile
             self._tables += table.below.values()
         self._parts = _joined(
-            [
-                place
-                for table in self._tables
-                for entry in table.entries
-                if entry.size > IN_ENTRY and (place := directories.place_of(entry)) is not None
-            ]
+            [place for table in self._tables for entry in table.entries if (place := directories.place_of(entry)) is not None]
         )
         self._places: Dict[int, int] = {}
         self.length = 8

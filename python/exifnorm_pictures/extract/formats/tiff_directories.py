@@ -108,7 +108,9 @@ class Directories:
         return entries
 
     def place_of(self, entry: Entry) -> Optional[Tuple[int, int]]:
-        """The range of a value of more than `IN_ENTRY` bytes; None if the file doesn't contain all of it."""
+        """The range of a value; None if it is in its entry, or the file doesn't contain all of it."""
+        if entry.size <= IN_ENTRY:
+            return None
         start = self.number(entry.last)
         return (start, start + entry.size) if self.variant.header <= start and start + entry.size <= self.size else None
 
@@ -125,7 +127,7 @@ class Directories:
 
     def shared(self, entry: Entry) -> bytes:
         """The same, of an entry whose value is a block by itself: pages that share it have it once in memory."""
-        place = self.place_of(entry) if entry.size > IN_ENTRY else None
+        place = self.place_of(entry)
         if place is None:
             return self.value(entry)
         if place not in self._shared:
