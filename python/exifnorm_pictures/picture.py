@@ -90,62 +90,30 @@ class Position(NamedTuple):
 
 
 class Block:
-    """A block of metadata."""
+    """A block of metadata.
 
-    __slots__ = ("_record", "_data")
+    - `kind`: "exif", "iptc" or "xmp"
+    - `name`: which block of the picture it is: "Exif", "second Exif", "Exif of page 2"
+    - `status`: "accepted", "refused", "unreadable", "too long" or "failed"
+    - `is_accepted`: whether it has a meaning
+    - `digest`: SHA-256 of the meaning of an accepted block: equal digests of a kind, equal meaning
+    - `data`: the bytes of the block, as they are in the file
+    - `where`: its position in the file: "APP1 segment at 20"
+    - `extractor`: the program that extracted it: "own", "exiftool" or "exiv2"
+    - `record`: the block as a catalogue has it, for the commands
+    """
+
+    __slots__ = ("record", "data", "kind", "name", "status", "is_accepted", "digest", "where", "extractor")
 
     def __init__(self, record: BlockRecord, data: bytes) -> None:
-        self._record, self._data = record, data
-
-    @property
-    def record(self) -> BlockRecord:
-        """The block as a catalogue has it, for the commands."""
-        return self._record
-
-    @property
-    def kind(self) -> str:
-        """The kind: "exif", "iptc" or "xmp"."""
-        return self._record.kind
-
-    @property
-    def name(self) -> str:
-        """Which block of the picture it is: "Exif", "second Exif", "Exif of page 2"."""
-        return self._record.name
-
-    @property
-    def status(self) -> str:
-        """The status: "accepted", "refused", "unreadable", "too long" or "failed"."""
-        return str(self._record.status)
-
-    @property
-    def is_accepted(self) -> bool:
-        """Whether it has a meaning."""
-        return self._record.is_accepted
-
-    @property
-    def digest(self) -> Optional[str]:
-        """SHA-256 of the meaning of an accepted block: equal digests of a kind, equal meaning."""
-        return self._record.digest
-
-    @property
-    def data(self) -> bytes:
-        """The bytes of the block, as they are in the file."""
-        return self._data
-
-    @property
-    def where(self) -> str:
-        """Its position in the file: "APP1 segment at 20"."""
-        return self._record.source
-
-    @property
-    def extractor(self) -> str:
-        """The program that extracted it: "own", "exiftool" or "exiv2"."""
-        return self._record.extractor
+        self.record, self.data = record, data
+        self.kind, self.name, self.where, self.extractor = record.kind, record.name, record.source, record.extractor
+        self.status, self.is_accepted, self.digest = str(record.status), record.is_accepted, record.digest
 
     @property
     def fields(self) -> Tuple[Field, ...]:
         """Its fields, which are made when they are first asked for; of a refused block those after a repair in memory, if one is known."""
-        return tuple([field.in_block(self.name) for field in fields_of(self._record)])
+        return tuple([field.in_block(self.name) for field in fields_of(self.record)])
 
     @property
     def refusal(self) -> Optional[Refusal]:
@@ -154,19 +122,19 @@ class Block:
             return None
         from .refusals import causes  # which takes long to import, and few blocks are refused
 
-        cause = self._record.cause or self.status
-        words = causes.words_of(cause, self._record.kind) or (f"It is {self.status}: {cause}.", "")
-        return Refusal(self.name, cause, self._record.place, *words)
+        cause = self.record.cause or self.status
+        words = causes.words_of(cause, self.record.kind) or (f"It is {self.status}: {cause}.", "")
+        return Refusal(self.name, cause, self.record.place, *words)
 
     @property
     def repair(self) -> Tuple[str, ...]:
         """The steps of the repair after which its fields were read. The file is as it was."""
-        return tuple(it.what for it in self._record.steps)
+        return tuple(it.what for it in self.record.steps)
 
     @property
     def loses(self) -> Tuple[str, ...]:
         """What the repair loses."""
-        return tuple(loses(self._record.steps))
+        return tuple(loses(self.record.steps))
 
     def __repr__(self) -> str:
         return f"Block(name={self.name!r}, status={self.status!r}, where={self.where!r})"
@@ -176,11 +144,19 @@ class Picture(Mapping[str, "Value"]):
     """The metadata of a picture, as they were when it was read: a mapping of names to values, which doesn't change. `picture[name]` is the value of
     the first field with this name, `name in picture` tells whether there is one, and a loop over a picture has the names.
 
+    - `name`: the path or the name that it was read by, and `path` the same in bytes
+    - `type`: the format: "JPEG", "PNG", "TIFF", "HEIC" ..
+    - `problem`, `detail`: why a command could not read it, as a word and a sentence; empty of one that `read` returns
+    - `origin`: the file that it was read from, for `compare`
+
     Two pictures are equal if each part of both was read, and their Exif, IPTC and XMP mean the same. A picture without a field is empty, and
     false as an empty dict is.
     """
 
-    __slots__ = ("_name", "_read", "_records", "_origin", "_blocks", "_fields", "_names", "_texts", "_record")
+    __slots__ = (
+        *("name", "path", "type", "problem", "detail", "origin"),
+        *("_read", "_records", "_blocks", "_fields", "_names", "_texts", "_record"),
+    )
 
     def __init__(
         self,
@@ -190,7 +166,9 @@ class Picture(Mapping[str, "Value"]):
         origin: Optional[Origin] = None,
         texts: Optional[PictureTexts] = None,
     ) -> None:
-        self._name, self._read, self._records, self._origin, self._texts = name, read, records, origin or Origin(), texts
+        self.path, self.name, self.origin = name, os.fsdecode(name), origin or Origin()
+        self.type, self.problem, self.detail = read.type, read.problem or "", read.detail
+        self._read, self._records, self._texts = read, records, texts
         self._blocks: Optional[Tuple[Block, ...]] = None
         self._fields: Optional[List[Tuple[BlockRecord, List[Field]]]] = None
         self._names: Optional[List[Dict[str, List[Field]]]] = None  # of each block
@@ -203,31 +181,6 @@ class Picture(Mapping[str, "Value"]):
             return cls(name, read, [] if read.problem else judge_all(read))
         except TooMuch as why:
             return cls(name, too_much(why), [])
-
-    @property
-    def name(self) -> str:
-        """The path or the name that it was read by."""
-        return os.fsdecode(self._name)
-
-    @property
-    def path(self) -> bytes:
-        """The same in bytes, as a file system has it."""
-        return self._name
-
-    @property
-    def type(self) -> str:
-        """The format: "JPEG", "PNG", "TIFF", "HEIC" .."""
-        return self._read.type
-
-    @property
-    def problem(self) -> str:
-        """Why a command could not read it; empty of one that `read` returns."""
-        return self._read.problem or ""
-
-    @property
-    def detail(self) -> str:
-        """The problem in words."""
-        return self._read.detail
 
     @property
     def not_read(self) -> Tuple[str, ...]:
@@ -293,14 +246,9 @@ class Picture(Mapping[str, "Value"]):
     def record(self) -> PictureRecord:
         """The picture as a catalogue has it, for the commands."""
         if self._record is None:
-            path = os.path.abspath(self._origin.path) if self._origin.path else b""
-            self._record = PictureRecord.of_blocks(path, b"", self._origin.stamp, self._read, self._records)
+            path = os.path.abspath(self.origin.path) if self.origin.path else b""
+            self._record = PictureRecord.of_blocks(path, b"", self.origin.stamp, self._read, self._records)
         return self._record
-
-    @property
-    def origin(self) -> Origin:
-        """The file that it was read from, for `compare`."""
-        return self._origin
 
     def _of_blocks(self) -> List[Tuple[BlockRecord, List[Field]]]:
         """The blocks with their fields."""

@@ -4,14 +4,13 @@ from __future__ import annotations
 
 import argparse
 import os
-from typing import TYPE_CHECKING, Iterator, List
+from typing import TYPE_CHECKING, Iterator, List, Optional, Sequence
 
-from ..comparison.conflicts import best, conflicts, own_texts
+from ..comparison.conflicts import Conflict, best, conflicts, own_texts
 from ..comparison.wording import tell_apart
 from ..fields.labels import LABEL_WORDS, POSITION, Caption
 from ..fields.places import Place
 from ..fields.shown import Shown
-from ..model.found import SIDECAR
 from ..model.texts import Members, escaped, shown_path
 from ..picture import Picture
 from .columns import width
@@ -77,13 +76,7 @@ def _lines(picture: Picture) -> Iterator[str]:
     yield from refused(picture)
     known = {one.label: one for one in conflicts(picture.labelled.texts)}
     for word in LABEL_WORDS:
-        conflict = known.get(word)
-        mark = f"   <- {conflict.detail or 'they differ'}" if conflict and not conflict.is_alike else ""
-        every = together([one for one in picture.labelled.texts if one.label == word])
-        for ours, line in zip(every, tell_apart([ours[0].line for ours in every])):
-            is_compared = not all(one.is_extra or (one.block and not one.block.endswith(SIDECAR)) for one in ours)
-            note = f"   <- {_OWN}" if any(one.is_own for one in ours) else mark if is_compared else ""
-            yield f"{_padded(word)} {escaped(line)}   [{origins(ours)}]{note}"
+        yield from _of_label(word, [one for one in picture.labelled.texts if one.label == word], known.get(word))
     if place := _position(picture):
         yield f"{_padded(POSITION)} {Place(*place).text}"
     if not picture.blocks:
@@ -93,6 +86,16 @@ def _lines(picture: Picture) -> Iterator[str]:
     if not_read(picture):
         yield f"not wholly read: {', '.join(unread(picture, not_read(picture)))}"
     yield from picture_cut(picture)
+
+
+def _of_label(word: str, texts: Sequence[Caption], conflict: Optional[Conflict]) -> Iterator[str]:
+    """The texts of a label, each with its fields, and how those that are compared differ."""
+    mark = f"   <- {conflict.detail or 'they differ'}" if conflict and not conflict.is_alike else ""
+    every = together(texts)
+    for ours, line in zip(every, tell_apart([ours[0].line for ours in every])):
+        is_compared = any(one.is_compared for one in ours)
+        note = f"   <- {_OWN}" if any(one.is_own for one in ours) else mark if is_compared else ""
+        yield f"{_padded(word)} {escaped(line)}   [{origins(ours)}]{note}"
 
 
 def _padded(word: str) -> str:

@@ -8,7 +8,7 @@ from ..catalogue.store import Catalogue
 from ..fields.choosing import Choice, UnknownField, hint
 from ..fields.field import Field
 from ..fields.packing import unpacked
-from ..model.found import NAMES
+from ..model.found import other_name
 from ..model.texts import escaped, reason
 from .options import Fields
 from .word_files import words_of_file
@@ -62,11 +62,6 @@ def listings_of(*catalogues: Catalogue) -> Iterator[Listed]:
                     with catalogue.guarded():
                         fields = unpacked(packed)
                     yield other_name(name), fields
-
-
-def other_name(name: str) -> str:
-    """The name of a block that isn't the first one of its kind; otherwise empty."""
-    return "" if name in NAMES.values() else name
 
 
 def note_absent(choice: Choice, *catalogues: Catalogue) -> None:

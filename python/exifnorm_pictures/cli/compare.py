@@ -17,13 +17,13 @@ from ..fields.left_out import lines, members_of
 from ..fields.typed import together
 from ..files.opening import held
 from ..model.budgets import COMPARED_FIELDS
-from ..model.found import XMP_FILE
+from ..model.found import XMP_FILE, other_name
 from ..model.problems import NO_BYTES
 from ..model.records import BlockRecord, PictureRecord
 from ..model.results import Result
 from ..model.texts import Members, escaped, shown_path
 from ..scan.batches import How
-from .choice import choice_of, other_name, refuse_unknown
+from .choice import choice_of, refuse_unknown
 from .columns import columns
 from .exit_codes import SUCCESS, UNKNOWN, status_of_results
 from .names import refuse_folders

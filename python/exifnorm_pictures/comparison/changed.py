@@ -89,22 +89,26 @@ def changed(
 def compared(pair: Pair, sides: Sides, session: Optional[Session], choice: Choice = EVERYTHING) -> Compared:
     """Compares one picture before and after. Its coded picture counts, unless only some fields do; that a file is damaged is always said."""
     comparison = _by_metadata(pair, sides, session, choice)
+    if pair.old is None or pair.new is None:
+        return comparison
     coded, damage = result_of_coded(pair.old, pair.new)
-    damaged = (pair.old.damage if pair.old else "", pair.new.damage if pair.new else "")
-    comparison = comparison._replace(picture=coded, parts=_other_parts(pair, coded), damage=damaged)
-    if pair.place is not None and comparison.result == Result.MOVED and counting(comparison.parts):
-        return comparison._replace(result=Result.MOVED_EDITED, note=_joined(comparison.note, ", ".join(comparison.parts)))
+    parts = changes_of_rest(pair.old.beside, pair.new.beside) if coded in (Coded.BESIDE, Coded.OTHER) else []
+    comparison = comparison._replace(picture=coded, parts=parts, damage=(pair.old.damage, pair.new.damage))
+    if pair.place is not None and comparison.result == Result.MOVED and counting(parts):
+        return comparison._replace(result=Result.MOVED_EDITED, note=_joined(comparison.note, ", ".join(parts)))
     if pair.place is not None or (choice.only and not coded.is_damaged):
         return comparison
-    result, clause = (comparison.result, "") if choice.only else result_with(coded, comparison.result, comparison.parts)
+    return _with_picture(comparison, damage, pair, choice)
+
+
+def _with_picture(comparison: Compared, damage: str, pair: Pair, choice: Choice) -> Compared:
+    """With what the coded pictures make of the result of the metadata."""
+    coded, result, clause = comparison.picture, comparison.result, ""
+    if not choice.only:
+        result, clause = result_with(coded, result, comparison.parts)
     is_unseen = coded == Coded.UNKNOWN and result == Result.SAME and _have_other_bytes(pair)
     unseen = "the file has other bytes, and its picture isn't read here" if is_unseen else ""
     return comparison._replace(result=result, note=_joined(damage, comparison.note, clause, unseen), is_unseen=is_unseen)
-
-
-def _other_parts(pair: Pair, coded: Coded) -> List[str]:
-    """What has come, gone or changed of the rest of the files, if both were read."""
-    return changes_of_rest(pair.old.beside, pair.new.beside) if coded in (Coded.BESIDE, Coded.OTHER) and pair.old and pair.new else []
 
 
 def _joined(*clauses: str) -> str:
@@ -122,11 +126,7 @@ def _by_metadata(pair: Pair, sides: Sides, session: Optional[Session], choice: C
     """A picture without its coded picture."""
     name, old, new, place = pair[:4]
     if old is None or new is None:
-        if place is None:
-            return Compared(name, _alone(pair, Result.MISSING_AFTER))
-        result = Result.RENUMBERED if pair.is_renumbered else Result.MOVED
-        note = "" if pair.is_sure or not pair.is_renumbered else "probably: not the file, but what it has is the same"
-        return Compared(name, result, note, moved_to=place)
+        return Compared(name, _alone(pair, Result.MISSING_AFTER)) if place is None else _moved(pair)
     if old.problem or new.problem:
         return _unless_untouched(_unread(name, old, new), old, new, place)
     judged, lost = _by_digests(old, new, sides)
@@ -140,6 +140,14 @@ def _by_metadata(pair: Pair, sides: Sides, session: Optional[Session], choice: C
 def _alone(pair: Pair, result: Result) -> Result:
     """The result of a picture that isn't compared."""
     return Result.UNCLEAR if pair.is_unclear else result
+
+
+def _moved(pair: Pair) -> Compared:
+    """A picture under another name that is as it was."""
+    if not pair.is_renumbered:
+        return Compared(pair.name, Result.MOVED, moved_to=pair.place)
+    note = "" if pair.is_sure else "probably: not the file, but what it has is the same"
+    return Compared(pair.name, Result.RENUMBERED, note, moved_to=pair.place)
 
 
 def _unless_untouched(found: Compared, old: PictureRecord, new: PictureRecord, place: Optional[bytes]) -> Compared:

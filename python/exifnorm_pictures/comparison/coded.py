@@ -45,10 +45,8 @@ SQL = f"""CASE WHEN new.damage != '' AND old.damage = '' THEN '{Coded.DAMAGED}' 
     WHEN old.sha256 != '' AND old.sha256 = new.sha256 THEN '{Coded.SAME}' ELSE '{Coded.UNKNOWN}' END"""
 
 
-def coded_result(picture: Optional[PictureRecord], other: Optional[PictureRecord]) -> Tuple[Coded, str]:
+def coded_result(picture: PictureRecord, other: PictureRecord) -> Tuple[Coded, str]:
     """Whether two files have the same coded picture, and a note. One that is damaged is no other picture than a whole one, and isn't the same either."""
-    if picture is None or other is None:
-        return Coded.UNKNOWN, ""
     if picture.damage or other.damage:
         return _damaged(picture, other)
     if picture.type != other.type:  # the data of two formats can't be equal, even if the pictures are
@@ -81,20 +79,26 @@ _RESULTS = {
     Coded.DAMAGED: (Result.DAMAGED_DIFFERENT, Result.DAMAGED, Result.DAMAGED),
     Coded.DAMAGED_BEFORE: (Result.DAMAGED_DIFFERENT, Result.DAMAGED_BEFORE, Result.DAMAGED_BEFORE),
     Coded.OTHER: (None, Result.OTHER_PICTURE_ALONE, Result.OTHER_PICTURE),
+    Coded.BESIDE: (None, Result.OTHER_PARTS, None),
 }
-_OF_PARTS = (None, Result.OTHER_PARTS, None)  # of parts that count
+_NOTHING = (None, None, None)
 
 
 def result_with(coded: Coded, result: Result, parts: Sequence[str]) -> Tuple[Result, str]:
     """The result of the metadata and the coded pictures together, and what isn't in its word, as the other `parts` that differ."""
-    counted = rest.counting(parts) if coded == Coded.BESIDE else ()
-    results = _RESULTS.get(coded, _OF_PARTS if counted else (None,) * 3)
-    by_metadata = results[0 if result.has_changed else 1 if result.is_equal else 2]
-    if by_metadata == Result.OTHER_PARTS and all(it.endswith(rest.TOO_LARGE) for it in counted):
-        by_metadata = Result.NOT_WHOLLY_READ
-    if by_metadata and coded != Coded.BESIDE:
-        return by_metadata, ""
-    return by_metadata or result, {Coded.OTHER: "the picture differs, too", Coded.BESIDE: ", ".join(parts)}.get(coded, "")
+    together = _RESULTS.get(coded, _NOTHING)[0 if result.has_changed else 1 if result.is_equal else 2]
+    if together == Result.OTHER_PARTS:
+        together = _of_parts(rest.counting(parts))
+    if together and coded != Coded.BESIDE:
+        return together, ""
+    return together or result, {Coded.OTHER: "the picture differs, too", Coded.BESIDE: ", ".join(parts)}.get(coded, "")
+
+
+def _of_parts(counting: Sequence[str]) -> Optional[Result]:
+    """The result of other parts that count. Whether those differ that are too large to compare isn't known."""
+    if not counting:
+        return None
+    return Result.NOT_WHOLLY_READ if all(it.endswith(rest.TOO_LARGE) for it in counting) else Result.OTHER_PARTS
 
 
 def sentence_of_coded(counts: "Counter[Coded]", pixels: str = "index --pixels") -> str:
@@ -105,9 +109,9 @@ def sentence_of_coded(counts: "Counter[Coded]", pixels: str = "index --pixels") 
     """
     if not sum(counts.values()):
         return ""
-    if not counts[Coded.SAME] + counts[Coded.BESIDE] + counts[Coded.OTHER]:
-        damaged = ", ".join(f"{count:,} {it}" for it, count in counts.items() if it != Coded.UNKNOWN and count)
-        more = f"{pixels} compares the pictures, too" if pixels else "pictures of two formats, or that aren't read here, aren't compared"
-        only = f"Only metadata was compared: {more}." if counts[Coded.UNKNOWN] else ""
-        return " ".join(filter(None, [f"The files: {damaged}." if damaged else "", only]))
-    return f"The coded pictures: {', '.join(f'{counts[it]:,} {it}' for it in Coded if counts[it])}."
+    if counts[Coded.SAME] + counts[Coded.BESIDE] + counts[Coded.OTHER]:
+        return f"The coded pictures: {', '.join(f'{counts[it]:,} {it}' for it in Coded if counts[it])}."
+    damaged = ", ".join(f"{count:,} {it}" for it, count in counts.items() if it != Coded.UNKNOWN and count)
+    more = f"{pixels} compares the pictures, too" if pixels else "pictures of two formats, or that aren't read here, aren't compared"
+    only = [f"Only metadata was compared: {more}."] * bool(counts[Coded.UNKNOWN])
+    return " ".join([*[f"The files: {damaged}."] * bool(damaged), *only])

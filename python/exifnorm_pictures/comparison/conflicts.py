@@ -2,6 +2,8 @@
 
 from __future__ import annotations
 
+import contextlib
+import itertools
 import re
 import unicodedata
 from collections import Counter
@@ -10,7 +12,7 @@ from typing import Dict, Iterator, List, NamedTuple, Optional, Sequence, Tuple
 
 from ..fields.labels import DATE, LABELS, POSITION, Caption, Label
 from ..fields.places import Located, is_same_place, metres_apart
-from ..model.found import EXIF, IPTC, NAMES, SIDECAR, STANDARDS, XMP
+from ..model.found import EXIF, IPTC, NAMES, STANDARDS, XMP
 from ..model.words import Word
 
 
@@ -79,14 +81,12 @@ def conflicts(texts: Sequence[Caption], positions: Positions = (None, None)) -> 
     """The labels with texts in two standards at least, and the position if Exif and XMP have one. An XMP sidecar counts beside them."""
     by_label: Dict[str, List[Caption]] = {}
     for text in texts:
-        if not text.is_extra and (not text.block or text.block.endswith(SIDECAR)):
+        if text.is_compared:
             by_label.setdefault(text.label, []).append(text)
-    several = {word: ours for word, ours in by_label.items() if len(ours) > 1 and len(set(map(_source, ours))) > 1}
-    of_position = list(_of_positions(*positions))
-    if not several:
-        return of_position
+    several = {word: ours for word, ours in by_label.items() if len(set(map(_source, ours))) > 1}
     due = [(label, several[label.word]) for label in LABELS if label.word in several]
-    return [*(_conflict(label, ours) for label, ours in due if not all(it.is_empty for it in ours)), *of_position]
+    of_labels = [_conflict(label, ours) for label, ours in due if not all(it.is_empty for it in ours)]
+    return [*of_labels, *_of_positions(*positions)]
 
 
 def _source(text: Caption) -> Tuple[str, str]:
@@ -109,11 +109,7 @@ def _of_positions(exif: Optional[Located], xmp: Optional[Located]) -> Iterator[C
 
 
 def _conflict(label: Label, ours: Sequence[Caption]) -> Conflict:
-    hows = [_How(ConflictKind.EMPTY, f"{it.field} is empty") for it in ours if it.is_empty]
-    hows += [_How(ConflictKind.CAMERA, f"{it.field} has a camera's own text") for it in ours if it.is_own]
-    texts = [it for it in ours if not it.is_empty and not it.is_own]
-    texts.sort(key=lambda it: _CLEAREST.index(it.standard))
-    hows += [_pair(label, one, other) for at, one in enumerate(texts) for other in texts[at + 1 :] if _source(one) != _source(other)]
+    hows = list(_hows(label, ours))
     kind = max((it.kind for it in hows), key=_ORDER.index, default=ConflictKind.ALIKE)
     details = dict.fromkeys(it.detail for it in hows if it.detail and (it.kind == kind or kind != ConflictKind.DIFFERENT))
     worse = tuple(it.worse for it in hows if it.worse)
@@ -121,17 +117,34 @@ def _conflict(label: Label, ours: Sequence[Caption]) -> Conflict:
     return Conflict(label.word, kind, "; ".join(details), tuple(shown), worse)
 
 
+def _hows(label: Label, ours: Sequence[Caption]) -> Iterator[_How]:
+    """How the texts of a label differ: each by itself, and each pair of two standards."""
+    yield from (_How(ConflictKind.EMPTY, f"{it.field} is empty") for it in ours if it.is_empty)
+    yield from (_How(ConflictKind.CAMERA, f"{it.field} has a camera's own text") for it in ours if it.is_own)
+    texts = sorted(_of_people(ours), key=lambda it: _CLEAREST.index(it.standard))
+    for text, other in itertools.combinations(texts, 2):
+        if _source(text) != _source(other):
+            yield _pair(label, text, other)
+
+
+def _of_people(texts: Sequence[Caption]) -> List[Caption]:
+    """The texts that neither are empty nor a camera's own."""
+    return [it for it in texts if not it.is_empty and not it.is_own]
+
+
 def chosen(texts: Sequence[Caption], known: Sequence[Conflict], order: Sequence[str] = STANDARDS) -> Optional[Caption]:
     """The texts of a label where there is space for one field, which aren't a camera's: those that are whole, on which two standards agree, and
     the first in the order of the standards. Those of further blocks, such as of a second page, are taken where the first ones have none."""
     worse = {field for it in known for field in it.worse}
-    candidates = [it for it in texts if not it.is_empty and not it.is_own]
+    candidates = _of_people(texts)
     agreeing = Counter(text for text, _ in {(_plain(it.line), it.standard) for it in candidates if not it.is_extra and not it.block})
     candidates = [it for it in candidates if not it.block] or candidates
-    candidates.sort(
-        key=lambda it: (it.is_extra, it.field in worse, bool(agreeing) and agreeing[_plain(it.line)] < 2, order.index(it.standard))
-    )
-    return candidates[0] if candidates else None
+
+    def rank(text: Caption) -> Tuple[bool, bool, bool, int]:
+        return text.is_extra, text.field in worse, agreeing[_plain(text.line)] < 2, order.index(text.standard)
+
+    candidates.sort(key=rank)
+    return next(iter(candidates), None)
 
 
 def best(texts: Sequence[Caption], known: Sequence[Conflict]) -> str:
@@ -169,13 +182,12 @@ def _lists(first: List[str], second: List[str], text: Caption, other: Caption) -
     if sorted(first) == sorted(second):
         return _How(ConflictKind.ORDER, "another order")
     for joined, apart, whose in ((first, second, text), (second, first, other)):
-        if len(joined) == 1 and len(apart) > 1 and sorted(_parts(joined)) == sorted(apart):
+        if len(joined) == 1 < len(apart) and sorted(_parts(joined)) == sorted(apart):
             return _How(ConflictKind.JOINED, f"{whose.field} has the list in one text")
-    mine, its = set(_parts(first)), set(_parts(second))
-    if mine < its or its < mine:
-        more, fewer, whose = (second, mine, other) if mine < its else (first, its, text)
-        only = [it for it in _parts(more) if it not in fewer]
-        return _How(ConflictKind.DIFFERENT, f"only {whose.field} has: {', '.join(only[:5])}{' ..' if len(only) > 5 else ''}")
+    for more, fewer, whose in ((second, set(_parts(first)), other), (first, set(_parts(second)), text)):
+        if fewer < set(_parts(more)):
+            only = [it for it in _parts(more) if it not in fewer]
+            return _How(ConflictKind.DIFFERENT, f"only {whose.field} has: {', '.join(only[:5])}{' ..' if len(only) > 5 else ''}")
     return None
 
 
@@ -195,29 +207,30 @@ def _texts_differ(label: Label, pair: Tuple[str, str], whose: Tuple[Caption, Cap
 def _explained(label: Label, text: str, against: str, label_text: Caption, at: int) -> Iterator[_How]:
     """Why a text isn't the other one, although that was meant."""
     octets = label_text.octets[at] if len(label_text.octets) > at else b""
-    for name, word in _CHARACTER_SETS.items() if not octets.isascii() else ():
-        try:
-            again = _plain(octets.rstrip(b"\0").decode(name))
-        except UnicodeDecodeError:
-            continue
+    for word, again in _read_again(octets):
         if again == against:
-            yield _How(
-                ConflictKind.CHARACTERS,
-                f"{label_text.field} is in {word}, which {'is not what it declares' if 'declared' in label_text.guess else 'nothing declares'}",
-            )
-        if label_text.standard == NAMES[IPTC] and _is_cut(label, again, against, len(octets)):
-            yield _How(ConflictKind.CUT, f"{label_text.field} is cut after {len(octets):,} bytes")
+            declares = "is not what it declares" if "declared" in label_text.guess else "nothing declares"
+            yield _How(ConflictKind.CHARACTERS, f"{label_text.field} is in {word}, which {declares}")
+        yield from _cut(label, label_text, again, against, len(octets))
     if _without_detour(text) == against:
         yield _How(ConflictKind.CHARACTERS, f"{label_text.field} was read in a wrong character set before it was written")
     if _without_accents(text, against):
         yield _How(ConflictKind.CHARACTERS, f"{label_text.field} has ? for letters that it couldn't write")
-    if label_text.standard == NAMES[IPTC] and _is_cut(label, text, against, len(octets)):
-        yield _How(ConflictKind.CUT, f"{label_text.field} is cut after {len(octets):,} bytes")
+    yield from _cut(label, label_text, text, against, len(octets))
 
 
-def _is_cut(label: Label, text: str, against: str, octets: int) -> bool:
+def _read_again(octets: bytes) -> Iterator[Tuple[str, str]]:
+    """Bytes outside ASCII as texts in each character set that can have them, after its word."""
+    for name, word in _CHARACTER_SETS.items() if not octets.isascii() else ():
+        with contextlib.suppress(UnicodeDecodeError):
+            yield word, _plain(octets.rstrip(b"\0").decode(name))
+
+
+def _cut(label: Label, label_text: Caption, text: str, against: str, octets: int) -> Iterator[_How]:
     """Whether an IPTC text is the beginning of another and as long as the standard allows (a character or a blank less)."""
-    return bool(label.limit) and len(text) < len(against) and against.startswith(text.rstrip()) and octets >= label.limit - 4
+    is_of_iptc = label_text.standard == NAMES[IPTC] and label.limit
+    if is_of_iptc and octets >= label.limit - 4 and len(text) < len(against) and against.startswith(text.rstrip()):
+        yield _How(ConflictKind.CUT, f"{label_text.field} is cut after {octets:,} bytes")
 
 
 def _without_detour(text: str) -> str:
@@ -270,15 +283,19 @@ def _is_same_time(text: str, other: str) -> bool:
     >>> _is_same_time("2003-05-00", "2003-05-24"), _is_same_time("2003-05", "2003-06-24")
     (True, False)
     """
-    matches = [_TIME.fullmatch(_known(it)) for it in (text, other)]
-    if not matches[0] or not matches[1]:
+    match, against = (_TIME.fullmatch(_known(it)) for it in (text, other))
+    if not match or not against:
         return False
-    zones = [it[3] for it in matches if it]
-    if all(zones) and all(it and it[2] for it in matches):
-        try:
-            both = [datetime.fromisoformat(f"{it[1]} {it[2]}{'+00:00' if it[3] == 'Z' else it[3]}") for it in matches if it]
-        except ValueError:  # as of a month 13
-            return False
-        return both[0] == both[1]
-    first, second = (f"{it[1]} {it[2] or ''}".rstrip() for it in matches if it)
+    if all((*match.groups(), *against.groups())):
+        moment = _moment(match)
+        return moment is not None and moment == _moment(against)
+    first, second = (f"{it[1]} {it[2] or ''}".rstrip() for it in (match, against))
     return first.startswith(second) or second.startswith(first)
+
+
+def _moment(match: "re.Match[str]") -> Optional[datetime]:
+    """A time with its zone; None of one that there isn't, as in a month 13."""
+    try:
+        return datetime.fromisoformat(f"{match[1]} {match[2]}{'+00:00' if match[3] == 'Z' else match[3]}")
+    except ValueError:
+        return None

@@ -12,7 +12,7 @@ from ..fields.field import Field
 from ..fields.listing import MAKER_NOTE, exact
 from ..fields.packing import unpacked
 from ..model import steps
-from ..model.found import EXIF, KINDS, NAMES
+from ..model.found import EXIF, KINDS, other_name
 from ..model.records import PICTURES, has, kind_of
 from ..model.sides import Status, joined
 from .differing import equal_form
@@ -26,7 +26,7 @@ class _Counted(NamedTuple):
     kind: str
     name: str
     digest: Optional[str]  # of the fields that count: empty without any, None if the block isn't accepted
-    repaired: Optional[str]  # the same after a repair that loses nothing
+    repaired: Optional[str]  # the same, also after a repair that loses nothing
     meaning: str  # of all of the block
     listing: str  # of all its fields
     other: str  # the digest of those that count, after a repair too, without the MakerNote
@@ -80,20 +80,30 @@ def _rows(catalogue: Catalogue, choice: Choice) -> Iterator[Tuple[object, ...]]:
 def _counted(row: Tuple[Any, ...], choice: Choice) -> _Counted:
     word, name, status, digest, octets, repair, packed = row
     has(str, word, name, status, octets, *(it for it in (digest, repair) if it is not None))
+    meaning = digest or octets
     if packed is None:
         own = f"whole {digest}" if status == Status.ACCEPTED else None  # its fields aren't kept, so all of it counts
-        return _Counted(kind_of(word), name, own, None, digest or octets, "", own or "")
+        return _Counted(kind_of(word), name, own, own, meaning, "", own or "")
     fields = list(map(_with_exact_xmp, unpacked(packed)))
-    block = "" if name in NAMES.values() else name
-    counting = choice.of(fields, block)
-    counted, meaning, listing = _digest(counting, choice), digest or octets, _sum_of(fields)
-    is_repaired = repair is not None and not steps.loses(steps.unpacked(repair))
-    known = (kind_of(word), name, counted if status == Status.ACCEPTED else None, counted if is_repaired else None, meaning, listing)
-    others = [it for it in fields if (it.directory, it.tag) != MAKER_NOTE]
-    if len(others) == len(fields):
-        return _Counted(*known, counted)
-    rest = [it for it in counting if (it.directory, it.tag) != MAKER_NOTE]
-    return _Counted(*known, _digest(rest, choice) or "no other field")
+    counting = choice.of(fields, other_name(name))
+    counted = _digest(counting, choice)
+    accepted = counted if status == Status.ACCEPTED else None
+    repaired = counted if _loses_nothing(repair) else accepted
+    other = _of_others(counting, choice) if any(map(_is_note, fields)) else counted
+    return _Counted(kind_of(word), name, accepted, repaired, meaning, _sum_of(fields), other)
+
+
+def _loses_nothing(repair: Optional[str]) -> bool:
+    return repair is not None and not steps.loses(steps.unpacked(repair))
+
+
+def _is_note(field: Field) -> bool:
+    return (field.directory, field.tag) == MAKER_NOTE
+
+
+def _of_others(counting: Sequence[Field], choice: Choice) -> str:
+    """The digest of the fields that count beside a MakerNote."""
+    return _digest([it for it in counting if not _is_note(it)], choice) or "no other field"
 
 
 def _with_exact_xmp(field: Field) -> Field:
@@ -116,8 +126,9 @@ def _sum(rows: Sequence[Tuple[object, ...]]) -> str:
     return hashlib.sha256(repr(rows).encode("utf-8", "surrogatepass")).hexdigest()
 
 
-def _together(named: Sequence[Tuple[str, Optional[str]]]) -> Optional[str]:
-    """The digest of some blocks; empty if none has fields that count, and None if one isn't accepted."""
+def _together(blocks: Sequence[_Counted], kind: str, what: str) -> Optional[str]:
+    """One of the digests of the blocks of a kind; empty if no field counts, and None if a block isn't accepted."""
+    named = [(it.name, getattr(it, what)) for it in blocks if it.kind == kind]
     if any(digest is None for _, digest in named):
         return None
     there = [(name, digest) for name, digest in named if digest]
@@ -126,11 +137,8 @@ def _together(named: Sequence[Tuple[str, Optional[str]]]) -> Optional[str]:
 
 def _row(blocks: Sequence[_Counted], choice: Choice) -> Tuple[object, ...]:
     """The digest of each kind, of Exif after repairs, of all that the picture means, and of all its fields."""
-    counting = [it for it in blocks if it.kind in choice.kinds]
-    digests = [_together([(it.name, it.digest) for it in counting if it.kind == kind]) for kind in KINDS]
-    exif = [(it.name, it.repaired if it.digest is None else it.digest) for it in blocks if it.kind == EXIF]
-    repaired = _together(exif) or None if digests[0] is None else None
-    others = [(it.name, it.other) for it in blocks if it.kind == EXIF and it.other != ""]
-    wholes = zip(*((it.meaning, it.listing) for it in blocks))
-    sums = (joined([(f"{it.kind} {it.name}", text) for it, text in zip(blocks, some)]) for some in wholes)
-    return (*digests, repaired, joined(others) if others else "", *sums)
+    digests = [_together(blocks, kind, "digest") if kind in choice.kinds else "" for kind in KINDS]
+    repaired = _together(blocks, EXIF, "repaired") if digests[0] is None else None
+    meaning = joined([(f"{it.kind} {it.name}", it.meaning) for it in blocks])
+    listing = joined([(f"{it.kind} {it.name}", it.listing) for it in blocks])
+    return (*digests, repaired or None, _together(blocks, EXIF, "other"), meaning, listing)

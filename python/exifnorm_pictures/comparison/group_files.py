@@ -16,9 +16,7 @@ def files_of(pictures: Iterable[PictureRecord], look: bool, folders: Optional[Fo
     places: Dict[object, Dict[object, int]] = {}  # of each file among the pictures, by device and inode
     further: Dict[int, List[PictureRecord]] = {}
     for picture in pictures:
-        state, (device, inode) = _state(picture) if look else ("", (picture.device, picture.inode))
-        if not state and folders and not folders.is_marked_as(picture.path, picture.sidecars):
-            state = "changed"
+        state, (device, inode) = _state(picture, folders) if look else ("", (picture.device, picture.inode))
         if state:
             (files.gone if state == "gone" else files.changed).append(picture.path)
             continue
@@ -35,7 +33,9 @@ def files_of(pictures: Iterable[PictureRecord], look: bool, folders: Optional[Fo
 
 def _add_links(files: Files, at: int, names: List[PictureRecord], look: bool) -> None:
     """Takes one of several names of a file for its picture, and the others for links to it."""
-    first = files.pictures[at] = _real(names) if look else names[0]
+    # one that leads through no symbolic link, if there is one: whoever keeps it keeps the file
+    real = (it for it in names if os.path.realpath(it.path) == it.path)
+    first = files.pictures[at] = next(real, names[0]) if look else names[0]
     files.links += [Link.to(it.path, first.path) if look else Link(it.path, first.path) for it in names if it is not first]
 
 
@@ -48,17 +48,13 @@ def _shrunk(picture: PictureRecord, before: Sequence[PictureRecord]) -> PictureR
     return picture
 
 
-def _real(names: List[PictureRecord]) -> PictureRecord:
-    """Of several names of one file one that leads through no symbolic link, if there is one: whoever keeps it keeps the file."""
-    return next((it for it in names if os.path.realpath(it.path) == it.path), names[0])
-
-
-def _state(picture: PictureRecord) -> Tuple[str, Tuple[int, int]]:
+def _state(picture: PictureRecord, folders: Optional[Folders]) -> Tuple[str, Tuple[int, int]]:
     """`gone`, `changed`, or nothing for a file that is as it was; and the device and inode of the file."""
     try:
         now = os.stat(picture.path)
     except (OSError, ValueError):  # a name that has a NUL
         return "gone", (0, 0)
-    if not is_marked_as(Stamp.of(now), picture.marks):
+    has_other_sidecars = folders is not None and not folders.is_marked_as(picture.path, picture.sidecars)
+    if has_other_sidecars or not is_marked_as(Stamp.of(now), picture.marks):
         return "changed", (0, 0)
     return "", (now.st_dev, now.st_ino)

@@ -2,7 +2,7 @@
 
 from __future__ import annotations
 
-from typing import Dict, List, Optional, Sequence
+from typing import Dict, List, Optional, Sequence, Set
 
 from ..model.found import EXIF, KINDS, NAMES, XMP, lost_kinds
 from ..model.records import PictureRecord
@@ -66,13 +66,20 @@ def _refused(group: Group, kind: str) -> str:
 
 def _of_metadata(pictures: Sequence[PictureRecord]) -> str:
     """What is true of the metadata of pictures that may have different ones."""
-    refused = "refused or unreadable"
-    known: Dict[str, List[str]] = {Result.SAME: [], Result.DIFFERENT: [], refused: [], Result.ABSENT: []}
+    known: Dict[str, List[str]] = {Result.SAME: [], Result.DIFFERENT: [], _REFUSED: [], Result.ABSENT: []}
     for number, kind in enumerate(KINDS):
-        meanings = {it.meanings[number] for it in pictures}
-        same = Result.SAME if len(meanings) == 1 else Result.DIFFERENT
-        known[Result.ABSENT if meanings == {""} else refused if None in meanings else same].append(kind)
+        known[_of_meanings({it.meanings[number] for it in pictures})].append(kind)
     none = none_of(known.pop(Result.ABSENT))
     text = ", ".join([*(clause(kinds, word, False) for word, kinds in known.items() if kinds), *none])
     unread = {it.not_read for it in pictures}
     return text if unread != {None} and len(unread) == 1 else f"{text}; a part that was not read may differ"
+
+
+_REFUSED = "refused or unreadable"
+
+
+def _of_meanings(meanings: Set[Optional[str]]) -> str:
+    """What the digests of some pictures say of a kind."""
+    if None in meanings:
+        return _REFUSED
+    return Result.ABSENT if meanings == {""} else Result.SAME if len(meanings) == 1 else Result.DIFFERENT

@@ -15,7 +15,7 @@ from ..extract.sidecars import Folders
 from ..fields.choosing import EVERYTHING, Choice, UnknownField
 from ..fields.block_fields import known_fields
 from ..model import steps
-from ..model.found import BROKEN, EXIF, IPTC, KINDS, NAMES, REST, WITHOUT_IPTC, each_kind
+from ..model.found import BROKEN, EXIF, IPTC, KINDS, REST, WITHOUT_IPTC, each_kind, other_name
 from ..model.problems import NOT_THERE
 from ..model.records import PictureRecord, picture_of_row
 from ..model.texts import pictures_in_words
@@ -38,20 +38,19 @@ class _Query(NamedTuple):
 
 
 def _queries(kinds: Sequence[str], only: Optional[str]) -> Iterator[_Query]:
-    columns = list(kinds)
-    chosen = f" AND path IN {only}" if only else ""
-    there = "(" + " OR ".join(f"{it}_octets != ''" for it in columns) + ")"
+    chosen = _among(only)
+    there = "(" + " OR ".join(f"{it}_octets != ''" for it in kinds) + ")"
     base = f"problem IS NULL AND not_read IS NOT NULL AND {there}"
-    known = " AND ".join(f"{it} IS NOT NULL" for it in columns)
+    known = " AND ".join(f"{it} IS NOT NULL" for it in kinds)
     place = (_NOTE,) * (EXIF in kinds)
-    yield _Query(Basis.MEANING, (*columns, "not_read", *place), f"{base} AND {known}{chosen}")
-    octets = tuple(f"ifnull({it}, 'bytes ' || {it}_octets)" for it in columns)
+    yield _Query(Basis.MEANING, (*kinds, "not_read", *place), f"{base} AND {known}{chosen}")
+    octets = tuple(f"ifnull({it}, 'bytes ' || {it}_octets)" for it in kinds)
     yield _Query(Basis.BYTES, (*octets, "not_read", *place), f"{base} AND NOT ({known}){chosen}")
     if len(kinds) == len(KINDS):
         unread = f"((problem IS NULL AND not_read IS NULL) OR {_UNREAD})"
         yield _Query(Basis.BYTES, ("file",), f"file != '' AND {unread}{chosen}")
     if EXIF in kinds:
-        repaired = tuple("ifnull(exif, exif_repaired)" if it == "exif" else it for it in columns)
+        repaired = tuple("ifnull(exif, exif_repaired)" if it == EXIF else it for it in kinds)
         after = " AND ".join(f"{it} IS NOT NULL" for it in repaired)
         several = "count(*) > 1 AND sum(exif IS NULL) > 0 AND count(DISTINCT exif_octets) > 1"
         yield _Query(Basis.REPAIR, (*repaired, "not_read", *place), f"{base} AND {after}{chosen}", several)
@@ -89,7 +88,8 @@ class Groups:
 
     def by_coded_picture(self) -> Iterator[Group]:
         """The groups of files with the same coded picture, the largest first."""
-        return self._groups(_Query(Basis.CODED_PICTURE, ("coded_picture",), _coded("!= ''", self.only)), KINDS, "pictures")
+        where = f"problem IS NULL AND coded_picture != ''{_among(self.only)}"
+        return self._groups(_Query(Basis.CODED_PICTURE, ("coded_picture",), where), KINDS, "pictures")
 
     def by_file(self) -> Iterator[Group]:
         """The groups of files with the same bytes, the largest first."""
@@ -208,7 +208,7 @@ def _fields_of(catalogue: Catalogue, group: Group, choice: Choice) -> Optional[i
             fields = known_fields(block)
         if fields is None:
             return None
-        count += len(choice.of(fields, "" if block.name in NAMES.values() else block.name))
+        count += len(choice.of(fields, other_name(block.name)))
     return None if group.members[0].file else count
 
 
@@ -232,10 +232,6 @@ def coded_pictures(catalogue: Catalogue, only: Optional[str] = None) -> CodedPic
     conditions = ("!= ''", "= '' AND damage = '' AND type IS NOT 'XMP'", "= '' AND damage != ''", "IS NULL")
     compared, other, damaged, not_requested = (_number_of(catalogue, f"problem IS NULL AND coded_picture {it}", only) for it in conditions)
     return CodedPictures(compared, other, damaged, not_requested, _number_of(catalogue, _UNREAD, only))
-
-
-def _coded(words: str, only: Optional[str]) -> str:
-    return f"problem IS NULL AND coded_picture {words}" + _among(only)
 
 
 def _among(only: Optional[str]) -> str:

@@ -64,8 +64,8 @@ class _Place(NamedTuple):
 def _places(name: bytes, catalogues: Sequence[Catalogue]) -> List[_Place]:
     """Where a picture is in each catalogue: where that of the neighbour is, and beyond a catalogue without it, by its name again."""
     places = [_Place(_named(it, name)) for it in catalogues]
-    newest = max((number for number, place in enumerate(places) if place.path is not None), default=None)
-    if newest is None:
+    newest = max((number for number, place in enumerate(places) if place.path is not None), default=-1)
+    if newest < 0:
         raise NotKnown(f"no catalogue has {shown_path(os.path.abspath(name))}")
     for number in reversed(range(newest)):
         if places[number + 1].path is not None or places[number].path is None:
@@ -73,8 +73,7 @@ def _places(name: bytes, catalogues: Sequence[Catalogue]) -> List[_Place]:
     for number in range(1, len(catalogues)):
         if places[number].path is None:
             place = _place(catalogues[number - 1], catalogues[number], places[number - 1])
-            is_open = place.path is None and (place.may_be_elsewhere or places[number].may_be_elsewhere)
-            places[number] = _Place(place.path, is_open)
+            places[number] = max(place, places[number], key=lambda it: (it.path is not None, it.may_be_elsewhere))
     return places
 
 

@@ -24,6 +24,8 @@ HAS_MORE = "it stays for one without other parts: {}"
 NOT_ALL = "its file has other bytes that say the same"
 
 _Key = Tuple[str, str]  # what was compared, and its digest
+_NO_KEY = ("", "")
+_ALONE = {"file": OTHER_FILE, "picture": OTHER}  # of a picture that is equal to no other one
 
 
 class Keep(NamedTuple):
@@ -62,25 +64,33 @@ def keeping(group: Group, reads: bool = True) -> Dict[int, Keep]:
     """What may be done with each picture of a group, by its number. The first of equal pictures by path stays: so of all groups that
     a picture is in, the one that stays is no later one, and a chain of groups ends at a picture that stays. One whose file has more
     parts comes first, as it may stay for one that lacks some. `reads` reads files with equal sizes."""
-    members = [it for it in group.members if _is_picture(it)]
+    members = list(filter(_is_picture, group.members))
     members.sort(key=lambda it: (-rest.count(it.beside), it.path))
     keys = _keys(members, reads)
-    damages = {it.id: it.damage for it in members if it.damage}
     equal: Dict[_Key, List[PictureRecord]] = {}
     for picture in members:
-        if picture.id in keys:
-            equal.setdefault(keys[picture.id], []).append(picture)
-    for key, pictures in equal.items():
-        if key[0] == "file" and len(pictures) > 1 and pictures[0].coded_picture is None:  # nobody has looked whether it is whole
-            damages.update({it.id: damage for damage in [_damage_of(pictures[0])] if damage for it in pictures})
+        equal.setdefault(keys[picture.id], []).append(picture)
+    damages = _damages(members, equal)
+    unknown = equal.pop(_NO_KEY, [])
     equals = {key: _equals(key, pictures) for key, pictures in equal.items()}
-    has_unknown = any(it.coded_picture is None and not (keys.get(it.id) and len(equal[keys[it.id]]) > 1) for it in members)
-    known = {it.id: _keep(it, keys, equals, damages, has_unknown) for it in members}
+    alone = [*unknown, *(pictures[0] for pictures in equal.values() if len(pictures) == 1)]
+    has_unknown = any(it.coded_picture is None for it in alone)
+    known = {it.id: _keep(it, keys[it.id], equals, damages[it.id], has_unknown) for it in members}
     return {it.id: known.get(it.id, Keep(why=NO_PICTURE)) for it in group.members}
 
 
 def _is_picture(picture: PictureRecord) -> bool:
     return picture.problem != Problem.NO_PICTURE and picture.type != XMP_FILE
+
+
+def _damages(members: Sequence[PictureRecord], equal: Dict[_Key, List[PictureRecord]]) -> Dict[int, str]:
+    """The damage of each picture, by its number; empty of one that isn't known to have any."""
+    damages = {it.id: it.damage for it in members}
+    for (what, _), pictures in equal.items():
+        if what == "file" and len(pictures) > 1 and pictures[0].coded_picture is None:
+            # nobody has looked whether it is whole
+            damages.update(dict.fromkeys([it.id for it in pictures], _damage_of(pictures[0])))
+    return damages
 
 
 def _equals(key: _Key, pictures: Sequence[PictureRecord]) -> _Equals:
@@ -96,14 +106,18 @@ def _equals(key: _Key, pictures: Sequence[PictureRecord]) -> _Equals:
     return _Equals(pictures, stays_for, differs, goes, has_equal_bytes)
 
 
-def _keep(picture: PictureRecord, keys: Dict[int, _Key], equals: Dict[_Key, _Equals], damages: Dict[int, str], has_unknown: bool) -> Keep:
-    if picture.id in damages:
-        return Keep(why=damaged(damages[picture.id]))
-    if picture.id not in keys:
+def _keep(picture: PictureRecord, key: _Key, equals: Dict[_Key, _Equals], damage: str, has_unknown: bool) -> Keep:
+    if damage:
+        return Keep(why=damaged(damage))
+    if key == _NO_KEY:
         return Keep(why=NOT_KNOWN)
-    same = equals[keys[picture.id]]
-    if len(same.pictures) == 1:
-        return Keep(why=NOT_KNOWN if has_unknown else OTHER_FILE if keys[picture.id][0] == "file" else OTHER)
+    if len(equals[key].pictures) == 1:
+        return Keep(why=NOT_KNOWN if has_unknown else _ALONE[key[0]])
+    return _of_equal(picture, equals[key])
+
+
+def _of_equal(picture: PictureRecord, same: _Equals) -> Keep:
+    """One of several pictures that are equal."""
     first = same.stays_for[picture.id]
     if picture is not first:
         return Keep(False, same_as=first.path)
@@ -117,23 +131,24 @@ def _keep(picture: PictureRecord, keys: Dict[int, _Key], equals: Dict[_Key, _Equ
 
 
 def _keys(members: Sequence[PictureRecord], reads: bool) -> Dict[int, _Key]:
-    """What is known of each picture: the digest of its coded picture, or else of its file."""
-    keys: Dict[int, _Key] = {}
+    """What is known of each picture, by its number."""
     sizes = Counter(it.size for it in members if not it.coded_picture)
-    for picture in members:
-        if picture.damage:
-            continue
-        if picture.coded_picture:
-            keys[picture.id] = ("picture", picture.coded_picture)
-        elif picture.sha256 or picture.file:
-            keys[picture.id] = ("file", picture.sha256 or picture.file)
-        elif reads and sizes[picture.size] > 1:
-            from ..extract.formats.streams import digest_of_file  # which is seldom needed
+    return {it.id: _key(it, reads and sizes[it.size] > 1) for it in members}
 
-            with contextlib.suppress(OSError):
-                if digest := digest_of_file(picture.path, 1 << 62):
-                    keys[picture.id] = ("file", digest)
-    return keys
+
+def _key(picture: PictureRecord, reads: bool) -> _Key:
+    """The digest of a coded picture, or else of its file, which is read if that may help."""
+    if picture.damage:
+        return _NO_KEY
+    if picture.coded_picture:
+        return "picture", picture.coded_picture
+    digest: Optional[str] = picture.sha256 or picture.file
+    if reads and not digest:
+        from ..extract.formats.streams import digest_of_file  # which is seldom needed
+
+        with contextlib.suppress(OSError):
+            digest = digest_of_file(picture.path, 1 << 62)
+    return ("file", digest) if digest else _NO_KEY
 
 
 def _damage_of(picture: PictureRecord) -> str:

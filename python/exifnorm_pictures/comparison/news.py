@@ -152,20 +152,16 @@ class Between:
     def _add(self, comparison: Compared) -> bool:
         """Counts the news of a picture; whether it has any."""
         name = comparison.name
-        if comparison.result == Result.MISSING_BEFORE:
-            return self._came(name)
-        if comparison.result == Result.MISSING_AFTER:
-            return self._went(name)
+        of_one = {Result.MISSING_BEFORE: self._came, Result.MISSING_AFTER: self._went, Result.NOT_READ: self._not_read}
+        if comparison.result in of_one:
+            return of_one[comparison.result](name)
         if not comparison.result.are_pictures:
             return False
         if comparison.moved_to is not None:
             self._moved(name, comparison.moved_to, comparison.result == Result.RENUMBERED)
-        if comparison.result == Result.NOT_READ:
-            return self._not_read(name)
         kinds = list(_kinds(comparison))
-        for kind in kinds:
-            for part in counting(comparison.parts) if kind == Kind.PARTS else [""]:
-                self.tally.add(kind, comparison.moved_to or name, part)
+        for kind, part in kinds:
+            self.tally.add(kind, comparison.moved_to or name, part)
         has_news = bool(kinds) or comparison.moved_to is not None
         return bool(comparison.changes and self._changes(comparison, bool(kinds))) or has_news
 
@@ -220,14 +216,8 @@ class Between:
         for label in labels:
             if len(self.values) < VALUES:
                 self.values.append(Values(name, label, *(sorted(it.get(label, ())) for it in (before, now))))
-            if label not in now:
-                self.tally.add(Kind.LOST, name, label)
-            elif label in before:
-                self.tally.add(Kind.CHANGED, name, label)
-            elif label == POSITION:
-                self.tally.add(Kind.POSITION, name)
-            else:
-                self.tally.add(Kind.ADDED, name, label)
+            kind = _kind_of_text(label, label in before, label in now)
+            self.tally.add(kind, name, "" if kind == Kind.POSITION else label)
         if not labels and not has_kind:
             self.tally.add(Kind.OTHER, name)
         return True
@@ -252,17 +242,26 @@ class Between:
                 self.tally.add(Kind.GONE, folder.names[0], count=folder.count)
 
 
-def _kinds(comparison: Compared) -> Iterator[Kind]:
-    """What a comparison itself says, besides the fields."""
+def _kinds(comparison: Compared) -> Iterator[Tuple[Kind, str]]:
+    """What a comparison itself says, besides the fields; of each part of the file by itself."""
     kind = _OF_CODED.get(comparison.picture)
-    if kind and (kind != Kind.PARTS or counting(comparison.parts)):
-        yield kind
+    if kind:
+        yield from ((kind, part) for part in (counting(comparison.parts) if kind == Kind.PARTS else [""]))
     if comparison.is_unseen:
-        yield Kind.UNSEEN
+        yield Kind.UNSEEN, ""
     if comparison.result == Result.FILE_DIFFERENT:
-        yield Kind.WRITTEN
+        yield Kind.WRITTEN, ""
     elif comparison.result.is_open and comparison.result not in (Result.DAMAGED, Result.DAMAGED_BEFORE):
-        yield Kind.OPEN
+        yield Kind.OPEN, ""
+
+
+def _kind_of_text(label: str, was_there: bool, is_there: bool) -> Kind:
+    """What has become of the texts of a label, which aren't as they were."""
+    if not is_there:
+        return Kind.LOST
+    if was_there:
+        return Kind.CHANGED
+    return Kind.POSITION if label == POSITION else Kind.ADDED
 
 
 _OF_CODED = {Coded.DAMAGED: Kind.DAMAGED, Coded.DAMAGED_BEFORE: Kind.READABLE, Coded.OTHER: Kind.OTHER_PICTURE, Coded.BESIDE: Kind.PARTS}

@@ -211,7 +211,7 @@ class Pairs:
         """Pairs the others by what they have, and finds those that were renumbered."""
         self.base.execute(f"INSERT INTO taken {self._query_taken()}")
         for keys, have_taken in (((_FORM,), False), ((_FILE,), True), ((*_ROUNDS, *_CODED), False), ((*_KEYS, *_CODED), True)):
-            if have_taken and not self._has_taken():
+            if have_taken and not self.base.execute("SELECT 1 FROM taken").fetchone():
                 continue
             for key in keys:
                 left = self._alone(BEFORE, key, have_taken), self._alone(AFTER, key, have_taken)
@@ -220,9 +220,6 @@ class Pairs:
                 self.base.executemany(f"INSERT INTO moved VALUES (?, ?, {how})", _equal(*left, not may_differ))
             if have_taken:
                 self.base.execute(_NOT_RENUMBERED)
-
-    def _has_taken(self) -> bool:
-        return self.base.execute("SELECT 1 FROM taken").fetchone() is not None
 
     def _query_taken(self) -> str:
         """A query for the numbers of the pictures under one name that are two files."""
@@ -291,18 +288,19 @@ class Pairs:
         yield from self._rows(query, self._pair_of_row)
 
     def _pair_of_row(self, row: Tuple[object, ...]) -> Pair:
-        name, (is_unclear, place, moved, is_edited, is_sure, is_renumbered) = self._named(BEFORE, row[1]), row[-6:]
+        name, place, moved, is_edited = self._named(BEFORE, row[1]), *row[-5:-2]
         to = None if place is None else self._named(AFTER, place)
         is_one = to is not None and shown_form(to) == shown_form(name)
-        if row[PICTURES.width] is None and not is_edited and not is_one:
-            is_new_name = to is not None and bool(is_renumbered)
-            return Pair(name, None, None, to, is_new_name, bool(is_sure), is_unclear=bool(is_unclear))
+        is_read = bool(is_edited or is_one)  # whether the picture under the other name is compared
+        if row[PICTURES.width] is None and not is_read:
+            return _without_pictures(name, to, row)
         new = row[PICTURES.width : 2 * PICTURES.width]
-        if is_edited or is_one:
+        if is_read:
             new = self.base.execute(f"SELECT {PICTURE_COLUMNS} FROM after.pictures WHERE id = ?", (moved,)).fetchone()
-        pictures = self._picture(BEFORE, row[: PICTURES.width]), self._picture(AFTER, new)
         is_partner = is_edited == _PARTNER
-        return Pair(name, *pictures, to if is_partner or (is_edited and not is_one) else None, is_partner=is_partner)
+        has_moved = is_read and (is_partner or not is_one)
+        pictures = self._picture(BEFORE, row[: PICTURES.width]), self._picture(AFTER, new)
+        return Pair(name, *pictures, to if has_moved else None, is_partner=is_partner)
 
     def came(self) -> Iterator[Pair]:
         """The pictures that are only there afterwards and aren't moved ones, in the order of their paths."""
@@ -372,6 +370,12 @@ class Pairs:
         with self._guarded():
             for row in self.base.execute(query):
                 yield factory(row)
+
+
+def _without_pictures(name: bytes, to: Optional[bytes], row: Tuple[object, ...]) -> Pair:
+    """A picture that isn't there, or is elsewhere as it was."""
+    is_unclear, is_sure, is_renumbered = (bool(row[at]) for at in (-6, -2, -1))
+    return Pair(name, None, None, to, to is not None and is_renumbered, is_sure, is_unclear=is_unclear)
 
 
 def _is_there(alias: str) -> str:

@@ -5,12 +5,11 @@ from __future__ import annotations
 import contextlib
 import os
 from dataclasses import dataclass
-from typing import Dict, List, NamedTuple, Optional, Sequence, Tuple
+from typing import List, NamedTuple, Optional, Sequence, Tuple
 
 from ..extract.formats.streams import digest_of_file
 from ..fields.block_fields import fields_of
 from ..fields.choosing import EVERYTHING, Choice
-from ..fields.field import Field
 from ..fields.listing import MAKER_NOTE
 from ..fields.plain_names import group_name
 from ..fields.plain_values import POSITION_TAGS, position
@@ -162,16 +161,18 @@ def with_position(rows: List[FieldRow], picture: PictureRecord, other: PictureRe
     """The rows with the four fields of a position as one, in degrees, if both positions are known."""
     ours = [row for row in rows if _is_of_position(row)]
     (before, is_known), (after, is_other_known) = map(_position, (picture, other))
-    if not (ours and is_known and is_other_known) or before == after:
+    if not all((ours, is_known, is_other_known)) or before == after:
         return rows
-    exact = (before and _exact(ours, 0), after and _exact(ours, 1))
+    exact = (_exact(before, ours, 0), _exact(after, ours, 1))
     row = FieldRow("Composite:GPSPosition", (before, after), exact, tuple(one for it in ours for one in it.differences))
-    return [row if it is ours[0] else it for it in rows if it is ours[0] or it not in ours]
+    at = rows.index(ours[0])
+    return [*rows[:at], row, *(it for it in rows[at:] if it not in ours)]
 
 
 def _position(picture: PictureRecord) -> Tuple[Optional[str], bool]:
     """The position of a picture, and whether that is known: fields that make none may be a part of one."""
-    fields = _gps(picture)
+    exif = (block for block in picture.blocks if block.name == NAMES[EXIF])
+    fields = {it.tag: it for block in exif for it in fields_of(block) if it.directory == "gps"}
     place = position(fields)
     return place, bool(place) or fields.keys().isdisjoint(POSITION_TAGS)
 
@@ -180,9 +181,5 @@ def _is_of_position(row: FieldRow) -> bool:
     return any(it.directory == "gps" and it.tag in POSITION_TAGS and not it.block for it in row.differences[:1])
 
 
-def _exact(rows: Sequence[FieldRow], side: int) -> str:
-    return "; ".join(f"{it.name} {it.exact[side]}" for it in rows)
-
-
-def _gps(picture: PictureRecord) -> Dict[str, Field]:
-    return {one.tag: one for block in picture.blocks if block.name == NAMES[KINDS[0]] for one in fields_of(block) if one.directory == "gps"}
+def _exact(place: Optional[str], rows: Sequence[FieldRow], side: int) -> Optional[str]:
+    return "; ".join(f"{it.name} {it.exact[side]}" for it in rows) if place else None

@@ -62,6 +62,11 @@ def state_of(before: PictureRecord, now: PictureRecord) -> Tuple[State, str]:
         return State.CUT, now.damage
     if _is_of_manifest(before):
         return State.NOT_LISTED_SO, ""
+    return _written(before, now)
+
+
+def _written(before: PictureRecord, now: PictureRecord) -> Tuple[State, str]:
+    """The state of a file with other bytes."""
     is_same_picture = bool(before.coded_picture) and now.coded_picture == before.coded_picture
     if now.marks == before.marks:  # an edit has another ctime at least
         return State.ROTTED, "in its metadata" * is_same_picture
@@ -95,21 +100,10 @@ def _before(now: PictureRecord) -> str:
 
 def verified(before: Catalogue, now: Catalogue, folders: Sequence[bytes]) -> Iterator[Verified]:
     """Each file of a catalogue below some folders, in the order of their names, with its state in a catalogue that was made just now."""
-    with now.guarded():
-        # no index of the catalogue itself, which the run that goes on from a stopped one would refuse
-        now.base.execute(f"CREATE TABLE {_DIGESTS} (sha256, picture, PRIMARY KEY (sha256, picture)) WITHOUT ROWID")
-        now.base.execute(f"INSERT INTO {_DIGESTS} SELECT sha256, id FROM pictures WHERE sha256 != '' ORDER BY sha256, id")
-        now.base.execute(f"CREATE TABLE {_KNOWN} (sha256 PRIMARY KEY) WITHOUT ROWID")
-        now.base.execute(f"CREATE TABLE {_SIDECARS} (path BLOB PRIMARY KEY, is_done INTEGER NOT NULL) WITHOUT ROWID")
-    for row in before.rows("SELECT DISTINCT sha256 FROM pictures WHERE sha256 != ''"):
-        with now.guarded():
-            now.base.execute(f"INSERT INTO {_KNOWN} VALUES (?)", row)
-    for of_picture in before.rows("SELECT path, sidecars FROM pictures WHERE sidecars != ''", (), _sidecars_of_row):
-        with now.guarded():
-            now.base.executemany(f"INSERT OR IGNORE INTO {_SIDECARS} VALUES (?, 0)", ((path,) for path, _ in of_picture))
+    _make_tables(before, now)
     tops = tuple(it.rstrip(b"/") + b"/" for it in folders)
     for picture in before.pictures():
-        if picture.problem in NOT_THERE or not (picture.path.startswith(tops) or picture.path in folders):
+        if picture.problem in NOT_THERE or not (picture.path + b"/").startswith(tops):
             continue
         if picture.sidecars:
             blocks = before.blocks_of(picture)
@@ -123,6 +117,22 @@ def verified(before: Catalogue, now: Catalogue, folders: Sequence[bytes]) -> Ite
             yield _gone(before, now, picture)
         else:
             yield _renumbered(before, now, picture, there) or Verified(picture.path, *state_of(picture, there), damage=there.damage)
+
+
+def _make_tables(before: Catalogue, now: Catalogue) -> None:
+    """Makes the temporary tables of both, by which a file and its digest are found."""
+    with now.guarded():
+        # no index of the catalogue itself, which the run that goes on from a stopped one would refuse
+        now.base.execute(f"CREATE TABLE {_DIGESTS} (sha256, picture, PRIMARY KEY (sha256, picture)) WITHOUT ROWID")
+        now.base.execute(f"INSERT INTO {_DIGESTS} SELECT sha256, id FROM pictures WHERE sha256 != '' ORDER BY sha256, id")
+        now.base.execute(f"CREATE TABLE {_KNOWN} (sha256 PRIMARY KEY) WITHOUT ROWID")
+        now.base.execute(f"CREATE TABLE {_SIDECARS} (path BLOB PRIMARY KEY, is_done INTEGER NOT NULL) WITHOUT ROWID")
+    for row in before.rows("SELECT DISTINCT sha256 FROM pictures WHERE sha256 != ''"):
+        with now.guarded():
+            now.base.execute(f"INSERT INTO {_KNOWN} VALUES (?)", row)
+    for of_picture in before.rows("SELECT path, sidecars FROM pictures WHERE sidecars != ''", (), _sidecars_of_row):
+        with now.guarded():
+            now.base.executemany(f"INSERT OR IGNORE INTO {_SIDECARS} VALUES (?, 0)", ((path,) for path, _ in of_picture))
 
 
 def _renumbered(before: Catalogue, now: Catalogue, picture: PictureRecord, there: PictureRecord) -> Optional[Verified]:

@@ -9,7 +9,7 @@ import functools
 import re
 from typing import Dict, Iterable, Iterator, List, NamedTuple, Optional, Sequence, Set, Tuple
 
-from ..model.found import EXIF, IPTC, NAMES, XMP
+from ..model.found import EXIF, IPTC, NAMES, SIDECAR, XMP
 from ..model.xmp_values import Long, texts_in
 from .field import Field
 from .own_texts import is_own
@@ -165,6 +165,11 @@ class Caption(NamedTuple):
     def is_empty(self) -> bool:
         """Whether the field is there and has no text."""
         return not any(self.texts)
+
+    @property
+    def is_compared(self) -> bool:
+        """Whether it is of the first block of its kind or of an XMP sidecar, and not extra."""
+        return not self.is_extra and (not self.block or self.block.endswith(SIDECAR))
 
     @property
     def line(self) -> str:

@@ -27,6 +27,12 @@ WITHOUT_IPTC = ("WEBP", "Extended WEBP", "HEIC", "HEIF", "AVIF", "CR3", "JXL")  
 UNREAD_NOTES = "what ExifTool reads of the MakerNote, at which it failed"  # a part that the next run asks for again
 UNREAD_TRAILER = "blocks of the trailer, for which ExifTool is needed"  # a part that is read once ExifTool is there
 
+
+def other_name(name: str) -> str:
+    """The name of a block that isn't the first one of its kind; otherwise empty."""
+    return "" if name in STANDARDS else name
+
+
 _ORDINALS = ("first", "second", "third", "fourth", "fifth", "sixth", "seventh", "eighth", "ninth")
 
 
