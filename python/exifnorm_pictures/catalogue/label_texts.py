@@ -87,13 +87,16 @@ def _texts(labelled: PictureTexts, fields: Sequence[Field]) -> Iterator[Tuple[st
         yield UNCLEAR_POSITION, "?"
     for field in fields:
         label = _OF_FIELDS.get((field.directory, field.tag))
-        if label in DATED:
-            clock = next((iptc_time(it) for it in fields if it.directory == "iptc" and it.tag == _CLOCKS.get(field.tag)), "")
-            yield from ((label, f"{plain_date(text) or text} {clock or ''}".rstrip()) for text in _of_field(field))
-        elif label in CODED:
-            yield from ((label, text.rstrip("/").rpartition("/")[2]) for text in _of_field(field))
-        elif label:
-            yield from ((label, text) for text in _of_field(field))
+        if label:
+            yield from ((label, _in_form(text, label, field, fields)) for text in _of_field(field))
+
+
+def _in_form(text: str, label: str, field: Field, fields: Sequence[Field]) -> str:
+    """A text of a label of fields: a date with its time, and of an address its end."""
+    if label in DATED:
+        clock = next((iptc_time(it) for it in fields if it.directory == "iptc" and it.tag == _CLOCKS.get(field.tag)), "")
+        return f"{plain_date(text) or text} {clock or ''}".rstrip()
+    return text.rstrip("/").rpartition("/")[2] if label in CODED else text
 
 
 def _of_maker_notes(values: Mapping[str, str]) -> Iterator[Tuple[str, str]]:

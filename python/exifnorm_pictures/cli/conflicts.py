@@ -50,17 +50,17 @@ def run(arguments: argparse.Namespace) -> int:
     counts, chosen = _Counts(), _chosen(group_of(Fields, arguments))
     table = table_of(output, ["picture", "label", "kind", "detail", *STANDARDS])
     for picture in pictures(files, group_of(Run, arguments)):
-        every = [one for one in conflicts(picture.labelled.texts, picture.labelled.located) if not one.is_alike]
+        every = picture.conflicts
         counted = [one for one in every if one.label in chosen]
-        counts.left_out.update(one.label for one in every if one.is_real and one.label not in chosen)
         _count(counts, picture, counted)
+        counts.left_out.update(one.label for one in every if one.is_real and one.label not in chosen)
+        listed = [one for one in counted if one.is_real or arguments.all]
         if table:
-            _print_rows(table, picture, [one for one in counted if one.is_real or arguments.all])
-        elif output.json:
-            if counted or is_open(picture) or picture.damage or files.files_from:  # a program may wait for the answer to its name
-                print_object("conflicts", "picture", _members(picture, counted))
-        else:
-            _print(picture, [one for one in counted if one.is_real or arguments.all])
+            _print_rows(table, picture, listed)
+        elif not output.json:
+            _print(picture, listed)
+        elif counted or is_open(picture) or picture.damage or files.files_from:  # of a list each name has an answer
+            print_object("conflicts", "picture", _members(picture, counted))
     if output.json:
         print_object("conflicts", "summary", vars(counts))
     elif not table:

@@ -283,26 +283,36 @@ def _print_lines(group: Group, number: int, keeps: Keeps, texts: _Texts) -> None
     for link in group.files.links:
         links.setdefault(link.of, []).append(link)
     reasons = set(group.reasons.values())
-    has_same_pictures = (
-        sum(one.keep is False for one in keeps.values()) == group.count - 1 > 0 and len({it.beside for it in group.members}) == 1
-    )
-    are_no_pictures = bool(keeps) and all(one.why == NO_PICTURE for one in keeps.values())
-    about = {} if has_same_pictures or are_no_pictures or all(one.why == NOT_KNOWN for one in keeps.values()) else keeps
+    of_all = _of_all(group, keeps)
+    about = {} if of_all or {one.why for one in keeps.values()} == {NOT_KNOWN} else keeps
     for picture in group.members:
-        reason, others = group.reasons.get(picture.id, ""), group.others.get(picture.id, 0)
-        more = f", and {others:,} that {'are' if others > 1 else 'is'} in a group with it above" if others else ""
-        notes = [reason] * (len(reasons) > 1) + [about.get(picture.id, _without_advice(picture)).note]
-        print_line(f"  {shown_path(picture.path)}" + (f"   ({text})" if (text := "; ".join(filter(None, notes))) else "") + more)
+        reason = group.reasons.get(picture.id, "") if len(reasons) > 1 else ""
+        notes = "; ".join(filter(None, [reason, about.get(picture.id, _without_advice(picture)).note]))
+        more = f", {others} in a group with it above" if (others := _others(group, picture)) else ""
+        print_line(f"  {shown_path(picture.path)}" + (f"   ({notes})" if notes else "") + more)
         print_lines(listed_texts.lines(texts.labels, texts.of(picture), "      "))
         print_lines(f"      not counted, {link.how}: {shown_path(link.path)}" for link in links.get(picture.path, ()))
     if len(reasons) == 1 and reasons != {""}:
         print_line(f"    all: {reasons.pop()}")
-    if are_no_pictures:
-        print_line(f"    all: {NO_PICTURE}")
-    if has_same_pictures:
-        print_line(f"    {_ALL_THE_SAME}")
+    if of_all:
+        print_line(f"    {of_all}")
     for what, paths in (("gone", group.files.gone), ("changed since it was indexed", group.files.changed)):
         print_lines(f"    not counted, {what}: {shown_path(path)}" for path in paths)
+
+
+def _of_all(group: Group, keeps: Keeps) -> str:
+    """What is said of all pictures of a group in place of each; empty if it isn't true of all."""
+    if keeps and all(one.why == NO_PICTURE for one in keeps.values()):
+        return f"all: {NO_PICTURE}"
+    goes = sum(one.keep is False for one in keeps.values())
+    are_the_same = goes == group.count - 1 > 0 and len({it.beside for it in group.members}) == 1
+    return _ALL_THE_SAME if are_the_same else ""
+
+
+def _others(group: Group, picture: PictureRecord) -> str:
+    """How many pictures of an earlier group one stands for; empty without any."""
+    others = group.others.get(picture.id, 0)
+    return f"and {others:,} that {'are' if others > 1 else 'is'}" if others else ""
 
 
 # --csv
@@ -334,10 +344,9 @@ def _without_advice(picture: PictureRecord) -> Keep:
 
 
 def _note(group: Group, picture: PictureRecord, keep: Keep) -> str:
-    others = group.others.get(picture.id, 0)
-    more = [f"and {others:,} that {'are' if others > 1 else 'is'} in an earlier group with it"] if others else []
-    more += [keep.note]
-    return "; ".join(filter(None, [group.reasons.get(picture.id), *more]))
+    others = _others(group, picture)
+    more = f"{others} in an earlier group with it" if others else ""
+    return "; ".join(filter(None, [group.reasons.get(picture.id), more, keep.note]))
 
 
 def _not_counted(group: Group) -> Iterator[Tuple[bytes, str]]:

@@ -8,7 +8,7 @@ import os
 import sys
 from collections import Counter
 from datetime import datetime, timezone
-from typing import BinaryIO, Callable, Dict, Iterable, Iterator, List, Optional, Sequence, Tuple
+from typing import BinaryIO, Callable, Dict, Iterable, Iterator, List, NamedTuple, Optional, Sequence, Tuple
 
 from ..catalogue import bags
 from ..catalogue.store import Catalogue, NoCatalogue
@@ -49,17 +49,13 @@ def run(arguments: argparse.Namespace) -> int:
     form, told = arguments.form or "sha256sum", Told(output, arguments.list)
     with contextlib.ExitStack() as open_:
         before = open_.enter_context(_of_bag(name, run)) if arguments.bag else open_.enter_context(opened(name, run))
-        given = bool(files.names or files.files_from)
-        names = named(files) if given else []
-        if arguments.bag and not given:
-            names = [bags.payload(name)]
-        folders = _folders(names, before)
+        folders = _folders(files, arguments.bag, before)
         now, earlier = open_.enter_context(_read_again(folders, run, arguments.state, before))
         for file in verified.verified(before, now, folders):
             told.add(file)
-        counts = told.counts
-        new = verified.new_files(before, now) - counts[State.MOVED]
+        new = verified.new_files(before, now) - told.counts[State.MOVED]
         size, count = next(now.rows("SELECT ifnull(sum(size), 0), count(*) FROM pictures WHERE sha256 != ''"))
+        sums = _Sums(new, count, size, earlier)
         is_nothing = not (count or told.counts)
         if arguments.evidence and not is_nothing:
             _write_evidence(arguments.evidence, form, now)
@@ -68,25 +64,35 @@ def run(arguments: argparse.Namespace) -> int:
         below = f" below {', '.join(map(shown_path, folders))}" if folders else ""
         raise WrongUse(f"{name} has no file{below}, and none is there, so nothing is verified")
     if output.json:
-        about = {"counts": dict(counts), "damaged_before": told.old, "new": new}
-        print_object("verify", "summary", {**about, "files": count, "bytes": size, "earlier": earlier})
+        print_object("verify", "summary", {"counts": dict(told.counts), "damaged_before": told.old, **sums._asdict()})
     else:
-        of_earlier = f"; {earlier:,} of them by a run that was stopped" * bool(earlier)
-        print_line(f"{in_words(count, 'file')} read again, {_size(size)}{of_earlier}.")
-        print_lines(told.lines())
-        if new:
-            print_line(f"{new:>11,} that the {'manifest' if arguments.bag else 'catalogue'} doesn't know")
+        print_lines(_lines(told, sums, "manifest" if arguments.bag else "catalogue"))
         if arguments.evidence:
             print_line(f"{escaped(arguments.evidence)}: SHA-256 of {in_words(count, 'file')}, {_READERS[form]}")
     _remove_state(arguments.state)
-    if any(it.is_good is None for it in counts):
+    # a bag has no other files than its manifest, nor other names
+    return _status(told, bool(arguments.bag and (new or told.counts[State.MOVED])))
+
+
+def _status(told: Told, has_more: bool) -> int:
+    """The status; `has_more` is whether files are there that may not be."""
+    if any(it.is_good is None for it in told.counts):
         return UNKNOWN
-    is_more = bool(arguments.bag and (new or counts[State.MOVED]))  # a bag has no other files than its manifest, nor other names
-    return DIFFERENCE if is_more or any(it.is_good is False for it in counts) else SUCCESS
+    return DIFFERENCE if has_more or any(it.is_good is False for it in told.counts) else SUCCESS
 
 
-def _folders(names: Sequence[bytes], catalogue: Catalogue) -> List[bytes]:
+class _Sums(NamedTuple):
+    """What was read, by the names that an object has for it."""
+
+    new: int  # files that weren't known
+    files: int
+    bytes: int
+    earlier: int  # files that a run has read which was stopped
+
+
+def _folders(files: Files, bag: Optional[str], catalogue: Catalogue) -> List[bytes]:
     """The folders to read. Raises `WrongUse`."""
+    names = named(files) if files.names or files.files_from else [bags.payload(bag)] if bag else []
     folders = [os.path.abspath(it) for it in names] or catalogue.roots()
     for folder in folders:
         if not os.path.lexists(folder):  # as of a disk that isn't mounted: each of its files would seem to be missing
@@ -185,6 +191,15 @@ class Told:
         if self.old:
             yield f"{self.old:>11,} of these {'was' if self.old == 1 else 'were'} already damaged before"
             yield from _first(self._old_names)
+
+
+def _lines(told: Told, sums: _Sums, what: str) -> Iterator[str]:
+    """The summary for people."""
+    of_earlier = f"; {sums.earlier:,} of them by a run that was stopped" * bool(sums.earlier)
+    yield f"{in_words(sums.files, 'file')} read again, {_size(sums.bytes)}{of_earlier}."
+    yield from told.lines()
+    if sums.new:
+        yield f"{sums.new:>11,} that the {what} doesn't know"
 
 
 def _first(names: Sequence[str]) -> Iterator[str]:

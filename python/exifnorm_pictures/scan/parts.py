@@ -74,20 +74,26 @@ def plan(where: str, names: Sequence[bytes], patterns: Sequence[str]) -> Plan:
     listed = _check(where, tops)
     known = {_key_of(name): name for name in listed}
     kept = {key: _kept(os.path.join(where, name)) for key, name in known.items() if shards.is_made(os.path.join(where, name))}
-    roots = {one.part.top for one in kept.values() if one.part}
+    there = {key: one.part for key, one in kept.items() if one.part}
+    roots = {part.top for part in there.values()}
     excluded = Excluded(patterns)
     now = {_key(part): part for top in tops for part in _parts(top, excluded, known, roots)}
-    others = [(known[key], one.part) for key, one in kept.items() if key not in now and one.part]
+    others = [(known[key], part) for key, part in there.items() if key not in now]
     gone = [Shard(name, part, False) for name, part in others if _is_gone(part, tops, excluded)]
-    for top in tops:
-        if not os.path.isdir(top) and not any(top in shard.part for shard in gone):
-            raise WrongFolder(f"there is no folder {shown_path(top)}")
+    _refuse_missing(tops, gone)
     os.makedirs(where, exist_ok=True)
     if not now.keys() <= known.keys():
         listed = _listed_with(where, now)
     present_shards = [Shard(name, now[_key_of(name)]) for name in listed if _key_of(name) in now]
-    has_sidecars, has_digests = (any(one[at] for one in kept.values()) for at in (1, 2))
-    return Plan([*present_shards, *gone], has_sidecars, has_digests, not roots, excluded.count, frozenset(excluded.unused()))
+    has = any(one.has_sidecars for one in kept.values()), any(one.has_digests for one in kept.values())
+    return Plan([*present_shards, *gone], *has, not roots, excluded.count, frozenset(excluded.unused()))
+
+
+def _refuse_missing(tops: Sequence[bytes], gone: Sequence[Shard]) -> None:
+    """Raises `WrongFolder` for a folder that isn't there, and that no part is of."""
+    for top in tops:
+        if not os.path.isdir(top) and not any(top in shard.part for shard in gone):
+            raise WrongFolder(f"there is no folder {shown_path(top)}")
 
 
 def _listed_with(where: str, parts: Dict[str, Part]) -> List[str]:

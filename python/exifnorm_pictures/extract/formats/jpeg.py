@@ -17,7 +17,7 @@ from ...model.texts import in_words
 from . import mpf, photoshop
 from .extended_xmp import HEAD as EXTENDED, Pieces
 from .jpeg_segments import APP0, APP1, APP13, APP14, APP15, APP2, APP3, COM, SOI
-from .jpeg_segments import EXIF_PIECE, PHOTOSHOP_PIECE, XMP_PACKET, Head, blocks_of, not_compared, read_head
+from .jpeg_segments import EXIF_PIECE, PHOTOSHOP_PIECE, XMP_PACKET, XMP_PIECE, Head, blocks_of, not_compared, read_head
 from .jpeg_tail import ALONE, WINDOW, Markers, Tail, is_scan, segments, tail
 from .parts import COMMENT, CREDENTIALS, METADATA, PICTURE, REST as THE_REST, STRUCTURE, Part, Range, word
 from .streams import Stream, digest_of, digest_of_rest, read_at, size_of
@@ -227,38 +227,61 @@ def _of_picture(stream: Stream, head: Head, start: int, end: int, budget: Budget
     """The same of one picture up to `end`. One with a name is a rest itself."""
     if head.fault or not head.has_scan:
         raise Broken(head.fault or f"no scan before {head.end}")
-    kind, of = (THE_REST, f" of {name}") if name else (PICTURE, "")
-    at, runs = start, []  # type: int, List[List[Range]]
-    last = ""
-    for marker, piece, begins, first, length in head.parts[:-1]:
-        data, first = head.octets[first : first + length], start + first
-        what, mark = ("", 0) if piece else (COMMENT, 0) if marker == COM else _kind_of(marker, data)
-        if marker == SOI:
-            raise Broken(f"no segment at {first - 2}")
-        if piece == PHOTOSHOP_PIECE or what == _RESOURCES:
-            runs += [[]] if begins or not piece else []
-            runs[-1].append((first + mark, first + length))
-            yield Part(STRUCTURE, at, first + mark)
-        elif piece or what in (EXIF, XMP):
-            yield from (Part(STRUCTURE, at, first + mark), Part(METADATA, first + mark, first + length))
-        elif marker in ALONE or what == _INDEX:
-            yield Part(STRUCTURE, at, first + length)
-        elif marker in _BESIDE:
-            last = CREDENTIALS if what == "JUMBF" and (b"c2pa" in data[:64] or last == CREDENTIALS) else what
-            yield from (Part(STRUCTURE, at, first), Part(THE_REST, first, first + length, last + of))
-        else:
-            yield from (Part(STRUCTURE, at, first - 4), Part(kind, first - 4, first + length, name))
-        at = first + length
-    octets = [b"".join(head.octets[one - start : other - start] for one, other in run) for run in runs]
-    yield from (it._replace(name=it.name + of) for it in photoshop.parts(runs, octets, budget.left[RESOURCES]))
-    begin = start + head.parts[-1][3] - 4
-    yield Part(STRUCTURE, at, begin)
+    yield from _of_rest(_of_head(head, start, budget), name) if name else _of_head(head, start, budget)
+    kind, begin = THE_REST if name else PICTURE, start + head.parts[-1][3] - 4
     markers = Markers(stream, begin, end)
     for marker, here in segments(markers):
         if marker in _BESIDE:
             yield Part(kind, begin, here, name or SCAN)
-            yield Part(THE_REST, here, markers.at, f"segment behind the first scan{of}")
+            yield Part(THE_REST, here, markers.at, f"segment behind the first scan{f' of {name}' if name else ''}")
             begin = markers.at
     if marker == 0 and not name:
         raise Broken(NO_END_MARK)
     yield Part(kind, begin, markers.at, name or SCAN)
+
+
+def _of_rest(parts: Iterator[Part], name: str) -> Iterator[Part]:
+    """The same of a picture with a name, which is a rest itself."""
+    for part in parts:
+        if part.kind == PICTURE:
+            yield part._replace(kind=THE_REST, name=name)
+        else:
+            yield part._replace(name=part.name + f" of {name}" * (part.kind == THE_REST))
+
+
+def _of_head(head: Head, start: int, budget: Budget) -> Iterator[Part]:
+    """The same of the segments before the first scan."""
+    at, last = start, ""
+    runs: List[List[Range]] = []
+    for marker, piece, begins, first, length in head.parts[:-1]:
+        data, first = head.octets[first : first + length], start + first
+        end = first + length
+        what, mark = (_PIECES[piece], 0) if piece else (COMMENT, 0) if marker == COM else _kind_of(marker, data)
+        if marker == SOI:
+            raise Broken(f"no segment at {first - 2}")
+        if what == _RESOURCES:
+            runs += [[]] if begins or not piece else []
+            runs[-1].append((first + mark, end))
+            yield Part(STRUCTURE, at, first + mark)
+        elif what in (EXIF, XMP):
+            yield from (Part(STRUCTURE, at, first + mark), Part(METADATA, first + mark, end))
+        elif marker in ALONE or what == _INDEX:
+            yield Part(STRUCTURE, at, end)
+        elif marker in _BESIDE:
+            last = CREDENTIALS if _is_credentials(what, data, last) else what
+            yield from (Part(STRUCTURE, at, first), Part(THE_REST, first, end, last))
+        else:
+            yield from (Part(STRUCTURE, at, first - 4), Part(PICTURE, first - 4, end))
+        at = end
+    octets = [b"".join(head.octets[one - start : other - start] for one, other in run) for run in runs]
+    yield from photoshop.parts(runs, octets, budget.left[RESOURCES])
+    yield Part(STRUCTURE, at, start + head.parts[-1][3] - 4)
+
+
+# What the segments of the kinds that the library knows have; their marks aren't in their ranges
+_PIECES = {EXIF_PIECE: EXIF, PHOTOSHOP_PIECE: _RESOURCES, XMP_PACKET: XMP, XMP_PIECE: XMP}
+
+
+def _is_credentials(what: str, data: bytes, last: str) -> bool:
+    """Whether a segment has content credentials, or goes on with those of the segment before it."""
+    return what == "JUMBF" and (b"c2pa" in data[:64] or last == CREDENTIALS)
