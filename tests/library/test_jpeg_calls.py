@@ -8,6 +8,7 @@ from struct import Struct
 import pytest
 
 import jpegs
+from jpeg_made import END, EXIF, EXTENSION, PHOTOSHOP, START, XMP, resource, segment
 
 DONE, REFUSED, TOO_LITTLE_ROOM = 0, 2, 5
 CAUSES = {101: "JpegNoStart", 102: "JpegNoMarker", 103: "JpegLength", 104: "JpegCut"}
@@ -17,18 +18,7 @@ PLACE, SIZES = Struct("IINN"), Struct("NN")
 FILLER, ROOM, BEHIND = 0xA5, 4096, 2  # elements of an array, and elements behind those that a call is told of
 SEED, CHANGED = 1, 100_000
 
-START, END = b"\xff\xd8", b"\xff\xd9"
-EXIF, PHOTOSHOP, XMP, EXTENDED = (mark for _, mark, _ in jpegs.MARKS)
 LITTLE, BIG = b"II*\0", b"MM\0*"
-
-
-def segment(marker, data):
-    return bytes((0xFF, marker)) + (len(data) + 2).to_bytes(2, "big") + data
-
-
-def resource(number, data, name=b"", signature=b"8BIM"):
-    padded = bytes((len(name),)) + name + bytes((len(name) + 1) % 2)
-    return signature + number.to_bytes(2, "big") + padded + len(data).to_bytes(4, "big") + data + bytes(len(data) % 2)
 
 
 class Calls:
@@ -138,7 +128,7 @@ HEADS = {
         None,
     ),
     "XMP and extended XMP": (
-        segment(0xE1, XMP + b"<x/>") + segment(0xE1, EXTENDED + bytes(40)) + segment(0xE1, EXTENDED) + END,
+        segment(0xE1, XMP + b"<x/>") + segment(0xE1, EXTENSION + bytes(40)) + segment(0xE1, EXTENSION) + END,
         [(0xE1, "xmp", True, 35, 4), (0xE1, "extended xmp", True, 78, 40), (0xE1, "extended xmp", True, 157, 0), alone(0xD9, 159)],
         None,
     ),
@@ -177,7 +167,7 @@ MADE = [
     START + b"".join(following[:200] for following, _, _ in HEADS.values()),
     *(START + following[:400] for following, _, _ in HEADS.values()),
 ]
-PIECES = [b"\xff", b"\0", b"\xff\xe1", b"\xff\xed", b"\0\2", b"\0\1", EXIF, PHOTOSHOP, XMP, EXTENDED, LITTLE, BIG, END, b"\xff\xda\0\2"]
+PIECES = [b"\xff", b"\0", b"\xff\xe1", b"\xff\xed", b"\0\2", b"\0\1", EXIF, PHOTOSHOP, XMP, EXTENSION, LITTLE, BIG, END, b"\xff\xda\0\2"]
 
 
 def changed(chance, octets):
@@ -227,7 +217,7 @@ def test_resources(calls, them, behind):
     """Of each signature; and what follows the last one, which is none, or is cut."""
     octets, expected = b"", []
     for (number, data, name), signature in zip(them, jpegs.SIGNATURES):
-        octets += resource(number, data, name, signature)
+        octets += resource(number, data, signature, name)
         expected.append((number, len(octets) - len(data) - len(data) % 2, len(data)))
     assert calls.resources(octets + behind) == (DONE, expected, len(expected))
     if them and len(them[-1][1]) % 2:
@@ -236,7 +226,7 @@ def test_resources(calls, them, behind):
 
 def test_resources_that_are_changed(calls):
     chance = Random(SEED)
-    whole = b"".join(resource(*it) for it in RESOURCES[2][:3]) * 3
+    whole = b"".join(resource(number, data, name=name) for number, data, name in RESOURCES[2][:3]) * 3
     for _ in range(CHANGED // 5):
         octets = bytearray(whole)
         for _ in range(chance.randint(1, 3)):

@@ -10,11 +10,12 @@ import pytest
 
 import exifnorm
 import jpegs
-from exifnorm import NotRead, PictureRefused, Unread, _library
+from exifnorm import NotRead, PictureRefused, Unread
+from jpeg_made import COMMENT, END, EXIF, LITTLE, SCAN, XMP, exif, iptc, photoshop, picture, resource, segment
 from kinds import small_kinds
 from meanings import Record
 from reading import CAUSES, Fault, datasets, exif_block
-from small_blocks import CAPTION, LOOP, ONE, outcome
+from small_blocks import CAPTION, LOOP, ONE
 
 DONE, REFUSED, NO_MEMORY, SECOND_REFUSED, NOT_READ, SECOND_NOT_READ = 0, 2, 4, 6, 7, 8
 HEADS = {"JpegNoStart": 101, "JpegNoMarker": 102, "JpegLength": 103, "JpegCut": 104}
@@ -23,39 +24,9 @@ KINDS = ["", "exif", "iptc"]
 FAULT, UNREAD, FILLER, UNSET = Struct("IINN"), Struct("IIN"), 0xA5, 0x5EED5EED
 SEED, PAIRS = 1, 20_000
 
-START, END = b"\xff\xd8", b"\xff\xd9"
-EXIF, PHOTOSHOP, XMP = (mark for _, mark, _ in jpegs.MARKS[:3])
-TURNED = bytes.fromhex("49492a0008000000 0100 1201 0300 01000000 06000000 00000000")  # means what ONE means
 UPRIGHT = bytes.fromhex("4d4d002a00000008 0001 0112 0003 00000001 00010000 00000000")
 LONG_CAPTION = b"\x1c\x02\x78\x80\x04\0\0\0\x04Vase\0"  # means what CAPTION means
 URN = b"\x1c\x02\x78\x00\x03Urn"
-
-
-def segment(marker, data):
-    return bytes((0xFF, marker)) + (len(data) + 2).to_bytes(2, "big") + data
-
-
-def resource(number, data, signature=b"8BIM"):
-    return signature + number.to_bytes(2, "big") + b"\0\0" + len(data).to_bytes(4, "big") + data + bytes(len(data) % 2)
-
-
-def exif(data):
-    return segment(0xE1, EXIF + data)
-
-
-def iptc(data):
-    return photoshop(resource(0x0404, data))
-
-
-def photoshop(data):
-    return segment(0xED, PHOTOSHOP + data)
-
-
-COMMENT, SCAN = segment(0xFE, b"comment"), segment(0xDA, b"scan")
-
-
-def picture(*pieces, end=END):
-    return START + b"".join(pieces) + end
 
 
 @pytest.fixture(params=["jpeg_same_blocks", "jpeg_same"])
@@ -119,17 +90,17 @@ def see(compared, name, way):
 
 SAME = {
     "no metadata": (picture(), picture(COMMENT, end=SCAN + b"data" + END)),
-    "both byte orders": (picture(exif(ONE)), picture(exif(TURNED))),
+    "both byte orders": (picture(exif(ONE)), picture(exif(LITTLE))),
     "a resource in another form": (picture(iptc(CAPTION)), picture(iptc(LONG_CAPTION))),
-    "both kinds, in either order": (picture(exif(ONE), iptc(CAPTION)), picture(iptc(LONG_CAPTION), COMMENT, exif(TURNED))),
-    "a block in three pieces": (picture(exif(ONE[:9]), exif(ONE[9:20]), exif(ONE[20:])), picture(exif(TURNED))),
+    "both kinds, in either order": (picture(exif(ONE), iptc(CAPTION)), picture(iptc(LONG_CAPTION), COMMENT, exif(LITTLE))),
+    "a block in three pieces": (picture(exif(ONE[:9]), exif(ONE[9:20]), exif(ONE[20:])), picture(exif(LITTLE))),
     "resources in two pieces": (
         picture(photoshop(resource(0x0404, CAPTION)[:13]), photoshop(resource(0x0404, CAPTION)[13:])),
         picture(iptc(CAPTION)),
     ),
     "two blocks of each kind": (
         picture(exif(ONE), exif(UPRIGHT), photoshop(resource(0x0404, CAPTION) + resource(0x0404, URN))),
-        picture(exif(TURNED), iptc(LONG_CAPTION), exif(UPRIGHT), COMMENT, iptc(URN)),
+        picture(exif(LITTLE), iptc(LONG_CAPTION), exif(UPRIGHT), COMMENT, iptc(URN)),
     ),
     "an empty resource is no block": (picture(iptc(b"")), picture()),
     "zeros after the resources": (picture(photoshop(resource(0x0404, CAPTION) + bytes(5))), picture(iptc(CAPTION))),
@@ -155,7 +126,7 @@ DIFFERENT = {
 NOT_ALL = {
     "APP1 with another mark": (picture(segment(0xE1, b"Exif\0\xff" + ONE)), picture(), (False, 6)),
     "APP1 in capitals": (picture(COMMENT, segment(0xE1, b"EXIF\0\0" + ONE)), picture(), (False, 6 + len(COMMENT))),
-    "APP1 after four bytes": (picture(exif(ONE), segment(0xE1, b"abcdExif\0\0" + ONE)), picture(exif(TURNED)), (False, 6 + len(exif(ONE)))),
+    "APP1 after four bytes": (picture(exif(ONE), segment(0xE1, b"abcdExif\0\0" + ONE)), picture(exif(LITTLE)), (False, 6 + len(exif(ONE)))),
     "APP13 with another mark": (picture(segment(0xED, b"Adobe_Photoshop2.5:" + CAPTION)), picture(), (False, 6)),
     "APP13 with a part of the colour model's mark": (picture(segment(0xED, b"Adobe_C")), picture(), (False, 6)),
     "APP1 with the colour model's mark": (picture(segment(0xE1, b"Adobe_CM\0\2"), segment(0xED, b"x")), picture(), (False, 20)),
@@ -184,7 +155,7 @@ FAULTS = {
     "a second mark of Exif": (picture(exif(EXIF + ONE)), ("UnknownKind", 0, "exif", 0)),
     "DataSets where Exif belongs": (picture(exif(CAPTION)), ("UnknownKind", 0, "exif", 0)),
     "Exif where DataSets belong": (picture(iptc(ONE)), ("NoMarker", 0, "iptc", 0)),
-    "the third block": (picture(exif(ONE), exif(TURNED), exif(LOOP)), ("Loop", 22, "exif", 2)),
+    "the third block": (picture(exif(ONE), exif(LITTLE), exif(LOOP)), ("Loop", 22, "exif", 2)),
     "IPTC": (picture(exif(ONE), iptc(CAPTION[:-1])), ("DataSetCut", 0, "iptc", 0)),
     "the second IPTC": (picture(iptc(CAPTION), COMMENT, iptc(URN + URN[:-1])), ("DataSetCut", len(URN), "iptc", 1)),
     "Exif before IPTC": (picture(iptc(CAPTION[:-1]), exif(LOOP)), ("Loop", 22, "exif", 0)),
@@ -292,7 +263,7 @@ def place_of(first, second, has_xmp):
 
 
 KNOWN = [block for kind in small_kinds() for block in kind.blocks if len(block) < 3000]
-EXIFS = [it for it in KNOWN if it[:1] != b"\x1c"] + [ONE, TURNED, UPRIGHT] * 20 + [LOOP, b""]
+EXIFS = [it for it in KNOWN if it[:1] != b"\x1c"] + [ONE, LITTLE, UPRIGHT] * 20 + [LOOP, b""]
 RECORDS = [it for it in KNOWN if it[:1] == b"\x1c"] + [CAPTION, LONG_CAPTION, URN] * 20 + [b"", CAPTION[:-1]]
 
 
@@ -352,56 +323,3 @@ def test_pairs_that_are_made_by_chance(compared, name):
         met[side, kind] = met.get((side, kind), 0) + 1
     kinds = (True, False, *((side, kind) for side in (1, 2) for kind in KINDS), *(("not read", side, False) for side in (1, 2)))
     assert min(met.get(it, 0) for it in kinds) > PAIRS // 400 and met["not read", 1, True], met
-
-
-# ---- the package
-
-
-def test_ways_to_give_bytes(way, name):
-    """A picture may be longer than any block."""
-    call = getattr(exifnorm, name)
-    long = picture(exif(ONE), end=SCAN) + bytes(17_000_000)
-    for given_as in (bytearray, lambda it: memoryview(b"xx" + it + b"yy")[2:-2]):
-        assert call(given_as(long), picture(exif(TURNED))) is True
-        assert call(picture(exif(UPRIGHT)), given_as(long)) is False
-    for wrong in (None, 5, "MM"):
-        assert outcome(call, wrong, long)[0] == outcome(call, long, wrong)[0] == "TypeError"
-    assert outcome(call, memoryview(long)[::2], long)[0] == "BufferError"
-
-
-def test_a_library_that_answers_otherwise(way, name, monkeypatch):
-    call = getattr(exifnorm, name)
-    for failure, expected in (((4, 0, 0, 0, 0), "MemoryError"), ((3, 0, 0, 0, 0), "AssertionError"), ((9, 0, 0, 0, 0), "AssertionError")):
-        monkeypatch.setattr(_library.library(), name, lambda *_, it=failure: it)
-        assert outcome(call, picture(), picture())[0] == expected
-    monkeypatch.setattr(_library.library(), name, lambda *_: (6, 105, 0, 0, 0))
-    with pytest.raises(PictureRefused) as raised:
-        call(picture(), picture())
-    assert str(raised.value) == "JpegTooLong at 0 in the head, picture 2"
-
-
-def test_an_older_library_compares_blocks_alone(shared, monkeypatch, way):
-    """Its only comparison is that of blocks, and is never taken for one with XMP."""
-
-    class Older:
-        def __init__(self, library):
-            self._library = library
-            self.exifnorm_jpeg_same = library.exifnorm_jpeg_same_blocks
-
-        def __getattr__(self, name):
-            if name == "exifnorm_jpeg_same_blocks":
-                raise AttributeError(name)
-            return getattr(self._library, name)
-
-    plain = ctypes.CDLL
-    monkeypatch.setattr(_library.ctypes, "CDLL", lambda place: Older(plain(place)))
-    older = _library.Library(str(shared))
-    assert older.jpeg_same_blocks(picture(exif(ONE)), picture(exif(TURNED))) == 1
-    with pytest.raises(exifnorm.LibraryMissing, match="XMP"):
-        older.jpeg_same(picture(exif(ONE)), picture(exif(TURNED)))
-
-
-def test_one_call_of_the_library(watch):
-    for name in ("jpeg_same", "jpeg_same_blocks"):
-        assert watch.of(getattr(exifnorm, name), picture(exif(ONE)), picture(exif(TURNED))) == {name: 1}
-    assert watch.of(exifnorm.jpeg_unread, picture(exif(ONE))) == {"jpeg_unread": 1}

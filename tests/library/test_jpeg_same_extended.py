@@ -2,6 +2,7 @@
 `exifnorm-pictures compare`."""
 
 import hashlib
+from collections import Counter
 from random import Random
 
 import pytest
@@ -10,13 +11,13 @@ import exifnorm
 from commands import run
 from compiling import need
 from exifnorm import NotRead, Unread
-from small_blocks import ONE
-from test_jpeg_same import CAPTION, COMMENT, SCAN, compared, exif, iptc, name, picture, see, segment
-from test_jpeg_same_xmp import judged
-from test_jpeg_xmp import EXTENSION, packet
+from small_blocks import CAPTION, ONE
+from jpeg_made import COMMENT, EXTENSION, SCAN, exif, iptc, packet, picture, segment
+from test_jpeg_same import compared, name, see
+from test_jpeg_same_xmp import BOWL, EXTRA, has_unknown, judged, pair_of_packets
 
 __all__ = ["compared", "name", "see"]  # fixtures
-PAIRS = 1_200
+PAIRS = 400
 
 SPACES = (
     b"xmlns:r='http://www.w3.org/1999/02/22-rdf-syntax-ns#' xmlns:d='http://purl.org/dc/elements/1.1/' "
@@ -180,13 +181,13 @@ LEFT = {
 
 
 @pytest.mark.parametrize("name", ["jpeg_same"], indirect=True)
-@pytest.mark.parametrize("some, data", LEFT.values(), ids=LEFT)
+@pytest.mark.parametrize("some, data", [*LEFT.values(), *EXTRA.values()], ids=[*LEFT, *EXTRA])
 def test_not_read(see, some, data):
     """It is neither the same nor different, whatever the other picture has, unless Exif or IPTC differ."""
     start = some.index(EXTENSION) + len(EXTENSION) if data is None else some.index(data)
     place = Unread(False, start)
     see(some, some, NotRead(1, place))
-    for other in (picture(), IN_ONE_PACKET, picture(*ONE_PIECE)):
+    for other in (picture(), picture(packet(BOWL)), IN_ONE_PACKET, picture(*ONE_PIECE)):
         see(some, other, NotRead(1, place))
         see(other, some, NotRead(2, place))
     see(some, picture(exif(ONE)), False)
@@ -256,27 +257,34 @@ def segments_of(chance, properties):
     return with_extension(chance, properties)
 
 
+def pair_of_extensions(chance):
+    properties = made(chance)
+    others = properties if chance.randrange(2) else made(chance)
+    return picture(*segments_of(chance, properties)), picture(*segments_of(chance, others))
+
+
+@pytest.mark.parametrize("pair_of", [pair_of_packets, pair_of_extensions])
 @pytest.mark.parametrize("seed", range(4))
-def test_never_the_same_where_the_command_does_not_say_so(way, seed):
-    """Nor different where it says the same; and what both read they judge alike."""
-    chance, met = Random(seed), {True: 0, False: 0, "not read": 0}
-    for _ in range(PAIRS // 4):
-        properties = made(chance)
-        first, others = segments_of(chance, properties), properties if chance.randrange(2) else made(chance)
-        pair = picture(*first), picture(*segments_of(chance, others))
-        found, expected = exifnorm.jpeg_same(*pair), judged(*pair)
-        if found is True:
-            assert expected is True, tuple(it.hex() for it in pair)
-        elif found is False:
-            assert expected is not True, tuple(it.hex() for it in pair)
-        met[found if isinstance(found, bool) else "not read"] += 1
-    assert min(met.values()) > PAIRS // 4 // 10, met
+def test_never_the_same_where_the_command_does_not_say_so(way, seed, pair_of):
+    """Nor different where it says the same."""
+    chance, met = Random(seed), Counter()
+    for pair in (pair_of(chance) for _ in range(PAIRS)):
+        try:
+            found = exifnorm.jpeg_same(*pair)
+        except exifnorm.PictureRefused:
+            continue
+        if any(map(has_unknown, pair)):
+            continue
+        is_read = isinstance(found, bool)
+        assert not is_read or found is (judged(*pair) is True), tuple(it.hex() for it in pair)
+        met[found if is_read else "not read"] += 1
+    assert min(met[it] for it in (True, False, "not read")) > PAIRS // 40, met
 
 
 def test_the_same_in_other_pieces_and_orders(way):
     """The same properties are the same in any packet and extension."""
     chance = Random(5)
-    for _ in range(PAIRS // 4):
+    for _ in range(PAIRS):
         properties = made(chance)
         count = chance.randrange(len(properties) + 1)
         extension = rdf(*properties[:count])

@@ -2,7 +2,6 @@
 `exifnorm-pictures compare` or ExifTool shows a difference."""
 
 import itertools
-from random import Random
 
 import pytest
 
@@ -11,29 +10,13 @@ import jpegs
 from exifnorm import NotRead, Unread
 from small_blocks import CAPTION, ONE
 from small_packets import small_packets
-from test_jpeg_same import (
-    COMMENT,
-    END,
-    NOT_ALL,
-    TURNED,
-    UPRIGHT,
-    URN,
-    compared,
-    exif,
-    iptc,
-    name,
-    photoshop,
-    picture,
-    resource,
-    see,
-    segment,
-)
-from test_jpeg_xmp import EXTENSION, MARK, SPACES, extended, packet
+from jpeg_made import COMMENT, END, EXTENSION, LITTLE, SPACES, VASE, exif, iptc, packet, photoshop, picture, resource, segment
+from jpeg_made import XMP as MARK
+from test_jpeg_same import NOT_ALL, UPRIGHT, URN, compared, name, see
+from test_jpeg_xmp import extended
 
 __all__ = ["compared", "name", "see"]  # fixtures
-PAIRS = 2_000
 
-VASE = b"<r:RDF " + SPACES + b"><r:Description d:source='Vase'/></r:RDF>"
 VASE_AS_ELEMENT = b"<?xpacket begin=''?><r:RDF " + SPACES + b"><r:Description><d:source>Vase</d:source></r:Description></r:RDF>  "
 BOWL = VASE.replace(b"Vase", b"Bowl")
 EMPTY = b"<r:RDF " + SPACES + b"/>"
@@ -54,7 +37,7 @@ SAME = {
     "an attribute and an element": (picture(packet(VASE)), picture(packet(VASE_AS_ELEMENT))),
     "beside Exif and IPTC": (
         picture(exif(ONE), packet(VASE), iptc(CAPTION)),
-        picture(iptc(CAPTION), packet(VASE_AS_ELEMENT), exif(TURNED)),
+        picture(iptc(CAPTION), packet(VASE_AS_ELEMENT), exif(LITTLE)),
     ),
     "packets without a property": (picture(packet(EMPTY)), picture(packet(EMPTY.replace(b"/>", b"><r:Description/></r:RDF>")))),
     "XMP after the head": (picture(end=b"\xff\xd9" + packet(VASE)), picture()),
@@ -70,7 +53,7 @@ DIFFERENT = {
     "another value": (picture(packet(VASE)), picture(packet(BOWL))),
     "one has no packet": (picture(packet(VASE)), picture()),
     "one has a packet without a property": (picture(packet(EMPTY)), picture()),
-    "beside equal Exif": (picture(exif(ONE), packet(VASE)), picture(exif(TURNED), packet(BOWL))),
+    "beside equal Exif": (picture(exif(ONE), packet(VASE)), picture(exif(LITTLE), packet(BOWL))),
     "beside a place of Exif that isn't read": (picture(segment(0xED, b"x"), packet(VASE)), picture(packet(BOWL))),
     "Exif that differs, and XMP that isn't read": (picture(exif(ONE), packet(RARE)), picture(exif(UPRIGHT), packet(WRONG))),
 }
@@ -104,18 +87,6 @@ def test_the_same(see, first, second):
 def test_different(see, first, second):
     see(first, second, False)
     see(second, first, False)
-
-
-@pytest.mark.parametrize("name", ["jpeg_same"], indirect=True)
-@pytest.mark.parametrize("some, data", EXTRA.values(), ids=EXTRA)
-def test_xmp_that_is_not_read(see, some, data):
-    """It is neither the same nor different, whatever the other picture has, unless Exif or IPTC differ."""
-    place = at(some, data)
-    see(some, some, NotRead(1, place))
-    for other in (picture(), picture(packet(VASE)), picture(packet(BOWL))):
-        see(some, other, NotRead(1, place))
-        see(other, some, NotRead(2, place))
-    see(some, picture(exif(ONE)), False)
 
 
 BEHIND_DAMAGE = picture(photoshop(resource(0x03ED, bytes(16)) + b"\1" + resource(0x0424, VASE)))
@@ -183,11 +154,16 @@ def made_piece(chance):
         return segment(0xE1, changed(chance, MARK) + data)
     if way == 20:
         return segment(0xE1, chance.choice((b"XMP\0", b"http", b"", EXTENSION)) + data)
-    return chance.choice((exif(ONE), exif(TURNED), iptc(CAPTION), iptc(URN), COMMENT))
+    return chance.choice((exif(ONE), exif(LITTLE), iptc(CAPTION), iptc(URN), COMMENT))
 
 
 def made(chance):
     return [made_piece(chance) for _ in range(chance.choice((1, 1, 1, 1, 1, 2, 2, 3)))]
+
+
+def pair_of_packets(chance):
+    pieces = made(chance)
+    return picture(*pieces), picture(*varied(chance, pieces))
 
 
 def varied(chance, pieces):
@@ -219,28 +195,6 @@ def judged(first, second):
     except (exifnorm.NoPicture, exifnorm.NotReadable):
         return None
     return exifnorm.compare(*pair).same
-
-
-@pytest.mark.parametrize("seed", range(4))
-def test_never_the_same_where_the_command_does_not_say_so(way, seed):
-    """And never different where it says the same."""
-    chance, met = Random(seed), {}
-    for _ in range(PAIRS // 4):
-        pieces = made(chance)
-        first, second = picture(*pieces), picture(*varied(chance, pieces))
-        try:
-            found = exifnorm.jpeg_same(first, second)
-        except exifnorm.PictureRefused:
-            continue
-        if has_unknown(first) or has_unknown(second):
-            continue
-        expected = judged(first, second)
-        if found is True:
-            assert expected is True, (first.hex(), second.hex())
-        elif found is False:
-            assert expected is not True, (first.hex(), second.hex())
-        met[found if isinstance(found, bool) else "not read"] = met.get(found if isinstance(found, bool) else "not read", 0) + 1
-    assert min(met.get(it, 0) for it in (True, False, "not read")) > PAIRS // 4 // 40, met
 
 
 def test_each_packet_beside_each(way):

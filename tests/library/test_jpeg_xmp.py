@@ -13,27 +13,17 @@ import exifnorm
 import jpegs
 from commands import TOP
 from compiling import need
-from exifnorm import HeadRefused, XmpNotRead, _library
-from small_blocks import ONE, outcome
+from exifnorm import HeadRefused, XmpNotRead
+from jpeg_made import COMMENT, END, EXTENSION, SCAN, SPACES, VASE, exif, packet, picture, segment
+from jpeg_made import XMP as MARK
+from small_blocks import ONE
 
 DONE, REFUSED, NOT_READ = 0, 2, 7
 HEADS = {"JpegNoStart": 101, "JpegNoMarker": 102, "JpegLength": 103, "JpegCut": 104}
 PACKET, UNREAD, FAULT, FILLER = Struct("INN"), Struct("IIN"), Struct("IN"), 0xA5
 
-START, END = b"\xff\xd8", b"\xff\xd9"
-MARK, EXTENSION = b"http://ns.adobe.com/xap/1.0/\0", b"http://ns.adobe.com/xmp/extension/\0"
-SPACES = b"xmlns:r='http://www.w3.org/1999/02/22-rdf-syntax-ns#' xmlns:d='http://purl.org/dc/elements/1.1/'"
-VASE = b"<r:RDF " + SPACES + b"><r:Description d:source='Vase'/></r:RDF>"
 VASE_AS_ELEMENT = b"<r:RDF " + SPACES + b"><r:Description><d:source>Vase</d:source></r:Description></r:RDF>"
 URN = VASE.replace(b"Vase", b"Urn")
-
-
-def segment(marker, data):
-    return bytes((0xFF, marker)) + (len(data) + 2).to_bytes(2, "big") + data
-
-
-def packet(data):
-    return segment(0xE1, MARK + data)
 
 
 def extended(data, total=None, offset=0):
@@ -41,11 +31,7 @@ def extended(data, total=None, offset=0):
     return segment(0xE1, EXTENSION + b"0123456789ABCDEF" * 2 + length.to_bytes(4, "big") + offset.to_bytes(4, "big") + data)
 
 
-COMMENT, SCAN, EXIF = segment(0xFE, b"comment"), segment(0xDA, b"scan"), segment(0xE1, b"Exif\0\0" + ONE)
-
-
-def picture(*pieces, end=END):
-    return START + b"".join(pieces) + end
+EXIF = exif(ONE)
 
 
 def expected_of(octets):
@@ -218,52 +204,8 @@ def test_pictures_with_the_same_packet(way):
     assert forms[0] == forms[1] != forms[2]
 
 
-@pytest.mark.parametrize("given_as", [bytearray, memoryview, lambda it: memoryview(b"x" + it)[1:]])
-def test_ways_to_give_bytes(given_as, way):
-    assert exifnorm.jpeg_xmp(given_as(picture(ONLY))) == VASE
-    assert type(exifnorm.jpeg_xmp(given_as(picture(ONLY)))) is bytes
-
-
-def test_what_are_no_bytes(way):
-    for wrong in (None, 5, "MM"):
-        assert outcome(exifnorm.jpeg_xmp, wrong)[0] == "TypeError"
-    assert outcome(exifnorm.jpeg_xmp, memoryview(picture(ONLY))[::2])[0] == "BufferError"
-
-
 def test_what_is_not_read_is_an_error_that_can_be_pickled(way):
     with pytest.raises(ValueError, match="a second packet of XMP or extended XMP at 68 is not read") as raised:
         exifnorm.jpeg_xmp(picture(packet(b""), packet(b"")))
     again = pickle.loads(pickle.dumps(raised.value))
     assert type(again) is XmpNotRead and again.offset == raised.value.offset and str(again) == str(raised.value)
-
-
-def test_a_library_that_answers_otherwise(way, monkeypatch):
-    for status in (1, 3, 4, 5, 6, 8, 9):
-        monkeypatch.setattr(_library.library(), "jpeg_xmp", lambda _, it=status: (it, 0, 0))
-        assert outcome(exifnorm.jpeg_xmp, picture())[0] == "AssertionError"
-
-
-def test_one_call_of_the_library(watch):
-    for octets in (picture(ONLY), picture(), picture(ONLY, ONLY), b""):
-        assert watch.of(exifnorm.jpeg_xmp, octets) == {"jpeg_xmp": 1}
-
-
-@pytest.mark.parametrize("missing, octets", [("jpeg_xmp", picture(ONLY)), ("xmp_unsorted", VASE)], ids=["jpeg_xmp", "xmp_unsorted"])
-def test_an_older_library_has_all_other_calls(missing, octets, shared, monkeypatch):
-    """One without this call is loaded, and this call alone is missing."""
-
-    class Older:
-        def __init__(self, library):
-            self._library = library
-
-        def __getattr__(self, name):
-            if name == f"exifnorm_{missing}":
-                raise AttributeError(name)
-            return getattr(self._library, name)
-
-    plain = ctypes.CDLL
-    monkeypatch.setattr(_library.ctypes, "CDLL", lambda place: Older(plain(place)))
-    older = _library.Library(str(shared))
-    assert older.version() and older.jpeg_unread(picture()) == ()
-    with pytest.raises(exifnorm.LibraryMissing, match=f"exifnorm_{missing}"):
-        getattr(older, missing)(octets)

@@ -1,7 +1,5 @@
 """The package's calls for JPEGs, by ctypes and by the extension module, beside a walk in Python over segments and resources."""
 
-import array
-import mmap
 import pickle
 from concurrent.futures import ThreadPoolExecutor
 
@@ -11,33 +9,11 @@ from hypothesis import strategies as st
 
 import exifnorm
 import jpegs
-from exifnorm import HeadRefused, JpegBlock, JpegPart, Resource, TooMany, _library
+from exifnorm import HeadRefused, JpegBlock, JpegPart, Resource, TooMany
+from jpeg_made import COMMENT, END, LITTLE, PICTURE, START, exif, photoshop, resource, segment
 from small_blocks import CAPTION, ONE, outcome
 
 pytestmark = pytest.mark.usefixtures("way")
-
-LITTLE = bytes.fromhex("49492a0008000000 0100 1201 0300 01000000 06000000 00000000")
-START, END = b"\xff\xd8", b"\xff\xd9"
-
-
-def segment(marker, data):
-    return bytes((0xFF, marker)) + (len(data) + 2).to_bytes(2, "big") + data
-
-
-def resource(number, data):
-    return b"8BIM" + number.to_bytes(2, "big") + b"\0\0" + len(data).to_bytes(4, "big") + data + bytes(len(data) % 2)
-
-
-def exif(data):
-    return segment(0xE1, b"Exif\0\0" + data)
-
-
-def photoshop(data):
-    return segment(0xED, b"Photoshop 3.0\0" + data)
-
-
-COMMENT = segment(0xFE, b"comment")
-PICTURE = b"".join([START, exif(ONE), COMMENT, photoshop(resource(0x0404, CAPTION)), segment(0xDA, b"scan"), b"data", END])
 
 
 def found_in(octets, most=None):
@@ -225,58 +201,9 @@ def test_numbers_of_parts_and_resources():
     assert str(pickle.loads(pickle.dumps(TooMany(7)))) == "more than 7"
 
 
-WAYS = {
-    "bytearray": bytearray,
-    "memoryview": lambda octets: memoryview(b"xx" + octets + b"yy")[2:-2],
-    "array": lambda octets: array.array("B", octets),
-    "mmap": lambda octets: mapped(octets),
-}
-
-
-def mapped(octets):
-    it = mmap.mmap(-1, len(octets))
-    it[:] = octets
-    return it
-
-
-@pytest.mark.parametrize("given_as", WAYS.values(), ids=WAYS)
-def test_ways_to_give_bytes(given_as):
-    """A picture may be longer than any block."""
-    for octets in (PICTURE, START + b"x", PICTURE + bytes(17_000_000)):
-        for call in (exifnorm.jpeg_parts, exifnorm.jpeg_blocks):
-            assert repr(outcome(call, given_as(octets))) == repr(outcome(call, octets))
-    them = resource(0x0404, CAPTION)
-    assert exifnorm.photoshop_resources(given_as(them)) == exifnorm.photoshop_resources(them)
-
-
-@pytest.mark.parametrize("wrong", [None, 5, "MM", [77]], ids=repr)
-def test_what_are_no_bytes(wrong):
-    for call in (exifnorm.jpeg_parts, exifnorm.jpeg_blocks, exifnorm.photoshop_resources):
-        assert outcome(call, wrong)[0] == "TypeError"
-        assert outcome(call, memoryview(PICTURE)[::2])[0] == "BufferError"
-
-
-def test_calls_of_the_library(watch):
-    """Each call is one of the library, and one more for each block of resources, or for more than a few parts."""
-    assert watch.of(exifnorm.jpeg_parts, PICTURE) == {"jpeg_parts": 1}
-    assert watch.of(exifnorm.jpeg_blocks, PICTURE) == {"jpeg_blocks": 1, "photoshop_resources": 1}
-    assert watch.of(exifnorm.jpeg_blocks, START + exif(ONE) + END) == {"jpeg_blocks": 1}
-    assert watch.of(exifnorm.jpeg_blocks, START + b"x") == {"jpeg_blocks": 1, "jpeg_parts": 1}
-    assert watch.of(exifnorm.jpeg_parts, START + COMMENT * 1000 + END) == {"jpeg_parts": 2}
-    assert watch.of(exifnorm.jpeg_parts, START + COMMENT * 1000 + END, 999) == {"jpeg_parts": 1}
-    assert watch.of(exifnorm.photoshop_resources, b"") == {"photoshop_resources": 1}
-
-
 def test_many_threads(way):
     """Each call has room of its own, also one that begins while another is made."""
     heads = [START + b"\xff\x01" * count + (END if count % 2 else b"x") for count in range(16)]
     expected = [found_in(it) for it in heads]
     with ThreadPoolExecutor(8) as pool:
         assert [*pool.map(found_in, heads * 500)] == expected * 500
-
-
-def test_a_library_that_answers_otherwise(monkeypatch):
-    """A status, a cause or a number that it can't have is no result."""
-    for failure in ((7, 0, 0, b""), (5, 0, 3, b""), (4, 0, 0, b"")):
-        monkeypatch.setattr(_library.library(), "jpeg_parts", lambda *_, it=failure: it)
-        assert outcome(exifnorm.jpeg_parts, PICTURE, 3)[0] == "AssertionError"

@@ -30,6 +30,7 @@ from exifnorm import BlockCaption, BlockField, _calls, _jpeg, _library, _listing
 from kinds import small_kinds
 from meanings import ASCII, LABELS, LIMIT, LONG, SHORT, Exif, Layout, Record, Value, laid
 from reading import said
+from jpeg_made import COMMENT, LITTLE, PICTURE, VASE, exif, packet, picture, resource
 from small_blocks import CAPTION, LOOP, OF_BLOCK, ONE, long_form, normal, outcome
 from small_packets import small_packets
 
@@ -362,13 +363,38 @@ WAYS = {
 }
 
 
+def with_other(call, other):
+    """A call for two inputs, with another one behind what it is given, and before it."""
+    return [lambda it: call(it, other), lambda it: call(other, it)]
+
+
+SAMES = exifnorm.jpeg_same, exifnorm.jpeg_same_blocks
+OF_PICTURE = [exifnorm.jpeg_parts, exifnorm.jpeg_blocks, exifnorm.jpeg_unread, exifnorm.jpeg_xmp]
+OF_PICTURE += [it for call in SAMES for it in with_other(call, PICTURE)]
+# What each call for bytes is given: something that it reads, and something that it refuses, each of an even number of bytes.
+GIVEN = {
+    **dict.fromkeys([*OF_BLOCK, *with_other(exifnorm.same, ONE)], (ONE, LOOP)),
+    **dict.fromkeys(OF_PICTURE, (PICTURE, picture(exif(ONE), picture(), end=b""))),
+    exifnorm.photoshop_resources: (resource(0x0404, CAPTION + b"9"), b"none"),
+    **dict.fromkeys([exifnorm.xmp_normal, exifnorm.xmp_properties], (VASE.ljust(400), b"<a/>")),
+}
+
+
 @pytest.mark.parametrize("given", WAYS.values(), ids=WAYS)
-def test_ways_to_give_a_block(given):
+def test_ways_to_give_bytes(given):
     """Any object with contiguous bytes."""
-    for block in (ONE, LOOP):
-        assert [outcome(call, given(block)) for call in OF_BLOCK] == [outcome(call, block) for call in OF_BLOCK]
-    assert exifnorm.same(given(ONE), ONE) is True and exifnorm.same(ONE, given(ONE)) is True
-    assert outcome(exifnorm.same, ONE, given(LOOP)) == ("Refused", "Loop", 22, 2)
+    for call, them in GIVEN.items():
+        for octets in them:
+            assert repr(outcome(call, given(octets))) == repr(outcome(call, octets))
+
+
+@pytest.mark.parametrize("given", [bytes, bytearray, memoryview])
+def test_a_picture_may_be_longer_than_any_block(given):
+    long, other = given(PICTURE + bytes(LIMIT)), picture(exif(LITTLE), end=b"")
+    for call in OF_PICTURE:
+        assert call(long) == call(PICTURE)
+    for call in SAMES:
+        assert outcome(call, other, long) == outcome(call, other, PICTURE)
 
 
 def test_an_object_can_be_changed_after_a_call():
@@ -382,10 +408,9 @@ def test_an_object_can_be_changed_after_a_call():
 
 
 @pytest.mark.parametrize("wrong", [None, 5, "MM", 1.5, [77, 77], {}, bytes], ids=repr)
-def test_what_is_no_block(wrong):
-    for call in OF_BLOCK:
+def test_what_are_no_bytes(wrong):
+    for call in GIVEN:
         assert outcome(call, wrong)[0] == "TypeError"
-    assert outcome(exifnorm.same, wrong, ONE)[0] == outcome(exifnorm.same, ONE, wrong)[0] == "TypeError"
 
 
 def test_an_open_file_is_told_what_to_do():
@@ -406,9 +431,7 @@ def test_arguments_of_a_call(name):
 
 
 def test_bytes_that_are_not_contiguous():
-    apart = memoryview(ONE * 2)[::2]
-    assert [outcome(call, apart)[0] for call in OF_BLOCK] == ["BufferError"] * len(OF_BLOCK)
-    assert outcome(exifnorm.same, apart, ONE)[0] == outcome(exifnorm.same, ONE, apart)[0] == "BufferError"
+    assert {outcome(call, memoryview(octets)[::2])[0] for call, (octets, _) in GIVEN.items()} == {"BufferError"}
 
 
 @pytest.mark.parametrize("empty", [b"", bytearray(), memoryview(b""), array.array("B")], ids=lambda it: type(it).__name__)
@@ -517,6 +540,7 @@ NAMES = " ".join(f"n:a{it}='1'" for it in range(100))  # the form has their name
 LONG_NAMES = f"<r:RDF {SPACES}><r:Description {NAMES}/></r:RDF>".encode()
 ATTRIBUTES = " ".join(f"e:Name{it}='0'" for it in range(40))  # as Lightroom writes its settings: the form is almost twice as long
 SETTINGS = f"<r:RDF {SPACES.split()[0]} xmlns:e='http://e/'><r:Description {ATTRIBUTES}/></r:RDF>".encode()
+MANY = picture(COMMENT * 1000)
 BY_CALL = {
     "kind": ({"check": 1}, exifnorm.kind, ONE),
     "kind of a refused block": ({"check": 1, "cause_name": 1}, exifnorm.kind, LOOP),
@@ -540,6 +564,20 @@ BY_CALL = {
     "xmp_properties": ({"xmp_normalise": 1}, exifnorm.xmp_properties, small_packets()[0]),
     "xmp_properties that are not sorted": ({"xmp_unsorted": 1}, functools.partial(exifnorm.xmp_properties, sort=False), small_packets()[0]),
     "version": ({"version": 1}, exifnorm.version),
+    "jpeg_parts": ({"jpeg_parts": 1}, exifnorm.jpeg_parts, PICTURE),
+    "jpeg_parts of many": ({"jpeg_parts": 2}, exifnorm.jpeg_parts, MANY),
+    "jpeg_parts of too many": ({"jpeg_parts": 1}, exifnorm.jpeg_parts, MANY, 999),
+    "jpeg_blocks": ({"jpeg_blocks": 1, "photoshop_resources": 1}, exifnorm.jpeg_blocks, PICTURE),
+    "jpeg_blocks of Exif alone": ({"jpeg_blocks": 1}, exifnorm.jpeg_blocks, picture(exif(ONE))),
+    "jpeg_blocks of a refused head": ({"jpeg_blocks": 1, "jpeg_parts": 1}, exifnorm.jpeg_blocks, picture(end=b"x")),
+    "photoshop_resources": ({"photoshop_resources": 1}, exifnorm.photoshop_resources, b""),
+    "jpeg_unread": ({"jpeg_unread": 1}, exifnorm.jpeg_unread, PICTURE),
+    "jpeg_same": ({"jpeg_same": 1}, exifnorm.jpeg_same, PICTURE, PICTURE),
+    "jpeg_same_blocks": ({"jpeg_same_blocks": 1}, exifnorm.jpeg_same_blocks, PICTURE, PICTURE),
+    **{
+        f"jpeg_xmp of {name}": ({"jpeg_xmp": 1}, exifnorm.jpeg_xmp, octets)
+        for name, octets in {"a packet": PICTURE, "none": picture(), "two": picture(2 * packet(VASE)), "no head": b""}.items()
+    },
 }
 
 
@@ -548,6 +586,58 @@ def test_calls_of_the_library(watch, row):
     """Each call of the package calls the library once, where that is enough."""
     expected, call, *arguments = row
     assert watch.of(call, *arguments) == expected
+
+
+# What no library of this version answers: a status, a cause or a number of rows.
+WRONG_ANSWERS = {
+    "jpeg_parts": ([(7, 0, 0, b""), (5, 0, 3, b""), (4, 0, 0, b"")], lambda: exifnorm.jpeg_parts(PICTURE, 3)),
+    "jpeg_xmp": ([(it, 0, 0) for it in (1, 3, 4, 5, 6, 8, 9)], lambda: exifnorm.jpeg_xmp(PICTURE)),
+    "jpeg_unread": ([(it, 0, 0) for it in (1, 5, 7, 9)], lambda: exifnorm.jpeg_unread(PICTURE)),
+    **{call.__name__: ([(3, 0, 0, 0, 0), (9, 0, 0, 0, 0)], functools.partial(call, PICTURE, PICTURE)) for call in SAMES},
+}
+
+
+@pytest.mark.parametrize("name", WRONG_ANSWERS)
+def test_a_library_that_answers_otherwise(name, monkeypatch):
+    answers, call = WRONG_ANSWERS[name]
+    for answer in answers:
+        monkeypatch.setattr(_library.library(), name, lambda *_, it=answer: it)
+        assert outcome(call)[0] == "AssertionError"
+
+
+@pytest.mark.parametrize("call", SAMES, ids=named)
+def test_failures_of_a_comparison(call, monkeypatch):
+    monkeypatch.setattr(_library.library(), call.__name__, lambda *_: (4, 0, 0, 0, 0))
+    assert outcome(call, PICTURE, PICTURE)[0] == "MemoryError"
+    monkeypatch.setattr(_library.library(), call.__name__, lambda *_: (6, 105, 0, 0, 0))
+    with pytest.raises(exifnorm.PictureRefused, match=r"^JpegTooLong at 0 in the head, picture 2$"):
+        call(PICTURE, PICTURE)
+
+
+@pytest.mark.parametrize(
+    "missing, arguments",
+    [("jpeg_xmp", [PICTURE]), ("xmp_unsorted", [VASE]), ("jpeg_same", [PICTURE, PICTURE])],
+    ids=["jpeg_xmp", "xmp_unsorted", "jpeg_same"],
+)
+def test_an_older_library_lacks_one_call(missing, arguments, shared, monkeypatch):
+    """All others are there. An older one has the comparison of blocks by the name of that with XMP, and it is never taken for it."""
+    of_blocks, plain = "exifnorm_jpeg_same_blocks", ctypes.CDLL
+
+    class Older:
+        def __init__(self, place):
+            self.library = plain(place)
+
+        def __getattr__(self, name):
+            if name == (of_blocks if missing == "jpeg_same" else f"exifnorm_{missing}"):
+                raise AttributeError(name)
+            return getattr(self.library, of_blocks if (missing, name) == ("jpeg_same", "exifnorm_jpeg_same") else name)
+
+    monkeypatch.setattr(_library.ctypes, "CDLL", Older)
+    older = _library.Library(str(shared))
+    assert older.version() and older.jpeg_unread(picture()) == ()
+    assert older.jpeg_same_blocks(picture(exif(ONE)), picture(exif(LITTLE))) == 1
+    with pytest.raises(exifnorm.LibraryMissing, match="XMP" if missing == "jpeg_same" else f"exifnorm_{missing}"):
+        getattr(older, missing)(*arguments)
 
 
 @pytest.mark.parametrize("count, calls", [(500, 1), (40_000, 2)])
