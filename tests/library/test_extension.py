@@ -17,6 +17,7 @@ from commands import TOP, run
 from compiling import HERE
 from exifnorm import _calls, _library
 from meanings import ASCII, SHORT, Exif, Layout, Record, Value, laid
+from jpeg_made import VASE, exif, packet, picture
 from small_blocks import CAPTION, LOOP, ONE, long_form, outcome
 from small_packets import small_packets
 
@@ -57,19 +58,24 @@ JPEGS = {
 }
 
 
-def picture(block):
-    """A JPEG with an Exif block."""
-    return b"\xff\xd8\xff\xe1" + (len(block) + 8).to_bytes(2, "big") + b"Exif\0\0" + block + b"\xff\xd9"
-
-
 PAIRS = ("jpeg_same", "jpeg_same_blocks")
-PACKET = b"http://ns.adobe.com/xap/1.0/\0<r:RDF xmlns:r='http://www.w3.org/1999/02/22-rdf-syntax-ns#'/>"
 PICTURES = {
-    "a picture": picture(ONE),
-    "a packet": b"\xff\xd8\xff\xe1" + (2 + len(PACKET)).to_bytes(2, "big") + PACKET + b"\xff\xd9",
+    "a picture": picture(exif(ONE)),
+    "a packet": picture(packet(VASE)),
     "without metadata": JPEGS["a head"],
-    "a refused block": picture(LOOP),
+    "a refused block": picture(exif(LOOP)),
     "no head": b"x",
+}
+MOST = [-(1 << 63), -1, 0, 1, 2, 63, 64, 65, 999, 1000, 1001, (1 << 63) - 1]
+PACKETS = [*small_packets(), b"", b"x", b"<a>", small_packets()[0] + 20_000 * b" "]
+OF_PACKETS = ("xmp_normalise", "xmp_unsorted")
+# The arguments of each call of the library.
+ARGUMENTS = {
+    **dict.fromkeys(OF_ONE_BLOCK, [(it,) for it in BLOCKS.values()]),
+    "compare": [pair for it in BLOCKS.values() for pair in ((it, it), (it, ONE), (ONE, it), (it, LOOP))],
+    **dict.fromkeys(OF_JPEGS, [*itertools.product(JPEGS.values(), MOST)]),
+    **dict.fromkeys(OF_PACKETS, [(it,) for it in PACKETS]),
+    **dict.fromkeys(PAIRS, [*itertools.product(PICTURES.values(), repeat=2)]),
 }
 
 
@@ -106,39 +112,20 @@ def test_normal_of_bytes_runs_no_python(call_of):
     assert form == ONE and not [it for it in events if it[0] == "call"]
 
 
-@pytest.mark.parametrize("block", [*BLOCKS.values(), None], ids=[*BLOCKS, "a form that is too long"])
-def test_results_are_those_of_ctypes(loaded, block):
-    block = long_form() if block is None else block
-    for name in OF_ONE_BLOCK:
-        assert getattr(loaded, name)(block) == getattr(loaded.by_ctypes, name)(block), name
-    for pair in ((block, block), (block, ONE), (ONE, block), (block, LOOP)):
-        assert loaded.compare(*pair) == loaded.by_ctypes.compare(*pair)
-
-
 def unpacked(name, found):
-    """The rows that a call returns, without the bytes between their numbers, and its failure."""
+    """What a call returns: of rows the failure, and the rows without the bytes between their numbers."""
+    if name not in OF_JPEGS:
+        return found
     *failure, rows = found if isinstance(found, tuple) else (found,)
     return failure, [*(_library.PART if name == "jpeg_parts" else _library.RESOURCE).iter_unpack(rows)]
 
 
-@pytest.mark.parametrize("most", [-(1 << 63), -1, 0, 1, 2, 63, 64, 65, 999, 1000, 1001, (1 << 63) - 1])
-@pytest.mark.parametrize("octets", JPEGS.values(), ids=JPEGS)
-def test_rows_are_those_of_ctypes(loaded, octets, most):
-    for name in OF_JPEGS:
-        assert unpacked(name, getattr(loaded, name)(octets, most)) == unpacked(name, getattr(loaded.by_ctypes, name)(octets, most)), name
-
-
-@pytest.mark.parametrize("packet", [*small_packets(), b"", b"x", b"<a>", small_packets()[0] + 20_000 * b" "])
-def test_forms_of_packets_are_those_of_ctypes(loaded, packet):
-    for name in ("xmp_normalise", "xmp_unsorted"):
-        assert getattr(loaded, name)(packet) == getattr(loaded.by_ctypes, name)(packet), name
-
-
-@pytest.mark.parametrize("first", PICTURES.values(), ids=PICTURES)
-def test_comparisons_of_pictures_are_those_of_ctypes(loaded, first):
-    for second in PICTURES.values():
-        for name in PAIRS:
-            assert getattr(loaded, name)(first, second) == getattr(loaded.by_ctypes, name)(first, second)
+@pytest.mark.parametrize("name", ARGUMENTS)
+def test_results_are_those_of_ctypes(loaded, name):
+    more = [(long_form(),)] if name in OF_ONE_BLOCK else [(long_form(), long_form())] if name == "compare" else []
+    for arguments in ARGUMENTS[name] + more:
+        found, expected = (unpacked(name, getattr(it, name)(*arguments)) for it in (loaded, loaded.by_ctypes))
+        assert found == expected, [repr(it)[:100] for it in arguments]
 
 
 @pytest.mark.parametrize("wrong", [None, 5, "MM", bytearray(ONE), memoryview(ONE)], ids=lambda it: type(it).__name__)
@@ -219,35 +206,25 @@ def check_no_leak(act, times):
     raise AssertionError("the process has more memory after each round of calls")
 
 
-@pytest.mark.parametrize("name", [*OF_ONE_BLOCK, "compare", "normal"])
+def often(name):
+    """The arguments of many calls: some that succeed, some that fail, and wrong ones."""
+    if name in OF_JPEGS:
+        return [*itertools.product(JPEGS.values(), (1, 100_000))]
+    if name in PAIRS:
+        return [(PICTURES["a picture"], it) for it in PICTURES.values()]
+    if name == "compare":
+        return [(ONE, it) for it in (ONE, LOOP, None)]
+    return [(it,) for it in (ONE, LOOP, BLOCKS["three times as many bytes"], None)]  # whose captions are longer than expected
+
+
+@pytest.mark.parametrize("name", [*OF_ONE_BLOCK, "compare", "normal", *OF_JPEGS, *PAIRS])
 def test_memory_after_many_calls(call_of, name):
     """Nothing stays allocated or referred to, whether a call succeeds, fails, or gets a wrong argument."""
     call = call_of(name)
-    asked_again = BLOCKS["three times as many bytes"]  # its captions are longer than expected
-    for block, times in ((ONE, 50_000), (LOOP, 50_000), (asked_again, 2000), (None, 50_000)):
-        arguments = (ONE, block) if name == "compare" else (block,)
-        counts = sys.getrefcount(block), sys.getrefcount(ONE)
-        check_no_leak(lambda: outcome(call, *arguments), times)
-        now = sys.getrefcount(block), sys.getrefcount(ONE)
-        assert max(abs(it - was) for it, was in zip(now, counts)) < 100
-
-
-@pytest.mark.parametrize("name", OF_JPEGS)
-@pytest.mark.parametrize("octets", JPEGS.values(), ids=JPEGS)
-def test_memory_after_many_calls_for_jpegs(loaded, name, octets):
-    call, times = getattr(loaded, name), 20_000 if len(octets) < 1000 else 2000
-    for most in (1, 100_000):
-        count = sys.getrefcount(octets)
-        check_no_leak(lambda: call(octets, most), times)
-        assert abs(sys.getrefcount(octets) - count) < 100
-
-
-@pytest.mark.parametrize("second", PICTURES.values(), ids=PICTURES)
-def test_memory_after_many_comparisons_of_pictures(loaded, second):
-    first = PICTURES["a picture"]
-    count = sys.getrefcount(second)
-    check_no_leak(lambda: loaded.jpeg_same(first, second), 50_000)
-    assert abs(sys.getrefcount(second) - count) < 100
+    for arguments in often(name):
+        counts = [*map(sys.getrefcount, arguments)]
+        check_no_leak(lambda: outcome(call, *arguments), 2000 if len(arguments[0] or b"") > 1000 else 50_000)
+        assert max(abs(now - was) for now, was in zip(map(sys.getrefcount, arguments), counts)) < 100
 
 
 def addresses(loaded):
@@ -292,45 +269,17 @@ def outcomes(refusing, function, argument):
             return found
 
 
-@pytest.mark.parametrize("name", OF_ONE_BLOCK)
-@pytest.mark.parametrize("block", BLOCKS.values(), ids=BLOCKS)
-def test_allocations_of_a_call_that_fail(loaded, refusing, name, block):
-    call = getattr(loaded, name)
-    expected = call(block)
-    *failed, last = outcomes(refusing, call, block)
-    assert failed == [("MemoryError",)] * len(failed) and last == expected
-    if isinstance(expected, bytes):
-        assert failed, "the result is allocated"
-    assert call(block) == expected, "afterwards it works as before"
-
-
-def test_allocations_of_normal_that_fail(call_of, refusing):
-    normal = call_of("normal")
-    for block in (ONE, CAPTION, BLOCKS["twice as many bytes"]):
-        *failed, last = outcomes(refusing, normal, block)
-        assert failed and failed == [("MemoryError",)] * len(failed) and last == normal(block)
-
-
-def test_allocations_of_a_comparison_that_fail(loaded, refusing):
-    for second in (ONE, CAPTION, LOOP):
-        *failed, last = outcomes(refusing, lambda first: loaded.compare(first, second), ONE)
-        assert failed == [("MemoryError",)] * len(failed) and last == loaded.compare(ONE, second)
-
-
-def test_allocations_of_a_comparison_of_pictures_that_fail(loaded, refusing):
-    first = PICTURES["a picture"]
-    for second in PICTURES.values():
-        for call in (loaded.jpeg_same, loaded.jpeg_same_blocks):
-            *failed, last = outcomes(refusing, lambda it, call=call, other=second: call(it, other), first)
-            assert failed == [("MemoryError",)] * len(failed) and last == call(first, second)
-
-
-@pytest.mark.parametrize("name", OF_JPEGS)
-@pytest.mark.parametrize("octets", JPEGS.values(), ids=JPEGS)
-def test_allocations_for_jpegs_that_fail(loaded, refusing, name, octets):
-    call = getattr(loaded, name)
-    *failed, last = outcomes(refusing, lambda it: call(it, 100_000), octets)
-    assert failed == [("MemoryError",)] * len(failed) and unpacked(name, last) == unpacked(name, call(octets, 100_000))
+@pytest.mark.parametrize("name", ["normal", *ARGUMENTS])
+def test_allocations_of_a_call_that_fail(call_of, refusing, name):
+    call = call_of(name)
+    few = {"normal": [(it,) for it in (ONE, CAPTION, BLOCKS["twice as many bytes"])]}
+    few.update(dict.fromkeys(OF_JPEGS, [(it, 100_000) for it in JPEGS.values()]))
+    for first, *rest in few.get(name, ARGUMENTS.get(name)):
+        expected = unpacked(name, call(first, *rest))
+        *failed, last = outcomes(refusing, (lambda it, rest=rest: call(it, *rest)) if rest else call, first)
+        assert failed == [("MemoryError",)] * len(failed) and unpacked(name, last) == expected
+        assert failed or not isinstance(expected, bytes), "the result is allocated"
+        assert unpacked(name, call(first, *rest)) == expected, "afterwards it works as before"
 
 
 def test_allocations_of_functions_that_fail(loaded, native, refusing):

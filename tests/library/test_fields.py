@@ -130,24 +130,6 @@ def test_fields_of_the_samples_are_those_of_the_package(way, program, folder):
 # ---- bytes that are no form
 
 
-def test_no_byte_outside_is_read(sanitized, folder):
-    """Of forms that are changed and cut: each value is in the bytes, all together have no more bytes, and the walk ends."""
-    forms = [it.form for it in all_judged(False) if it.form is not None]
-    shown = run(sanitized, "change", write_forms(folder / "forms", forms), 40)
-    assert re.fullmatch(r"[1-9]\d{4,} fields\n", shown)
-
-
-def test_beginnings_of_forms_are_not_whole(sanitized, folder):
-    """Their fields are the first ones of the form."""
-    longest = max((it.form for it in all_judged(False) if it.kind == "exif" and it.form and len(it.form) < 900), key=len)
-    whole = run(sanitized, "print", write_forms(folder / "form", [longest])).splitlines()
-    assert whole[-1] == "whole" and len(whole) > 5
-    for length in range(len(longest)):
-        *lines, end = run(sanitized, "print", write_forms(folder / "form", [longest[:length]])).splitlines()
-        assert (lines, end) == (whole[: len(lines)], "cut")
-    assert run(sanitized, "print", write_forms(folder / "form", [longest + b"\0"])).splitlines() == [*whole[:-1], "cut"]
-
-
 ENTRY = ">HHLL"
 
 
@@ -203,13 +185,6 @@ NO_FORMS = {
 }
 
 
-@pytest.mark.parametrize("name", NO_FORMS)
-def test_what_is_no_form_has_the_fields_before_the_fault(sanitized, folder, name):
-    form, count = NO_FORMS[name]
-    *lines, end = run(sanitized, "print", write_forms(folder / "form", [form])).splitlines()
-    assert (len(lines), end) == (count, "cut")
-
-
 DATASET = b"\x1c\2\x19\0\1a"
 PLAIN = [(7, DATASET + b"\x1c\2"), (7, b"text here!"), (7, b"\x1c\2\x19\0\2a"), (7, b""), (2, DATASET), (1, DATASET)]
 
@@ -225,15 +200,6 @@ def test_a_value_that_is_no_record_is_a_field(sanitized, folder, number, octets)
     )
     assert line == expected or re.fullmatch(expected, line)
     assert end == "whole"
-
-
-def test_more_bytes_than_a_form_has_are_none(folder):
-    source = "#include <exifnorm_fields.h>\nint main(void) { static unsigned char form[EXIFNORM_LIMIT + 1] = {0x1C}; struct exifnorm_fields all;\n"
-    source += "struct exifnorm_field field; exifnorm_fields_start(&all, form, sizeof form);\n"
-    source += "return exifnorm_fields_next(&all, &field) || exifnorm_fields_whole(&all); }\n"
-    (folder / "long.c").write_text(source, encoding="ascii")
-    run(*C99, folder / "long.c", "-o", folder / "long")
-    run(folder / "long")
 
 
 # ---- values
@@ -285,27 +251,19 @@ def test_other_types_have_no_numbers(sanitized, folder, number):
     assert numbers_of(sanitized, folder / "form", number, b"1\x002", 3) == [("-", "-", "-")] * 3
 
 
-TEXTS = [
-    (2, b"Vase\0", 4),
-    (2, b"one\0two\0", 3),
-    (2, b"no end", 6),
-    (129, b"Z\xc3\xbcrich\0", 7),
-    (2, b"", 0),
-    (2, b"\0\0", 0),
-    (7, b"text", 0),
-]
-
-
-@pytest.mark.parametrize("number, octets, size", TEXTS)
-def test_texts_end_before_the_first_zero(sanitized, folder, number, octets, size):
+def text_form(number, octets):
     where = int.from_bytes(octets.ljust(4, b"\0"), "big") if len(octets) <= 4 else ONE
-    form = form_of((0x10E, number, len(octets), where), behind=octets + b"\0" * (len(octets) % 2) if len(octets) > 4 else b"")
-    assert f"text {size}" in run(sanitized, "numbers", write_forms(folder / "form", [form])).splitlines()
+    return form_of((0x10E, number, len(octets), where), behind=octets + b"\0" * (len(octets) % 2) if len(octets) > 4 else b"")
 
 
-@pytest.mark.parametrize("octets, size", [(b"a\0b", 3), (b"a\0\0", 1), (b"\0", 0), (b"", 0)])
-def test_texts_of_datasets_have_no_zeros_at_the_end(sanitized, folder, octets, size):
-    form = b"\x1c\2\x19" + struct.pack(">H", len(octets)) + octets
+TEXTS = [(text_form(2, octets), size) for octets, size in ((b"Vase\0", 4), (b"one\0two\0", 3), (b"no end", 6), (b"", 0), (b"\0\0", 0))]
+TEXTS += [(text_form(129, b"Z\xc3\xbcrich\0"), 7), (text_form(7, b"text"), 0)]
+# those of DataSets have no zeros at the end
+TEXTS += [(b"\x1c\2\x19" + struct.pack(">H", len(it)) + it, size) for it, size in ((b"a\0b", 3), (b"a\0\0", 1), (b"\0", 0), (b"", 0))]
+
+
+@pytest.mark.parametrize("form, size", TEXTS)
+def test_texts_end_before_the_first_zero(sanitized, folder, form, size):
     assert f"text {size}" in run(sanitized, "numbers", write_forms(folder / "form", [form])).splitlines()
 
 
@@ -359,19 +317,25 @@ def test_properties_are_those_of_the_package(way, sanitized, folder):
     assert {it[1] for it in expected if it != "whole"} == set(KINDS.values()), "each kind is there"
 
 
-def test_no_byte_outside_a_form_of_xmp_is_read(way, sanitized, folder):
-    """Of forms that are changed and cut: each part is in the bytes, depths follow one another, and the walk ends."""
-    shown = run(sanitized, "alter", write_forms(folder / "forms", [form for _, form in accepted_packets()]), 400)
+def forms_of(command):
+    return [it.form for it in all_judged(False) if it.form] if command == "print" else [form for _, form in accepted_packets()]
+
+
+@pytest.mark.parametrize("command, of, count", [("change", "print", 40), ("alter", "xmp", 400)])
+def test_no_byte_outside_is_read(way, sanitized, folder, command, of, count):
+    """Of forms that are changed and cut: each value is in the bytes, all together have no more bytes, and the walk ends."""
+    shown = run(sanitized, command, write_forms(folder / "forms", forms_of(of)), count)
     assert re.fullmatch(r"[1-9]\d{3,} fields\n", shown)
 
 
-def test_beginnings_of_forms_of_xmp_are_not_whole(way, sanitized, folder):
-    """Their properties are the first ones of the form."""
-    form = max((form for _, form in accepted_packets()), key=len)
-    forms = [form[:length] for length in range(len(form))] + [form + b" "]
-    printed = run(sanitized, "xmp", write_forms(folder / "forms", [form, *forms]))
+@pytest.mark.parametrize("command, behind", [("print", b"\0"), ("xmp", b" ")])
+def test_beginnings_of_forms_are_not_whole(way, sanitized, folder, command, behind):
+    """Their fields are the first ones of the form."""
+    form = max((it for it in forms_of(command) if command == "xmp" or it[:1] == b"M" and len(it) < 900), key=len)
+    forms = [form, *(form[:length] for length in range(len(form))), form + behind]
+    printed = run(sanitized, command, write_forms(folder / "forms", forms))
     whole, *rest = [it.splitlines() for it in re.findall(r"(?:[^wc].*\n)*(?:whole|cut)\n", printed)]
-    assert len(rest) == len(forms) and whole[-1] == "whole" and len(whole) > 5
+    assert len(rest) == len(forms) - 1 and whole[-1] == "whole" and len(whole) > 5
     for lines in rest:
         assert lines == [*whole[: len(lines) - 1], "cut"]
 
@@ -422,10 +386,13 @@ NO_XMP_FORMS = {
 }
 
 
-@pytest.mark.parametrize("name", NO_XMP_FORMS)
-def test_what_is_no_form_of_xmp_has_the_properties_before_the_fault(sanitized, folder, name):
-    form, count = NO_XMP_FORMS[name]
-    *lines, end = run(sanitized, "xmp", write_forms(folder / "form", [form.encode()])).splitlines()
+ALL_NO_FORMS = {name: ("print", *row) for name, row in NO_FORMS.items()}
+ALL_NO_FORMS.update({f"{name} of XMP": ("xmp", form.encode(), count) for name, (form, count) in NO_XMP_FORMS.items()})
+
+
+@pytest.mark.parametrize("command, form, count", ALL_NO_FORMS.values(), ids=ALL_NO_FORMS)
+def test_what_is_no_form_has_the_fields_before_the_fault(sanitized, folder, command, form, count):
+    *lines, end = run(sanitized, command, write_forms(folder / "form", [form])).splitlines()
     assert (len(lines), end) == (count, "cut")
 
 
@@ -476,12 +443,6 @@ int main(void) {
 """
 
 
-def test_a_reference_that_is_cut_or_in_no_form_is_a_text(folder):
-    (folder / "cut.c").write_text(CUT, encoding="ascii")
-    run(*C99, *SANITIZED, folder / "cut.c", "-o", folder / "cut")
-    run(folder / "cut")
-
-
 EXAMPLE = """
 #include <exifnorm_fields.h>
 static size_t printed;
@@ -499,23 +460,39 @@ int main(void) {
 """
 
 
-@pytest.mark.parametrize("size", (0, 999, 1000, 1001, 3000))
-def test_the_example_of_xmp_prints_no_more_than_its_room(folder, size):
-    """Its text has room for 1,000 bytes, and a packet may have a longer one."""
-    lines = (
-        (HEADERS / "exifnorm_fields.h").read_text(encoding="ascii").partition("exifnorm_xmp_normalise writes\n *\n")[2].partition(" *\n")[0]
-    )
+LONG = """
+#include <exifnorm_fields.h>
+int main(void) {
+    static unsigned char form[EXIFNORM_LIMIT + 1] = {0x1C};
+    struct exifnorm_fields all;
+    struct exifnorm_field field;
+    exifnorm_fields_start(&all, form, sizeof form);
+    return exifnorm_fields_next(&all, &field) || exifnorm_fields_whole(&all);
+}
+"""
+
+
+def example_of_xmp(size):
+    """The example of the header, of a text of so many bytes: its room is 1,000, and it prints no more."""
+    text = (HEADERS / "exifnorm_fields.h").read_text(encoding="ascii")
+    lines = text.partition("exifnorm_xmp_normalise writes\n *\n")[2].partition(" *\n")[0]
     form = HEAD + f'<p:format xmlns:p="http://purl.org/dc/elements/1.1/">{"x" * size}</p:format>' + TAIL
-    source = EXAMPLE % (json.dumps(form), lines.replace("\n *", "\n")[2:], min(size, 1000))
-    (folder / "example.c").write_text(source, encoding="ascii")
-    run(*C99, *SANITIZED, folder / "example.c", "-o", folder / "example")
-    run(folder / "example")
+    return EXAMPLE % (json.dumps(form), lines.replace("\n *", "\n")[2:], min(size, 1000))
 
 
-def test_names_of_properties_are_compared_with_their_namespaces(folder):
-    (folder / "is.c").write_text(IS, encoding="ascii")
-    run(*C99, *SANITIZED, folder / "is.c", "-o", folder / "is")
-    run(folder / "is")
+PROGRAMS = {
+    "names are compared with their namespaces": IS,
+    "a reference that is cut or in no form is a text": CUT,
+    "more bytes than a form has are none": LONG,
+    **{f"an example of {size} bytes": example_of_xmp(size) for size in (0, 999, 1000, 1001, 3000)},
+}
+
+
+@pytest.mark.parametrize("name", PROGRAMS)
+def test_programs_end_well(folder, name):
+    (folder / "it.c").write_text(PROGRAMS[name], encoding="ascii")
+    run(*C99, *SANITIZED, folder / "it.c", "-o", folder / "it")
+    run(folder / "it")
 
 
 # ---- names and texts
