@@ -1,6 +1,5 @@
 """The texts of arguments, of progress and of messages. Other tests have only the statuses, and the facts in a text."""
 
-import argparse
 import contextlib
 import io
 import json
@@ -16,11 +15,10 @@ from unittest import mock
 from studio import WithPictures, read, write
 
 from exifnorm_pictures.catalogue.store import VERSION, Catalogue, NoCatalogue
-from exifnorm_pictures.cli import main, names, objects, output, parser, report
+from exifnorm_pictures.cli import main, names, objects, output, parser
 from exifnorm_pictures.cli.options import Files
 from exifnorm_pictures.extract import exiftool, extraction, programs
 from exifnorm_pictures.files import atomic, opening, session, signals
-from exifnorm_pictures.model import records
 from exifnorm_pictures.model.problems import TEXTS
 from exifnorm_pictures.model.records import BlockRecord, Damaged, PictureRecord, Stamp
 from exifnorm_pictures.scan import looking, progress, walk, workers
@@ -35,103 +33,6 @@ class CommandLine(unittest.TestCase):
             whole, commands = parser.parsers()
             texts = [it.format_help() for it in (whole, *commands.values())]
         self.golden("help.txt", "\n".join(texts))
-
-    def test_numbers(self):
-        """What is left out, and what is given."""
-        self.assertEqual(
-            [(it.limit, it.jobs) for it in map(self.parsed, ("changed a b", "changed a b --limit 0.5 --jobs 3"))], [(60.0, 0), (0.5, 3)]
-        )
-        self.assertEqual(self.parsed("mend a b --limit 999999").limit, 999999.0)
-
-    def parsed(self, text):
-        return parser.parsed(text.split())
-
-    def refused(self, *words):
-        """What is printed about refused arguments, and the status."""
-        with contextlib.redirect_stderr(io.StringIO()) as printed, self.assertRaises(SystemExit) as ended:
-            parser.parsed(words)
-        usage, last = re.fullmatch(r"(?s)usage: (exifnorm-pictures[ \w]*).*\n(.*)\n", printed.getvalue()).groups()
-        self.assertEqual((ended.exception.code, last.partition(":")[0]), (3, usage.strip()))
-        return last.partition(": ")[2]
-
-    def test_what_is_refused(self):
-        for words, message in (
-            (("changed", "a", "b", "--jobs", "0"), "argument --jobs: 0 is less than 1"),
-            (("changed", "a", "b", "--jobs=-1"), "argument --jobs: -1 is less than 1"),
-            (("changed", "a", "b", "--jobs", "two"), "argument --jobs: two is no whole number"),
-            (("changed", "a", "b", "--jobs", "1.5"), "argument --jobs: 1.5 is no whole number"),
-            (("mend", "a", "b", "--limit", "0"), "argument --limit: 0 is no number of seconds"),
-            (("mend", "a", "b", "--limit", "x"), "argument --limit: x is no number of seconds"),
-            (("mend", "a", "b", "--limit", "1e6"), "argument --limit: 1e6 is no number of seconds"),
-            (("mend", "a", "b", "--limit", "nan"), "argument --limit: nan is no number of seconds"),
-            (("mend", "a", ""), "argument OUT: a name is empty"),
-            (("changed", "", "b"), "argument BEFORE: a name is empty"),
-            (("changed", "a", "b\0"), "argument AFTER: a name is empty"),
-            (("show", ""), "argument PICTURE: a name is empty"),
-            (("merge", "", "--catalogue", "c"), "argument CATALOGUE: a name is empty"),
-            (("index", "", "--catalogue", "c"), "argument CATALOGUE or FOLDER: a name is empty"),
-            (("nightly", ""), "argument CATALOGUE or FOLDER: a name is empty"),
-            (("verify", "c", ""), "argument FOLDER: a name is empty"),
-            *((("index", f"--{it}", ""), f"argument --{it}: a name is empty") for it in ("catalogue", "keep-old", "shards")),
-            *((("report", f"--{it}", ""), f"argument --{it}: a name is empty") for it in ("catalogue", "since", "html")),
-            (("same", "--catalogue", ""), "argument --catalogue: a name is empty"),
-            (("merge", "a", "--catalogue", ""), "argument --catalogue: a name is empty"),
-        ):
-            self.assertEqual(self.refused(*words), message, words)
-
-    def test_an_option_between_names(self):
-        for words, names_ in (
-            ("show a --json b", ["a", "b"]),
-            ("show a --limit 3 b --json c", ["a", "b", "c"]),
-            ("show -- -a --json", ["-a", "--json"]),
-            ("show a --json -- -b", ["a", "-b"]),
-            ("mend a --json b", ["a", "b"]),
-            ("index a --catalogue c b", ["a", "b"]),
-        ):
-            found = vars(parser.parsed(words.split()))
-            given = [found.get(it) for it in ("picture", "out", "source")] + found.get("names", [])
-            self.assertEqual([it for it in given if it is not None], names_, words)
-            self.assertEqual(found["command"], words.split()[0])
-
-    def test_a_wrong_argument_shows_the_usage_of_its_command(self):
-        for words, message in (
-            ("show a --nonsense", "there is no option --nonsense"),
-            ("show a --json b --nonsense", "there is no option --nonsense"),
-            ("compare a --json b c", "unrecognized arguments: c"),
-            ("show a --csv b --json", "argument --json: not allowed with argument --csv"),
-            ("show a -0", "argument -0/--null: not allowed without argument --files-from"),
-            ("list c --null --json", "argument --json: not allowed with argument -0/--null"),
-            ("--nonsense show a", "there is no option --nonsense"),
-        ):
-            self.assertEqual(self.refused(*words.split()), message, words)
-
-    def test_a_mistyped_word_is_answered_by_the_nearest_one(self):
-        """Also where argparse would first say what else is missing; a word that is like none is answered by none."""
-        for words, meant in (
-            ("lst c", "list"),
-            ("help hist", "history"),
-            ("changd", "changed"),
-            ("nothing", None),
-            ("s", None),
-            ("list c --wihtout credit", "--without"),
-            ("list c --where=x --collumns=title", "--columns"),
-            ("export --quite", "--quiet"),
-            ("list c --recursive", None),
-            ("--vershion", "--version"),
-        ):
-            answer = self.refused(*words.split())
-            self.assertRegex(answer, "^there is no (command|option) ", words)
-            self.assertEqual(re.findall(r"did you mean (\S+)\?", answer), [meant] * bool(meant), words)
-
-    def test_words_that_are_no_option(self):
-        """The beginning of an option, the value of one, and what follows --."""
-        for words, there in (
-            ("list c --col title", {"columns": "title"}),
-            ("list c --where=--x", {"where": ["--x"]}),
-            ("show -- --x", {"names": ["--x"]}),
-        ):
-            given = vars(parser.parsed(words.split()))
-            self.assertEqual({name: given[name] for name in there}, there)
 
     def test_help_fits_into_a_terminal(self):
         with mock.patch.dict(os.environ, COLUMNS="80"):
@@ -309,30 +210,15 @@ class Messages(WithPictures):
         with Catalogue(name, make=True) as made:
             self.assertEqual(str(made.failure(sqlite3.OperationalError("disk I/O error"))), f"{name}: disk I/O error")
             self.assertEqual(str(made.failure(Damaged("no text"))), f"{name} is damaged: no text")
-        self.assertEqual(self.raised(Damaged, records.has, int, 1, "a"), "'a' is a value of another type")
 
     def test_of_names(self):
         write(self.path("list"), b"a\0b\0")
         text = f"the list {self.path('list')} contains a NUL: if its names end with NUL, give -0"
         self.assertEqual(self.raised(walk.BadList, list, walk.names_in_list(self.path("list"), False)), text)
         self.assertEqual(list(walk.names_in_list(self.path("list"), True)), [b"a", b"b"])
-        for octets, by_nul, listed in ((b"a\n\nb", False, [b"a", b"b"]), (b"a\nb\0\0c", True, [b"a\nb", b"c"])):
-            with mock.patch.object(sys, "stdin", io.TextIOWrapper(io.BytesIO(octets))):
-                self.assertEqual(list(walk.names_in_list("-", by_nul)), listed)
-        with mock.patch.object(sys, "stdin", None):
-            self.assertEqual(self.raised(walk.BadList, list, walk.names_in_list("-", False)), "standard input is closed")
-        self.assertEqual(self.raised(walk.BadList, names.named, Files("show", names=["a\0b"])), "a name contains a NUL")
-        with contextlib.redirect_stderr(io.StringIO()) as printed, self.assertRaises(SystemExit) as ended:
-            names.named(Files("show"))
-        self.assertEqual((printed.getvalue().splitlines()[-1], ended.exception.code), ("exifnorm-pictures show: give at least one name", 3))
         asked = Files("show", names=["x", "y"], files_from=self.path("list"), null=True)
         self.assertEqual(names.named(asked), [b"x", b"y", b"a", b"b"])
         self.assertEqual(names.chosen_paths(asked), {os.path.abspath(b"a"), os.path.abspath(b"b")})
-        with contextlib.redirect_stderr(io.StringIO()) as printed, self.assertRaises(SystemExit) as ended:
-            report.run(argparse.Namespace(command="report", html=None, json=False))
-        self.assertEqual(
-            (printed.getvalue().splitlines()[-1], ended.exception.code), ("exifnorm-pictures report: give --html PAGE, --json, or both", 3)
-        )
 
     def test_of_files_that_are_not_replaced(self):
         os.mkdir(self.path("folder"))
@@ -359,12 +245,7 @@ class Messages(WithPictures):
         self.assertEqual([read(self.path(it)) for it in ("other", "catalogue")], [b"other", b"catalogue"])
 
     def test_of_programs(self):
-        missing = "{} isn't installed, and without it no block of this picture can be extracted. In Debian: apt-get install {}"
-        for program, package in (("exiftool", "libimage-exiftool-perl"), ("exiv2", "exiv2"), ("another", "another")):
-            self.assertEqual(str(programs.Missing(program)), missing.format(program, package))
-        self.assertEqual(
-            self.raised(programs.Missing, programs.needed, "no such program"), missing.format("no such program", "no such program")
-        )
+        self.assertEqual(self.raised(programs.Missing, programs.needed, "no such program"), str(programs.Missing("no such program")))
         self.assertEqual(
             self.raised(programs.Failed, programs.start, [self.path("nothing")]), "nothing can't be started: no such file or directory"
         )
@@ -378,31 +259,6 @@ class Messages(WithPictures):
                 self.raised(programs.Failed, workers._pool, How(), 2),
                 "a further process can't be started: resource temporarily unavailable",
             )
-
-    def test_of_exiftools_output(self):
-        head = "ExifTool's answer isn't understood: "
-        for octets, text in (
-            (b"[{]", "it is no JSON"),
-            (b"[" * 100_000, "it is no JSON"),
-            (b"{}", "it isn't one object for each file"),
-            (b"[]", "it isn't one object for each file"),
-            (b"[{},{}]", "it isn't one object for each file"),
-            (b'["a"]', "it isn't one object for each file"),
-            (b"[{}]", "it is about another file"),
-            (b'[{"SourceFile": "b"}]', "it is about another file"),
-            (b'[{"SourceFile": "a", "b": []}]', "a value is neither a text nor a number"),
-            (b'[{"SourceFile": "a", "b": null}]', "a value is neither a text nor a number"),
-        ):
-            self.assertEqual(self.raised(programs.Failed, exiftool._members, octets, [b"a"]), head + text)
-        self.assertEqual(
-            exiftool._members(b'[{"SourceFile": "a", "b": 1, "c": "d", "e": 0.50}]', [b"a"]), [{"b": "1", "c": "d", "e": "0.50"}]
-        )
-        self.assertEqual(exiftool._members(b" \n", [b"a", b"b"]), [{}, {}])
-        self.assertEqual(self.raised(programs.Failed, exiftool.octets, "base64:abc"), head + "a block is no base64")
-        self.assertEqual(self.raised(programs.Failed, exiftool.octets, "base64:ab=="[:-1] + "!"), head + "a block is no base64")
-        self.assertEqual(self.raised(programs.Failed, exiftool.octets, "base64:HA*I="), head + "a block is no base64")
-        self.assertEqual([exiftool.octets(it) for it in ("base64:YWI=", "text:base64:", "a\ud800")], [b"ab", b"base64:", b"a\xed\xa0\x80"])
-        self.assertEqual(exiftool.values({"EXIF:Make": "a", "Copy1:EXIF:Make": "b", "Makes": "c", "Make": "d"}, "Make"), ["a", "b", "d"])
 
     def test_of_exiftools_end(self):
         os.mkdir(self.path("room"))

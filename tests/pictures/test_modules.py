@@ -17,12 +17,12 @@ from made_files import app1_xmp, chunk, exif, page, png, tiff, title
 from studio import TOP, WithPictures, needs, read, tool, write
 
 from exifnorm_pictures.catalogue.store import Catalogue, NoCatalogue
-from exifnorm_pictures.cli import main, mend as mend_cli, page_file, same
+from exifnorm_pictures.cli import main, mend as mend_cli, same
 from exifnorm_pictures.cli.options import Output
 from exifnorm_pictures.comparison import differing
 from exifnorm_pictures.extract import exiftool, programs
 from exifnorm_pictures.extract.formats import png as png_
-from exifnorm_pictures.fields import listing, names, plain_texts
+from exifnorm_pictures.fields import names
 from exifnorm_pictures.fields.field import Field
 from exifnorm_pictures.files import session
 from exifnorm_pictures.judge import judge
@@ -105,15 +105,6 @@ class Names(unittest.TestCase):
                 else:
                     self.assertIn(name.replace("-", "").lower(), known.get((where, key), ()), (where, key))
             self.assertEqual(standard, {}, where)
-
-    def test_texts_whose_encoding_is_not_declared(self):
-        """Windows-1252 has signs where Latin-1 has control characters, and five bytes without one (RFC 1345 and Unicode's table CP1252)."""
-        for octets, text in (
-            (b"\x80\x93a\x94\x9f", "€“a”Ÿ"),
-            (b"\xe9\x81\x8d\x8f\x90\x9d", "é\\x81\\x8d\\x8f\\x90\\x9d"),
-            (b"\xff\0", "ÿ"),
-        ):
-            self.assertEqual(plain_texts.decoded(octets), (text, "character set guessed: Windows-1252"))
 
     def test_files_in_the_order_of_their_names(self):
         """First those of a folder, then those of each folder in it; a catalogue is none, also where it is named by itself."""
@@ -239,37 +230,12 @@ class Parts(unittest.TestCase):
         self.assertIsNone(PictureRecord.of(b"/a", b"/", unread=(parts[0], NotRead("a chunk", ""))).not_read)
 
 
-class Printed(unittest.TestCase):
-    def test_a_page_begins_with_its_type(self):
-        """In letters of either kind (HTML, 13.1.1)."""
-        for head, is_one in (
-            (b"<!DOCTYPE html>", True),
-            (b"<!doctype HTML>", True),
-            (b"<!DOCTYPE htm", False),
-            (b" <!DOCTYPE html>", False),
-            (b"", False),
-        ):
-            self.assertEqual(page_file._is_page(head), is_one, head)
-
-
 class Listed(unittest.TestCase):
     def test_a_thumbnail_is_after_its_fields(self):
         in_order = "main 010f, exif 9003, gps 0001, thumb 0112, thumb ffff, thumb jpeg, thumb strip, iptc 2:5, iptc 2:25".split(", ")
         found = differing.differences([], [Field(*it.split(), "SHORT", 1, (1,)) for it in reversed(in_order)])
         self.assertEqual([f"{it.directory} {it.tag}" for it in found], in_order)
         self.assertEqual([it.name for it in found[5:7]], ["IFD1:ThumbnailImage", "IFD1:ThumbnailTIFF"])
-
-    def test_texts_with_a_character_set(self):
-        """UserComment, GPSProcessingMethod and GPSAreaInformation begin with eight bytes for it (CIPA DC-008, 4.6.6 and 4.6.7)."""
-        text = b"ASCII\0\0\0GPS"
-        for where, key, is_one in (
-            ("exif", "9286", True),
-            ("gps", "001b", True),
-            ("gps", "001c", True),
-            ("exif", "001b", False),
-            ("gps", "001d", False),
-        ):
-            self.assertEqual(listing.exact(Field(where, key, "UNDEFINED", 11, text)) == 'ascii "GPS"', is_one, (where, key))
 
     def test_a_next_offset_that_is_missing(self):
         whole = bytes.fromhex("4d4d002a00000008 0001 0112 0003 00000001 00060000 00000000")

@@ -1,265 +1,20 @@
 """Small functions at their limits: how values are shown, how results are put into words, and how work is divided."""
 
 import contextlib
-import hashlib
 import os
 import sqlite3
 import subprocess
-import unittest
 from types import SimpleNamespace
 from unittest import mock
 
-from exact_fields import field
-from made_files import xmp as packet_of
 from studio import WithPictures, write
 
-from exifnorm_pictures import xmp
-from exifnorm_pictures.comparison import differing
 from exifnorm_pictures.extract import exiftool, programs
-from exifnorm_pictures.fields import listing, xmp_properties
-from exifnorm_pictures.fields.field import Field
 from exifnorm_pictures.files import session
-from exifnorm_pictures.model import records, sides, texts, verdicts
-from exifnorm_pictures.model.found import NotRead
+from exifnorm_pictures.model import records
 from exifnorm_pictures.model.records import PictureRecord, Stamp
-from exifnorm_pictures.model.sides import Side
-from exifnorm_pictures.model.verdicts import Verdict
-from exifnorm_pictures.scan import batches, moved, walk, workers
+from exifnorm_pictures.scan import batches, walk, workers
 from exifnorm_pictures.scan.walk import FoundFile
-
-
-def exact(where, key, octets, kind="UNDEFINED"):
-    return listing.exact(Field(where, key, kind, len(octets), octets))
-
-
-def digits(octets, count=32):
-    return hashlib.sha256(octets).hexdigest()[:count]
-
-
-class Shown(unittest.TestCase):
-    """Values as they are shown in a line."""
-
-    def test_octets(self):
-        many = bytes(range(200, 233))
-        for octets, text in (
-            (b"", '""'),
-            (b"\0", '""'),
-            (b"abc", '"abc"'),
-            (b"abc\0", '"abc"'),
-            (b"abc\0\0", "0x6162630000"),
-            (b'a"b\\', r'"a\"b\\"'),
-            (b"a\n\t\r", '"a\\n\\t\\r"'),
-            (b"a\x1b", "0x611b"),
-            (b"\xc3\xbc", '"\u00fc"'),
-            (b"\xfc", "0xfc"),
-            (b"x" * 400, f'"{"x" * 400}"'),
-            (b"x" * 401, f"0x{'78' * 8}.. sha256:{digits(b'x' * 401)}"),
-            (("\u00fc" * 400).encode(), f'"{chr(0xFC) * 400}"'),
-            (many[:32], f"0x{many[:32].hex()}"),
-            (many, f"0x{many[:8].hex()}.. sha256:{digits(many)}"),
-            (many[:32] + b"\0", f"0x{many[:8].hex()}.. sha256:{digits(many[:32] + bytes(1))}"),
-            (chr(0x10000).encode() * 400, f'"{chr(0x10000) * 400}"'),
-        ):
-            self.assertEqual(exact("exif", "9999", octets), text, octets)
-
-    def test_numbers(self):
-        for text in ("1", "1 " * 79 + "12"):
-            self.assertEqual(listing.exact(field("main", "0102", "SHORT", len(text.split()), text)), text)
-        text = "1 " * 79 + "123"
-        found = listing.exact(field("main", "0102", "SHORT", 80, text))
-        self.assertEqual(found, f"{'1 ' * 30}.. sha256:{digits(text.encode())}")
-        self.assertEqual(exact("thumb", "jpeg", b"abc", "octets"), f"sha256:{digits(b'abc')}")
-        self.assertEqual(listing.shortened(f"0x00.. sha256:{digits(b'abc')}"), f"0x00.. sha256:{digits(b'abc', 12)}")
-        self.assertEqual(listing.shortened("sha256:0123456789ab"), "sha256:0123456789ab")
-
-    def test_texts_in_other_forms(self):
-        wide = "a\u00fc".encode("utf-16-le")
-        for where, key, octets, text in (
-            ("main", "9c9b", wide, 'utf-16 "a\u00fc"'),
-            ("main", "9c9f", wide + b"\0\0", 'utf-16 "a\u00fc"'),
-            ("main", "9c9c", b'a\0"\0\\\0\n\0', 'utf-16 "a\\"\\\\\\n"'),
-            ("exif", "9c9b", wide, exact("exif", "9999", wide)),
-            ("main", "9ca0", wide, exact("exif", "9999", wide)),
-            ("main", "9c9d", b"a\0b", "0x610062"),
-            ("main", "9c9e", b"\0\0", "0x0000"),
-            ("main", "9c9e", b"\1\0", "0x0100"),
-            ("main", "9c9e", b"a\0" * 400, f'utf-16 "{"a" * 400}"'),
-            ("main", "9c9e", b"a\0" * 40_000, f"0x{'6100' * 4}.. sha256:{digits(bytes([97, 0]) * 40_000)}"),
-            ("exif", "9286", b"ASCII\0\0\0", 'ascii ""'),
-            ("exif", "9286", b"ASCII\0\0\0a\0", "0x4153434949000000" "6100"),
-            ("gps", "001b", b"ASCII\0\0\0a", 'ascii "a"'),
-            ("exif", "9286", b"ASCII\0\0 a", "0x41534349490000" "2061"),
-            ("exif", "9286", b"UNICODE\0a", "0x554e49434f444500" "61"),
-        ):
-            self.assertEqual(exact(where, key, octets), text, (where, key, octets))
-
-    def test_values_in_a_list_of_changes(self):
-        """The values of a repeated field are one list; numbers have their type, and texts don't."""
-
-        def of_kind(kind, count, text):
-            return field("xmp" if kind in ("text", "URI", "Bag", "structure") else "main", "dc:a", kind, count, text)
-
-        for fields, text in (
-            ([of_kind("ASCII", 2, '"a"')], '"a"'),
-            ([of_kind("octets", 1, '"a"'), of_kind("octets", 1, '"b"')], '"a", "b"'),
-            ([of_kind("text", 1, '"a"')], '"a"'),
-            ([of_kind("URI", 1, "<http://a/>")], "<http://a/>"),
-            ([of_kind("SHORT", 2, "1 2")], "short[2] 1 2"),
-            ([of_kind("Bag", 1, 'Bag["a"]')], 'bag[1] Bag["a"]'),
-            ([of_kind("structure", 1, '{dc:a="1"}')], 'structure[1] {dc:a="1"}'),
-            ([of_kind("UNDEFINED", 99, f"0x00.. sha256:{digits(b'abc')}")], f"undefined[99] 0x00.. sha256:{digits(b'abc', 12)}"),
-        ):
-            self.assertEqual(differing.bare(fields), text)
-            (came,), (went,) = differing.differences([], fields), differing.differences(fields, [])
-            self.assertEqual((came.before, list(came.after), came.sign), ((), fields, "+"))
-            self.assertEqual((list(went.before), went.after, went.sign), (fields, (), "-"))
-            self.assertEqual(differing.differences(fields, fields), [])
-
-    def test_names_of_files(self):
-        self.assertEqual(
-            texts.escaped("\ud800\x7f\x85\u2028\U000e0001\udc80\udcff\ud7ff\\\r\n\t"),
-            "\\ud800\\x7f\\u0085\\u2028\\U000e0001\\x80\\xff\\ud7ff\\\\\\r\\n\\t",
-        )
-        self.assertEqual(
-            [texts.reason(it) for it in (OSError(2, "No Such File"), OSError(), PermissionError())],
-            ["no such file", "oserror", "permissionerror"],
-        )
-        self.assertEqual(
-            [texts.path_members(it) for it in ("\u00fc\n".encode(), b"\xfc")], [{"path": "\u00fc\n"}, {"path": "\\xfc", "path_hex": "fc"}]
-        )
-
-    def test_xmp(self):
-        def shown(inside, attributes=""):
-            found = xmp.statements(packet_of(inside, attributes), xmp.Extensions({}), set())
-            return [(it.tag, it.type, it.count, listing.exact(it)) for it in xmp_properties.fields_of_statements(found)]
-
-        lists = "".join(
-            f"<dc:{name}><rdf:{kind}><rdf:li>b</rdf:li><rdf:li xml:lang='DE'>a</rdf:li></rdf:{kind}></dc:{name}>"
-            for name, kind in (("subject", "Bag"), ("creator", "Seq"), ("title", "Alt"))
-        )
-        self.assertEqual(
-            shown(lists),
-            [
-                ("dc:creator", "Seq", 2, 'Seq["b", "a"@de]'),
-                ("dc:subject", "Bag", 2, 'Bag["b", "a"@de]'),
-                ("dc:title", "Alt", 2, 'Alt["b", "a"@de]'),
-            ],
-        )
-        self.assertEqual(
-            shown(
-                "<xmp:x rdf:resource='http://a/'/><xmp:y rdf:parseType='Resource'><dc:b>1</dc:b><dc:a>2\"</dc:a></xmp:y>", "xmp:z='&#10;'"
-            ),
-            [("xmp:x", "URI", 1, "<http://a/>"), ("xmp:y", "structure", 2, '{dc:a="2\\"", dc:b="1"}'), ("xmp:z", "text", 1, '"\\n"')],
-        )
-        self.assertEqual(shown("<dc:a>2</dc:a><dc:a>1</dc:a><dc:a>1</dc:a>"), [("dc:a", "text", 2, '"2", "1"')], "in their order")
-        self.assertEqual(shown("", "dc:a='" + "x" * 65_534 + "'")[0][3], f'"{"x" * 65_534}"')
-        long = "x" * 65_535
-        self.assertEqual(shown("", f"dc:a='{long}'")[0][3], f'"{long[:59]}.. sha256:' + digits(f'"0:0:{long}'.encode()))
-        history = "<dc:a rdf:parseType='Resource'>" + "".join(f"<dc:{it}>{it * 200}</dc:{it}>" for it in "ab") + "</dc:a>"
-        self.assertEqual(shown(history)[0][3][:60], '{dc:a="' + "a" * 53)
-        self.assertLess(len(shown(history)[0][3]), 120)
-        eleven = "".join(f"<rdf:li>{number}</rdf:li>" for number in range(11))
-        self.assertEqual(
-            shown(f"<dc:a><rdf:Seq>{eleven}</rdf:Seq></dc:a>")[0][3], "Seq[" + ", ".join(f'"{number}"' for number in range(11)) + "]"
-        )
-
-
-class Results(unittest.TestCase):
-    """Results of comparisons, in words."""
-
-    def test_sentences(self):
-        exif, iptc, xmp_ = "exif", "iptc", "xmp"
-        for found, parts, text in (
-            ([(exif, "same", True), (iptc, "same", False), (xmp_, "same", False)], (), "Exif, IPTC and XMP are the same"),
-            ([(exif, "same", True), (iptc, "different", False), (xmp_, "same", False)], (), "Exif and XMP are the same, IPTC is different"),
-            (
-                [(exif, "refused", True), (iptc, "refused", False), (xmp_, "unreadable", False)],
-                (),
-                "IPTC is refused, Exif is refused, the same bytes, XMP is unreadable",
-            ),
-            (
-                [(exif, "refused", True), (iptc, "refused", True), (xmp_, "unreadable", True)],
-                (),
-                "Exif and IPTC are refused, the same bytes, XMP is unreadable, the same bytes",
-            ),
-            (
-                [(exif, "absent", False), (iptc, "absent", False), (xmp_, "absent", False)],
-                ("a", "b"),
-                "no Exif and no IPTC and no XMP; not wholly read: a, b",
-            ),
-        ):
-            self.assertEqual(verdicts.sentence_of_verdicts([Verdict(*it) for it in found], parts), text)
-
-    def test_words(self):
-        same, other, refused, unreadable = (
-            Verdict("exif", "same"),
-            Verdict("exif", "different"),
-            Verdict("iptc", "refused"),
-            Verdict("xmp", "unreadable"),
-        )
-        refused_same, unreadable_same = Verdict("iptc", "refused", True), Verdict("xmp", "unreadable", True)
-        for found, parts, word in (
-            ([same], (), "same"),
-            ([], (), "same"),
-            ([same], ("a",), "not wholly read"),
-            ([same, other, refused], ("a",), "different"),
-            ([same, refused, unreadable], ("a",), "refused"),
-            ([same, unreadable, refused_same], ("a",), "unreadable"),
-            ([same, refused_same, unreadable_same], ("a",), "not wholly read"),
-            ([same, refused_same, unreadable_same], (), "refused, the same bytes"),
-            ([same, unreadable_same], (), "unreadable, the same bytes"),
-        ):
-            self.assertEqual(verdicts.result_of(found, parts), word)
-
-    def test_sides(self):
-        def block(name, status="accepted", text="d", octets="o", kind="exif"):
-            return SimpleNamespace(kind=kind, name=name, status=status, digest=text, octets=octets, meaning=text)
-
-        self.assertEqual(sides.side_of([]), Side("absent", "", ""))
-        self.assertEqual(sides.side_of([block("Exif")]), Side("accepted", "d", "o"))
-        self.assertEqual(sides.side_of([block("second Exif")]).digest, hashlib.sha256(b"second Exif: d").hexdigest(), "its name counts")
-        self.assertEqual(sides.side_of([block("Exif", "refused", None)]), Side("refused", "", "o"))
-        self.assertEqual(sides.side_of([block("XMP", "too long", None, kind="xmp")]), Side("unreadable", "", "o"))
-        both = [block("Exif"), block("second Exif", text="e", octets="p")]
-        octets = hashlib.sha256(b"Exif: o\nsecond Exif: p").hexdigest()
-        self.assertEqual(sides.side_of(both), Side("accepted", hashlib.sha256(b"Exif: d\nsecond Exif: e").hexdigest(), octets))
-        self.assertEqual(sides.side_of([both[0], block("second Exif", "failed", None, "p")]), Side("refused", "", octets))
-
-    def test_parts(self):
-        known, other, unknown = NotRead("b", "1"), NotRead("a", "2"), NotRead("c", "")
-        for one, two, expected in (
-            ([known], [known], []),
-            ([known, known], [known], ["b"]),
-            ([known, other], [other, known], []),
-            ([unknown], [unknown], ["c"]),
-            ([known, unknown], [other], ["a", "b", "c"]),
-            ([NotRead("b", "3")], [known], ["b"]),
-        ):
-            self.assertEqual(verdicts.left_open(one, two), expected)
-
-    def test_new_names(self):
-        for words, key in (
-            ((["a", "", ""], "", 1), ("a", "", "", "", 1)),
-            ((["", "", ""], "", 1), None),
-            ((["a", "", ""], None, 1), None),
-            ((["a", "", ""], "p", None), None),
-            ((["", "", "a"], "p", 0), ("", "", "a", "p", 0)),
-        ):
-            self.assertEqual(moved.content_key(*words), key)
-
-    def test_marks(self):
-        """Of 64 bits with a sign."""
-
-        def of(*marks):
-            return tuple(
-                Stamp.of(SimpleNamespace(**dict(zip(("st_size", "st_mtime_ns", "st_ctime_ns", "st_ino", "st_dev"), (*marks, 9)))))
-            )[:4]
-
-        least, greatest = -(1 << 63), (1 << 63) - 1
-        self.assertEqual(of(1, 2, 3, 4), (1, 2, 3, 4))
-        self.assertEqual(of(0, least, greatest, greatest + 1), (0, least, greatest, least))
-        self.assertEqual(of(0, least - 1, 0, 0), (0, greatest, 0, 0))
-        self.assertEqual(of(0, least - 1, greatest, (1 << 64) - 1), (0, greatest, greatest, -1))
 
 
 class Work(WithPictures):
@@ -286,8 +41,6 @@ class Work(WithPictures):
         self.assertEqual(self.chunks(100, 4), [8] * 12 + [4])
         self.assertEqual(sum(self.chunks(1000, 2)), 1000)
         self.assertEqual(self.chunks(0, 1), [])
-        self.assertEqual(batches.How(jobs=3).processes, 3)
-        self.assertEqual(batches.How().processes, len(os.sched_getaffinity(0)))
 
     def test_processes_begin_while_signals_are_held(self):
         """The first task starts them: one that starts later could miss a signal, or get one that it doesn't handle."""
@@ -351,7 +104,6 @@ class Work(WithPictures):
             [(1, b"/a", 1, 4, None, "", 0), (2, b"/d", None, None, "NoPicture", "d", 0)],
         )
         self.assertEqual(batches.batch(self.path("more"), entries[:1], [], None).lines, [])
-        self.assertEqual(PictureRecord.of(b"/a", b"/").state, "no block")
 
     def test_programs_that_have_read_a_picture(self):
         """They have extracted its blocks, or have found that it has none; or ExifTool has read its MakerNotes."""

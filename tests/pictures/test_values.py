@@ -132,19 +132,6 @@ class RowsOfCatalogues(WithPictures):
 
 
 class SingleBlocks(unittest.TestCase):
-    def test_lines_about_one(self):
-        """The last column is as `exifnorm check` prints it (docs/FORMAT.md, section 8). A byte offset may be 0."""
-        for status, cause, place, refusal, line in (
-            ("accepted", None, None, "None", "ok exif"),
-            ("refused", "Overlap", 34, "Overlap at 34", "refused: Overlap at 34"),
-            ("refused", "UnknownKind", 0, "UnknownKind at 0", "refused: UnknownKind at 0"),
-            ("unreadable", "NoRDF", None, "NoRDF", "unreadable: NoRDF"),
-            ("too long", "NormalTooLong", None, "NormalTooLong", "refused: NormalTooLong"),
-            ("failed", "OutOfMemory", None, "OutOfMemory", "failed: OutOfMemory"),
-        ):
-            it = BlockRecord(EXIF, "Exif", "somewhere", "own", status, None, cause, place, 9, "0" * 64)
-            self.assertEqual((it.refusal, it.line), (refusal, line))
-
     def test_blocks_of_a_kind(self):
         some = found_.Blocks()
         for kind, data, part in ((EXIF, b"1", ""), (found_.XMP, b"2", ""), (EXIF, b"3", ""), (EXIF, b"4", "page 2")):
