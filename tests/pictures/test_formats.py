@@ -15,7 +15,7 @@ from hypothesis import given, settings
 from hypothesis import strategies as st
 from in_memory import Counting, found_in, reader_of
 from made_blocks import ASCII, LONG, segment
-from made_files import A, B, K, L, T, Placed, iim, xmp
+from made_files import A, B, K, L, T, Placed, xmp
 from made_files import app1, app13, app1_xmp, chunk, extension, jpeg, mpf, packed_zeros, page, png, png_xmp, profile, resource, tiff, webp
 from made_raw import arw, camera_profile, dng, rw2, sony, whole_raf
 from studio import SMALL_JPEG, WithPictures, interpreter_with, needs, read, run, tool, write
@@ -33,33 +33,6 @@ def named(blocks):
 
 class Found(unittest.TestCase):
     """Each block has its name and its bytes, in the order of the file."""
-
-    def test_jpeg(self):
-        pieces, _ = extension(T)
-        whole = jpeg(app1(A), app13(resource(0x404, K), resource(0x425, b"x" * 16)), app1_xmp(T), *pieces, app1(B), app1(b"more"))
-        found = found_in(whole)
-        self.assertEqual(
-            sorted(named(found)),
-            sorted(
-                [
-                    ("exif", "Exif", A),
-                    ("exif", "second Exif", B + b"more"),
-                    ("iptc", "IPTC", K),
-                    ("xmp", "XMP", T),
-                    ("xmp", "extended XMP", T),
-                ]
-            ),
-        )
-        self.assertEqual((found.not_read, found.type), ([], "JPEG"))
-        self.assertEqual(found.of_kind("exif")[0].where, "APP1 segment at 2")
-        further = found_in(mpf(app1(A), jpeg(app1(B)), jpeg(app13(resource(0x404, K)))))
-        self.assertEqual([it[1] for it in named(further)], ["Exif", "Exif of MPF picture 2", "IPTC of MPF picture 3"])
-
-    def test_a_block_goes_on_only_in_the_next_segment(self):
-        between = app13(resource(0x404, K))
-        apart = found_in(jpeg(app1(A), between, app1(b"more")))
-        self.assertEqual([it for it in named(apart) if it[0] == "exif"], [("exif", "Exif", A), ("exif", "second Exif", b"more")])
-        self.assertEqual(named(found_in(jpeg(app1(A), app1(b"more"), between)))[0], ("exif", "Exif", A + b"more"))
 
     def test_what_is_between_two_pieces_of_a_block(self):
         """A segment of any kind, and a marker without one, end a block: TEM (FF 01) and the restart marks (ITU T.81, B.1.1.3)."""
@@ -115,78 +88,6 @@ class Found(unittest.TestCase):
         self.assertEqual(named(found_in(jpeg(segment(0xE1, b"1234Exif\0\0" + A)))), [("exif", "Exif", A)])
         self.assertEqual(named(found_in(jpeg(segment(0xE1, b"12345Exif\0\0" + A)))), [])
         self.assertEqual(named(found_in(webp((b"EXIF", b"Exif\0\0" + A)))), named(found_in(png(chunk(b"eXIf", A)))))
-
-    def test_fill_bytes(self):
-        """Any marker may have FF in front, as often as a writer likes (ITU T.81, B.1.1.2)."""
-        for fill in (b"\xff", b"\xff\xff", b"\xff" * 7):
-            found = found_in(jpeg(fill + app1(A), fill + app13(resource(0x404, K))))
-            self.assertEqual(named(found), [("exif", "Exif", A), ("iptc", "IPTC", K)], fill)
-
-    def test_resources(self):
-        """A name has a length and is padded, and so is the data; Photoshop 2.5 had other words in front."""
-
-        def with_name(name, data):
-            padded = bytes([len(name)]) + name
-            return b"8BIM\4\4" + padded + bytes(len(padded) % 2) + struct.pack(">I", len(data)) + data + bytes(len(data) % 2)
-
-        odd = iim(b"four")
-        self.assertEqual(len(odd) % 2, 1)
-        for name in (b"", b"a", b"of", b"odd", b"even"):
-            found = found_in(jpeg(app13(with_name(name, odd), with_name(b"", L))))
-            self.assertEqual((named(found), found.not_read), ([("iptc", "IPTC", odd), ("iptc", "second IPTC", L)], []), name)
-        old = found_in(jpeg(segment(0xED, b"Adobe_Photoshop2.5:" + bytes(8) + resource(0x404, K))))
-        self.assertEqual((named(old), old.not_read), ([("iptc", "IPTC", K)], []))
-        for signature in (b"PHUT", b"AgHg", b"DCSR", b"MeSa"):
-            self.assertEqual(named(found_in(jpeg(app13(resource(0x404, K, signature))))), [("iptc", "IPTC", K)], signature)
-        more = found_in(jpeg(app13(resource(0x423, A), resource(0x404, K))))
-        self.assertEqual(named(more), [("iptc", "IPTC", K)])
-        self.assertEqual([it.what for it in more.not_read], ["Photoshop resource 0423 in the APP13 segment at 2"])
-
-    def test_extended_xmp_that_is_not_whole(self):
-        pieces, name = extension(T)
-        self.assertGreater(len(pieces), 2)
-        for wrong in (pieces[:-1], pieces[1:], [*pieces, pieces[0]], pieces[:1] + pieces[2:]):
-            found = found_in(jpeg(*wrong))
-            self.assertEqual(len(found.not_read), 1, [it.what for it in found.not_read])
-        doubled = found_in(jpeg(pieces[0], *pieces))
-        self.assertEqual((named(doubled), len(doubled.not_read)), ([("xmp", "extended XMP", T)], 1))
-        small = found_in(jpeg(*extension(T, name=name.lower().encode())[0]))
-        self.assertEqual([it.extends for it in small.blocks], [name])
-
-    def test_padding_of_chunks(self):
-        odd = T if len(T) % 2 else T + b" "
-        self.assertEqual(named(found_in(webp((b"XMP ", odd), (b"EXIF", A)))), [("xmp", "XMP", odd), ("exif", "Exif", A)])
-
-    def test_what_was_not_read_has_a_digest(self):
-        for octets, what, data in (
-            (jpeg(app1(A), behind=b"trailer"), "trailer of 7 bytes", b"trailer"),
-            (jpeg(segment(0xE1, b"unknown")), "APP1 segment of an unknown kind", b"unknown"),
-            (jpeg(segment(0xE3, b"Exif\0\0unknown")), "APP3 segment Meta", b"Exif\0\0unknown"),
-            (jpeg(segment(0xE3, b"unknown\0")), "APP3 segment unknown", b"unknown\0"),
-            (jpeg(segment(0xE3, b"META\0\0unknown")), "APP3 segment Meta", b"META\0\0unknown"),
-            (jpeg(segment(0xED, b"unknown")), "APP13 segment of an unknown kind", b"unknown"),
-            (png(behind=b"trailer"), "trailer of 7 bytes", b"trailer"),
-            (webp((b"EXIF", A), behind=b"trailer"), "trailer of 7 bytes", b"trailer"),
-            (tiff(page(), behind=b"trailer"), "trailer of 7 bytes", b"trailer"),
-        ):
-            found = found_in(octets).not_read
-            self.assertEqual([(it.what, it.digest) for it in found], [(what, hashlib.sha256(data).hexdigest())])
-        for nothing in (segment(0xED, b"Adobe_CM" + bytes(6)), segment(0xE0, b"JFXX\0"), segment(0xE2, b"ICC_PROFILE\0\1\1")):
-            self.assertEqual(found_in(jpeg(nothing)).not_read, [])
-
-    def test_profiles_of_another_length(self):
-        for said in (len(A) - 1, len(A) + 1):
-            text = b"\nexif\n%8d\n" % said + A.hex().encode() + b"\n"
-            found = found_in(png(chunk(b"tEXt", b"Raw profile type exif\0" + text)))
-            self.assertEqual((found.blocks, len(found.not_read)), ([], 1))
-        for kind in (b"icc", b"icm"):
-            self.assertEqual(found_in(png(profile(kind, A))).not_read, [])
-
-    def test_an_index_that_does_not_fit(self):
-        octets = mpf(app1(A), jpeg(app1(B)))
-        for wrong in (octets[:-60] + b"", octets.replace(b"MPF\0MM", b"MPF\0XX")):
-            found = found_in(wrong)
-            self.assertTrue(any(it.what.startswith("MPF index that does not fit the file") for it in found.not_read), found.not_read)
 
     def test_an_index_that_leads_to_no_picture(self):
         """The first picture is read all the same, and to its end, as nothing is known of where the others are."""

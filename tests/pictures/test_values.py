@@ -193,7 +193,11 @@ class SingleBlocks(unittest.TestCase):
             data = head + b"abc"
             for marker in [it for it in range(0xE0, 0xF0) if it not in (0xE1, 0xED)]:
                 found = jpeg_.read(io.BytesIO(jpeg(segment(marker, data))))
-                self.assertEqual((found.blocks, found.not_read), ([], [NotRead(mock.ANY, hashlib.sha256(data).hexdigest())]), marker)
+                self.assertEqual(
+                    (found.blocks, found.not_read),
+                    ([], [NotRead("APP3 segment Meta" if marker == 0xE3 else mock.ANY, hashlib.sha256(data).hexdigest())]),
+                    marker,
+                )
 
 
 class LookedAtAgain(unittest.TestCase):
