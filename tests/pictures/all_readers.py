@@ -2,12 +2,30 @@
 
 import hashlib
 import io
+from typing import Any, Callable, NamedTuple
 from unittest import mock
 
 import pytest
 
 from exifnorm_pictures.model import budgets
 from exifnorm_pictures.model.found import Broken, LeftToOthers
+
+
+class Format(NamedTuple):
+    """What the laws of all formats are asked of one: files by their names, each with what it has."""
+
+    read: Callable[..., Any]
+    type: Callable[[str], str]  # by the name of a file
+    blocks: Any  # the files without a part that isn't read, each with its blocks
+    left: Any  # files with such parts, each with these
+    kept: Any  # the blocks of these files
+    broken: Any  # files that are refused, each with the reason
+    pairs: Any  # two files, and the status of their comparison
+    whole: bytes  # a file with all that is read
+    is_of: Callable[[Any, bytes], bool]  # whether a block is made of a file's bytes
+    short: bytes  # a file for each byte of which ExifTool is asked
+    count: int  # how many of its bytes are changed
+    least: int  # the fewest of these changes that leave two files the same
 
 
 def stream_of(octets):

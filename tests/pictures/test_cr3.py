@@ -9,9 +9,8 @@ import os
 import struct
 
 import pytest
-from all_readers import blocks_in, check_broken, check_left, check_limit
-from beside import blocks_of_exiftool, changed, hidden_by_one_byte, tags_of_exiftool
-from hypothesis import given
+from all_readers import Format, check_limit
+from beside import blocks_of_exiftool, tags_of_exiftool
 from made_blocks import ASCII, LONG, SHORT, UNDEFINED
 from made_boxes import CANON, box, cr3
 from made_files import T_OTHERWISE, app1, jpeg, tiff, title
@@ -166,20 +165,6 @@ def test_a_value_out_of_its_box():
     assert [(it.name, judge.judge_all(found)[0].cause) for it in found.blocks] == [("Exif", "ValueOutside")]
 
 
-@pytest.mark.parametrize("name", LEFT)
-def test_what_is_left(name):
-    octets, parts = LEFT[name]
-    found = found_in(octets)
-    check_left(found, parts)
-    assert [(it.kind, it.name) for it in found.blocks] == [("exif", "Exif"), ("xmp", "XMP")]
-    assert found.blocks[1].data == T
-
-
-@pytest.mark.parametrize("name", BROKEN)
-def test_broken(name):
-    check_broken(cr3_.read, *BROKEN[name])
-
-
 def test_room_for_xmp():
     assert [it.name for it in found_in(cr3(*structures(), packet=bytes(65536))).blocks] == ["Exif"]
 
@@ -231,23 +216,10 @@ def test_limits(what, spent):
     check_limit(cr3_.read, WHOLE, what, spent)
 
 
-@given(changed(WHOLE))
-def test_changed_files(octets):
-    """Blocks of bytes of the file, or a reason."""
-    for it in blocks_in(cr3_.read, octets):
-        assert values_are_of(it, octets), it
-
-
 def values_are_of(block, octets):
     """Whether a block is in a file, or each long value of a block that was laid out anew."""
     places = [(it.last, it.last + it.size) for one in structure.Walk(block).directories for it in one.entries if it.size > 4]
     return block in octets or all(block[start:end] in octets for start, end in places)
-
-
-@needs("exiftool")
-def test_one_changed_byte(tmp_path):
-    hidden, number = hidden_by_one_byte(WHOLE, tmp_path, 300)
-    assert not hidden and number > 20
 
 
 PAIRS = {
@@ -267,7 +239,18 @@ PAIRS = {
 }
 
 
-@pytest.mark.parametrize("name", PAIRS)
-def test_pair(name, compared):
-    before, after, status = PAIRS[name]
-    assert compared(before, after)[0] == status
+KEPT = [("exif", "Exif", found_in(WHOLE).blocks[0].data), ("xmp", "XMP", T)]
+FORMAT = Format(
+    read=cr3_.read,
+    type=lambda name: "CR3",
+    blocks={},
+    left=LEFT,
+    kept=KEPT,
+    broken=BROKEN,
+    pairs=PAIRS,
+    whole=WHOLE,
+    is_of=values_are_of,
+    short=WHOLE,
+    count=300,
+    least=20,
+)

@@ -2,14 +2,12 @@
 
 import io
 
-import pytest
-from all_readers import blocks_in, blocks_of, check_broken, check_left, check_limit
-from beside import blocks_of_exiftool, changed, hidden_by_one_byte, is_of
-from hypothesis import given
+from all_readers import Format, blocks_of, check_limit
+from beside import blocks_of_exiftool, is_of
 from made_files import T_OTHERWISE, app1_xmp, app13, exif, iim, jpeg, resource, title
 from made_more_files import application, blocks_of_data, gif, gif_xmp
 from pairs import DIFFERENT, SAME, UNDECIDED
-from studio import needs
+from studio import needs, put
 
 from exifnorm_pictures.extract.formats import gif as gif_
 from exifnorm_pictures.model import budgets
@@ -58,27 +56,6 @@ BROKEN = {
 }
 
 
-@pytest.mark.parametrize("name", READ)
-def test_blocks(name):
-    octets, blocks = READ[name]
-    found = gif_.read(io.BytesIO(octets))
-    assert sorted(blocks_of(found)) == sorted(blocks)
-    assert (found.not_read, found.type) == ([], "GIF")
-
-
-@pytest.mark.parametrize("name", LEFT)
-def test_what_is_left(name):
-    octets, parts = LEFT[name]
-    found = gif_.read(io.BytesIO(octets))
-    check_left(found, parts)
-    assert blocks_of(found) == BOTH[1:]
-
-
-@pytest.mark.parametrize("name", BROKEN)
-def test_broken(name):
-    check_broken(gif_.read, *BROKEN[name])
-
-
 def test_where_a_piece_of_the_file_ends():
     """The file is read in pieces of 8,192 bytes: wherever one ends, the blocks are the same."""
     for before in range(8192 - 60, 8192 + 20, 3):
@@ -90,8 +67,7 @@ def test_where_a_piece_of_the_file_ends():
 def test_exiftools_blocks(tmp_path):
     """ExifTool takes the same XMP out of each of these files, byte for byte; it reads no IPTC and no second packet."""
     names = [it for it in READ if it not in ("twice", "XMP in blocks", "resources")]
-    for name in names:
-        (tmp_path / f"{name}.gif").write_bytes(READ[name][0])
+    put(tmp_path, {f"{name}.gif": READ[name][0] for name in names})
     found = blocks_of_exiftool(tmp_path)
     for name in names:
         assert found[f"{name}.gif"] == [(kind, data.rstrip(b" ")) for kind, _, data in READ[name][1] if kind == "xmp"], name
@@ -103,19 +79,6 @@ def test_limits():
 
 
 WHOLE = gif(COMMENT, I, CONTROL, R, X, application(b"ABC 1.0", b"data"), images=2, behind=b"more")
-
-
-@given(changed(WHOLE))
-def test_changed_files(octets):
-    """Blocks of bytes of the file, or a reason."""
-    for it in blocks_in(gif_.read, octets):
-        assert is_of(it, octets, 40), it
-
-
-@needs("exiftool")
-def test_one_changed_byte(tmp_path):
-    hidden, number = hidden_by_one_byte(gif(COMMENT, X, LOOP, images=20, colours=4), tmp_path, 300)
-    assert not hidden and number > 20
 
 
 PAIRS = {
@@ -130,7 +93,17 @@ PAIRS = {
 }
 
 
-@pytest.mark.parametrize("name", PAIRS)
-def test_pair(name, compared):
-    before, after, status = PAIRS[name]
-    assert compared(before, after)[0] == status
+FORMAT = Format(
+    read=gif_.read,
+    type=lambda name: "GIF",
+    blocks=READ,
+    left=LEFT,
+    kept=BOTH[1:],
+    broken=BROKEN,
+    pairs=PAIRS,
+    whole=WHOLE,
+    is_of=lambda it, octets: is_of(it, octets, 40),
+    short=gif(COMMENT, X, LOOP, images=20, colours=4),
+    count=300,
+    least=20,
+)

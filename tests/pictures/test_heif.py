@@ -9,14 +9,12 @@ import struct
 import zlib
 from unittest import mock
 
-import pytest
-from all_readers import blocks_in, blocks_of, check_broken, check_left, check_limit, stream_of
-from hypothesis import given
-from beside import blocks_of_exiftool, changed, hidden_by_one_byte, is_of, makers_of_exiv2
+from all_readers import Format, blocks_of, check_limit, stream_of
+from beside import blocks_of_exiftool, is_of, makers_of_exiv2
 from made_boxes import CANON, PICTURE, RDF, XMP_UUID, Item, box, full, heif, item_exif, mime
 from made_files import T_OTHERWISE, exif, title, turned
 from pairs import DIFFERENT, SAME, UNDECIDED
-from studio import needs
+from studio import needs, put
 
 from exifnorm_pictures.extract import extraction
 from exifnorm_pictures.extract.formats import heif as heif_
@@ -127,28 +125,11 @@ LEFT = {
 }
 
 
-@pytest.mark.parametrize("name", [*READ, "idat"])
-def test_blocks(name):
-    octets, blocks = READ.get(name, IN_IDAT)
-    found = heif_.read(io.BytesIO(octets))
-    assert sorted(blocks_of(found)) == sorted(blocks)
-    assert (found.not_read, found.type) == ([], "AVIF" if name == "AVIF" else "HEIC")
-
-
-@pytest.mark.parametrize("name", LEFT)
-def test_what_is_left(name):
-    octets, parts = LEFT[name]
-    found = heif_.read(io.BytesIO(octets))
-    check_left(found, parts)
-    assert blocks_of(found) == IN_ONE
-
-
 @needs("exiftool")
 def test_exiftools_blocks(tmp_path):
     """ExifTool takes the blocks of the main picture out of each of these files, byte for byte."""
     names = {f"{number:02}.heic": name for number, name in enumerate(READ)}
-    for file, name in names.items():
-        (tmp_path / file).write_bytes(READ[name][0])
+    put(tmp_path, {file: READ[name][0] for file, name in names.items()})
     for file, found in blocks_of_exiftool(tmp_path).items():
         main = [(kind, data) for kind, name, data in READ[names[file]][1] if name in ("Exif", "XMP")]
         assert sorted(found) == sorted(main), names[file]
@@ -158,8 +139,7 @@ def test_exiftools_blocks(tmp_path):
 def test_exiv2(tmp_path):
     """exiv2 reads an Exif item in one part, of a file with one."""
     names = [it for it in READ if it == "AVIF" or " before the block" in it or it in ("one picture", "a long length", "Canon's version")]
-    for name in names:
-        (tmp_path / name).write_bytes(READ[name][0])
+    put(tmp_path, {name: READ[name][0] for name in names})
     assert makers_of_exiv2(tmp_path) == {it: ["Abc"] for it in names}
 
 
@@ -214,11 +194,6 @@ def test_offsets_past_4_gb(tmp_path):
     assert blocks_of(found) == IN_ONE[1:] and found.not_read == []
 
 
-@pytest.mark.parametrize("name", BROKEN)
-def test_broken(name):
-    check_broken(heif_.read, *BROKEN[name])
-
-
 def test_limits():
     """Boxes, items, their parts, and the bytes of boxes: up to a limit, and not one more."""
     for what, spent in {budgets.BOXES: 18, budgets.ITEMS: 3, budgets.EXTENTS: 8, budgets.BOX_BYTES: None}.items():
@@ -245,19 +220,6 @@ WHOLE = heif(
     padding=b"--",
     behind=box(b"uuid", XMP_UUID, U),
 )
-
-
-@given(changed(WHOLE))
-def test_changed_files(octets):
-    """Blocks of bytes of the file, or a reason."""
-    for it in blocks_in(heif_.read, octets):
-        assert is_of(it, octets, 4), it
-
-
-@needs("exiftool")
-def test_one_changed_byte(tmp_path):
-    hidden, number = hidden_by_one_byte(WHOLE, tmp_path, 200)
-    assert not hidden and number > 20
 
 
 PAIRS = {
@@ -304,7 +266,17 @@ PAIRS = {
 }
 
 
-@pytest.mark.parametrize("name", PAIRS)
-def test_pair(name, compared):
-    before, after, status = PAIRS[name]
-    assert compared(before, after)[0] == status
+FORMAT = Format(
+    read=heif_.read,
+    type=lambda name: "AVIF" if name == "AVIF" else "HEIC",
+    blocks={**READ, "idat": IN_IDAT},
+    left=LEFT,
+    kept=IN_ONE,
+    broken=BROKEN,
+    pairs=PAIRS,
+    whole=WHOLE,
+    is_of=lambda it, octets: is_of(it, octets, 4),
+    short=WHOLE,
+    count=200,
+    least=20,
+)

@@ -4,14 +4,12 @@ made files."""
 import hashlib
 import io
 
-import pytest
-from all_readers import blocks_in, blocks_of, check_broken, check_left, check_limit
-from beside import blocks_of_exiftool, changed, hidden_by_one_byte, makers_of_exiv2
-from hypothesis import given
+from all_readers import Format, check_limit
+from beside import blocks_of_exiftool, makers_of_exiv2
 from made_boxes import SMALL_J2C, XMP_UUID, box, jp2, uuid, wide
 from made_files import T_OTHERWISE, app1, app1_xmp, app13, exif, iim, jpeg, page, resource, tiff, title, turned
 from pairs import DIFFERENT, SAME, UNDECIDED
-from studio import needs
+from studio import needs, put
 
 from exifnorm_pictures.extract.formats import jp2 as jp2_
 from exifnorm_pictures.model import budgets
@@ -71,14 +69,6 @@ BROKEN = {
 }
 
 
-@pytest.mark.parametrize("name", [*READ, "xml"])
-def test_blocks(name):
-    octets, blocks = READ.get(name, XML)
-    found = jp2_.read(io.BytesIO(octets))
-    assert sorted(blocks_of(found)) == blocks
-    assert (found.not_read, found.type) == ([], "J2C" if name == "bare" else "JP2")
-
-
 def test_geotiff():
     """It is a TIFF of its own, and its Exif isn't that of the picture."""
     found = jp2_.read(io.BytesIO(jp2(uuid(GEOTIFF, GEO), E)))
@@ -88,29 +78,15 @@ def test_geotiff():
     assert [(it.what, it.digest) for it in found.not_read] == [("trailer of 4 bytes of GeoTIFF", hashlib.sha256(b"more").hexdigest())]
 
 
-@pytest.mark.parametrize("name", LEFT)
-def test_what_is_left(name):
-    octets, parts = LEFT[name]
-    found = jp2_.read(io.BytesIO(octets))
-    check_left(found, parts)
-    assert blocks_of(found) == ALL
-
-
 def test_the_greatest_depth():
     assert [it.name for it in jp2_.read(io.BytesIO(jp2(DEEP))).blocks] == ["Exif"]
-
-
-@pytest.mark.parametrize("name", BROKEN)
-def test_broken(name):
-    check_broken(jp2_.read, *BROKEN[name])
 
 
 @needs("exiftool")
 def test_exiftools_blocks(tmp_path):
     """ExifTool takes the same blocks out of each of these files, byte for byte."""
     names = [it for it in READ if it not in ("without a length", "bare", "fragments", "in a header of a codestream")]
-    for name in names:
-        (tmp_path / f"{name}.jp2").write_bytes(READ[name][0])
+    put(tmp_path, {f"{name}.jp2": READ[name][0] for name in names})
     found = blocks_of_exiftool(tmp_path)
     for name in names:
         assert sorted(found[f"{name}.jp2"]) == [(kind, data) for kind, _, data in READ[name][1]], name
@@ -119,8 +95,7 @@ def test_exiftools_blocks(tmp_path):
 @needs("exiv2")
 def test_exiv2(tmp_path):
     names = ["all", "Exif before the block"]
-    for name in names:
-        (tmp_path / name).write_bytes(READ[name][0])
+    put(tmp_path, {name: READ[name][0] for name in names})
     assert makers_of_exiv2(tmp_path) == {it: ["Abc"] for it in names}
 
 
@@ -131,19 +106,6 @@ def test_limits():
 
 
 WHOLE = jp2(E, uuid(PHOTOSHOP, resource(0x0404, L)), I, box(b"xml ", b"<gml/>"), in_header=X, behind=box(b"xml ", U))
-
-
-@given(changed(WHOLE))
-def test_changed_files(octets):
-    """Blocks of bytes of the file, or a reason."""
-    for it in blocks_in(jp2_.read, octets):
-        assert it in octets, it
-
-
-@needs("exiftool")
-def test_one_changed_byte(tmp_path):
-    hidden, number = hidden_by_one_byte(WHOLE, tmp_path, 300)
-    assert not hidden and number > 20
 
 
 PAIRS = {
@@ -169,7 +131,17 @@ PAIRS = {
 }
 
 
-@pytest.mark.parametrize("name", PAIRS)
-def test_pair(name, compared):
-    before, after, status = PAIRS[name]
-    assert compared(before, after)[0] == status
+FORMAT = Format(
+    read=jp2_.read,
+    type=lambda name: "J2C" if name == "bare" else "JP2",
+    blocks={**READ, "xml": XML},
+    left=LEFT,
+    kept=ALL,
+    broken=BROKEN,
+    pairs=PAIRS,
+    whole=WHOLE,
+    is_of=lambda it, octets: it in octets,
+    short=WHOLE,
+    count=300,
+    least=20,
+)

@@ -2,14 +2,12 @@
 
 import io
 
-import pytest
-from all_readers import blocks_in, blocks_of, check_broken, check_left, check_limit
-from beside import blocks_of_exiftool, changed, hidden_by_one_byte
-from hypothesis import given
+from all_readers import Format, blocks_of, check_limit
+from beside import blocks_of_exiftool
 from made_boxes import XMP_UUID, box, item_exif, jxl, wide
 from made_files import T_OTHERWISE, app1, app1_xmp, exif, jpeg, title, turned
 from pairs import DIFFERENT, SAME, UNDECIDED
-from studio import needs
+from studio import needs, put
 
 from exifnorm_pictures.extract.formats import jxl as jxl_
 from exifnorm_pictures.judge import judge
@@ -65,14 +63,6 @@ BROKEN = {
 }
 
 
-@pytest.mark.parametrize("name", READ)
-def test_blocks(name):
-    octets, blocks = READ[name]
-    found = jxl_.read(io.BytesIO(octets))
-    assert blocks_of(found) == blocks
-    assert (found.not_read, found.type) == ([], "JXL")
-
-
 def test_compressed_blocks():
     """Nobody says that such a picture has no Exif or XMP."""
     found = jxl_.read(io.BytesIO(jxl(BROB_E, BROB_X)))
@@ -86,25 +76,11 @@ def test_compressed_blocks():
         assert "compressed by Brotli" in "".join(explain.explain(it.kind, it.data).lines())
 
 
-@pytest.mark.parametrize("name", LEFT)
-def test_what_is_left(name):
-    octets, parts = LEFT[name]
-    found = jxl_.read(io.BytesIO(octets))
-    check_left(found, parts)
-    assert blocks_of(found) == BOTH
-
-
-@pytest.mark.parametrize("name", BROKEN)
-def test_broken(name):
-    check_broken(jxl_.read, *BROKEN[name])
-
-
 @needs("exiftool")
 def test_exiftools_blocks(tmp_path):
     """ExifTool takes the same blocks out of each of these files, byte for byte, but no box without a length."""
     names = [it for it in READ if it not in ("a second block", "a codestream without a length", "bare")]
-    for name in names:
-        (tmp_path / f"{name}.jxl").write_bytes(READ[name][0])
+    put(tmp_path, {f"{name}.jxl": READ[name][0] for name in names})
     found = blocks_of_exiftool(tmp_path)
     for name in names:
         assert found[f"{name}.jxl"] == [(kind, data) for kind, _, data in READ[name][1]], name
@@ -116,19 +92,6 @@ def test_limits():
 
 
 WHOLE = jxl(E, box(b"brob", b"Exif\1\2"), X, box(b"jbrd", b"jpeg"), box(b"uuid", XMP_UUID, U), behind=box(b"Exif", item_exif(B)))
-
-
-@given(changed(WHOLE))
-def test_changed_files(octets):
-    """Blocks of bytes of the file, or a reason."""
-    for it in blocks_in(jxl_.read, octets):
-        assert it.removeprefix(b"brob") in octets, it
-
-
-@needs("exiftool")
-def test_one_changed_byte(tmp_path):
-    hidden, number = hidden_by_one_byte(jxl(E, box(b"free", bytes(100)), X), tmp_path, 300)
-    assert not hidden and number > 20
 
 
 PAIRS = {
@@ -152,7 +115,17 @@ PAIRS = {
 }
 
 
-@pytest.mark.parametrize("name", PAIRS)
-def test_pair(name, compared):
-    before, after, status = PAIRS[name]
-    assert compared(before, after)[0] == status
+FORMAT = Format(
+    read=jxl_.read,
+    type=lambda name: "JXL",
+    blocks=READ,
+    left=LEFT,
+    kept=BOTH,
+    broken=BROKEN,
+    pairs=PAIRS,
+    whole=WHOLE,
+    is_of=lambda it, octets: it.removeprefix(b"brob") in octets,
+    short=jxl(E, box(b"free", bytes(100)), X),
+    count=300,
+    least=20,
+)

@@ -3,17 +3,15 @@
 The files are made here by Adobe's specification, so what is in them is known; ExifTool and exiv2 read the same of them.
 """
 
-import io
 import os
 
 import pytest
-from all_readers import blocks_in, blocks_of, check_broken, check_left, check_limit, stream_of
-from beside import blocks_of_exiftool, changed, hidden_by_one_byte, makers_of_exiv2
-from hypothesis import given
+from all_readers import Format, blocks_of, check_limit, stream_of
+from beside import blocks_of_exiftool, makers_of_exiv2
 from made_files import T_OTHERWISE, exif, iim, jpeg, app1, resource, title, turned
 from made_more_files import named, psd
 from pairs import DIFFERENT, SAME, UNDECIDED
-from studio import needs
+from studio import needs, put
 
 from exifnorm_pictures.extract import extraction
 from exifnorm_pictures.extract.formats import psd as psd_
@@ -81,33 +79,10 @@ BROKEN = {
 }
 
 
-@pytest.mark.parametrize("name", READ)
-def test_blocks(name):
-    octets, blocks = READ[name]
-    found = psd_.read(io.BytesIO(octets))
-    assert sorted(blocks_of(found)) == blocks
-    assert (found.not_read, found.type, found.has_more) == ([], "PSB" if "PSB" in name else "PSD", False)
-
-
-@pytest.mark.parametrize("name", LEFT)
-def test_what_is_left(name):
-    octets, parts = LEFT[name]
-    found = psd_.read(io.BytesIO(octets))
-    check_left(found, parts)
-    assert sorted(blocks_of(found)) == ALL
-    assert found.has_more == ("FotoStation" in str(parts)), "ExifTool may find blocks in a trailer that it knows"
-
-
-@pytest.mark.parametrize("name", BROKEN)
-def test_broken(name):
-    check_broken(psd_.read, *BROKEN[name])
-
-
 @needs("exiftool")
 def test_exiftools_blocks(tmp_path):
     """ExifTool takes the same blocks out of each of these files, byte for byte."""
-    for name, (octets, _) in READ.items():
-        (tmp_path / f"{name}.psd").write_bytes(octets)
+    put(tmp_path, {f"{name}.psd": octets for name, (octets, _) in READ.items()})
     found = blocks_of_exiftool(tmp_path)
     for name, (_, blocks) in READ.items():
         if name == "other signatures":
@@ -120,8 +95,7 @@ def test_exiftools_blocks(tmp_path):
 @needs("exiv2")
 def test_exiv2(tmp_path):
     names = [name for name, (_, blocks) in READ.items() if ALL[0] in blocks and "PSB" not in name and name != "Exif before the block"]
-    for name in names:
-        (tmp_path / name).write_bytes(READ[name][0])
+    put(tmp_path, {name: READ[name][0] for name in names})
     assert makers_of_exiv2(tmp_path) == {it: ["Abc"] for it in names}
 
 
@@ -159,19 +133,6 @@ def test_other_resources_are_not_read():
 WHOLE = psd(OTHER, E, I, X, resource(0x0423, B), layers=b"layers", compression=1, rows=ROWS, behind=b"more")
 
 
-@given(changed(WHOLE))
-def test_changed_files(octets):
-    """Blocks of bytes of the file, or a reason."""
-    for it in blocks_in(psd_.read, octets):
-        assert it in octets, it
-
-
-@needs("exiftool")
-def test_one_changed_byte(tmp_path):
-    hidden, number = hidden_by_one_byte(WHOLE, tmp_path, 200)
-    assert not hidden and number > 10
-
-
 PAIRS = {
     "in another order": (
         psd(E, I, X),
@@ -196,7 +157,17 @@ PAIRS = {
 }
 
 
-@pytest.mark.parametrize("name", PAIRS)
-def test_pair(name, compared):
-    before, after, status = PAIRS[name]
-    assert compared(before, after)[0] == status
+FORMAT = Format(
+    read=psd_.read,
+    type=lambda name: "PSB" if "PSB" in name else "PSD",
+    blocks=READ,
+    left=LEFT,
+    kept=ALL,
+    broken=BROKEN,
+    pairs=PAIRS,
+    whole=WHOLE,
+    is_of=lambda it, octets: it in octets,
+    short=WHOLE,
+    count=200,
+    least=10,
+)
