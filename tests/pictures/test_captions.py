@@ -11,7 +11,7 @@ import pytest
 from labelled_fields import FIELDS
 from made_blocks import ASCII, BLOCKS, LONG, UNDEFINED, block, entry, table, with_exif
 from made_files import app1, app1_xmp, app13, jpeg, mpf, resource, xmp
-from studio import SMALL_JPEG, needs, tool
+from studio import SMALL_JPEG, needs, put, tool
 
 from exifnorm_pictures.fields.labels import DATE, LABELS
 
@@ -94,8 +94,13 @@ def test_dates_as_exiftool_writes_them(captions, folder):
 def test_fields_in_another_directory_than_that_of_their_tag(captions, folder):
     """Names and texts are those of ExifTool."""
     entries = [entry(0x9003, ASCII, 20, 38), entry(0x9286, ASCII, 8, 58)]
-    (folder / "a.jpg").write_bytes(jpeg(app1(block(entries) + b"2003:05:24 22:21:01\0Kitchen\0"), base=SMALL_JPEG))
-    (folder / "b.jpg").write_bytes(SMALL_JPEG)
+    put(
+        folder,
+        {
+            "a.jpg": jpeg(app1(block(entries) + b"2003:05:24 22:21:01\0Kitchen\0"), base=SMALL_JPEG),
+            "b.jpg": SMALL_JPEG,
+        },
+    )
     tool(folder, "exiftool", "-q", "-overwrite_original", "-IFD0:Artist=Anna", "-ExifIFD:Artist=Otto", "-ExifIFD:Copyright=Museum", "b.jpg")
     tags = ["-EXIF:DateTimeOriginal", "-EXIF:UserComment", "-IFD0:Artist", "-EXIF:Copyright"]
     words = ["exiftool", "-config", "", "-j", "-G1", "-d", "%Y-%m-%d %H:%M:%S", *tags, "a.jpg", "b.jpg"]
@@ -270,7 +275,12 @@ def test_a_further_field_is_a_further_line(key, called, folder):
     record, number = map(int, key.split(":"))
     before = data_set(25, b"one") + data_set(25, b"two")
     further = bytes((0x1C, record, number, 0, 3)) + b"new"
-    (folder / "a.jpg").write_bytes(jpeg(with_record(before)))
-    (folder / "b.jpg").write_bytes(jpeg(with_record(before + further)))
+    put(
+        folder,
+        {
+            "a.jpg": jpeg(with_record(before)),
+            "b.jpg": jpeg(with_record(before + further)),
+        },
+    )
     one, other = (called("show", name)[1].splitlines() for name in ("a.jpg", "b.jpg"))
     assert len(other) == len(one) + 1 and [line for line in other if line in one] == one

@@ -12,7 +12,7 @@ from unittest import mock
 import exifnorm
 from in_process import InFolder
 from made_blocks import BLOCKS, LONG, MAKE, MODEL, block, with_exif
-from studio import SMALL_JPEG, Studio, WithPictures, needs, read, run, tool, write
+from studio import SMALL_JPEG, Studio, WithPictures, needs, put, read, run, tool, write
 
 from exifnorm_pictures.model.problems import TEXTS
 from exifnorm_pictures.scan import index
@@ -26,8 +26,13 @@ class Archive(InFolder):
         super().setUp()
         os.mkdir(self.path("p"))
         os.mkdir(self.path("p", "sub"))
-        for name, octets in (("a.jpg", ONE), ("b.jpg", OTHER), ("sub/c.jpg", THIRD), ("sub/plain.jpg", SMALL_JPEG)):
-            write(self.path("p", name), octets)
+        put(
+            self.folder,
+            {
+                f"p/{name}": octets
+                for name, octets in (("a.jpg", ONE), ("b.jpg", OTHER), ("sub/c.jpg", THIRD), ("sub/plain.jpg", SMALL_JPEG))
+            },
+        )
         self.asked("index", "p", "--catalogue", "c", "--quiet")
         self.before = self.rows()
 
@@ -79,9 +84,13 @@ class Archive(InFolder):
 
     @needs("exiftool")
     def test_versions_of_programs_that_read_pictures_in_several_processes(self):
-        for number in range(70):
-            write(self.path("p", f"{number}.jpg"), ONE)
-        write(self.path("p", "d.exv"), EXV)
+        put(
+            self.folder,
+            {
+                **{f"p/{number}.jpg": ONE for number in range(70)},
+                "p/d.exv": EXV,
+            },
+        )
         run(["exifnorm-pictures", "index", "p", "--catalogue", "many", "--jobs", "2", "--quiet"], self.folder)
         base = sqlite3.connect(self.path("many"))
         found = list(base.execute("SELECT exiftool, exiv2 FROM runs"))
@@ -233,8 +242,7 @@ class Archive(InFolder):
     def test_again_and_jobs(self):
         named, counts = self.run_again("--again", "--jobs", "1")
         self.assertEqual((list(named), counts), (["a.jpg", "b.jpg", "sub/c.jpg", "sub/plain.jpg"], {"accepted": 3, "no block": 1}))
-        for number in range(200):
-            write(self.path("p", f"m{number}.jpg"), ONE)
+        put(self.folder, {f"p/m{number}.jpg": ONE for number in range(200)})
         one = self.run_again("--jobs", "1")
         self.asked("index", "p", "--catalogue", "d", "--quiet", "--jobs", "3")
         self.assertEqual(one[1], {"unchanged": 4, "accepted": 200})
@@ -242,8 +250,7 @@ class Archive(InFolder):
 
     def test_several_processes_find_what_one_finds(self):
         """Pictures that are new, the same, moved, refused, no longer readable and never readable: the same lines and the same rows."""
-        for number in range(200):
-            write(self.path("p", f"m{number}.jpg"), with_exif(SMALL_JPEG, block([MAKE[:-4] + b"%03d\0" % number])))
+        put(self.folder, {f"p/m{number}.jpg": with_exif(SMALL_JPEG, block([MAKE[:-4] + b"%03d\0" % number])) for number in range(200)})
         self.asked("index", "p", "--catalogue", "c", "--quiet")
         for name in ("m7.jpg", "m9.jpg", "m150.jpg"):
             os.rename(self.path("p", name), self.path("p", "sub", name))
@@ -251,8 +258,13 @@ class Archive(InFolder):
             if os.path.exists(self.path("p", name)):
                 os.remove(self.path("p", name))
             os.mkfifo(self.path("p", name))
-        write(self.path("p", "refused.jpg"), with_exif(SMALL_JPEG, BLOCKS["Overlap"]))
-        write(self.path("p", "trailer.jpg"), ONE + b"a trailer")
+        put(
+            self.folder,
+            {
+                "p/refused.jpg": with_exif(SMALL_JPEG, BLOCKS["Overlap"]),
+                "p/trailer.jpg": ONE + b"a trailer",
+            },
+        )
         shutil.copy(self.path("c"), self.path("d"))
         self.rows_by_path("c")
         one, several = (
@@ -306,9 +318,7 @@ class Processes(WithPictures):
 
     def setUp(self):
         super().setUp()
-        os.mkdir(self.path("p"))
-        for number in range(100):
-            write(self.path("p", f"{number:02}.jpg"), ONE)
+        put(self.folder, {f"p/{number:02}.jpg": ONE for number in range(100)})
 
     def indexed(self, before):
         """The states of a run with this text before it, and what it leaves in its folder for temporary files."""
@@ -397,8 +407,7 @@ class Rights(WithPictures):
     def test_unreadable_files_and_folders(self):
         for folder in ("closed", "closed too"):
             os.makedirs(self.path("p", folder))
-        for name in ("a.jpg", "b.jpg", "closed/c.jpg", "closed too/d.jpg"):
-            write(self.path("p", name), ONE)
+        put(self.folder, {f"p/{name}": ONE for name in ("a.jpg", "b.jpg", "closed/c.jpg", "closed too/d.jpg")})
         first = self.as_nobody("index", "p", "--catalogue", "c", "--quiet")
         self.assertEqual((first.returncode, first.stdout), (0, b"4 accepted\n"), first)
         os.remove(self.path("p", "closed too", "d.jpg"))
@@ -430,8 +439,7 @@ class Rights(WithPictures):
         """Its pictures aren't missing: the message names it, and nothing is compared."""
         for side in ("before", "after"):
             os.makedirs(self.path(side, "closed"))
-            for name in ("a.jpg", "closed/c.jpg"):
-                write(self.path(side, name), ONE)
+            put(self.folder, {f"{side}/{name}": ONE for name in ("a.jpg", "closed/c.jpg")})
         self.asked("index", "after", "--catalogue", "c", "--quiet", "--pixels")
         for words, line in (
             (("changed", "before", "after"), b"2 pictures compared: none changed."),
@@ -491,8 +499,7 @@ class Kinds(InFolder):
     def test_what_is_no_file_is_not_compared(self):
         """A pipe, and a link that leads to no file, on one side or on both."""
         for side in ("before", "after"):
-            os.mkdir(self.path(side))
-            write(self.path(side, "a.jpg"), ONE)
+            put(self.folder, {f"{side}/a.jpg": ONE})
             os.mkfifo(self.path(side, "c.jpg"))
         os.mkfifo(self.path("before", "b.jpg"))
         os.symlink("nothing", self.path("after", "d.jpg"))

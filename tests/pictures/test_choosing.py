@@ -10,7 +10,7 @@ import subprocess
 import pytest
 from made_blocks import BLOCKS, LONG, MAKE, block, entry, table
 from made_files import app1, app1_xmp, exif, iim, jpeg, with_record, xmp
-from studio import SMALL_JPEG, errors, needs, tool
+from studio import SMALL_JPEG, errors, needs, put, tool
 
 from exifnorm_pictures.comparison.block_pairs import Weight, weights_of
 from exifnorm_pictures.fields.choosing import SAVES, Choice, kinds_of
@@ -52,8 +52,7 @@ WORDS += ["-XMP-xmp:MetadataDate=2020:01:01 10:00:00", "-XMP-crs:Version=1", "-X
 
 def by_exiftool(folder):
     """A picture with fields of all kinds."""
-    (folder / "b.jpg").write_bytes(SMALL_JPEG)
-    (folder / "small.jpg").write_bytes(SMALL_JPEG)
+    put(folder, {"b.jpg": SMALL_JPEG, "small.jpg": SMALL_JPEG})
     tool(folder, "exiftool", "-q", "-overwrite_original", *WORDS, "b.jpg")
     return (folder / "b.jpg").read_bytes()
 
@@ -321,8 +320,7 @@ def test_equal_numbers(compared, run, folder):
     assert compared("--equal-numbers", b=other)[:2] == (1, "different")
     assert compared("--equal-numbers", "--ignore", "ExposureTime", b=other)[:2] == (0, BUT)
     for side, octets in (("before", one), ("after", two)):
-        (folder / side).mkdir()
-        (folder / side / "p.jpg").write_bytes(octets)
+        put(folder, {f"{side}/p.jpg": octets})
     status, lines, _ = run("changed", "before", "after")
     assert status == 1 and "1 only equal numbers are written otherwise: p.jpg" in lines
     status, lines, _ = run("changed", "before", "after", "--equal-numbers")
@@ -348,9 +346,7 @@ def test_maker_notes(compared):
 
 def test_changed_has_what_was_left_out(run, folder):
     for side, make in (("before", b"abc"), ("after", b"xyz")):
-        (folder / side).mkdir()
-        for name in ("a", "b"):
-            (folder / side / name).write_bytes(jpeg(app1(exif(make))))
+        put(folder, {f"{side}/{name}": jpeg(app1(exif(make))) for name in ("a", "b")})
     for words, lines in (([], 7), (["--each"], 5)):
         status, found, err = run("changed", "before", "after", "--ignore", "Make", "--ignore", "GPS", *words)
         assert (status, errors(err)) == (0, []) and "No picture has a field GPS." in found
@@ -402,9 +398,7 @@ CHOICES = [
 @pytest.mark.parametrize("words", CHOICES, ids=" ".join)
 def test_groups_are_those_of_compare(words, run, folder):
     """Two pictures are in a group exactly if `compare` has no difference for them by the fields that count."""
-    (folder / "p").mkdir()
-    for number, octets in enumerate(made_pictures()):
-        (folder / "p" / f"{number:02}.jpg").write_bytes(octets)
+    put(folder, {f"p/{number:02}.jpg": octets for number, octets in enumerate(made_pictures())})
     names = sorted(os.listdir(folder / "p"))
     run("index", "p", "--catalogue", "c", "--quiet", "--jobs", "1")
     *found, _ = (json.loads(it) for it in run("same", "--catalogue", "c", "--json", *words)[1])
@@ -424,10 +418,13 @@ def test_groups_are_those_of_compare(words, run, folder):
 
 
 def test_a_group_by_fields_is_never_proved_and_keeps_nothing(run, folder):
-    (folder / "p").mkdir()
-    for name, octets in {"a": b"abc", "b": b"xyz"}.items():
-        (folder / "p" / name).write_bytes(jpeg(app1(exif(octets)), with_record(iim(b"Vase"))))
-    (folder / "p" / "c").write_bytes(jpeg(app1(exif(b"abc")), with_record(iim(b"Vase"))))
+    put(
+        folder,
+        {
+            **{f"p/{name}": jpeg(app1(exif(octets)), with_record(iim(b"Vase"))) for name, octets in {"a": b"abc", "b": b"xyz"}.items()},
+            "p/c": jpeg(app1(exif(b"abc")), with_record(iim(b"Vase"))),
+        },
+    )
     run("index", "p", "--catalogue", "c", "--quiet")
     group, last = (json.loads(it) for it in run("same", "--catalogue", "c", "--json", "--ignore", "Make")[1])
     assert (group["basis"], group["digests"], group["wholly_read"]) == ("fields", {}, False)
@@ -445,8 +442,13 @@ def test_least_fields(run, folder):
     """Pictures that share a copyright notice alone, and pictures that share more. The number is that of the listing."""
     (folder / "p").mkdir()
     few, many = exif(b"abc"), block([MAKE, entry(0x0112, 3, 1, 1 << 16), entry(0x013B, 2, 4, b"Ada\0")])
-    for name, octets in {"a": few, "b": few, "c": many, "d": many, "e": BLOCKS["HeaderCut"], "f": BLOCKS["HeaderCut"]}.items():
-        (folder / "p" / name).write_bytes(jpeg(app1(octets)))
+    put(
+        folder,
+        {
+            f"p/{name}": jpeg(app1(octets))
+            for name, octets in {"a": few, "b": few, "c": many, "d": many, "e": BLOCKS["HeaderCut"], "f": BLOCKS["HeaderCut"]}.items()
+        },
+    )
     run("index", "p", "--catalogue", "c", "--quiet")
 
     def groups(*words):
@@ -465,9 +467,7 @@ def test_least_fields(run, folder):
 
 
 def test_a_report_without_some_fields(run, folder):
-    (folder / "p").mkdir()
-    for name, octets in {"a": b"abc", "b": b"xyz"}.items():
-        (folder / "p" / name).write_bytes(jpeg(app1(exif(octets)), with_record(iim(b"Vase"))))
+    put(folder, {f"p/{name}": jpeg(app1(exif(octets)), with_record(iim(b"Vase"))) for name, octets in {"a": b"abc", "b": b"xyz"}.items()})
     run("index", "p", "--catalogue", "old", "--quiet")
     (folder / "p" / "a").write_bytes(jpeg(app1(exif(b"new")), with_record(iim(b"Vase"))))
     run("index", "p", "--catalogue", "c", "--quiet")
@@ -484,9 +484,7 @@ def test_a_report_without_some_fields(run, folder):
 
 def test_pictures_that_differ_in_what_no_field_shows_are_no_group(called, folder):
     """Two digests, and one listing: what differs isn't known, so nothing can be left out."""
-    (folder / "p").mkdir()
-    for name in ("a", "b"):
-        (folder / "p" / name).write_bytes(jpeg(app1(exif(b"abc"))))
+    put(folder, {f"p/{name}": jpeg(app1(exif(b"abc"))) for name in ("a", "b")})
     called("index", "p", "--catalogue", "c", "--quiet")
     assert called("same", "--catalogue", "c", "--ignore", "Artist")[1].splitlines()[-2] == "1 group of 2 pictures"
     base = sqlite3.connect(folder / "c")

@@ -12,7 +12,7 @@ import pytest
 from growing import FORMATS, IN_EACH_FORMAT, OTHERS
 from made_blocks import segment, with_exif
 from made_files import app1, exif, jpeg
-from studio import SMALL_JPEG
+from studio import SMALL_JPEG, put
 from test_maker_notes import noted
 from test_repairs import REFUSED
 
@@ -97,9 +97,13 @@ def try_each(called, folder, ended):
 
     def call(file, octets, commands):
         for side in ("P", "Q"):
-            (folder / side).mkdir()
-            (folder / side / file).write_bytes(jpeg(app1(exif(b"abc"))))
-            (folder / side / "b.jpg").write_bytes(jpeg(app1(exif(b"Abc"))))
+            put(
+                folder,
+                {
+                    f"{side}/{file}": jpeg(app1(exif(b"abc"))),
+                    f"{side}/b.jpg": jpeg(app1(exif(b"Abc"))),
+                },
+            )
         (folder / "rules").write_text("every picture needs title\n")
         assert called("index", "P", "--catalogue", "kept", "--quiet", "--pixels")[0] == 0
         (folder / "P" / file).write_bytes(octets)
@@ -255,8 +259,7 @@ def test_an_exiftool_without_end(end, called, folder, monkeypatch):
 def test_an_exiv2_without_end(called, folder, monkeypatch):
     """It costs the raw file the limit, and is asked about the next one."""
     programs_of(folder, monkeypatch, "pass", exiv2=FAKE_EXIV2)
-    for name, more in (("a", MARK), ("b", b"")):
-        (folder / f"{name}.nrw").write_bytes(b"II*\0\x08\0\0\0\0\0\0\0\0\0" + more)
+    put(folder, {f"{name}.nrw": b"II*\0\x08\0\0\0\0\0\0\0\0\0" + more for name, more in (("a", MARK), ("b", b""))})
     assert called("index", "a.nrw", "b.nrw", "--catalogue", "c", "--quiet", "--jobs", "1", "--limit", "4")[0] == 2
     with sqlite3.connect("c") as base:
         (first, detail), (second, _) = base.execute("SELECT problem, detail FROM pictures ORDER BY path")
@@ -310,8 +313,10 @@ STAGES = ("shown", "free", "written", "rebuilt", "exiv2")
 def test_mend_without_end(stage, called, folder, monkeypatch):
     """At whichever step a program doesn't end: the picture isn't mended, nothing is written of it, and the next one is mended."""
     programs_of(folder, monkeypatch, WITHOUT_END["silent"] if stage != "exiv2" else "pass", stage, FAKE_EXIV2 if stage == "exiv2" else "")
-    for name, block in (("a", b"II*\0\xff\xff\0\0" + MARK), ("b", REFUSED["unsorted"])):
-        (folder / f"{name}.jpg").write_bytes(with_exif(SMALL_JPEG, block))
+    put(
+        folder,
+        {f"{name}.jpg": with_exif(SMALL_JPEG, block) for name, block in (("a", b"II*\0\xff\xff\0\0" + MARK), ("b", REFUSED["unsorted"]))},
+    )
     (folder / "list").write_text("a.jpg\nb.jpg\n")
     (folder / "out").mkdir()
     calls, run = [], programs.run

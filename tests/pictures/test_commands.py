@@ -7,7 +7,7 @@ import sqlite3
 
 from in_process import InFolder
 from made_blocks import BLOCKS
-from studio import WithPictures, collection, needs, read, refused, run, tool, write
+from studio import WithPictures, collection, needs, put, read, refused, run, tool, write
 
 
 @needs("exiftool")
@@ -45,8 +45,13 @@ class Explain(InFolder):
     def test_damaged_blocks_never_fail(self):
         good = BLOCKS["Overlap"]
         for at in range(0, len(good), 3):
-            write(self.path(f"{at:03}"), good[:at] + bytes([255 - good[at]]) + good[at + 1 :])
-            write(self.path(f"{at:03}-cut"), good[:at])
+            put(
+                self.folder,
+                {
+                    f"{at:03}": good[:at] + bytes([255 - good[at]]) + good[at + 1 :],
+                    f"{at:03}-cut": good[:at],
+                },
+            )
         done = self.called(["explain", "--block", *sorted(os.listdir(self.folder))], self.folder)
         self.assertEqual((done.returncode, done.stderr), (2, b""))
 

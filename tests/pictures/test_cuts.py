@@ -35,7 +35,7 @@ from made_files import (
 )
 from made_more_files import application, gif, gif_xmp, psd
 from made_raw import LENGTH, STRIP, SUB_IFDS, inner
-from studio import needs
+from studio import needs, put
 from test_bigtiff import big
 
 from exifnorm_pictures.model.results import Result
@@ -252,8 +252,7 @@ def test_list(asked, checks):
 
 def test_same(asked, folder, called):
     """Two files that are cut alike are the same as far as they go: what may be behind the cut isn't 'none', and others may have it."""
-    for name in ("a.jpg", "b.jpg"):
-        (folder / name).write_bytes(FILES["a.jpg"][0][: len(app1(A)) + 20])
+    put(folder, {name: FILES["a.jpg"][0][: len(app1(A)) + 20] for name in ("a.jpg", "b.jpg")})
     called("index", str(folder), "--catalogue", "cut.catalogue", "--quiet")
     status, text, _ = called("same", "--catalogue", "cut.catalogue")
     assert status == 2 and "Exif is the same" in text and "IPTC and XMP are not known" in text and "no IPTC" not in text
@@ -295,8 +294,7 @@ SOME = {name: LAST[name] for name in ("a.jpg", "a.mpo", "a.png", "a.psd", "a.cr3
 @needs("exiftool", "exiv2")
 def test_commands_about_a_file(folder, called, checks):
     """Files without their last byte: each command that is about files says what is wrong with each of them."""
-    for name, octets in SOME.items():
-        (folder / name).write_bytes(octets)
+    put(folder, SOME)
     for command in ("explain", "show", "captions", "conflicts"):
         status, printed, _ = called(command, *SOME)
         texts = printed.split("\n== ") if command != "conflicts" else printed.splitlines()
@@ -320,12 +318,9 @@ def test_commands_about_a_file(folder, called, checks):
 @needs("exiftool", "exiv2")
 def test_nights(folder, called):
     """A file that loses its last byte is damaged in the morning, and so it is by `verify`."""
-    (folder / "p").mkdir()
-    for name in LAST:
-        (folder / "p" / name).write_bytes(FILES[name][0])
+    put(folder, {f"p/{name}": FILES[name][0] for name in LAST})
     called("nightly", "p", "--catalogue", "c", "--pixels")
-    for name, octets in LAST.items():
-        (folder / "p" / name).write_bytes(octets)
+    put(folder, {f"p/{name}": octets for name, octets in LAST.items()})
     status, printed, _ = called("verify", "p", "--catalogue", "c", "--json")
     states = {it["path"].rpartition("/")[2]: it["state"] for it in map(json.loads, printed.splitlines()) if "path" in it}
     assert status == 1 and states == dict.fromkeys(LAST, "cut off")

@@ -15,7 +15,7 @@ from exifnorm_pictures.cli import parser, statuses
 from exifnorm_pictures.refusals import causes
 from made_blocks import BLOCKS
 from made_files import app1, exif, jpeg, turned
-from studio import SMALL_JPEG, TOP, Studio, WithPictures, needs, read, run, tool, write
+from studio import SMALL_JPEG, Studio, TOP, WithPictures, needs, put, read, run, tool, write
 
 
 class Documents(WithPictures):
@@ -81,8 +81,7 @@ class Documents(WithPictures):
     def test_the_examples_of_exifnorm(self):
         """Those of exifnorm.1, in a folder with their files."""
         one = exif(b"Abc")
-        for name, octets in (("picture.jpg", jpeg(app1(one))), ("before", one), ("after", turned(one))):
-            write(self.path(name), octets)
+        put(self.folder, {name: octets for name, octets in (("picture.jpg", jpeg(app1(one))), ("before", one), ("after", turned(one)))})
         text = (
             read(os.path.join(TOP, "docs", "exifnorm.1")).decode().partition(".SH EXAMPLES\n")[2].partition(".SH ")[0].replace("\\-", "-")
         )

@@ -149,12 +149,15 @@ def test_coded_pictures(exported, folder):
 
 
 def test_each_table_has_what_the_other_commands_print(exported, run, folder):
-    (folder / "p").mkdir()
-    for name, octets in TWINS.items():
-        (folder / "p" / f"{name}.jpg").write_bytes(octets)
-    (folder / "p" / "contradicts.jpg").write_bytes(jpeg(with_texts(artist=b"Anna"), with_record(data_set(80, b"Otto"))))
-    (folder / "p" / "bare.jpg").write_bytes(jpeg())
-    (folder / "p" / "notes.txt").write_bytes(b"no picture")
+    put(
+        folder,
+        {
+            **{f"p/{name}.jpg": octets for name, octets in TWINS.items()},
+            "p/contradicts.jpg": jpeg(with_texts(artist=b"Anna"), with_record(data_set(80, b"Otto"))),
+            "p/bare.jpg": jpeg(),
+            "p/notes.txt": b"no picture",
+        },
+    )
     base = exported("p")
     groups = [json.loads(it) for it in run("same", "--catalogue", "c", "--json", status=2).splitlines()][:-1]
     keep = {None: None, False: 0, True: 1}

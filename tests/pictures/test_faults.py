@@ -11,7 +11,7 @@ import sys
 from in_process import InFolder
 from made_blocks import BLOCKS, MAKE, block, with_exif
 from made_files import app1_xmp
-from studio import SMALL_JPEG, Studio, WithPictures, errors, needs, read, run, write
+from studio import SMALL_JPEG, Studio, WithPictures, errors, needs, put, read, run, write
 
 from exifnorm_pictures.catalogue.store import VERSION
 
@@ -64,9 +64,7 @@ class Tools(WithPictures):
         return {"PATH": self.path("bin") + os.pathsep + Studio.environment()["PATH"]}
 
     def pictures(self):
-        os.mkdir(self.path("p"))
-        for name in ("a.exv", "bad.exv", "c.exv"):
-            write(self.path("p", name), EXV)
+        put(self.folder, {f"p/{name}": EXV for name in ("a.exv", "bad.exv", "c.exv")})
 
     def test_each_wrong_result_costs_one_file(self):
         self.pictures()
@@ -96,8 +94,7 @@ class Tools(WithPictures):
     @needs("exiftool")
     def test_each_wrong_result_of_exiv2_costs_one_file(self):
         """It ends, is killed, or writes a file or a folder without a block: each raw picture gives a line."""
-        for name in ("a.nrw", "bad.nrw"):
-            write(self.path(name), b"II*\0\x08\0\0\0\0\0\0\0\0\0")
+        put(self.folder, {name: b"II*\0\x08\0\0\0\0\0\0\0\0\0" for name in ("a.nrw", "bad.nrw")})
         for fault in ("exit 3", "kill -9 $$", 'echo garbage > "$4/picture.exv"', 'mkdir "$4/picture.exv"', "true"):
             with self.subTest(fault):
                 text = f'#!/bin/sh\n[ "$1" = --version ] && echo exiv2 0.27.6 && exit\n{fault}\n'
@@ -165,18 +162,14 @@ class Tools(WithPictures):
         self.assertEqual(len(os.listdir(own)), 1)
         self.asked("index", "p", "--catalogue", "d", "--quiet", TMPDIR=own, **self.fake("exiftool", FAKE % ":"))
         self.assertEqual(os.listdir(own), [], "what a killed run left is removed by the next one")
-        os.mkdir(self.path("many"))
-        for number in range(70):
-            write(self.path("many", f"{number}.exv"), EXV)
+        put(self.folder, {f"many/{number}.exv": EXV for number in range(70)})
         self.asked("index", "many", "--catalogue", "e", "--quiet", "--jobs", "2", TMPDIR=own, **self.fake("exiftool", FAKE % ":"))
         self.assertEqual(os.listdir(own), [], "each process works in the folder of its run")
 
     def test_a_signal_while_a_process_is_started(self):
         """What a handler raises in a function that Python calls around a fork is lost, as here, where each fork brings a signal."""
         self.pictures()
-        os.mkdir(self.path("many"))
-        for number in range(70):
-            write(self.path("many", f"{number}.jpg"), SMALL_JPEG)
+        put(self.folder, {f"many/{number}.jpg": SMALL_JPEG for number in range(70)})
         sleeping = self.fake("exiftool", '#!/bin/sh\n[ "$3" = -ver ] && echo 12.57 && exit\nexec sleep 1000\n')
         call = (
             "import os, sys; from exifnorm_pictures.cli.main import main\n"
@@ -206,9 +199,7 @@ class Tools(WithPictures):
     def test_processes_that_the_system_refuses(self):
         """The message names what couldn't be started. Standard output has nothing to do with it. Without further processes one does all."""
         self.pictures()
-        os.mkdir(self.path("many"))
-        for number in range(70):
-            write(self.path("many", f"{number}.jpg"), SMALL_JPEG)
+        put(self.folder, {f"many/{number}.jpg": SMALL_JPEG for number in range(70)})
         call = (
             "import errno, os, subprocess, sys; from exifnorm_pictures.cli.main import main\n"
             "def refused(*_, **__): raise BlockingIOError(errno.EAGAIN, os.strerror(errno.EAGAIN))\n"
@@ -231,9 +222,7 @@ class Tools(WithPictures):
 
     def test_a_library_that_is_missing(self):
         """It's one error and no line for each picture, whose earlier results stay."""
-        os.mkdir(self.path("many"))
-        for number in range(70):
-            write(self.path("many", f"{number}.jpg"), GOOD)
+        put(self.folder, {f"many/{number}.jpg": GOOD for number in range(70)})
         self.asked("index", "many", "--catalogue", "c", "--quiet")
         for words in (
             ["index", "many", "--catalogue", "c", "--again", "--jobs", "1"],
@@ -273,8 +262,7 @@ class Catalogues(InFolder):
 
     def setUp(self):
         super().setUp()
-        os.mkdir(self.path("p"))
-        write(self.path("p", "a.jpg"), GOOD)
+        put(self.folder, {"p/a.jpg": GOOD})
 
     def refused(self, name, words):
         before = read(self.path(name))
@@ -420,9 +408,13 @@ class Outputs(WithPictures):
 
     def setUp(self):
         super().setUp()
-        os.mkdir(self.path("p"))
-        write(self.path("p", "a.jpg"), GOOD)
-        write(self.path("p", "refused.jpg"), with_exif(SMALL_JPEG, BLOCKS["Overlap"]))
+        put(
+            self.folder,
+            {
+                "p/a.jpg": GOOD,
+                "p/refused.jpg": with_exif(SMALL_JPEG, BLOCKS["Overlap"]),
+            },
+        )
         self.asked("index", "p", "--catalogue", "c", "--quiet")
         self.asked("index", "p", "--catalogue", "d", "--quiet")
 
@@ -481,8 +473,7 @@ class Outputs(WithPictures):
         """Several processes write rows there; what they wrote is removed again."""
         own = self.path("own")
         os.mkdir(own)
-        for number in range(100):
-            write(self.path("p", f"{number}.jpg"), GOOD)
+        put(self.folder, {f"p/{number}.jpg": GOOD for number in range(100)})
         done = self.full("index", "p", "--catalogue", "c", "--again", "--quiet", "--jobs", "2", TMPDIR=own, blocks=20)
         self.assertEqual((done.returncode, done.stdout), (4, b""), done)
         self.assertRegex(done.stderr.decode(), r"^exifnorm-pictures: [^\n]+\n$")
@@ -568,9 +559,7 @@ class Arguments(WithPictures):
 
     def test_a_list_of_absolute_names(self):
         for side, artist in (("one", b"Abc\0"), ("two", b"Xyz\0")):
-            os.mkdir(self.path(side))
-            for name in ("a.jpg", "b.jpg"):
-                write(self.path(side, name), with_exif(SMALL_JPEG, block([MAKE[:-4] + artist])))
+            put(self.folder, {f"{side}/{name}": with_exif(SMALL_JPEG, block([MAKE[:-4] + artist])) for name in ("a.jpg", "b.jpg")})
             self.asked("index", side, "--catalogue", side + ".c", "--quiet")
         for listed in (os.fsencode(self.path("two", "a.jpg")), os.fsencode(self.path("one", "a.jpg")), b"a.jpg", b"./a.jpg"):
             lines = self.asked("changed", "one.c", "two.c", "--each", "--files-from", "-", given=listed, status=1)

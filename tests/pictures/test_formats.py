@@ -18,7 +18,7 @@ from made_blocks import ASCII, LONG, segment
 from made_files import A, B, K, L, T, Placed, xmp
 from made_files import app1, app13, app1_xmp, chunk, extension, jpeg, mpf, packed_zeros, page, png, png_xmp, profile, resource, tiff, webp
 from made_raw import arw, camera_profile, dng, rw2, sony, whole_raf
-from studio import SMALL_JPEG, WithPictures, interpreter_with, needs, read, run, tool, write
+from studio import SMALL_JPEG, WithPictures, interpreter_with, needs, put, read, run, tool, write
 
 from exifnorm_pictures.extract.formats import jpeg_tail
 from exifnorm_pictures.model import budgets
@@ -524,8 +524,13 @@ class Opened(WithPictures):
 
     def test_each_file_is_closed(self):
         """Pictures, what is broken, what is no picture, and what is no file."""
-        for name, octets in (("a.jpg", jpeg(app1(A))), ("b.png", png()), ("c.jpg", jpeg(app1(A))[:30]), ("d.txt", b"no picture")):
-            write(self.path(name), octets)
+        put(
+            self.folder,
+            {
+                name: octets
+                for name, octets in (("a.jpg", jpeg(app1(A))), ("b.png", png()), ("c.jpg", jpeg(app1(A))[:30]), ("d.txt", b"no picture"))
+            },
+        )
         os.mkfifo(self.path("pipe"))
         text = (
             "extraction.by_others = lambda *_: extraction.Blocks()\n"

@@ -13,7 +13,7 @@ import pytest
 from exifnorm_pictures.cli import main
 from made_blocks import ASCII, BLOCKS, LONG, MAKE, UNDEFINED, block, entry, table
 from made_files import app1, app1_xmp, exif, jpeg, title, turned
-from studio import needs
+from studio import needs, put
 
 A, B = exif(b"abc"), exif(b"xyz")
 UNSORTED = block([entry(0x0110, ASCII, 4, int.from_bytes(b"mod\0", "big")), MAKE])
@@ -182,9 +182,7 @@ def change_file(number, name, afterwards):
 )
 def test_what_a_group_rests_on(asked, folder, one, other, basis, status):
     """The status is 2 also where nobody knows whether the pictures are the same."""
-    (folder / "p").mkdir()
-    for name, octets in zip("12", map({**FILES, **OPEN}.__getitem__, (one, other))):
-        (folder / f"p/{name}.jpg").write_bytes(octets)
+    put(folder, {f"p/{name}.jpg": octets for name, octets in zip("12", map({**FILES, **OPEN}.__getitem__, (one, other)))})
     indexed(asked, "p")
     *found, _ = asked("same", "--catalogue", "c", status=status)
     assert [it["basis"] for it in found] == ([basis] if basis else [])
@@ -192,9 +190,10 @@ def test_what_a_group_rests_on(asked, folder, one, other, basis, status):
 
 
 def test_a_picture_that_was_not_read_may_be_the_same(asked, called, folder):
-    (folder / "p").mkdir()
-    for name, octets in {"a.jpg": FILES["a1"], "b.dng": b"II*\0\xff\xff\xff\xff", "c.txt": b"text"}.items():
-        (folder / "p" / name).write_bytes(octets)
+    put(
+        folder,
+        {f"p/{name}": octets for name, octets in {"a.jpg": FILES["a1"], "b.dng": b"II*\0\xff\xff\xff\xff", "c.txt": b"text"}.items()},
+    )
     called("index", "p", "--catalogue", "c", "--quiet", "--pixels")
     for words in ([], ["--kind", "iptc"], ["--kind", "pixels"]):
         assert asked("same", "--catalogue", "c", *words, status=2)[-1]["undecided"] == 1, words
@@ -206,8 +205,7 @@ def test_a_picture_that_was_not_read_may_be_the_same(asked, called, folder):
 def test_a_later_group_has_one_of_each_earlier_one(asked, folder):
     (folder / "p").mkdir()
     for name in ("c1", "c2", "c3"):
-        for number in "12":
-            (folder / f"p/{name}-{number}.jpg").write_bytes(FILES[name])
+        put(folder, {f"p/{name}-{number}.jpg": FILES[name] for number in "12"})
     indexed(asked, "p")
     *found, _ = asked("same", "--catalogue", "c", status=2)
     (repair,) = [it for it in found if it["basis"] == "repair"]
@@ -234,9 +232,7 @@ def test_names_of_one_file_are_links(asked, folder):
 
 def test_beside_a_table_the_status_2_has_a_reason(called, folder):
     """A refused block may have what is asked for."""
-    (folder / "p").mkdir()
-    for name, octets in {"a": jpeg(app1(exif(b"abc"))), "b": jpeg(app1(BLOCKS["Doubled"]))}.items():
-        (folder / f"p/{name}.jpg").write_bytes(octets)
+    put(folder, {f"p/{name}.jpg": octets for name, octets in {"a": jpeg(app1(exif(b"abc"))), "b": jpeg(app1(BLOCKS["Doubled"]))}.items()})
     called("index", "p", "--catalogue", "c", "--quiet")
     status, printed, _ = called("same", "c", "--only", "creator")
     assert status == 2
@@ -247,9 +243,7 @@ def test_beside_a_table_the_status_2_has_a_reason(called, folder):
 @pytest.mark.parametrize("kind", [[], ["--kind", "pixels"]], ids=["all", "pixels"])
 def test_groups_of_which_all_files_are_gone(called, folder, kind):
     """As where a disk isn't mounted: no group may seem to be none at all."""
-    (folder / "p").mkdir()
-    for name in "abc":
-        (folder / f"p/{name}.jpg").write_bytes(jpeg(app1(exif(b"abc" if name < "c" else b"c"))))
+    put(folder, {f"p/{name}.jpg": jpeg(app1(exif(b"abc" if name < "c" else b"c"))) for name in "abc"})
     assert called("index", "p", "--catalogue", "c", "--quiet", "--pixels")[0] == 0
     assert json.loads(called("same", "--catalogue", "c", "--json", *kind)[1].splitlines()[-1])["absent_groups"] == 0
     (folder / "p").rename(folder / "q")
@@ -262,9 +256,7 @@ def test_groups_of_which_all_files_are_gone(called, folder, kind):
 
 
 def test_files_that_are_gone_or_have_changed(asked, folder):
-    (folder / "p").mkdir()
-    for name in "abcd":
-        (folder / f"p/{name}.jpg").write_bytes(FILES["a1"])
+    put(folder, {f"p/{name}.jpg": FILES["a1"] for name in "abcd"})
     indexed(asked, "p")
     (folder / "p/a.jpg").unlink()
     (folder / "p/b.jpg").write_bytes(FILES["b1"] + b"longer")
@@ -320,8 +312,7 @@ def with_note(owner, moved=0, wrong=False):
 def test_maker_notes(asked, folder, other, result, status, groups):
     one = with_note(b"Annette")
     for side, octets in (("before", one), ("after", other)):
-        (folder / side).mkdir()
-        (folder / side / "a.jpg").write_bytes(octets)
+        put(folder, {f"{side}/a.jpg": octets})
     (found, *_) = asked("changed", "before", "after", "--all", status=status)
     assert found["result"] == result or (status == 1 and found["result"] in ("different", "only MakerNote differs"))
     values = [(it["before"], it["after"]) for it in (found["maker_note"] or {"values": []})["values"]]
@@ -334,8 +325,7 @@ def test_maker_notes(asked, folder, other, result, status, groups):
 def test_a_maker_note_that_only_moved(asked, folder):
     """ExifTool reads the same; without it nothing is known, and so nothing is the same."""
     for number, moved in enumerate((0, 64, 64)):
-        (folder / f"p{number}").mkdir()
-        (folder / f"p{number}/a.jpg").write_bytes(with_short_note(moved))
+        put(folder, {f"p{number}/a.jpg": with_short_note(moved)})
     (found, _) = asked("changed", "p0", "p1", "--all", status=2)
     assert found["result"] == "the same but for a MakerNote that moved"
     (found, _) = asked("changed", "p0", "p1", "--all", "--no-exiftool", status=2)
@@ -348,8 +338,7 @@ def test_a_maker_note_that_only_moved(asked, folder):
 @needs("exiftool")
 def test_what_exiftool_reads_is_kept(asked, folder):
     """With --maker-notes a comparison needs no earlier file; without, it says that it isn't known."""
-    (folder / "p").mkdir()
-    (folder / "p/a.jpg").write_bytes(with_note(b"Annette"))
+    put(folder, {"p/a.jpg": with_note(b"Annette")})
     for name, more in (("without", []), ("with", ["--maker-notes"])):
         asked("index", "p", "--catalogue", name, "--quiet", *more)
     (folder / "p/a.jpg").write_bytes(with_note(b"Annette", 64))
@@ -362,9 +351,7 @@ def test_what_exiftool_reads_is_kept(asked, folder):
 def test_a_file_system_that_is_mounted_at_another_place(asked, folder):
     """Its pictures have moved; those of another folder that isn't there are only not there."""
     for name in ("disk", "other"):
-        (folder / name).mkdir()
-        (folder / name / "a.jpg").write_bytes(FILES["a1"])
-        (folder / name / "plain.jpg").write_bytes(jpeg())
+        put(folder, {f"{name}/a.jpg": FILES["a1"], f"{name}/plain.jpg": jpeg()})
     indexed(asked, "disk", "other")
     (folder / "disk").rename(folder / "place")
     (folder / "other").rename(folder / "away")
@@ -378,8 +365,7 @@ def test_a_file_system_that_is_mounted_at_another_place(asked, folder):
 
 
 def test_a_copy_of_a_disk_that_is_away_has_not_moved(asked, folder):
-    (folder / "disk").mkdir()
-    (folder / "disk/a.jpg").write_bytes(FILES["a1"])
+    put(folder, {"disk/a.jpg": FILES["a1"]})
     indexed(asked, "disk")
     shutil.copytree(folder / "disk", folder / "copy")
     (folder / "disk").rename(folder / "away")

@@ -8,7 +8,7 @@ import sqlite3
 import struct
 
 from made_blocks import HEADER, MAKE, block, with_exif, with_iptc
-from studio import SMALL_JPEG, WithPictures, needs, read, run, tool, without_own_script, write
+from studio import SMALL_JPEG, WithPictures, needs, put, read, run, tool, without_own_script, write
 
 NAMES = [
     b"new\nline.jpg",
@@ -62,13 +62,17 @@ class Hostile(WithPictures):
         self.assertEqual([[one["kind"] for one in it["blocks"]] for it in found], [["exif"]] * len(NAMES))
 
     def test_files_that_are_none(self):
-        os.mkdir(self.path("p"))
-        write(self.path("p", "empty.jpg"), b"")
-        write(self.path("p", "text.jpg"), b"no picture at all")
-        write(self.path("p", "cut.jpg"), SMALL_JPEG[:30])
-        write(self.path("p", "good.jpg"), with_exif(SMALL_JPEG, block([MAKE])))
-        write(self.path("p", "empty-block.jpg"), with_iptc(SMALL_JPEG, b""))
-        write(self.path("p", "posing.json"), b'[{"SourceFile":"x","EXIF":"MM no block","IPTC":"base64:HAI="}]')
+        put(
+            self.folder,
+            {
+                "p/empty.jpg": b"",
+                "p/text.jpg": b"no picture at all",
+                "p/cut.jpg": SMALL_JPEG[:30],
+                "p/good.jpg": with_exif(SMALL_JPEG, block([MAKE])),
+                "p/empty-block.jpg": with_iptc(SMALL_JPEG, b""),
+                "p/posing.json": b'[{"SourceFile":"x","EXIF":"MM no block","IPTC":"base64:HAI="}]',
+            },
+        )
         os.mkfifo(self.path("p", "pipe.jpg"))
         os.symlink("nowhere", self.path("p", "link.jpg"))
         os.mkdir(self.path("p", "folder.jpg"))
@@ -80,9 +84,14 @@ class Hostile(WithPictures):
         self.assertEqual(problems, expected)
 
     def test_a_text_never_passes_for_octets(self):
-        write(self.path("a.jpg"), with_iptc(SMALL_JPEG, b"base64:HAIZAANvbmU="))
-        write(self.path("b.jpg"), with_iptc(SMALL_JPEG, b"text:base64:HAIZAANvbmU="))
-        write(self.path("c.jpg"), with_iptc(SMALL_JPEG, b"12345"))
+        put(
+            self.folder,
+            {
+                "a.jpg": with_iptc(SMALL_JPEG, b"base64:HAIZAANvbmU="),
+                "b.jpg": with_iptc(SMALL_JPEG, b"text:base64:HAIZAANvbmU="),
+                "c.jpg": with_iptc(SMALL_JPEG, b"12345"),
+            },
+        )
         lines = self.asked("show", "a.jpg", "b.jpg", "c.jpg", status=2)
         self.assertEqual([it for it in lines if not it.startswith("==")], ["IPTC: refused: NoMarker at 0"] * 3)
 
@@ -94,8 +103,7 @@ class Hostile(WithPictures):
 
     def test_values_are_escaped_on_the_page(self):
         for folder, artist in (("one", "<script>alert(1)</script>"), ("two", "</td><img src=x>")):
-            os.mkdir(self.path(folder))
-            write(self.path(folder, "a.jpg"), SMALL_JPEG)
+            put(self.folder, {f"{folder}/a.jpg": SMALL_JPEG})
             tool(self.folder, "exiftool", "-q", "-overwrite_original", f"-Artist={artist}", f"{folder}/a.jpg")
             self.asked("index", folder, "--catalogue", folder + ".c", "--quiet")
         self.asked("report", "--catalogue", "two.c", "--since", "one.c", "--html", "r.html")
@@ -105,8 +113,7 @@ class Hostile(WithPictures):
         self.assertNotIn("<img src=x", page)
 
     def test_a_picture_that_vanishes_keeps_its_meaning(self):
-        os.mkdir(self.path("p"))
-        write(self.path("p", "a.jpg"), with_exif(SMALL_JPEG, block([MAKE])))
+        put(self.folder, {"p/a.jpg": with_exif(SMALL_JPEG, block([MAKE]))})
         self.asked("index", "p", "--catalogue", "c", "--quiet")
         os.remove(self.path("p", "a.jpg"))
         lines = self.asked("index", "p", "--catalogue", "c", "--quiet")

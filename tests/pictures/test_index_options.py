@@ -83,10 +83,13 @@ def test_a_picture_that_is_named_is_excluded_by_its_name(archive, called):
 
 
 def test_what_to_do_next(folder, called):
-    (folder / "p").mkdir()
-    for name, octets in {"a": ONE, "b": ONE, "c": OTHER, "d": OTHER, "e": jpeg(app1(exif(b"new")))}.items():
-        (folder / "p" / name).write_bytes(octets)
-    (folder / "p" / "bad").write_bytes(jpeg(app1(BLOCKS["HeaderCut"])))
+    put(
+        folder,
+        {
+            **{f"p/{name}": octets for name, octets in {"a": ONE, "b": ONE, "c": OTHER, "d": OTHER, "e": jpeg(app1(exif(b"new")))}.items()},
+            "p/bad": jpeg(app1(BLOCKS["HeaderCut"])),
+        },
+    )
     os.link(folder / "p" / "e", folder / "p" / "another name of e")
     (folder / "p" / "linked").symlink_to("e")
     name = "my catalogue's"
@@ -103,9 +106,13 @@ def test_what_to_do_next(folder, called):
 
 def test_quiet_prints_the_counts_alone(folder, called):
     """A folder that is named and isn't there is still told."""
-    (folder / "p").mkdir()
-    for name, octets in {"a": ONE, "b": ONE, "bad": jpeg(app1(BLOCKS["HeaderCut"])), "open": ONE + b"trailer"}.items():
-        (folder / "p" / name).write_bytes(octets)
+    put(
+        folder,
+        {
+            f"p/{name}": octets
+            for name, octets in {"a": ONE, "b": ONE, "bad": jpeg(app1(BLOCKS["HeaderCut"])), "open": ONE + b"trailer"}.items()
+        },
+    )
     (folder / "p" / "nothing").symlink_to("nowhere")
     status, out, err = called("index", "p", "--catalogue", "c", "--quiet")
     assert (out, err) == ("3 accepted, 1 a link that leads to no file, 1 refused\n", "")

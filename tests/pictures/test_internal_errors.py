@@ -22,7 +22,7 @@ from exifnorm_pictures.model.found import Blocks, NotRead
 from exifnorm_pictures.model.records import BlockRecord, Damaged, PictureRecord, Stamp
 from hypothesis import given, strategies as st
 from made_files import app1, exif, jpeg, png as made_png
-from studio import errors, run
+from studio import errors, put, run
 
 FAULT = "unsupported operand type(s) for +: 'NoneType' and 'int'"
 
@@ -36,9 +36,7 @@ def command(capsys, tmp_path, monkeypatch):
     """Runs exifnorm-pictures in this process, in a new folder with two pictures; returns what it prints."""
     monkeypatch.chdir(tmp_path)
     monkeypatch.delenv("EXIFNORM_DEBUG", raising=False)
-    (tmp_path / "p").mkdir()
-    (tmp_path / "p/a.jpg").write_bytes(jpeg())
-    (tmp_path / "p/b.png").write_bytes(made_png())
+    put(tmp_path, {"p/a.jpg": jpeg(), "p/b.png": made_png()})
 
     def call(*words, status):
         capsys.readouterr()
@@ -261,9 +259,7 @@ def test_the_state_of_a_picture_has_the_cause(command, monkeypatch, error, probl
 
 def test_in_processes_of_their_own(tmp_path):
     """A mistake in one of several processes has its place and traceback, too."""
-    (tmp_path / "p").mkdir()
-    for number in range(70):
-        (tmp_path / "p" / f"{number}.jpg").write_bytes(jpeg())
+    put(tmp_path, {f"p/{number}.jpg": jpeg() for number in range(70)})
     call = (
         "import sys; from exifnorm_pictures.cli import main; from exifnorm_pictures.extract.formats import jpeg\n"
         "def mistake(*_): return None + 1\njpeg.read = mistake\nsys.exit(main.main(sys.argv[1:]))"

@@ -5,7 +5,7 @@ import os
 import pytest
 from made_blocks import BLOCKS, with_exif
 from made_files import page, tiff
-from studio import SMALL_JPEG
+from studio import SMALL_JPEG, put
 from test_repairs import REFUSED
 
 from exifnorm_pictures.files import copying
@@ -121,9 +121,7 @@ def test_links_in_the_folder_of_copies(called, folder, without_programs, target,
 @pytest.mark.parametrize("out, status", [("new", 0), ("new/", 0), ("new/below", 3), ("file", 3), ("nothing", 3), ("file/below", 3)])
 def test_a_new_folder_of_copies(called, folder, without_programs, out, status):
     """It is made, as the folder of a report is, but not in a folder that isn't there, as of a disk that isn't mounted."""
-    (folder / "p").mkdir()
-    (folder / "p" / "a.jpg").write_bytes(BAD)
-    (folder / "file").write_bytes(b"")
+    put(folder, {"p/a.jpg": BAD, "file": b""})
     os.symlink("nowhere", folder / "nothing")
     called("index", "p", "--catalogue", "c", "--quiet")
     if status:
@@ -136,8 +134,7 @@ def test_a_new_folder_of_copies(called, folder, without_programs, out, status):
 
 
 def test_no_folder_is_made_for_no_copies(called, folder, without_programs):
-    (folder / "p").mkdir()
-    (folder / "p" / "a.jpg").write_bytes(GOOD)
+    put(folder, {"p/a.jpg": GOOD})
     called("index", "p", "--catalogue", "c", "--quiet")
     assert called("mend", "c", "new")[:2] == (0, "0 pictures\n") and not (folder / "new").exists()
 

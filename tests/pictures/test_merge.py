@@ -7,7 +7,7 @@ import sys
 
 from in_process import InFolder
 from made_blocks import BLOCKS, MAKE, block, with_exif, with_iptc
-from studio import SMALL_JPEG, run, write
+from studio import SMALL_JPEG, put, run, write
 
 ONE, OTHER = (with_exif(SMALL_JPEG, block([MAKE[:-4] + it])) for it in (b"One\0", b"Two\0"))
 NUMBERS = ("id", "run", "picture")  # which differ from catalogue to catalogue
@@ -17,11 +17,14 @@ class Merge(InFolder):
     def setUp(self):
         super().setUp()
         for folder, names in (("one", ("a.jpg", "b.jpg", "both.jpg")), ("two", ("c.jpg", "d.jpg", "both.jpg"))):
-            os.mkdir(self.path(folder))
-            for name in names:
-                write(self.path(folder, name), with_iptc(ONE, b"\x1c\x02\x78\0\x01" + name[:1].encode()))
-        write(self.path("two", "refused.jpg"), with_exif(SMALL_JPEG, BLOCKS["Overlap"]))
-        write(self.path("two", "trailer.jpg"), ONE + b"\0" * 100 + b"a trailer that isn't known")
+            put(self.folder, {f"{folder}/{name}": with_iptc(ONE, b"\x1c\x02\x78\0\x01" + name[:1].encode()) for name in names})
+        put(
+            self.folder,
+            {
+                "two/refused.jpg": with_exif(SMALL_JPEG, BLOCKS["Overlap"]),
+                "two/trailer.jpg": ONE + b"\0" * 100 + b"a trailer that isn't known",
+            },
+        )
         for folder in ("one", "two"):
             self.asked("index", folder, "--catalogue", folder + ".c", "--quiet")
 

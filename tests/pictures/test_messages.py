@@ -12,7 +12,7 @@ import unittest
 from types import SimpleNamespace
 from unittest import mock
 
-from studio import WithPictures, read, write
+from studio import WithPictures, put, read, write
 
 from exifnorm_pictures.catalogue.store import VERSION, Catalogue, NoCatalogue
 from exifnorm_pictures.cli import main, names, objects, output, parser
@@ -222,8 +222,7 @@ class Messages(WithPictures):
 
     def test_of_files_that_are_not_replaced(self):
         os.mkdir(self.path("folder"))
-        for name in ("other", "catalogue", "page", "empty"):
-            write(self.path(name), b"" if name == "empty" else name.encode())
+        put(self.folder, {name: b"" if name == "empty" else name.encode() for name in ("other", "catalogue", "page", "empty")})
         os.symlink("catalogue", self.path("link"))
         kept_ = (self.path("nothing"), self.path("catalogue"))
 

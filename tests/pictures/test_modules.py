@@ -14,7 +14,7 @@ import unittest
 from unittest import mock
 
 from made_files import app1_xmp, chunk, exif, page, png, tiff, title
-from studio import TOP, WithPictures, needs, read, tool, write
+from studio import TOP, WithPictures, needs, put, read, tool, write
 
 from exifnorm_pictures.catalogue.store import Catalogue, NoCatalogue
 from exifnorm_pictures.cli import main, mend as mend_cli, same
@@ -137,9 +137,7 @@ class Indexed(WithPictures):
             self.assertEqual([path for _, path, _ in made.below(b"/a")], sorted(b"/a/" + it for it in names))
 
     def test_slow_pictures_are_committed_one_by_one(self):
-        os.mkdir(self.path("p"))
-        for name in ("a", "b", "c"):
-            write(self.path("p", name), b"")
+        put(self.folder, {f"p/{name}": b"" for name in ("a", "b", "c")})
         with Catalogue(self.path("c"), make=True) as made:
 
             def looked(found, _):
@@ -152,8 +150,7 @@ class Indexed(WithPictures):
 
     def test_a_folder_that_cannot_be_read_hides_no_other(self):
         for name in ("ab", "a"):
-            os.mkdir(self.path(name))
-            write(self.path(name, "1.jpg"), b"")
+            put(self.folder, {f"{name}/1.jpg": b""})
         with Catalogue(self.path("c"), make=True) as made:
             asked = index.IndexOptions([os.fsencode(self.folder)], quiet=True)
             index.index(asked, made)

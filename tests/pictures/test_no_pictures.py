@@ -4,7 +4,7 @@ import json
 
 import pytest
 from made_files import A, app1, jpeg
-from studio import needs
+from studio import needs, put
 
 PICTURE = jpeg(app1(A))
 
@@ -13,16 +13,20 @@ PICTURE = jpeg(app1(A))
 def archive(folder):
     """Two states of a folder with a picture twice, and with texts, two of which are equal."""
     for side, changed in (("b", b"one line"), ("a", b"another line")):
-        (folder / side).mkdir()
-        for name, octets in (
-            ("1.jpg", PICTURE),
-            ("2.jpg", PICTURE),
-            ("1.txt", b"a text"),
-            ("2.txt", b"a text"),
-            ("3.txt", b"a text"),
-            ("4.txt", changed),
-        ):
-            (folder / side / name).write_bytes(octets)
+        put(
+            folder,
+            {
+                f"{side}/{name}": octets
+                for name, octets in (
+                    ("1.jpg", PICTURE),
+                    ("2.jpg", PICTURE),
+                    ("1.txt", b"a text"),
+                    ("2.txt", b"a text"),
+                    ("3.txt", b"a text"),
+                    ("4.txt", changed),
+                )
+            },
+        )
     return folder
 
 

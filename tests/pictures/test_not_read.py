@@ -24,8 +24,7 @@ def test_many_parts_in_few_words(words, folder, called):
 
 
 def test_many_parts_of_a_group(folder, called):
-    for name in ("a.webp", "b.webp"):
-        (folder / name).write_bytes(MANY)
+    put(folder, {name: MANY for name in ("a.webp", "b.webp")})
     called("index", ".", "--catalogue", "c", "--quiet")
     printed = called("same", "--catalogue", "c")[1]
     assert PHRASE in printed

@@ -13,7 +13,7 @@ import pytest
 from made_blocks import block, entry
 from made_files import A, app1, app1_xmp, jpeg, title
 from meanings import ASCII
-from studio import run
+from studio import put, run
 
 from exifnorm_pictures.cli import parser
 
@@ -55,11 +55,14 @@ STARTS = re.compile(rb"^(\d+) +execve\(")
 def archive(folder, called):
     """Two folders of the same pictures, and a catalogue of one."""
     for name in ("p", "q"):
-        (folder / name).mkdir()
-        for picture, octets in PICTURES.items():
-            (folder / name / picture).write_bytes(octets)
-    (folder / "rules").write_bytes(b"every picture needs title\n")
-    (folder / "names").write_bytes(b"".join(b"p/%s\n" % it.encode() for it in PICTURES))
+        put(folder, {f"{name}/{picture}": octets for picture, octets in PICTURES.items()})
+    put(
+        folder,
+        {
+            "rules": b"every picture needs title\n",
+            "names": b"".join(b"p/%s\n" % it.encode() for it in PICTURES),
+        },
+    )
     assert called("index", "p", "--catalogue", "c", "--quiet", "--pixels")[0] == 0
     return folder
 

@@ -13,7 +13,7 @@ import pytest
 from made_blocks import block, entry
 from made_files import A, app1, exif, jpeg
 from meanings import ASCII, BYTE, UNDEFINED
-from studio import TOP
+from studio import TOP, put
 
 from exifnorm_pictures.cli import parser
 from exifnorm_pictures.cli.options import Fields, Files, Least, Output, Run
@@ -56,9 +56,14 @@ def archive(folder, called):
     """A folder of one picture, its catalogue, and a list of its names."""
     (folder / "p").mkdir()
     (folder / "q").mkdir()
-    (folder / "p" / "a.jpg").write_bytes(jpeg(app1(A)))
-    (folder / "list").write_bytes(b"p/a.jpg\0")
-    (folder / "rules").write_bytes(b"every picture needs title\n")
+    put(
+        folder,
+        {
+            "p/a.jpg": jpeg(app1(A)),
+            "list": b"p/a.jpg\0",
+            "rules": b"every picture needs title\n",
+        },
+    )
     assert called("index", "p", "--catalogue", "c", "--quiet")[0] == 0
     return folder
 

@@ -16,7 +16,7 @@ import pytest
 from made_blocks import ASCII, LONG, BLOCKS, block, entry, segment
 from made_files import A, B, K, L, T, T_OTHERWISE, U, iim, title, turned, xmp
 from made_files import app1, app13, app1_xmp, chunk, extension, jpeg, mpf, page, png, png_xmp, profile, resource, tiff, webp
-from studio import SMALL_JPEG, WithPictures, interpreter_with, needs, read, run, tool, write
+from studio import SMALL_JPEG, WithPictures, interpreter_with, needs, put, read, run, tool, write
 
 _ASKED = threading.Lock()  # of one ExifTool in this process
 
@@ -361,9 +361,7 @@ class Others(WithPictures):
         """If ExifTool extracted the blocks, the result names it, also for equal pictures. The result of the built-in readers names nothing."""
         one, _, copy = self.pair("-IFD0:Artist")
         for folder, octets in (("before", one), ("after", copy)):
-            os.mkdir(self.path(folder))
-            write(self.path(folder, "a.exv"), octets)
-            write(self.path(folder, "b.jpg"), jpeg(app1(A)))
+            put(self.folder, {f"{folder}/a.exv": octets, f"{folder}/b.jpg": jpeg(app1(A))})
         lines = run(["exifnorm-pictures", "changed", "before", "after", "--all", "--quiet"], self.folder).stdout.decode().splitlines()
         said = [it for it in lines if it.startswith(("a.exv", "b.jpg"))]
         self.assertEqual(["extracted by ExifTool" in it for it in said], [True, False], lines)
@@ -423,8 +421,7 @@ class Explained(WithPictures):
 
     def test_show_and_changed_name_the_properties(self):
         for side, text in (("before", "one"), ("after", "two")):
-            os.mkdir(self.path(side))
-            write(self.path(side, "a.jpg"), jpeg(app1(A), app1_xmp(title(text))))
+            put(self.folder, {f"{side}/a.jpg": jpeg(app1(A), app1_xmp(title(text)))})
         lines = self.asked("show", "--exact", "before/a.jpg")
         self.assertIn(["dc:format", "text", '"one"'], [it.split() for it in lines])
         words = "\n".join(self.asked("changed", "before", "after", "--each", status=1))

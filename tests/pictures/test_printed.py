@@ -7,7 +7,7 @@ from unittest import mock
 from in_process import InProcess
 from made_blocks import BLOCKS
 from made_files import A, B, K, L, T, app1, app1_xmp, jpeg, png, png_xmp, with_record
-from studio import SMALL_JPEG, write
+from studio import SMALL_JPEG, put, write
 
 from exifnorm_pictures.files import session
 from exifnorm_pictures.scan import progress
@@ -62,18 +62,21 @@ class Commands(InProcess):
         self.indexed()
         same = ("same", "--catalogue", "@/c")
         text = self.transcript((2, *same), (0, *same, "--kind", "iptc"), (2, *same, "--json"))
-        for name in ("k.jpg", "l.jpg"):
-            write(self.path("p", name), jpeg(app1(A)) + REST)
+        put(self.folder, {f"p/{name}": jpeg(app1(A)) + REST for name in ("k.jpg", "l.jpg")})
         self.indexed()
         self.golden("same.txt", text + self.transcript((2, *same), (2, *same, "--json")))
 
     def test_changed(self):
         shutil.copytree(self.path("p"), self.path("q"))
-        for name in ("a.jpg", "b.jpg"):
-            write(self.path("q", name), jpeg(app1(B), with_record(K)))
-        write(self.path("q", "c.jpg"), jpeg(app1(BLOCKS["Overlap"]), with_record(L)))
-        write(self.path("q", "e.jpg"), jpeg(with_record(L)))
-        write(self.path("q", "s", "g.jpg"), jpeg(app1(A)) + b"other")
+        put(
+            self.folder,
+            {
+                **{f"q/{name}": jpeg(app1(B), with_record(K)) for name in ("a.jpg", "b.jpg")},
+                "q/c.jpg": jpeg(app1(BLOCKS["Overlap"]), with_record(L)),
+                "q/e.jpg": jpeg(with_record(L)),
+                "q/s/g.jpg": jpeg(app1(A)) + b"other",
+            },
+        )
         os.remove(self.path("q", "f.jpg"))
         write(self.path("q", "new.jpg"), SMALL_JPEG)
         changed = ("changed", "@/p", "@/q")
@@ -108,8 +111,7 @@ class Commands(InProcess):
         """With --whole each command reads what is between the head and the tail of a long picture."""
         hidden = SMALL_JPEG[:-2] + app1(A) + b"\x11" * 100_000 + SMALL_JPEG[-2:]
         for side in ("x", "y"):
-            os.mkdir(self.path(side))
-            write(self.path(side, "a.jpg"), hidden)
+            put(self.folder, {f"{side}/a.jpg": hidden})
         for command in ("show", "captions", "explain"):
             found = [self.objects(command, "@/x/a.jpg"), self.objects(command, "@/x/a.jpg", "--whole", status=2)]
             self.assertEqual([any(it.get("not_read") for it in some) for some in found], [False, True])

@@ -15,7 +15,7 @@ from in_process import InProcess
 from made_blocks import ASCII, BLOCKS, LONG, UNDEFINED, segment
 from made_files import A, B, K, L, T, T_OTHERWISE, U, XMP_HEAD, turned, xmp
 from made_files import app1, app13, app1_xmp, chunk, extension, jpeg, mpf, page, png, png_xmp, profile, resource, tiff, webp, with_record
-from studio import SMALL_JPEG, errors, needs, read, run, without_own_script, write
+from studio import SMALL_JPEG, errors, needs, put, read, run, without_own_script, write
 
 from exifnorm_pictures.cli import looking
 from exifnorm_pictures.scan import index
@@ -109,8 +109,7 @@ class WhatIsCompared(Promises):
             "d.tif": pages,
             "e.tif": b"II+\0\x08\0\0\0" + bytes(24),
         }
-        for name, octets in files.items():
-            write(self.path("p", name), octets)
+        put(self.folder, {f"p/{name}": octets for name, octets in files.items()})
         done = run(
             [sys.executable, "-m", "exifnorm_pictures", "index", "p", "--catalogue", "c", "--quiet"], self.folder, PATH=self.path("none")
         )

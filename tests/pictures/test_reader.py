@@ -10,7 +10,7 @@ from concurrent.futures import ThreadPoolExecutor
 from pathlib import Path
 
 import pytest
-from studio import TOP, needs
+from studio import TOP, needs, put
 from test_api import BEFORE, BOWL, FORMATS, Unseekable, facts
 
 from exifnorm import pictures
@@ -53,8 +53,7 @@ JUNK = {
 
 def watched(tmp_path, programs, files):
     """What a reader finds in some files, and how many processes it started for each."""
-    for name, data in files.items():
-        (tmp_path / name).write_bytes(data)
+    put(tmp_path, files)
     words = [sys.executable, "-c", WATCHED, programs, *(str(tmp_path / name) for name in files)]
     done = subprocess.run(words, stdout=subprocess.PIPE, text=True, check=True, env={**os.environ, "PYTHONPATH": f"{TOP}/python"})
     return dict(zip(files, json.loads(done.stdout)))

@@ -17,7 +17,7 @@ from exifnorm_pictures.model.found import EXIF, FoundBlock
 from exifnorm_pictures.refusals import mend, repaired_file
 from made_blocks import ASCII, BLOCKS, LONG, MAKE, SHORT, entry, table
 from made_files import app1, chunk, exif, jpeg, page, png, tiff, webp
-from studio import needs
+from studio import needs, put
 
 RATIONAL = 5
 # Numbers that say where something is, which a repair may move
@@ -67,8 +67,7 @@ REFUSED = {
 
 def values_of(folder, blocks):
     """What ExifTool reads of some blocks, without places."""
-    for number, octets in enumerate(blocks):
-        (folder / f"{number:04}.jpg").write_bytes(jpeg(app1(octets)))
+    put(folder, {f"{number:04}.jpg": jpeg(app1(octets)) for number, octets in enumerate(blocks)})
     names = [f"{number:04}.jpg" for number in range(len(blocks))]
     left_out = [word for group in ("File", "System", "ExifTool", "Composite") for word in ("-x", f"{group}:all")]
     words = ["exiftool", "-config", "", *"-q -q -m -json -a -u -n -G1:4 -b".split(), *left_out, *names]
@@ -269,8 +268,7 @@ def test_which_repairs_make_pictures_the_same(folder, capsys, monkeypatch):
         ("itself", lossy, lossy, "refused, the same bytes", 0),
     ):
         for side, octets in (("before", before), ("after", after)):
-            (folder / name / side).mkdir(parents=True)
-            (folder / name / side / "a.jpg").write_bytes(jpeg(app1(octets)))
+            put(folder, {f"{name}/{side}/a.jpg": jpeg(app1(octets))})
         capsys.readouterr()
         assert main._run(["changed", f"{name}/before", f"{name}/after", "--json", "--all", "--no-exiftool"]) == status, name
         found = json.loads(capsys.readouterr().out.splitlines()[0])
@@ -323,8 +321,13 @@ def test_mend_without_exiftool(folder, capsys, monkeypatch):
     """A repair that loses nothing needs no program."""
     monkeypatch.chdir(folder)
     monkeypatch.setenv("PATH", str(folder))
-    (folder / "a.jpg").write_bytes(jpeg(app1(REFUSED["all"])))
-    (folder / "b.jpg").write_bytes(jpeg(app1(BLOCKS["Doubled"])))
+    put(
+        folder,
+        {
+            "a.jpg": jpeg(app1(REFUSED["all"])),
+            "b.jpg": jpeg(app1(BLOCKS["Doubled"])),
+        },
+    )
     assert main._run(["mend", "a.jpg", "out.jpg"]) == 0
     assert main._run(["explain", "out.jpg"]) == 0
     (folder / "c.tif").write_bytes(tiff(page((0x010F, ASCII, b"Maker\0"), (0x010F, ASCII, b"Maker\0"))))

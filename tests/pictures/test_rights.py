@@ -6,7 +6,7 @@ import subprocess
 
 import pytest
 from made_blocks import MAKE, block, with_exif
-from studio import SMALL_JPEG
+from studio import SMALL_JPEG, put
 
 from exifnorm_pictures.files import rights
 
@@ -71,8 +71,7 @@ WRITING = {
 
 @pytest.fixture
 def catalogue(called, folder):
-    (folder / "p").mkdir()
-    (folder / "p" / "a.jpg").write_bytes(PICTURE)
+    put(folder, {"p/a.jpg": PICTURE})
     assert called("index", "p", "--catalogue", "c", "--quiet")[0] == 0
     return folder / "c"
 
@@ -112,8 +111,7 @@ def test_a_replaced_file_takes_no_list_from_its_folder(called, catalogue, folder
 def test_what_umask_gives(called, folder, umask):
     """To a catalogue, a list of digests and a spreadsheet."""
     pytest.importorskip("xlsxwriter")
-    (folder / "p").mkdir()
-    (folder / "p" / "a.jpg").write_bytes(PICTURE)
+    put(folder, {"p/a.jpg": PICTURE})
     before = os.umask(umask)
     try:
         assert called("index", "p", "--catalogue", "c", "--quiet", "--pixels")[0] == 0

@@ -252,8 +252,13 @@ class TestCatalogue:
 
 def test_the_bytes_of_all_sidecars_are_limited(tmp_path):
     """64 MB of XMP for a picture, and 16 MB for a packet, however many files folder are."""
-    write(tmp_path / "big.xmp", b"<" * PACKET_BYTES)
-    write(tmp_path / "too-big.xmp", b"<" * (PACKET_BYTES + 1))
+    put(
+        tmp_path,
+        {
+            "big.xmp": b"<" * PACKET_BYTES,
+            "too-big.xmp": b"<" * (PACKET_BYTES + 1),
+        },
+    )
     blocks = Blocks()
     many = [sidecars.Sidecar(f"XMP sidecar of version {it}", b"big.xmp") for it in range(10)]
     sidecars.add(blocks, bytes(tmp_path / "a.jpg"), [sidecars.Sidecar("XMP sidecar", b"too-big.xmp"), *many])
@@ -275,8 +280,7 @@ def test_sidecars_whose_names_differ_only_in_capital_letters():
 
 
 def test_a_picture_with_more_sidecars_than_are_read_is_never_the_same(called, folder):
-    for name in ("abcdefg.jpg", "other.jpg"):
-        (folder / name).write_bytes(SMALL_JPEG)
+    put(folder, {name: SMALL_JPEG for name in ("abcdefg.jpg", "other.jpg")})
     names = itertools.islice(itertools.product(*({one, one.upper()} for one in sorted("abcdefg"))), sidecars.MOST + 1)
     for it in names:
         (folder / f"{''.join(it)}.xmp").write_bytes(ONE)

@@ -11,7 +11,7 @@ import tempfile
 import unittest
 from unittest import mock
 
-from studio import WithPictures, read, write
+from studio import WithPictures, put, read, write
 
 from exifnorm_pictures.cli import index, mend as mend_cli
 from exifnorm_pictures.cli.options import Files, Output
@@ -314,8 +314,7 @@ class Folders(WithPictures):
 
     def folder_of_a_run(self, name, lock="lock"):
         os.mkdir(self.path(name), 0o700)
-        write(self.path(name, "data"), b"1")
-        write(self.path(name, lock), self.lock)
+        put(self.folder, {f"{name}/data": b"1", f"{name}/{lock}": self.lock})
         return self.path(name)
 
     def test_a_run_has_one_with_a_lock(self):

@@ -12,7 +12,7 @@ from unittest import mock
 
 import pytest
 from made_files import app1
-from studio import SMALL_JPEG, needs, tool
+from studio import SMALL_JPEG, needs, put, tool
 
 from exifnorm_pictures.files import session
 from exifnorm_pictures.report import shrinking, small_pictures, thumbnails
@@ -348,8 +348,7 @@ def test_a_heic_that_is_damaged_or_slow_costs_its_tile(tmp_path: Path, monkeypat
     whole = made_heif(tmp_path, "heic")
     octets = whole.read_bytes()
     files = {"cut.heic": octets[: len(octets) // 2], "empty.heic": octets[:12], "zeros.heic": octets[:40] + bytes(len(octets) - 40)}
-    for name, made in files.items():
-        (tmp_path / name).write_bytes(made)
+    put(tmp_path, files)
     with session.Session(60.0, room=str(tmp_path)) as ours:
         with contextlib.closing(small_pictures.SmallPictures([], small_pictures.InPage(), ours)) as pictures:
             found = pictures.of([os.fsencode(tmp_path / name) for name in files])

@@ -12,7 +12,7 @@ from exifnorm_pictures.model.found import UNREAD_TRAILER
 from exifnorm_pictures.scan import index
 from made_blocks import BLOCKS
 from made_files import app1, app1_xmp, exif, jpeg, title
-from studio import errors, needs
+from studio import errors, needs, put
 
 GOOD = jpeg(app1(exif(b"abc")), app1_xmp(title("a")))
 
@@ -21,8 +21,7 @@ GOOD = jpeg(app1(exif(b"abc")), app1_xmp(title("a")))
 def asked(folder, monkeypatch, capsys):
     """Runs exifnorm-pictures in this process and in a folder with one good picture; returns its lines, and checks the status."""
     monkeypatch.chdir(folder)
-    (folder / "p").mkdir()
-    (folder / "p/a.jpg").write_bytes(GOOD)
+    put(folder, {"p/a.jpg": GOOD})
 
     def call(*words, status=0):
         capsys.readouterr()
@@ -80,8 +79,7 @@ def test_a_copy_of_a_damaged_file_is_not_mended(asked, folder):
 )
 def test_names_of_a_list_that_no_picture_has(called, folder, words):
     """Without a word an answer of no pictures would seem to be one about those that were meant."""
-    (folder / "p").mkdir()
-    (folder / "p/a.jpg").write_bytes(GOOD)
+    put(folder, {"p/a.jpg": GOOD})
     assert called("index", "p", "--catalogue", "c", "--quiet")[0] == 0
     (folder / "list").write_text("p/a.jpg\n")
     status, _, message = called(*words, "--files-from", "list")
@@ -93,8 +91,7 @@ def test_names_of_a_list_that_no_picture_has(called, folder, words):
 
 
 def test_a_name_of_a_list_below_a_folder(called, folder):
-    (folder / "p").mkdir()
-    (folder / "p/a.jpg").write_bytes(GOOD)
+    put(folder, {"p/a.jpg": GOOD})
     (folder / "list").write_text("a.jpg\nb.jpg\n")
     status, _, message = called("changed", "p", "p", "--files-from", "list")
     assert status == 0 and "exifnorm-pictures: note: 1 name of the list is no picture's: b.jpg\n" in message
@@ -131,8 +128,13 @@ def test_what_a_missing_program_left_is_read_once_it_is_there(asked, monkeypatch
 
 
 def test_a_page_has_the_remedy_of_each_cause(asked, folder):
-    for number, octets in enumerate((b"<x", title("a") + b"<!", b"<!DOCTYPE x>" + title("a"))):
-        (folder / f"p/{number}.jpg").write_bytes(jpeg(app1_xmp(octets)))
+    put(
+        folder,
+        {
+            f"p/{number}.jpg": jpeg(app1_xmp(octets))
+            for number, octets in enumerate((b"<x", title("a") + b"<!", b"<!DOCTYPE x>" + title("a")))
+        },
+    )
     asked("index", "p", "--catalogue", "c", "--quiet")
     asked("report", "--catalogue", "c", "--html", "page")
     page = (folder / "page").read_text()
@@ -163,8 +165,7 @@ def cut(path):
 @pytest.mark.parametrize("harm", [removed, replaced, cut])
 def test_a_catalogue_that_is_gone_before_the_end(asked, folder, harm, monkeypatch):
     """The status is about what is there at the end, and not about a file without a name."""
-    for name in "bcdefgh":
-        (folder / f"p/{name}.jpg").write_bytes(GOOD)
+    put(folder, {f"p/{name}.jpg": GOOD for name in "bcdefgh"})
     asked("index", "p", "--catalogue", "c")
     whole = Catalogue.close
 

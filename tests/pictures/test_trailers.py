@@ -11,7 +11,7 @@ import pytest
 from all_readers import stream_of
 from made_files import app1, app13, exif, iim, jpeg, resource, title
 from made_more_files import psd
-from studio import needs
+from studio import needs, put
 
 from exifnorm_pictures.extract.exiftool import octets as decoded
 from exifnorm_pictures.extract.formats import jpeg as jpegs, psd as psds
@@ -184,7 +184,12 @@ def test_trailers_without_number(many):
 @pytest.mark.parametrize("length", [700, 70_000, 300_000])
 def test_pictures_with_other_recipes_are_not_the_same(length, called, folder):
     """Canon's trailer ends with the bytes of an end mark, behind which the last 64 KiB may look like picture data."""
-    for name, text in (("a", "one"), ("b", "two")):
-        (folder / f"{name}.jpg").write_bytes(jpeg(app1(A), behind=canon((0xF6, title(text)), (0xF4, bytes(length)))))
+    put(
+        folder,
+        {
+            f"{name}.jpg": jpeg(app1(A), behind=canon((0xF6, title(text)), (0xF4, bytes(length))))
+            for name, text in (("a", "one"), ("b", "two"))
+        },
+    )
     status, printed, _ = called("compare", "a.jpg", "b.jpg")
     assert status == 1 and "dc:format" in printed

@@ -269,8 +269,7 @@ def test_a_picture_with_a_sidecar_that_was_written_again(folder, called, verifie
     """Its own metadata count."""
     put(folder / "p", {"a.jpg": PICTURE, "a.xmp": SIDECAR, "b.jpg": PICTURE, "b.xmp": SIDECAR})
     called("index", "p", "--catalogue", "c", "--pixels", "--sidecars", "--quiet")
-    (folder / "p/a.jpg").write_bytes(jpeg(app1(A + b"\0\0")))
-    (folder / "p/b.jpg").write_bytes(CAPTIONED)
+    put(folder, {"p/a.jpg": jpeg(app1(A + b"\0\0")), "p/b.jpg": CAPTIONED})
     assert verified()[:2] == (0, {"a.jpg": ("written again", None), "b.jpg": ("captioned", None)})
 
 

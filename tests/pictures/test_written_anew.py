@@ -10,7 +10,7 @@ import test_jp2
 import test_jxl
 import test_psd
 from made_boxes import box, cr3
-from studio import needs, tool
+from studio import needs, put, tool
 
 # The main directory with its values in another order than its entries, in which ExifTool writes them
 MAIN = b"II*\0\x08\0\0\0" + struct.pack("<HHHIIHHIII", 2, 0x010F, 2, 6, 44, 0x0110, 2, 6, 38, 0) + b"EOS R\0Canon\0"
@@ -36,8 +36,7 @@ def test_it(kind, folder, capsys):
     from exifnorm_pictures.cli import main
 
     for side in ("before", "after"):
-        (folder / side).mkdir()
-        (folder / side / f"a.{kind}").write_bytes(MADE[kind])
+        put(folder, {f"{side}/a.{kind}": MADE[kind]})
     for value in ("a text", ""):
         tool(
             folder / "after",

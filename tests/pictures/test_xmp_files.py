@@ -99,9 +99,13 @@ def test_the_law_is_about_most_packets():
 
 @pytest.mark.parametrize("packet", [DEFAULT, BARE, b"\xef\xbb\xbf\n<?xml version='1.0'?><!-- a -->" + BARE, LONG + BARE], ids=range(4))
 def test_commands_read_a_file(packet, called, folder):
-    for name, octets in (("a.xmp", packet), ("b.XMP", packet + b"\n")):
-        (folder / name).write_bytes(octets)
-    (folder / "other.xmp").write_bytes(packet.replace(b"urn:d#", b"urn:e#"))
+    put(
+        folder,
+        {
+            **{name: octets for name, octets in (("a.xmp", packet), ("b.XMP", packet + b"\n"))},
+            "other.xmp": packet.replace(b"urn:d#", b"urn:e#"),
+        },
+    )
     status, printed, _ = called("show", "a.xmp", "--json")
     assert (status, json.loads(printed)["blocks"][0]["status"]) == (0, "accepted")
     assert called("explain", "a.xmp")[:2] == (0, "XMP: ok\n")
