@@ -517,7 +517,9 @@ def test_public_names_are_exported():
 
 
 def test_blocks_need_nothing_of_pictures():
-    code = "import sys, exifnorm; exifnorm.kind(b'\\x1c\\x02\\x78\\0\\4Vase'); print([it for it in sys.modules if 'exifnorm_pictures' in it])"
+    code = (
+        "import sys, exifnorm; exifnorm.kind(b'\\x1c\\x02\\x78\\0\\4Vase'); print([it for it in sys.modules if 'exifnorm_pictures' in it])"
+    )
     words = [sys.executable, "-c", code]
     assert (
         subprocess.run(
