@@ -6,6 +6,7 @@ import base64
 import contextlib
 import json
 import os
+import select
 import shutil
 import signal
 import subprocess
@@ -15,7 +16,14 @@ from pathlib import Path
 from typing import Any, Dict, Iterator, List
 
 WORDS = ["chromium", "--headless", "--no-sandbox", "--disable-gpu", "--remote-debugging-pipe", "--disable-background-networking"]
-PATIENCE = 600  # seconds, also on a very busy machine
+PATIENCE = 30  # seconds without a change of the page
+SILENCE = 120  # seconds without an answer of the browser, also on a very busy machine
+
+
+# what the page shows of its state and its progress
+STATE = (
+    """`${document.body?.dataset.state} ${document.getElementById("progress")?.value} ${document.getElementById("status")?.textContent}`"""
+)
 
 
 class Browser:
@@ -27,7 +35,7 @@ class Browser:
         browsers_input, self.commands = os.pipe()
         self.requests: List[str] = []
         self.log: List[Dict[str, Any]] = []
-        self.number, self.rest, self.session = 0, b"", ""
+        self.number, self.rest, self.session, self.asked = 0, b"", "", ""
 
         def arrange() -> None:
             """Puts the pipes where the browser expects them."""
@@ -49,7 +57,8 @@ class Browser:
         """Calls a method of the protocol, and returns its result."""
         self.number += 1
         message = {"id": self.number, "method": method, "params": parameters, **({"sessionId": self.session} if self.session else {})}
-        os.write(self.commands, json.dumps(message).encode() + b"\0")
+        self.asked = json.dumps(message)
+        os.write(self.commands, self.asked.encode() + b"\0")
         while True:
             answer = self.message()
             if answer.get("id") == self.number:
@@ -60,6 +69,8 @@ class Browser:
 
     def message(self) -> Dict[str, Any]:
         while b"\0" not in self.rest:
+            if not select.select([self.answers], [], [], SILENCE)[0]:
+                raise TimeoutError(f"Chromium has said nothing for {SILENCE} seconds, after {self.asked[:300]}")
             octets = os.read(self.answers, 1 << 20)
             if not octets:
                 raise EOFError("Chromium ended")
@@ -81,13 +92,15 @@ class Browser:
         return result["result"].get("value")
 
     def wait(self, expression: str) -> Any:
-        """Waits until an expression is true, and returns its value."""
-        end = time.monotonic() + PATIENCE
+        """Waits until an expression is true, and returns its value. A page that still works, by what it shows, is waited for longer."""
+        end, seen = time.monotonic() + PATIENCE, ""
         while time.monotonic() < end:
             if value := self.ask(expression):
                 return value
+            if (now := self.ask(STATE)) != seen:
+                end, seen = time.monotonic() + PATIENCE, now
             time.sleep(0.02)
-        raise TimeoutError(expression)
+        raise TimeoutError(f"{PATIENCE} seconds without a change, while this was waited for: {expression}; the page shows: {seen}")
 
     def open(self, address: str) -> None:
         self.call("Page.navigate", url=address)
@@ -124,7 +137,7 @@ class Browser:
 
     def end(self) -> None:
         self.call("Browser.close")
-        self.process.wait(PATIENCE)
+        self.process.wait(SILENCE)
         for process in self.left():  # such as the one that waits for crashes, which would take its time
             with contextlib.suppress(ProcessLookupError):
                 os.kill(process, signal.SIGKILL)

@@ -3,6 +3,7 @@
 import tarfile
 
 import npm
+import page
 import pytest
 
 from browser import Browser
@@ -19,6 +20,14 @@ def module(wasm, session_folder):
     with tarfile.open(packed) as archive:
         archive.extractall(folder)
     return folder / "package"
+
+
+@pytest.fixture(scope="session")
+def file(wasm, session_folder):
+    """The page."""
+    path = session_folder / "exifnorm.html"
+    path.write_text(page.page((wasm / "exifnorm.wasm").read_bytes()), encoding="utf-8")
+    return path
 
 
 @pytest.fixture(scope="session")

@@ -38,13 +38,6 @@ ONE = bytes.fromhex("4d4d002a00000008 0001 0112 0003 00000001 00060000 00000000"
 
 
 @pytest.fixture(scope="module")
-def file(wasm, session_folder):
-    path = session_folder / "exifnorm.html"
-    path.write_text(page.page((wasm / "exifnorm.wasm").read_bytes()), encoding="utf-8")
-    return path
-
-
-@pytest.fixture(scope="module")
 def opened(chromium, file):
     """The browser with the page. All that it asks for is the page itself, and its worker."""
     chromium.requests.clear()

@@ -1,0 +1,153 @@
+"""Headless Firefox over WebDriver BiDi, by a WebSocket of its own: no further package."""
+
+from __future__ import annotations
+
+import base64
+import contextlib
+import json
+import os
+import re
+import socket
+import subprocess
+import time
+from pathlib import Path
+from typing import Any, Dict, List
+
+WORDS = ["firefox-esr", "--headless", "--no-remote", "--remote-debugging-port", "0", "--profile"]
+PATIENCE = 120  # seconds in which the browser answers, also on a very busy machine
+LISTENS = re.compile(r"WebDriver BiDi listening on ws://127\.0\.0\.1:(\d+)")
+# What Firefox would ask for by itself when it starts, and what isn't needed to see one page
+PREFERENCES = """user_pref("app.update.disabledForTesting", true);
+user_pref("browser.shell.checkDefaultBrowser", false);
+user_pref("browser.startup.homepage_override.mstone", "ignore");
+user_pref("app.normandy.enabled", false);
+user_pref("services.settings.server", "data:,#remote-settings-dummy/v1");
+user_pref("datareporting.policy.dataSubmissionEnabled", false);
+user_pref("network.captive-portal-service.enabled", false);
+user_pref("network.connectivity-service.enabled", false);
+user_pref("toolkit.telemetry.reportingpolicy.firstRun", false);
+"""
+
+
+class Socket:
+    """A connection by RFC 6455 to a browser of this machine, for texts."""
+
+    def __init__(self, port: int, path: str) -> None:
+        self.connection = socket.create_connection(("127.0.0.1", port), timeout=PATIENCE)
+        key = base64.b64encode(os.urandom(16)).decode()
+        lines = [f"GET {path} HTTP/1.1", f"Host: 127.0.0.1:{port}", "Upgrade: websocket"]
+        lines += ["Connection: Upgrade", f"Sec-WebSocket-Key: {key}", "Sec-WebSocket-Version: 13"]
+        self.connection.sendall("\r\n".join([*lines, "", ""]).encode())
+        self.stream = self.connection.makefile("rb")
+        status, *_ = iter(lambda: self.stream.readline().strip(), b"")
+        assert b" 101 " in status, status
+
+    def send(self, text: str) -> None:
+        """Sends a text, masked by one byte: Firefox ends if the mask is zero."""
+        octets = text.encode()
+        size = len(octets)
+        width = 1 if size < 126 else 2 if size < 1 << 16 else 8
+        length = bytes([0x80 | {1: size, 2: 126, 8: 127}[width]]) + size.to_bytes(width, "big") * (width > 1)
+        self.connection.sendall(b"\x81" + length + b"aaaa" + bytes(it ^ ord("a") for it in octets))
+
+    def receive(self) -> str:
+        """The next text. What is sent besides, such as a ping, has no bit of a text."""
+        whole, is_last = b"", False
+        while not is_last:
+            first, size = self._bytes(2)
+            if size > 125:
+                size = int.from_bytes(self._bytes(2 if size == 126 else 8), "big")
+            octets = self._bytes(size)
+            if first & 0x0F < 3:
+                whole, is_last = whole + octets, bool(first & 0x80)
+        return whole.decode()
+
+    def _bytes(self, size: int) -> bytes:
+        octets = self.stream.read(size)
+        if len(octets) < size:
+            raise EOFError("Firefox ended")
+        return octets
+
+
+class Firefox:
+    """One page in Firefox: the addresses that it asked for, and what it logged."""
+
+    def __init__(self, folder: Path) -> None:
+        self.profile = folder / "firefox"
+        self.profile.mkdir()
+        (self.profile / "user.js").write_text(PREFERENCES, encoding="ascii")
+        self.log_file = folder / "firefox.log"
+        with open(self.log_file, "wb") as log:
+            environment = dict(os.environ, HOME=str(folder), MOZ_CRASHREPORTER_DISABLE="1")
+            streams: Dict[str, Any] = {"stdin": subprocess.DEVNULL, "stdout": log, "stderr": log}
+            self.process = subprocess.Popen([*WORDS, str(self.profile)], env=environment, **streams)
+        self.number = 0
+        self.requests: List[str] = []
+        self.log: List[Dict[str, Any]] = []
+        self.socket = Socket(self._port(), "/session")
+        self.call("session.new", capabilities={})
+        self.call("session.subscribe", events=["network.beforeRequestSent", "log.entryAdded"])
+        self.context = self.call("browsingContext.getTree")["contexts"][0]["context"]
+
+    def _port(self) -> int:
+        end = time.monotonic() + PATIENCE
+        while time.monotonic() < end and self.process.poll() is None:
+            if found := LISTENS.search(self.log_file.read_text(encoding="utf-8", errors="replace")):
+                return int(found[1])
+            time.sleep(0.05)
+        text = self.log_file.read_text(encoding="utf-8", errors="replace")
+        raise TimeoutError(f"Firefox has named no port: {text[-500:]}")
+
+    def call(self, method: str, **parameters: Any) -> Dict[str, Any]:
+        """Calls a method of the protocol, and returns its result."""
+        self.number += 1
+        self.socket.send(json.dumps({"id": self.number, "method": method, "params": parameters}))
+        while True:
+            answer = json.loads(self.socket.receive())
+            if answer.get("method") == "network.beforeRequestSent":
+                self.requests.append(answer["params"]["request"]["url"])
+            elif answer.get("method") == "log.entryAdded":
+                self.log.append(answer["params"])
+            elif answer.get("id") == self.number:
+                if answer["type"] == "error":
+                    raise RuntimeError(f"{method}: {answer['error']}, {answer['message'][:500]}")
+                return answer["result"]
+
+    def evaluate(self, expression: str) -> Dict[str, Any]:
+        target = {"context": self.context}
+        found = self.call("script.evaluate", expression=expression, target=target, awaitPromise=True)
+        if found["type"] == "exception":
+            raise RuntimeError(f"{expression[:200]}: {found['exceptionDetails']['text']}")
+        return found["result"]
+
+    def ask(self, expression: str) -> Any:
+        """The value of an expression in the page, also of a promise."""
+        text = f"(async () => JSON.stringify(await ({expression}) ?? null))()"
+        return json.loads(self.evaluate(text)["value"])
+
+    def wait(self, expression: str) -> Any:
+        """Waits until an expression is true, and returns its value."""
+        end = time.monotonic() + PATIENCE
+        while time.monotonic() < end:
+            if value := self.ask(expression):
+                return value
+            time.sleep(0.02)
+        raise TimeoutError(f"{PATIENCE} seconds passed, while this was waited for: {expression}")
+
+    def open(self, address: str) -> None:
+        self.call("browsingContext.navigate", context=self.context, url=address, wait="complete")
+
+    def choose(self, selector: str, *files: Path) -> None:
+        """Chooses files in an input, as a user does."""
+        element = self.evaluate(f"document.querySelector({json.dumps(selector)})")
+        shared, names = {"sharedId": element["sharedId"]}, [str(it) for it in files]
+        self.call("input.setFiles", context=self.context, element=shared, files=names)
+
+    def end(self) -> None:
+        with contextlib.suppress(OSError, EOFError, RuntimeError):
+            self.call("browser.close")
+        try:
+            self.process.wait(PATIENCE)
+        finally:
+            self.process.kill()
+            self.socket.connection.close()
