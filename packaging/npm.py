@@ -48,12 +48,19 @@ def required() -> str:
     return f"{strict}\nconst tables = {tables()};\n{script}\n{last}"
 
 
+def about(text: str, version: str) -> str:
+    """package.json with the version, and with the address of debian/control, if the owner of the repository has filled it in."""
+    (address,) = re.findall(r"(?m)^Homepage: (\S+)$", (TOP / "debian" / "control").read_text(encoding="utf-8"))
+    known = text.replace("@HOMEPAGE@", address) if not address.endswith(".invalid/") else re.sub(r".*@HOMEPAGE@.*\n", "", text)
+    return known.replace("@VERSION@", version)
+
+
 def files(wasm: bytes, version: str) -> Iterator[tuple[str, bytes]]:
     """The names and contents of the package's files."""
     mark = guard.MARK if guard.MARK.encode() in wasm else ""
     for path in sorted(FOLDER.iterdir()):
         data = path.read_bytes()
-        yield path.name, data.replace(b"@VERSION@", f"{version}{mark}".encode()) if path.name == "package.json" else data
+        yield path.name, about(data.decode(), version + mark).encode() if path.name == "package.json" else data
     for name in LICENCES:
         yield name, (TOP / name).read_bytes()
     yield "exifnorm.wasm", wasm
