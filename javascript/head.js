@@ -8,7 +8,7 @@ import { readFormat } from "./formats.js";
 import { besides } from "./jpeg.js";
 import { md5 } from "./md5.js";
 import { notesOf } from "./notes.js";
-import { Broken } from "./parts.js";
+import { Broken, left } from "./parts.js";
 import { sha256 } from "./sha256.js";
 import { inUtf8, xmpProperties } from "./xmp.js";
 import { inOrder } from "./xmp_values.js";
@@ -20,6 +20,7 @@ export const KINDS = ["exif", "iptc", "xmp"];
 export const KIND_NAMES = { exif: "Exif", iptc: "IPTC", xmp: "XMP" };
 const ORDINALS = ["first", "second", "third", "fourth", "fifth", "sixth", "seventh", "eighth", "ninth"];
 const APP1 = 0xe1, XMP_RESOURCE = 0x0424;
+const BEHIND = "bytes behind the Photoshop resources", HIDES = [BEHIND, "APP13 segment of an unknown kind"]; // in which blocks may be
 const NOTE = "http://ns.adobe.com/xmp/note/HasExtendedXMP", NAME = 32, BEFORE = 40; // bytes of a piece: its packet's name; all before its text
 
 const areEqual = (first, second) => first.length === second.length && first.every((octet, i) => octet === second[i]);
@@ -41,19 +42,24 @@ function judged(engine, { kind, data, part = "", note = null }) {
   }
 }
 
-/** Whether Photoshop's resources in a head have XMP, which other programs read. */
-function hasXmpResource(engine, parts, dataOf) {
-  const runs = [];
+/** Of Photoshop's resources in a head whether they have XMP, which other programs read, and the bytes behind the last whole one of each run. */
+function resourcesOf(engine, parts, dataOf) {
+  const runs = [], notRead = [];
+  let hasXmp = false;
   for (const part of parts.filter(({ kind }) => kind === "photoshop")) {
     if (part.begins) runs.push([]);
     runs.at(-1).push(dataOf(part));
   }
-  return runs.some((run) => {
+  for (const run of runs) {
     const whole = new Uint8Array(run.reduce((size, data) => size + data.length, 0));
     let end = 0;
     for (const data of run) whole.set(data, (end += data.length) - data.length);
-    return engine.photoshopResources(whole, MOST_PARTS).some(({ number, size }) => number === XMP_RESOURCE && size > 0);
-  });
+    const found = engine.photoshopResources(whole, MOST_PARTS), last = found.at(-1);
+    const rest = whole.slice(last ? last.start + last.size + last.size % 2 : 0);
+    hasXmp ||= found.some(({ number, size }) => number === XMP_RESOURCE && size > 0);
+    if (rest.some(Boolean)) notRead.push(left(BEHIND, rest));
+  }
+  return { hasXmp, notRead };
 }
 
 /** Pieces of extended XMP as one text, if they are whole and have the name; otherwise null. */
@@ -143,11 +149,11 @@ function jpegHead(engine, bytes, source) {
   const parts = engine.jpegParts(bytes, MOST_PARTS), dataOf = ({ start, size }) => bytes.subarray(start, start + size);
   const packets = parts.filter(({ kind }) => kind === "xmp").map((part) => ({ kind: "xmp", data: dataOf(part) }));
   const more = besides(engine, parts, bytes, source), [blocks, judge] = judgedAll(engine, [...engine.jpegBlocks(bytes, MOST_PARTS), ...packets, ...more.blocks]);
-  const pieces = parts.filter(({ kind }) => kind === "extended xmp").map(dataOf), inResources = hasXmpResource(engine, parts, dataOf);
+  const pieces = parts.filter(({ kind }) => kind === "extended xmp").map(dataOf), inResources = resourcesOf(engine, parts, dataOf);
   const extended = extend(blocks.filter(({ kind }) => kind === "xmp"), pieces, judge) ? [] : [new Uint8Array(0), ...pieces]; // also if it is missing
   const others = parts.filter(({ kind, marker }) => kind === "" && marker === APP1).map(dataOf);
-  const resources = inResources ? parts.filter(({ kind }) => kind === "photoshop").map(dataOf) : [];
-  return { format: "JPEG", bytes, blocks, pieces, further: { extended, resources }, others, unread: engine.jpegUnread(bytes), notRead: [...more.notRead, ...reached(blocks)] };
+  const resources = inResources.hasXmp ? parts.filter(({ kind }) => kind === "photoshop").map(dataOf) : [];
+  return { format: "JPEG", bytes, blocks, pieces, further: { extended, resources }, others, unread: engine.jpegUnread(bytes), notRead: [...more.notRead, ...inResources.notRead, ...reached(blocks)] };
 }
 
 const NOTHING = { bytes: null, blocks: [], pieces: [], further: { extended: [], resources: [] }, others: [], unread: null, notRead: [] };
@@ -219,6 +225,17 @@ export function haveSameXmpBytes([first, second]) {
   return !!second && octetsOf(first).every((some, kind) => areSameBytes(some, octetsOf(second)[kind]));
 }
 
+const ofKind = ({ blocks }, kind) => blocks.filter((block) => block.kind === kind);
+
+/** Whether a head has a part that isn't read, and that the other one doesn't have, in which a block may be that the other one shows. */
+const hides = (head, other) => head.notRead.some(({ what, key }) => HIDES.includes(what) && !other.notRead.some((one) => one.key === key));
+
+/** Whether one of two heads has a block of a kind which the other one is known not to have. */
+const doesOneLack = (kind, [first, second]) => [[first, second], [second, first]].some(([head, other]) => {
+  const names = byName(ofKind(head, kind));
+  return ofKind(other, kind).some(({ name }) => !names.has(name)) && !hides(head, other);
+});
+
 /**
  * The verdict on the XMP of two heads: `same`, `different`, and `unread` if it isn't known, because a packet has no normal form, or there is
  * XMP that isn't read. Of such pictures a difference is known if packets differ that have forms, and what isn't read is the same.
@@ -226,11 +243,9 @@ export function haveSameXmpBytes([first, second]) {
 function xmpVerdict(heads) {
   const [first, second] = heads.map((head) => byName(packetsOf(head))), areAlike = haveSameNames(first, second), areRead = heads.every(isXmpRead) && areSameBytes(...heads.map(({ others }) => others));
   const isOther = ({ name, meaning }) => meaning && second.get(name)?.meaning && meaning !== second.get(name).meaning;
-  if (areRead) return areAlike && ![...first.values()].some(isOther) ? "same" : "different";
+  if (areRead) return [...first.values()].some(isOther) || doesOneLack("xmp", heads) ? "different" : areAlike ? "same" : "unread";
   return areAlike && areSameBytes(...heads.map(furtherOf)) && [...first.values()].some(isOther) ? "different" : "unread";
 }
-
-const ofKind = ({ blocks }, kind) => blocks.filter((block) => block.kind === kind);
 
 /**
  * How the blocks of Exif and IPTC of two heads compare, pair by pair: `different` if two that have a meaning differ, or there are more of a kind
@@ -240,7 +255,7 @@ function blocksVerdict(engine, first, second) {
   let isRefused = false;
   for (const kind of ["exif", "iptc"]) {
     const [ones, others] = [first, second].map((head) => byName(ofKind(head, kind))), areValid = [...ones.values(), ...others.values()].every(({ refusal }) => !refusal);
-    if (areValid && !haveSameNames(ones, others)) return "different";
+    if (areValid && doesOneLack(kind, [first, second])) return "different";
     isRefused ||= !areValid;
     const pairs = [...ones.values()].map((one) => [one, others.get(one.name)]).filter(([one, other]) => other && !one.refusal && !other.refusal);
     if (pairs.some(([one, other]) => !engine.compare(one.data, other.data))) return "different";

@@ -26,7 +26,7 @@ function segmentsIn(parts, bytes, of) {
   for (const { marker, kind, start, size } of parts) {
     if (kind || marker < APP0 || marker > APP15 || marker === APP1) continue;
     const data = bytes.subarray(start, start + size), begins = latin(data.subarray(0, 24));
-    if (WITHOUT[marker]?.test(begins) || marker === APP2 && startsWith(data, INDEX) || begins.startsWith("Adobe_Photoshop2.5:")) continue;
+    if (WITHOUT[marker]?.test(begins) || marker === APP2 && startsWith(data, INDEX)) continue;
     notRead.push(left(nameOf(marker, begins) + of, data));
   }
   return notRead;

@@ -206,7 +206,7 @@ export function comparisonOf(kit, first, second) {
 function comparisonOfHeads(kit, heads) {
   const found = verdict(kit.engine, ...heads);
   const rows = pairsOf(heads).flatMap((pair) => rowsOf(kit, ...pair).rows).filter((row) => !row.isEqual && !row.isOpen);
-  const differences = found === "unread" ? [] : rows.map(({ name, label, cells }) => {
+  const differences = found !== "different" ? [] : rows.map(({ name, label, cells }) => {
     const [before, after] = cells.map((cell) => cell && cell.text + (cell.exact ? ` (${cell.exact})` : ""));
     return { name, label: label ?? null, before, after };
   });

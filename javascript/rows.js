@@ -124,7 +124,8 @@ export function cameraOf(kit, { blocks }) {
 
 /** The captions of a valid block that a person wrote: each with its label, its text, and the name of its field. */
 export function captionsOf(kit, block, camera) {
-  return allCaptionsOf(kit, block).filter(({ label, text }) => !CAN_BE_OWN.includes(label) || !isOwn(kit.tables.own, text, ...camera));
+  const isOfCamera = ({ label, text }) => CAN_BE_OWN.includes(label) && isOwn(kit.tables.own, text, ...camera);
+  return allCaptionsOf(kit, block).filter((one) => one.text !== EMPTY && !isOfCamera(one));
 }
 
 const octetsBeyond = ({ octets }) => !!octets && octets.some((octet) => octet > 127);

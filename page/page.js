@@ -294,7 +294,8 @@ function meaningOf(look) {
     if (!differing) return look.isCut ? "The difference is behind the fields that are listed here." : EMPTY;
     const differ = `${fields(differing)} ${differing === 1 ? "differs" : "differ"}: ${listed(differing > 4 ? [...names, many(differing - 4, "other")] : names)}`;
     const isOpen = look.sides.some(({ blocks }) => blocks.some(({ refusal }) => refusal && !refusal.isRare)) ? ["a block is refused besides, so more may differ"] : [];
-    return [differ, `${fields(equal, "other field")} ${equal === 1 ? "is" : "are"} equal`, ...isOpen].map((text) => `${text[0].toUpperCase()}${text.slice(1)}.`).join(" ");
+    const others = equal ? [`${fields(equal, "other field")} ${equal === 1 ? "is" : "are"} equal`] : [];
+    return [differ, ...others, ...isOpen].map((text) => `${text[0].toUpperCase()}${text.slice(1)}.`).join(" ");
   }
   if (look.verdict === "refused") {
     const what = "A block breaks the rules, so it has no certain meaning";
@@ -562,7 +563,8 @@ function detailOf(row) {
   const also = row.verdict === "missing" && row.candidates ? `the same Exif, IPTC and XMP as ${many(row.candidates, "picture")} only in the ${SIDES[1 - row.side]}` : asTwin;
   const bytes = row.verdict === "refused" && row.sameBytes ? "both pictures have the same bytes of Exif and IPTC" : "";
   const xmp = row.verdict === "partly" && row.xmp.verdict === "unread" ? `not all XMP is read, ${row.xmp.sameBytes ? "but its bytes are the same" : "and its bytes differ"}` : "";
-  return [row.why, bytes, also, xmp].filter(Boolean).join("; ");
+  const files = row.isSameFile ? "both files have the same bytes" : "";
+  return [row.why, bytes, also, xmp, files].filter(Boolean).join("; ");
 }
 
 const nameOf = (path) => path.slice(path.lastIndexOf("/") + 1);
@@ -663,7 +665,10 @@ function summaryCard(rows, counts, others, isPair, stoppedOf) {
   const look = isWhole ? worst : ["different", "refused"].includes(worst) ? worst : "unread";
   const heads = words.filter((_, i) => there[i] !== "same" || there.length < 3).join(", ");
   const title = !rows.length ? "No pictures" : isWhole ? (isPair ? "All have the same Exif, IPTC and XMP" : "All valid") : heads;
-  const rest = `${words.length > 1 ? `: ${listed(words)}` : ""}${others ? `; ${many(others, "other file")} left out` : ""}.`;
+  const notInTitle = title === heads && counts.same && there.length > 2 ? `; ${counted(counts.same)} ${LABELS.same}` : "";
+  const untouched = rows.filter(({ isSameFile }) => isSameFile).length;
+  const unread = untouched ? `; of those that are not read ${counted(untouched)} ${untouched === 1 ? "has" : "have"} the same bytes in both folders` : "";
+  const rest = `${notInTitle}${unread}${others ? `; ${many(others, "other file")} left out` : ""}.`;
   const stopped = stoppedOf ? ` Stopped before the end: there are ${many(stoppedOf, "file")}.` : "";
   return card(look, SIGNS[look], title,
     element("p", "", `${many(rows.length, "picture")}${isPair ? ", paired by path" : ""}${rest}${stopped}`),
@@ -714,6 +719,16 @@ function waysOf(rows) {
   return [...groups.values()].sort((first, second) => first.length - second.length);
 }
 
+/** What the edits of a group have in common, with the fields of all its pictures: a caption may be in IPTC and XMP of one, and in XMP of another. */
+function sharedBy(group) {
+  const fields = new Map();
+  for (const edit of group.flatMap(({ shared }) => shared)) {
+    const key = `${edit.name} ${edit.note}`;
+    fields.set(key, [...new Set([...fields.get(key) ?? [], ...edit.fields])]);
+  }
+  return group[0].shared.map((edit) => ({ ...edit, fields: fields.get(`${edit.name} ${edit.note}`) }));
+}
+
 /** What changed: those that changed like no other first. `open` shows a group in the list. */
 function waysSection(ways, open) {
   const total = ways.reduce((sum, group) => sum + group.length, 0), odd = ways.filter(({ length }) => length === 1).length, alike = ways.length - odd;
@@ -721,7 +736,7 @@ function waysSection(ways, open) {
   const bar = element("div", "bar");
   bar.setAttribute("aria-hidden", "true");
   const lines = ways.slice(0, MOST_WAYS).map((group) => {
-    const isOdd = group.length === 1, part = element("span", isOdd ? "odd" : ""), edits = isOdd ? group[0].edits : group[0].shared;
+    const isOdd = group.length === 1, part = element("span", isOdd ? "odd" : ""), edits = isOdd ? group[0].edits : sharedBy(group);
     part.style.flexGrow = group.length;
     bar.append(part);
     return element("li", "", button(isOdd ? safeName(group[0].path) : many(group.length, "picture"), () => open(group)), ...edits.slice(0, 9).map(editLine));

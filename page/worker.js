@@ -10,6 +10,7 @@ import { sha256 } from "../javascript/sha256.js";
 import { editsOf, shared, stepsOf } from "./edits.js";
 
 const MOST_ROWS = 3_000, MOST_NAMES = 6, MOST_CHANGES = 100; // that are sent to the page
+const MOST_COMPARED = 1 << 26; // bytes of a file that isn't read
 const MARKED = 2_000; // characters of a text of which words are marked
 
 let kit;
@@ -22,6 +23,13 @@ function read(file) {
     if (error instanceof DOMException) return problem("unreadable");
     throw error;
   }
+}
+
+/** Whether two files that aren't read have the same bytes. */
+function haveSameOctets(first, second) {
+  if (first.size !== second.size || first.size > MOST_COMPARED) return false;
+  const [one, other] = [first, second].map((file) => new Uint8Array(new FileReaderSync().readAsArrayBuffer(file)));
+  return one.every((octet, i) => octet === other[i]);
 }
 
 const readAll = (...files) => files.filter(Boolean).map(read);
@@ -86,7 +94,7 @@ const CALLS = {
       changes: differing.slice(0, MOST_CHANGES).map(({ name, cells }) => [name, ...cells.map((cell) => cell && cell.text + (cell.exact ? ` (${cell.exact})` : ""))]),
       edits, key: digestOf(edits.map(({ key }) => key).sort().join("\n")), shared: edits.map(shared),
       why: [reasons[0] === reasons[1] ? reasons[0] : reasons.map((text, i) => text && (isPair ? sides[i] : "") + text).filter(Boolean).join("; "), found === "partly" && noteDoubt(heads)].filter(Boolean).join("; "),
-      isOther: heads.every(({ problem: why }) => why?.name === "format" || why?.name === "empty"),
+      isSameFile: found === "unread" && isPair && haveSameOctets(first, second), isOther: heads.every(({ problem: why }) => why?.name === "format" || why?.name === "empty"),
       xmp: xmpOf(heads), sameBytes: haveSameBytes(heads), identity: isPair ? "" : identities[0], identities,
     };
   },

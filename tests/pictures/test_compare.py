@@ -101,6 +101,29 @@ def test_exif_under_a_mark_that_the_proved_comparison_does_not_read(mark, run):
     assert (status, found["kinds"]["exif"], found["proved"]) == (0, "same", "not wholly read")
 
 
+BEHIND_DAMAGE = b"\1" + resource(0x0424, title("Vase"))
+UNREAD = {
+    "bytes behind the Photoshop resources in the APP13 segment at 2": app13(resource(0x03ED, bytes(16)) + BEHIND_DAMAGE),
+    "APP13 segment of an unknown kind": segment(0xED, b"unknown"),
+    "APP1 segment of an unknown kind": segment(0xE1, b"http://unknown"),
+}
+LONE = {"exif": app1(exif(b"abc")), "iptc": app13(resource(0x0404, iim(b"Vase"))), "xmp": app1_xmp(title("Vase"))}
+
+
+@pytest.mark.parametrize("kind", LONE)
+@pytest.mark.parametrize("place", UNREAD)
+def test_a_block_that_one_picture_lacks_may_be_in_a_part_of_it_that_is_not_read(place, kind, run):
+    """Unless no block of its kind is read there, or the other picture has this part, too."""
+    part, lone = UNREAD[place], LONE[kind]
+    decided = kind != "xmp" and place.startswith("APP1 ")
+    for before, after in ((jpeg(part), jpeg(lone)), (jpeg(lone), jpeg(part))):
+        status, found = compared(run, before, after)
+        due = (1, "different") if decided else (2, "not wholly read")
+        assert (status, found["result"]) == due and place in found["note"], found["note"]
+    assert compared(run, jpeg(part), jpeg(lone, segment(0xFE, b""), part))[1]["result"] == "different"
+    assert compared(run, jpeg(lone, segment(0xFE, b""), part), jpeg())[1]["result"] == "different"
+
+
 @pytest.mark.parametrize("save", [os.replace, shutil.copyfile], ids=["replaced", "in place"])
 @pytest.mark.parametrize("when", range(1, 8))
 def test_a_picture_that_is_saved_while_it_is_compared(save, when, folder, monkeypatch):

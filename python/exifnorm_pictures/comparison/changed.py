@@ -16,7 +16,7 @@ from ..fields.plain_names import group_name
 from ..files.session import Session
 from ..judge.sides import Sides
 from ..model.budgets import WAITING_BYTES
-from ..model.found import EXIF, NAMES, OWN, PROGRAMS, XMP_FILE, lost_kinds
+from ..model.found import EXIF, NAMES, OWN, PROGRAMS, XMP_FILE, hidden_kinds, lost_kinds
 from ..model.problems import Problem
 from ..model.records import BlockRecord, PictureRecord, is_same_file
 from ..model.results import Result
@@ -211,20 +211,22 @@ _UNREAD = {str(Problem.NO_PICTURE): (Result.NO_PICTURE_SAME, Result.NO_PICTURE_D
 
 
 def _by_digests(old: PictureRecord, new: PictureRecord, sides: Sides) -> Tuple[Judged, Lost]:
-    """What the digests say, and the kinds of blocks that may be missing of each file, if it is damaged."""
+    """What the digests say, and the kinds of which a block may be in what wasn't read of each file."""
     by_kind = tuple(verdicts(old.sides(), new.sides()))
     is_alike = old.not_read is not None and old.not_read == new.not_read
     if is_alike and not old.damage and not new.damage:
         return Judged(by_kind), NOTHING
     unread = sides.not_read(BEFORE, old), sides.not_read(AFTER, new)
-    lost = [lost_kinds(it.type, [part.what for part in parts]) for it, parts in zip((old, new), unread)]
+    lost = [
+        (*lost_kinds(it.type, [part.what for part in parts]), *hidden_kinds(parts, others))
+        for it, parts, others in zip((old, new), unread, unread[::-1])
+    ]
     missing = [_absent(*it) for it in zip((old, new), lost)]
     return Judged(tuple(_not_known(it, missing, is_alike) for it in by_kind), tuple(left_open(*unread))), lost
 
 
 def _absent(picture: PictureRecord, kinds: Sequence[str]) -> List[str]:
-    sides = picture.sides()
-    return [kind for kind in kinds if sides[kind].status == Status.ABSENT]
+    return [kind for kind, side in picture.sides().items() if kind in kinds and side.status == Status.ABSENT]
 
 
 def _not_known(verdict: Verdict, missing: Lost, is_alike: bool) -> Verdict:

@@ -55,11 +55,11 @@ def coded_result(picture: PictureRecord, other: PictureRecord) -> Tuple[Coded, s
 
 
 def _by_digests(picture: PictureRecord, other: PictureRecord) -> Coded:
+    is_same = bool(picture.sha256) and picture.sha256 == other.sha256
     if not picture.coded_picture or not other.coded_picture:
-        return Coded.SAME if picture.sha256 and picture.sha256 == other.sha256 else Coded.UNKNOWN
+        return Coded.SAME if is_same else Coded.UNKNOWN
     if picture.coded_picture != other.coded_picture:
         return Coded.OTHER
-    is_same = bool(picture.sha256) and picture.sha256 == other.sha256
     return Coded.SAME if is_same or not rest.changes(picture.beside, other.beside) else Coded.BESIDE
 
 
@@ -67,8 +67,8 @@ def _damaged(picture: PictureRecord, other: PictureRecord) -> Tuple[Coded, str]:
     if not other.damage:
         return Coded.DAMAGED_BEFORE, f"{Coded.DAMAGED_BEFORE}: {picture.damage}"
     if picture.damage:
-        both = dict.fromkeys([picture.damage, other.damage])
-        return Coded.DAMAGED_BOTH, f"{Coded.DAMAGED_BOTH}: {', and then '.join(both)}"
+        both = ", and then ".join(dict.fromkeys([picture.damage, other.damage]))
+        return Coded.DAMAGED_BOTH, f"{Coded.DAMAGED_BOTH}: {both}"
     # the end of a file is looked for at each look, and other damage only by --pixels
     is_known = bool(picture.coded_picture) or other.coded_picture is None or other.damage.startswith(CUT)
     return Coded.DAMAGED, other.damage + ("" if is_known else ", and whether it was so before isn't known")

@@ -32,9 +32,7 @@ class Summary:
         """Keeps the name of a picture, if it is one of the first; of those that moved with their folder that of the first one."""
         name, place = comparison.name, comparison.moved_to or b""
         names = self.pictures.setdefault(comparison.result, [])
-        is_further = False
-        if comparison.result == Result.MOVED:
-            is_further = self.moved.count(name, place) > 0
-            self.moved.add(name, place)
-        if len(names) < MOST_NAMES and not is_further:
+        if len(names) < MOST_NAMES and not (comparison.result == Result.MOVED and self.moved.count(name, place)):
             names.append((name, place))
+        if comparison.result == Result.MOVED:
+            self.moved.add(name, place)

@@ -98,9 +98,11 @@ def cut(parts: Iterable[str]) -> str:
 
 
 _WORDS_OF = {EXIF: ("Exif item", "Exif box", "Exif chunk"), XMP: ("rdf+xml", "extended XMP")}  # of parts that are of a kind
+# parts in which other programs may read blocks of these kinds (docs/FORMAT.md, 9)
+_MAY_HAVE = {"bytes behind the Photoshop": KINDS, "APP13 segment of an": KINDS, "APP1 segment of an": [XMP]}
 
 
-def lost_kinds(type: str, parts: Iterable[str]) -> Tuple[str, ...]:
+def lost_kinds(type: str, parts: Sequence[str]) -> Tuple[str, ...]:
     """The kinds of blocks that may be missing of a file of this format that is damaged, or of which a part of a kind wasn't read.
 
     >>> lost_kinds("JPEG", ["the rest of a damaged file (no marker at 2)"]), lost_kinds("JPEG", ["second picture"])
@@ -108,13 +110,23 @@ def lost_kinds(type: str, parts: Iterable[str]) -> Tuple[str, ...]:
     >>> lost_kinds("HEIC", ["mime item application/rdf+xml"])
     ('xmp',)
     """
-    known = list(parts)
-    if not damage(known):
-        return tuple(kind for kind, words in _WORDS_OF.items() if any(word in what for word in words for what in known))
+    if not damage(parts):
+        return tuple(kind for kind, words in _WORDS_OF.items() if any(word in what for word in words for what in parts))
     return (EXIF, XMP) if type in WITHOUT_IPTC else KINDS
 
 
-def not_known(type: str, parts: Iterable[str], kinds: Iterable[str]) -> List[str]:
+def hidden_kinds(parts: Iterable[NotRead], other: Iterable[NotRead]) -> List[str]:
+    """The kinds of which blocks may be in parts that weren't read, and whose bytes the other picture doesn't have.
+
+    >>> hidden_kinds([NotRead("APP1 segment of an unknown kind", "d")], [])
+    ['xmp']
+    """
+    known = {it.digest for it in other} - {""}
+    left = [it.what for it in parts if it.digest not in known]
+    return [kind for what in left for words, kinds in _MAY_HAVE.items() if words in what for kind in kinds]
+
+
+def not_known(type: str, parts: Sequence[str], kinds: Iterable[str]) -> List[str]:
     """The kinds that may be missing of a damaged file, in which blocks of some kinds are left.
 
     >>> not_known("JPEG", ["the rest of a damaged file (no marker at 20)"], ["exif"])
@@ -193,9 +205,8 @@ class Blocks:
         """Whether a program that doesn't write XMP has changed the record since Photoshop noted its digest, as the guidelines of the Metadata
         Working Group find it out."""
         records = [it for it in self.blocks if it.kind == IPTC and it.where.startswith("Photoshop")] or self.of_kind(IPTC)
-        if not self.iptc_digest or not records:
-            return False
-        return hashlib.md5(records[0].data, usedforsecurity=False).digest() != self.iptc_digest
+        digests = [hashlib.md5(it.data, usedforsecurity=False).digest() for it in records[:1]]
+        return self.iptc_digest not in (b"", *digests) and bool(records)
 
     def of_kind(self, kind: str) -> List[FoundBlock]:
         """The blocks of one kind.

@@ -9,7 +9,7 @@ import functools
 from collections import Counter
 from typing import Dict, Iterable, List, Mapping, NamedTuple, Sequence, Tuple
 
-from .found import EXIF, IPTC, NAMES, XMP, NotRead, cut
+from .found import EXIF, IPTC, NAMES, XMP, NotRead, cut, damage
 from .results import Result
 from .sides import NO_BLOCK, REACHED, Side, Status
 
@@ -68,7 +68,7 @@ def left_open(parts: Iterable[NotRead], other: Iterable[NotRead]) -> List[str]:
     >>> left_open([NotRead("trailer", "d")], [NotRead("trailer", "d")]), left_open([NotRead("trailer", "d")], [])
     ([], ['trailer'])
     """
-    first, second = Counter(it for it in parts), Counter(it for it in other)
+    first, second = Counter(parts), Counter(other)
     differ = (first - second) + (second - first)
     unknown = [it for it in first + second if not it.digest]
     return sorted({it.what for it in [*differ, *unknown]})
@@ -137,6 +137,8 @@ def result_of(verdicts: Sequence[Verdict], open_parts: Sequence[str] = ()) -> Re
     """
     found = {_OF_PICTURES[it.same_bytes].get(it.result, it.result) for it in verdicts}
     if open_parts:
+        if not damage(open_parts):
+            found.discard(Result.NOT_KNOWN)
         found.add(Result.ONLY_REACHED if all(it.endswith(REACHED) for it in open_parts) else Result.NOT_WHOLLY_READ)
     return min(found, key=_WORST.index, default=Result.SAME)
 
