@@ -19,7 +19,7 @@ const MOST_FORMS = 1 << 25; // bytes of the forms of all XMP in a head: of a pac
 export const KINDS = ["exif", "iptc", "xmp"];
 export const KIND_NAMES = { exif: "Exif", iptc: "IPTC", xmp: "XMP" };
 const ORDINALS = ["first", "second", "third", "fourth", "fifth", "sixth", "seventh", "eighth", "ninth"];
-const APP1 = 0xe1, XMP_RESOURCE = 0x0424;
+const APP1 = 0xe1, DATA_SET = 0x1c, XMP_RESOURCE = 0x0424;
 const BEHIND = "bytes behind the Photoshop resources", HIDES = [BEHIND, "APP13 segment of an unknown kind"]; // in which blocks may be
 const NOTE = "http://ns.adobe.com/xmp/note/HasExtendedXMP", NAME = 32, BEFORE = 40; // bytes of a piece: its packet's name; all before its text
 
@@ -30,10 +30,18 @@ const areEqual = (first, second) => first.length === second.length && first.ever
 /** The forms of a head's XMP are too long together. That of a packet of 60 kB may have 16 MB, since each property repeats its namespace. */
 class TooMuchXmp extends Error {}
 
+/** The cause of a block that doesn't begin as its place in the picture shows that it must; empty if it does. */
+function misplaced(kind, data) {
+  if (!data.length || (data[0] === DATA_SET) === (kind === "iptc")) return "";
+  return kind === "iptc" ? "NoMarker" : "UnknownKind";
+}
+
 /** A block or a packet with its refusal, if it is refused; and with the form of a packet. A packet in a rare form has a refusal, too. */
 function judged(engine, { kind, data, part = "", note = null }) {
   try {
     if (kind === "xmp") return { kind, data, part, note, form: engine.xmpNormalise(inUtf8(data)), refusal: null };
+    const cause = misplaced(kind, data);
+    if (cause) return { kind, data, part, note, refusal: { cause, offset: 0, isRare: false } };
     engine.check(data);
     return { kind, data, part, note, refusal: null };
   } catch (error) {

@@ -5,6 +5,7 @@ import { nameOf } from "./listing.js";
 import { Broken } from "./parts.js";
 import { byPlace, cameraOf, captionsOf, firstFields, isValid, pairsOf, plainOf, rowsOf, valuesOf } from "./rows.js";
 import { valueOf } from "./values.js";
+import { inUtf8, xmpProperties } from "./xmp.js";
 import { plainXmp, shownName } from "./xmp_values.js";
 
 const PROBLEMS = {
@@ -105,6 +106,12 @@ function allCaptions(kit, head) {
   return { ...captions };
 }
 
+/** The values of a packet by their keys, with the members of each Bag in the order of the packet, if it has them all without extended XMP. */
+function inPacketOrder(kit, block) {
+  const values = valuesOf(kit, block), shown = valuesOf(kit, { ...block, properties: xmpProperties(kit.engine.xmpUnsorted(inUtf8(block.data))) });
+  return [...values].map(([key, value]) => [key, value, shown.get(key) ?? value]);
+}
+
 /** The picture of a head. */
 function ofHead(kit, head) {
   const fields = Object.create(null), texts = Object.create(null), set = (name, value, text) => {
@@ -113,7 +120,7 @@ function ofHead(kit, head) {
     texts[name] = text;
   };
   for (const block of head.blocks.filter(isValid)) {
-    if (block.kind === "xmp") for (const [key, value] of valuesOf(kit, block)) set(shownName(key), xmpValue(kit, key, value), plainXmp(kit.tables.spaces, value));
+    if (block.kind === "xmp") for (const [key, value, shown] of inPacketOrder(kit, block)) set(shownName(key), xmpValue(kit, key, shown), plainXmp(kit.tables.spaces, value));
     else for (const group of byPlace(firstFields(kit, block)).values()) set(nameOf(kit.tables, group[0]), group.length > 1 ? group.map(valueOf) : valueOf(group[0]), plainOf(kit, group));
   }
   const blocks = head.blocks.map(({ kind, name, data }) => ({ kind, name, data: data.slice() }));

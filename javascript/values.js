@@ -52,10 +52,12 @@ const isBlank = (octet) => octet === 0 || octet === 32;
 const trimmedEnd = (text) => text.replace(/[\t-\r\x1c-\x20\x85\xa0\u1680\u2000-\u200a\u2028\u2029\u202f\u205f\u3000]+$/, "");
 const printable = (text) => text !== null && !UNPRINTABLE.test(text.replace(/[\n\r\t]/g, "")) ? text : null;
 
+/** A text of UTF-8, or of Windows-1252 with the five bytes that it doesn't define in their digits. */
+const eitherShown = (octets) => decoded(utf8, octets) ?? windows(octets).replace(UNDEFINED, (it) => `\\x${it.charCodeAt(0).toString(16)}`);
+
 /** A text whose character set isn't declared: UTF-8 if it can be, otherwise Windows-1252. */
 export function guessed(octets) {
-  const bare = withoutEnd(octets, isBlank), byte = (character) => `\\x${character.charCodeAt(0).toString(16)}`;
-  return decoded(utf8, bare) ?? windows(bare).replace(UNDEFINED, byte);
+  return eitherShown(withoutEnd(octets, isBlank));
 }
 
 const isComment = ({ where, key }) => key === "9286" || where === "gps" && (key === "001b" || key === "001c");
@@ -439,7 +441,7 @@ function datasetValue(field) {
 }
 
 /** A text whose character set isn't declared, with the blanks at its end. */
-const guessedWhole = (octets) => decoded(utf8, withoutNul(octets)) ?? windows(withoutNul(octets));
+const guessedWhole = (octets) => eitherShown(withoutNul(octets));
 
 /**
  * The value of a field for a program: a number, a text, bytes, or several numbers as an array; a date is a text as ISO 8601 has it, without a

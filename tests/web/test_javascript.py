@@ -125,6 +125,10 @@ def packets():
     return small + samples + nested + [changed(chance.choice(small), chance) for _ in range(600)] + [b" " * (exifnorm.LIMIT + 1)]
 
 
+READ = """import { readFileSync } from "node:fs"; import { read } from "./node.js";
+console.log(JSON.stringify(process.argv.slice(1).map((name) => read(readFileSync(name)))));"""
+
+
 @pytest.fixture(scope="module")
 def requests(library):
     """The blocks, and the requests by their numbers: each block and picture, and each with the one before it and with itself."""
@@ -225,28 +229,6 @@ def test_the_declared_types_are_those_of_the_module(node, module):
     assert {**{name: there["exifnorm"][name] for name in again}, **declared(texts["engine"])} == there["engine"]
     if shutil.which("tsc"):
         run("tsc", "--noEmit", "--strict", "--target", "es2022", "--module", "node16", "--lib", "es2022,dom", "client.mts", folder=module)
-
-
-READ = """import { readFileSync } from "node:fs"; import { read } from "./node.js";
-console.log(JSON.stringify(process.argv.slice(1).map((name) => read(readFileSync(name)))));"""
-
-
-def test_pictures_are_those_of_exifnorm_pictures(node, module, checks):
-    """The samples in each format: texts by name, captions by label, when they were taken, and what is refused."""
-    files = sorted(path for path in TOP.glob("samples/*/*/*") if path.is_file())
-    for path, found in zip(files, json.loads(node("--input-type=module", "-e", READ, *files, folder=module))):
-        picture, texts = exifnorm.read(path), {}
-        for field in picture.fields:
-            texts.setdefault(field.name, []).append(field.text)
-        due = {name: "; ".join(some) for name, some in texts.items()}
-        refused = [(one.block, one.cause, one.offset) for one in picture.refusals]
-        checks.equal(path.name, [(one["block"], one["cause"], one["offset"]) for one in found["refusals"]], refused)
-        checks.equal(path.name, found["texts"], {name: due[name] for name in found["texts"]} if refused else due)
-        checks.equal(path.name, found["taken"], picture.taken and (None if refused else picture.taken.isoformat()))
-        for label, captions in found["captions"].items():
-            if label in ("title", "caption", "keywords"):
-                checks.check(f"{path.name} {label}", {*picture.texts(label)} <= {caption["text"] for caption in captions})
-    checks.check("some", len(files) > 10)
 
 
 def test_a_blob_is_read_no_further_than_needed(node, module):

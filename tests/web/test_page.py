@@ -18,12 +18,15 @@ from words import causes
 import exifnorm
 import jpegs
 import made_files as made
+import odd_heads
 from browser import PATIENCE
 from changed import changed
 from commands import TOP
 from packets import PACKET
+from pairs import UNDECIDED
 from small_packets import small_packets
 from test_jpeg_same import XMP, exif, iptc, photoshop, picture, resource, segment
+from test_pictures import ODD as HEADS, is_true_of, status_of
 from test_plain_words import exif_block, record_block
 
 pytestmark = pytest.mark.xdist_group("page")
@@ -357,6 +360,22 @@ def test_pairs_with_xmp_are_answered_as_by_exifnorm_pictures(browser, folder, ch
             checks.check(f"{name}; {names}", all(due in details for due in names))
     verdicts = [verdict for verdict, _ in found.values()]
     assert len(found) == len(pairs) and min(map(verdicts.count, ("the same", "different", "same as far as read"))) >= 2
+
+
+def test_odd_heads(browser, folder, checks):
+    """What is known of the pairs of test_pictures holds of the page's list, too."""
+    chance = Random(5)
+    pairs = [odd_heads.pair(chance) for _ in range(HEADS)]
+    named = {f"{number:03}.jpg": pair for number, pair in enumerate(pairs)}
+    compare_folders(browser, *two_folders(folder, named))
+    browser.ask("document.querySelector('[data-filter=all]').click()")
+    found = {row[0]: row[1:] for row in rows(browser, "All pictures")}
+    words = {"the same": "same", "same as far as read": "partly", "not read": "unread"}
+    for name, pair in named.items():
+        (verdict, details), status = found[name], status_of(*pair)
+        answer = {"verdict": words.get(verdict, verdict), "named": details}
+        is_true = verdict != "the same" if status == UNDECIDED else is_true_of(status, answer)
+        checks.check(f"{name}: {status} {answer}", is_true)
 
 
 def test_hostile_packets(browser, folder, checks):

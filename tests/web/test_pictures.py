@@ -6,6 +6,8 @@ import json
 import shutil
 import zlib
 from collections import Counter
+from datetime import date, time
+from fractions import Fraction
 from pathlib import Path
 from random import Random
 
@@ -120,6 +122,76 @@ def test_blocks_are_those_of_exifnorm_pictures(answers, checks):
         checks.check(f"{name} {hashlib.sha256(octets).hexdigest()[:8]}: {found}", is_equal or bool(found["named"]))
         equal += is_equal
     checks.check(f"most are equal: {equal}", 2 * equal > len(made) + DAMAGED)
+
+
+# ---- fields, captions and refusals
+
+
+def for_json(value):
+    """A value as JavaScript has it: fractions as numbers, dates as texts, bytes in digits."""
+    if isinstance(value, (list, tuple)):
+        return [for_json(it) for it in value]
+    if isinstance(value, dict):
+        return {name: for_json(it) for name, it in value.items()}
+    if isinstance(value, (bytes, bytearray)):
+        return bytes(value).hex()
+    if isinstance(value, Fraction):
+        return float(value)
+    return value.isoformat() if isinstance(value, (date, time)) else value
+
+
+def fields_of(picture):
+    """The value and the text of each field by its name: of the first block that has it, and that isn't refused."""
+    first, values, refused = {}, {}, {it.block for it in picture.refusals}
+    for field in picture.fields:
+        if field.block not in refused and first.setdefault(field.name, field.block) == field.block:
+            values.setdefault(field.name, []).append((for_json(field.value), field.text))
+    for name, several in values.items():
+        alone = [value for value, _ in several]
+        text = "; ".join(text for _, text in several)
+        yield name, (alone[0] if len(alone) == 1 else alone, text)
+
+
+def captions_of(picture):
+    """The texts by label, without those that a camera or a program writes."""
+    found = {}
+    for caption in picture.captions:
+        if not caption.is_own:
+            found.setdefault(caption.label, set()).update(caption.texts)
+    return {label: texts for label, texts in found.items() if texts}
+
+
+def made_pictures():
+    """The samples, those of a museum on two nights, and odd heads."""
+    chance = Random(13)
+    some = [(it.name, it.read_bytes()) for it in TOP.glob("samples/*/*/*") if it.is_file()]
+    for night in (first_night(), second_night()):
+        some += [(name, it) for name, it in night.items() if isinstance(it, bytes) and it]
+    return some + [("odd.jpg", odd_heads.pair(chance)[0]) for _ in range(ODD)]
+
+
+def test_fields_are_those_of_exifnorm_pictures(answers, checks):
+    """Names, values and texts of fields, captions, times and refusals, of all pictures of which both
+    read the same blocks; of XMP, if all is read."""
+    some, equal = sorted(made_pictures()), 0
+    for (name, octets), found in zip(some, answers(*([octets] for _, octets in some))):
+        if sorted(found["blocks"]) != blocks_of(octets, name) or not found["blocks"]:
+            continue
+        name = f"{name} {hashlib.sha256(octets).hexdigest()[:8]}"
+        picture = exifnorm_pictures.read_bytes(octets, name=name.split(" ")[0])
+        refused = [[it.block, it.cause, it.offset] for it in picture.refusals]
+        is_xmp = [it for it in refused if "XMP" in it[0]] or any("XMP" in it for it in found["notRead"])
+        checks.equal(name, *([it for it in those if "XMP" not in it[0]] for those in (found["refused"], refused)))
+        both = {it: [found["fields"][it], text] for it, text in found["texts"].items()}
+        due = {it: [*about] for it, about in fields_of(picture)}
+        texts = {label: {it["text"] for it in those} for label, those in found["captions"].items()}
+        if not is_xmp:
+            checks.equal(f"{name}: fields", both, due)
+        if not is_xmp and not refused:
+            checks.equal(f"{name}: captions", texts, captions_of(picture))
+            checks.equal(f"{name}: taken", found["taken"], picture.taken and picture.taken.isoformat())
+        equal += not is_xmp and not refused
+    checks.check(f"many are compared: {equal} of {len(some)}", 3 * equal > len(some))
 
 
 def test_formats_that_are_not_read_are_named(answers):
