@@ -238,6 +238,9 @@ const ofKind = ({ blocks }, kind) => blocks.filter((block) => block.kind === kin
 /** Whether a head has a part that isn't read, and that the other one doesn't have, in which a block may be that the other one shows. */
 const hides = (head, other) => head.notRead.some(({ what, key }) => HIDES.includes(what) && !other.notRead.some((one) => one.key === key));
 
+/** Whether a block of a kind that only the other head shows may be in one that shows none. */
+export const mayHide = (kind, head, other) => hides(head, other) || kind === "xmp" && head.others.some((octets) => !other.others.some((one) => areEqual(octets, one)));
+
 /** Whether one of two heads has a block of a kind which the other one is known not to have. */
 const doesOneLack = (kind, [first, second]) => [[first, second], [second, first]].some(([head, other]) => {
   const names = byName(ofKind(head, kind));

@@ -3,7 +3,7 @@
  * `engine` and the `tables` of exifnorm_pictures.
  * @module
  */
-import { KINDS, KIND_NAMES } from "./head.js";
+import { KINDS, KIND_NAMES, mayHide } from "./head.js";
 import { fieldsOf, nameOf, orderOf } from "./listing.js";
 import { isOwn } from "./own.js";
 import { guessed, plain, toldApart } from "./values.js";
@@ -182,7 +182,8 @@ export function captionRows(kit, first, second, cameras) {
 export function pairsOf(heads) {
   const named = heads.map(({ blocks }) => new Map(blocks.map((block) => [block.name, block])));
   const names = [...new Set(named.flatMap((blocks) => [...blocks.keys()]))], kindOf = (name) => KINDS.indexOf(named.map((blocks) => blocks.get(name)).find(Boolean).kind);
-  const blockOf = (side, name) => heads[side]?.problem ? UNREAD : named[side]?.get(name);
+  const isHidden = (name, head, other) => head && other && mayHide(KINDS[kindOf(name)], head, other);
+  const blockOf = (side, name) => heads[side]?.problem ? UNREAD : named[side]?.get(name) ?? (isHidden(name, heads[side], heads[1 - side]) ? UNREAD : undefined);
   return names.sort((first, second) => kindOf(first) - kindOf(second)).map((name) => [blockOf(0, name), blockOf(1, name), Object.values(KIND_NAMES).includes(name) ? "" : ` (${name})`]);
 }
 
