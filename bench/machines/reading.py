@@ -18,7 +18,7 @@ from typing import Dict, List
 HERE = Path(__file__).resolve().parent
 sys.path[:0] = [str(HERE.parent.parent / "python")]
 
-import exifnorm_pictures
+import exifnorm
 
 
 def of_python(pictures: List[bytes]) -> float:
@@ -26,8 +26,8 @@ def of_python(pictures: List[bytes]) -> float:
     began = time.perf_counter()
     for octets in pictures:
         try:
-            picture = exifnorm_pictures.read_bytes(octets)
-        except (exifnorm_pictures.NoPicture, exifnorm_pictures.NotReadable):
+            picture = exifnorm.read_bytes(octets)
+        except (exifnorm.NoPicture, exifnorm_pictures.NotReadable):
             continue
         assert [it.text for it in picture.fields] is not picture.captions
     return 1000 * (time.perf_counter() - began) / len(pictures)

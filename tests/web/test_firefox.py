@@ -7,7 +7,7 @@ import json
 
 import pytest
 
-import exifnorm_pictures
+import exifnorm
 from compiling import need
 from firefox import Firefox
 from test_page import BOWL, BOWL_AFTER, REFUSED, SAMPLES, compare, differences, heading, rows, text
@@ -48,7 +48,7 @@ def given(paths):
 
 def test_two_pictures(browser):
     assert compare(browser, BOWL, BOWL_AFTER) == "Different"
-    assert rows(browser, "What differs") == [*differences(exifnorm_pictures.compare(BOWL, BOWL_AFTER))]
+    assert rows(browser, "What differs") == [*differences(exifnorm.compare(BOWL, BOWL_AFTER))]
     shown = "[...document.querySelectorAll('figure img')].filter((it) => it.naturalWidth).length"
     browser.wait(f"{shown} === 2")
 

@@ -178,7 +178,7 @@ def test_fields_are_those_of_exifnorm_pictures(answers, checks):
         if sorted(found["blocks"]) != blocks_of(octets, name) or not found["blocks"]:
             continue
         name = f"{name} {hashlib.sha256(octets).hexdigest()[:8]}"
-        picture = exifnorm_pictures.read_bytes(octets, name=name.split(" ")[0])
+        picture = exifnorm.read_bytes(octets, name=name.split(" ")[0])
         refused = [[it.block, it.cause, it.offset] for it in picture.refusals]
         is_xmp = [it for it in refused if "XMP" in it[0]] or any("XMP" in it for it in found["notRead"])
         checks.equal(name, *([it for it in those if "XMP" not in it[0]] for those in (found["refused"], refused)))
