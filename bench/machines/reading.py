@@ -27,7 +27,7 @@ def of_python(pictures: List[bytes]) -> float:
     for octets in pictures:
         try:
             picture = exifnorm.read_bytes(octets)
-        except (exifnorm.NoPicture, exifnorm_pictures.NotReadable):
+        except (exifnorm.NoPicture, exifnorm.NotReadable):
             continue
         assert [it.text for it in picture.fields] is not picture.captions
     return 1000 * (time.perf_counter() - began) / len(pictures)

@@ -390,19 +390,16 @@ def test_the_log_of_a_killed_run_is_used(archive):
 
 
 COARSE = """
-import os, sys
+import sys
 from exifnorm_pictures.model import records
 from exifnorm_pictures.scan import looking
 class Stat:
     st_mtime_ns = st_ctime_ns = 1_700_000_000 * 10**9
     def __init__(self, it): self.it = it
     def __getattr__(self, name): return getattr(self.it, name)
-of, stat = records.Stamp.of, os.stat
-class System:
-    stat = staticmethod(lambda path: Stat(stat(path)))
-    def __getattr__(self, name): return getattr(os, name)
+of = records.Stamp.of
 records.Stamp.of = staticmethod(lambda it: of(Stat(it)))
-looking.os, looking._now = System(), lambda: Stat.st_mtime_ns + {later}
+looking._now = lambda: Stat.st_mtime_ns + {later}
 """
 
 

@@ -106,7 +106,7 @@ def test_errors_of_sqlite_and_of_values(tmp_path, call, error, is_damaged):
     made = of_pictures(tmp_path / "c", b"/a")
     with pytest.raises(error) as raised, made.guarded():
         call(made)
-    damage = str(made.failure(Damaged(""))).rstrip(": ")
+    damage = f"{made.name} is damaged"
     assert str(raised.value).startswith(damage) is is_damaged
     made.close()
 

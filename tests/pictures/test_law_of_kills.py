@@ -36,7 +36,7 @@ WAYS = {
 KILLS = {"here": 4, "on a share": 4}  # of each command in the short form, spread over a run, and here the first of each call
 READS = 3  # of so many kills one is followed by a command that reads
 
-COPY = re.compile(r"(^|/)\.exifnorm-\d+-[0-9a-f]{12}\.part$")  # on a share, where it has a name
+STAYS = re.compile(r"(^|/)\.exifnorm-\d+-[0-9a-f]{12}\.part$|-(wal|shm|journal)$|^state/")  # where there was nothing left to write
 PYTHONS = re.compile("[a-z0-9_]{8}")  # a file by which Python tries whether it can write to TMPDIR
 CALLS = (
     "write pwrite64 fsync fdatasync ftruncate rename renameat renameat2 link linkat unlink unlinkat rmdir mkdir mkdirat symlink fchmod fchown"
@@ -80,7 +80,7 @@ def chosen(known, way):
 
 
 def rows(path):
-    """What a catalogue or an export has, but for the numbers and times of runs: pictures by their paths."""
+    """What a catalogue or an export has, but for the numbers and times of runs: pictures by their paths. Of runs, whether the last was whole."""
     with contextlib.closing(sqlite3.connect(path)) as base:
         assert base.execute("PRAGMA integrity_check").fetchall() == [("ok",)]
         names = [it for it, in base.execute("SELECT name FROM sqlite_master WHERE type = 'table'")]
@@ -90,7 +90,8 @@ def rows(path):
             cursor = base.execute(f"SELECT * FROM {name}")
             columns = [it[0] for it in cursor.description]
             found[name] = sorted(TIME.sub("", repr(plain(dict(zip(columns, row)), paths))) for row in cursor)
-        found.pop("runs", None)
+        if "runs" in found:
+            found["runs"] = base.execute("SELECT ended IS NULL FROM runs ORDER BY id DESC LIMIT 1").fetchall()
         return found
 
 
@@ -130,11 +131,10 @@ def left(archive, here):
     return [it for it in os.listdir(here / "tmp") if not PYTHONS.fullmatch(it)]
 
 
-def differing(now, due, had_all, is_mend):
-    """The files that differ. If there was nothing left to write, what SQLite keeps beside a catalogue stays until a command writes to it; and
-    no run looks for a copy of another one, of which a folder can have many."""
-    names = {it for it in {*now, *due} if now.get(it) != due.get(it) and not (is_mend and COPY.search(it))}
-    return {it for it in names if not (had_all and it.endswith(("-wal", "-shm", "-journal")))}
+def differing(now, due, had_all):
+    """The files that differ. If there was nothing left to write, some stay until a command writes there."""
+    names = {it for it in {*now, *due} if now.get(it) != due.get(it)}
+    return {it for it in names if not (had_all and STAYS.search(it))}
 
 
 def difference(now, due):
@@ -186,7 +186,7 @@ def test_given_again(name, way, archive, tmp_path, pytestconfig):
         if again != status and not had_all:
             wrong.append((about, "again", again, said))
         now, one = state(here), twice if had_all else due
-        wrong += [(about, it, *difference(now.get(it), one.get(it))) for it in differing(now, one, had_all, words[0] == "mend")]
+        wrong += [(about, it, *difference(now.get(it), one.get(it))) for it in differing(now, one, had_all)]
         wrong += [(about, "folder", it) for it in folders(here) ^ due_folders if not had_all]  # verify stops at its whole evidence
         wrong += [(about, "left", it) for it in left(archive, here)]
         if name == "nightly" and told not in (first, second):

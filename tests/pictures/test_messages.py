@@ -209,7 +209,8 @@ class Messages(WithPictures):
         os.remove(name)
         with Catalogue(name, make=True) as made:
             self.assertEqual(str(made.failure(sqlite3.OperationalError("disk I/O error"))), f"{name}: disk I/O error")
-            self.assertEqual(str(made.failure(Damaged("no text"))), f"{name} is damaged: no text")
+            damaged = f"{name} is damaged: no text. Take an older copy, or make a new one by index"
+            self.assertEqual(str(made.failure(Damaged("no text"))), damaged)
 
     def test_of_names(self):
         write(self.path("list"), b"a\0b\0")

@@ -24,8 +24,9 @@ from typing import IO, List, Optional, Tuple
 
 from ..files import atomic
 from ..model.errors import Failure
+from ..model.records import Stamp
 from ..model.texts import shown_path
-from .store import VERSION, Catalogue, Earlier, earlier_release, head_is_ours
+from .store import VERSION, Catalogue, Earlier, earlier_release, head_is_ours, head_of
 
 _HEAD = "The lock of exifnorm-pictures nightly, and what its catalogue of tonight was made from:\n"
 _SQLITES = ("-wal", "-shm", "-journal")  # files that SQLite keeps beside a catalogue
@@ -190,11 +191,8 @@ def _opened_lock(name: str) -> IO[str]:
 
 def _mark(name: str) -> Optional[List[int]]:
     """What shows that a file was written or replaced; None if there is none."""
-    try:
-        now = os.stat(name)
-    except OSError:
-        return None
-    return [now.st_ino, now.st_size, now.st_mtime_ns]
+    now = Stamp.at(os.fsencode(name))
+    return now and [now.inode, now.size, now.modified]
 
 
 def _refuse_others(name: str) -> None:
@@ -208,8 +206,7 @@ def _other_kind(name: str) -> atomic.NotReplaced:
 
 
 def _is_ours(name: str) -> bool:
-    with open(name, "rb") as file:
-        head = file.read(100)
+    head, _ = head_of(name)
     return not head or head_is_ours(head)
 
 

@@ -13,11 +13,11 @@ import os
 import tempfile
 from typing import BinaryIO, Iterator, List, NamedTuple, Optional, Sequence, Tuple
 
-from ..files import atomic, opening
+from ..files import atomic
 from ..model.errors import Failure, WrongUse
 from ..model.texts import in_words, shown_path
 from .merge import merge
-from .store import LIST, LIST_HEAD, Catalogue, NoCatalogue, address, check_schema, connect, head_is_ours, list_of, unlike
+from .store import LIST, LIST_HEAD, Catalogue, NoCatalogue, address, check_schema, connect, head_is_ours, head_of, identity, list_of, unlike
 
 MOST = 10  # that SQLite attaches
 _NAMED = 3  # of those that an answer is without
@@ -118,16 +118,11 @@ def put_list(folder: str, names: Sequence[str]) -> None:
 
 def _unlisted(folder: str, there: Sequence[str]) -> Iterator[str]:
     """The catalogues in a folder that its list doesn't name."""
-    known = {(status.st_dev, status.st_ino) for status in map(os.stat, there)}
+    known = set(map(identity, there))
     with os.scandir(folder) as entries:
         for entry in sorted(entries, key=lambda entry: entry.name):
-            if entry.is_file() and (entry.stat().st_dev, entry.stat().st_ino) not in known and _is_catalogue(entry.path):
+            if entry.is_file() and identity(entry.path) not in known and head_is_ours(head_of(entry.path)[0]):
                 yield entry.path
-
-
-def _is_catalogue(name: str) -> bool:
-    with opening.reading(name) as file:
-        return head_is_ours(file.read(100))
 
 
 # How they are read

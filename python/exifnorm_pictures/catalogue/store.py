@@ -169,25 +169,20 @@ def head_is_ours(head: bytes) -> bool:
     return head[:16] == b"SQLite format 3\0" and int.from_bytes(head[68:72], "big") == APPLICATION
 
 
+_OPEN = b"\2\2"  # of one that has a log
 _CLOSED = b"\1\1"  # at offset 18 of a SQLite file that has no log: a catalogue is closed like this, and a log is removed before
 
 
 def _mark(name: str) -> Optional[Tuple[int, int]]:
     """What identifies a file that isn't empty, and its last change."""
-    try:
-        now = os.stat(name)
-    except OSError:
-        return None
-    return (now.st_ino, now.st_ctime_ns) if now.st_size else None
+    now = Stamp.at(os.fsencode(name))
+    return (now.inode, now.changed) if now and now.size else None
 
 
-def _identity(name: str) -> Optional[Tuple[int, int]]:
+def identity(name: str) -> Optional[Tuple[int, int]]:
     """What identifies the file of a name; None if there is none."""
-    try:
-        status = os.stat(name)
-    except OSError:
-        return None
-    return status.st_dev, status.st_ino
+    now = Stamp.at(os.fsencode(name))
+    return now and (now.device, now.inode)
 
 
 def _size_of(name: str) -> int:
@@ -195,7 +190,7 @@ def _size_of(name: str) -> int:
     return os.path.getsize(name) if os.path.isfile(name) else 0
 
 
-def _head_of(name: str) -> Tuple[bytes, int]:
+def head_of(name: str) -> Tuple[bytes, int]:
     """The first 100 bytes of a file, and its length. Raises `OSError` with its name."""
     try:
         with files.reading(name) as file:
@@ -226,7 +221,7 @@ def _check_head(name: str, make: bool) -> None:
     if not stat.S_ISREG(kind):
         raise NoCatalogue(f"{name} is no catalogue: it is no regular file")
     log = _mark(f"{name}-wal")
-    head, _ = _head_of(name)
+    head, _ = head_of(name)
     if not head and make:
         return
     if not head_is_ours(head):
@@ -250,8 +245,11 @@ def _check_head(name: str, make: bool) -> None:
 _NAMES_OTHERS = bytes.fromhex("d9d505f920a163d7")  # the end of a journal that names a file, which SQLite removes after a rollback
 
 
-def _check_journal(name: str) -> None:
-    """Raises `NoCatalogue` if the journal beside a catalogue names a further file. None of a catalogue does: no transaction is of two files."""
+def _check_writable(name: str) -> None:
+    """Raises `NoCatalogue` if a catalogue can't be written to, or the journal beside it names a further file. None of a catalogue does: no
+    transaction is of two files."""
+    if os.path.exists(name) and not _is_writable(name):
+        raise NoCatalogue(f"{name} isn't written to: it is read-only, or its folder is")
     journal = f"{os.path.realpath(name)}-journal"
     try:
         with files.reading(journal) as file:
@@ -263,6 +261,16 @@ def _check_journal(name: str) -> None:
         raise NoCatalogue(f"{name} isn't written to: the journal beside it, {journal}, names another file, and none of a catalogue does")
 
 
+def _is_writable(name: str) -> bool:
+    """Whether SQLite can write to a catalogue, beside which it makes a log or a journal, and removes it."""
+    return all(os.access(it, os.W_OK) for it in (name, os.path.dirname(os.path.realpath(name))))
+
+
+def _is_left_open(name: str) -> bool:
+    """Whether a catalogue is as a run leaves it that was killed."""
+    return os.path.exists(f"{os.path.realpath(name)}-journal") or os.path.isfile(name) and head_of(name)[0][18:20] == _OPEN
+
+
 def roll_back(name: str, adds: bool = False) -> None:
     """Lets one that writes roll back what a killed run has left of a catalogue, if it can't be read; `adds` as of `Catalogue`. Raises
     `NoCatalogue`."""
@@ -272,7 +280,7 @@ def roll_back(name: str, adds: bool = False) -> None:
         with Catalogue(name):
             return
     except NoCatalogue:
-        if not os.access(name, os.W_OK):
+        if not _is_writable(name):
             raise
     with Catalogue(name, there=not adds, adds=adds):
         pass
@@ -291,7 +299,7 @@ def earlier_release(name: str) -> Optional[Earlier]:
     """What is known of a catalogue of an earlier release; None of any other file, and of none. Raises `OSError`."""
     if not os.path.isfile(name):
         return None
-    head, _ = _head_of(name)
+    head, _ = head_of(name)
     version = int.from_bytes(head[60:64], "big")
     if not head_is_ours(head) or version >= VERSION:
         return None
@@ -434,7 +442,7 @@ class Catalogue:
         self._was_cut = False
         _check_head(name, make)
         if self._is_written:
-            _check_journal(name)
+            _check_writable(name)
         with self.guarded():
             self.base = connect(address(name, "rwc" if make else "rw" if self._is_written else "ro"))
             try:
@@ -442,7 +450,7 @@ class Catalogue:
                     self.base.execute(f"PRAGMA busy_timeout = {SHORT_WAIT * 1000}")
                 if self._is_written:
                     self._prepare(SHORT_WAIT if adds else WAIT)
-                    self._file, self._least = _identity(name), os.stat(name).st_size
+                    self._file, self._least = identity(name), os.stat(name).st_size
                 else:
                     check_schema(self.base, name)
             except BaseException:
@@ -483,12 +491,18 @@ class Catalogue:
         """The error of this catalogue for one of SQLite, or for a value. Only a file that SQLite can't read is damaged, not a full disk. Raises
         what a signal raised meanwhile."""
         signals.go_on_stopping()
-        if "readonly database" in str(error) and not self._is_written and os.path.exists(f"{os.path.realpath(self.name)}-journal"):
+        if (
+            not self._is_written
+            and str(error) in ("attempt to write a readonly database", "unable to open database file")
+            and _is_left_open(self.file)
+        ):
             return NoCatalogue(
-                f"{self.name} has the journal of a run that was killed: index, or another command that writes to it, mends that"
+                f"{self.name} is as a killed run has left it, and can't be read so:"
+                " index, or another command that writes to it, mends that"
             )
-        is_damaged = isinstance(error, (Damaged, UnicodeDecodeError)) or type(error) is sqlite3.DatabaseError
-        return NoCatalogue(f"{self.name}{' is damaged' * is_damaged}: {error}")
+        if isinstance(error, (Damaged, UnicodeDecodeError)) or type(error) is sqlite3.DatabaseError:
+            return NoCatalogue(f"{self.name} is damaged: {error}. Take an older copy, or make a new one by index")
+        return NoCatalogue(f"{self.name}: {error}")
 
     def __enter__(self) -> "Catalogue":
         return self
@@ -500,10 +514,10 @@ class Catalogue:
 
     def _check_place(self) -> None:
         """Raises `NoCatalogue` if the name no longer leads to what was written. SQLite goes on writing to a file that was removed or replaced."""
-        now = _identity(self.name)
+        now = identity(self.name)
         if now is None or now != self._file:
             raise NoCatalogue(f"{self.name} was {'replaced' if now else 'removed'} while it was written, so this run is not in it")
-        head, length = _head_of(self.name)
+        head, length = head_of(self.name)
         pages, size = int.from_bytes(head[28:32], "big"), int.from_bytes(head[16:18], "big")
         if self._was_cut or not head_is_ours(head) or length < pages * (size if size > 1 else 65536):
             raise NoCatalogue(f"{self.name} was cut while it was written, and is damaged")
@@ -538,11 +552,11 @@ class Catalogue:
 
     def has_sidecars(self) -> bool:
         """Whether XMP files beside pictures are blocks of them here, as in one of its runs."""
-        return next(self.rows("SELECT 1 FROM runs WHERE sidecars LIMIT 1"), None) is not None
+        return bool(self.number_of("SELECT EXISTS (SELECT 1 FROM runs WHERE sidecars)"))
 
     def has_digests(self) -> bool:
         """Whether it has digests of coded pictures, as of `index --pixels`."""
-        return next(self.rows("SELECT 1 FROM pictures WHERE coded_picture != '' LIMIT 1"), None) is not None
+        return bool(self.number_of("SELECT EXISTS (SELECT 1 FROM pictures WHERE coded_picture != '')"))
 
     def set_versions(self, run: int, exifnorm: str, exiftool: Optional[str], exiv2: Optional[str]) -> None:
         """Keeps which library makes the digests of a run, and which programs have read a picture."""
@@ -660,7 +674,7 @@ class Catalogue:
     def reading(self, is_answer: bool = False) -> Iterator[None]:
         """All that is read inside is of one moment, and the file is locked once for all of it. An answer is about what is there at its end:
         raises `NoCatalogue` if the name leads to no file then, or to another one, or the file was cut."""
-        before, size = _identity(self.name), _size_of(self.name)
+        before, size = identity(self.name), _size_of(self.name)
         with self.guarded():
             self.base.execute("BEGIN")
         try:
@@ -668,7 +682,7 @@ class Catalogue:
         finally:
             with contextlib.suppress(sqlite3.Error):
                 self.base.execute("COMMIT")
-        now = _identity(self.name)
+        now = identity(self.name)
         if is_answer and (now != before or _size_of(self.name) < size):
             what = "removed" if now is None else "replaced" if now != before else "cut"
             raise NoCatalogue(f"{self.name} was {what} while it was read, so this answer is about what it was")
@@ -720,7 +734,7 @@ class Catalogue:
 
     def is_empty(self) -> bool:
         """Whether no picture is known, as in a first run."""
-        return next(self.rows("SELECT 1 FROM pictures LIMIT 1"), None) is None
+        return not self.number_of("SELECT EXISTS (SELECT 1 FROM pictures)")
 
     def below(self, folder: bytes, run: int = 0) -> Iterator[Tuple[int, bytes, Optional[str]]]:
         """The number, path and problem of each picture below a folder, by path, without those that a run has looked at."""

@@ -1,7 +1,7 @@
 """Files that are written in full or not at all: they get their name only after all bytes are on the disk.
 
 If the file system allows it, the file has no name while it is written, so that a killed run leaves none but at the last moment. A file that it
-leaves is removed by the next run that replaces a file of that kind there: a process that lives has locked its file.
+leaves is removed by the next run that writes a file there: a process that lives has locked its file.
 """
 
 from __future__ import annotations
@@ -20,6 +20,12 @@ from . import copying, opening, rights, signals
 Write = Callable[[BinaryIO], None]
 _LEFT = re.compile(rb"\.exifnorm-\d+-[0-9a-f]{12}\.part")  # as `_free_name` makes it
 _HEAD = 100  # bytes by which the kind of a file is known
+# How what this program writes begins, and before it has its first bytes: catalogues, tables, pages, sheets, evidence, lists; copies of pictures
+_OURS = re.compile(
+    rb"\0*($|SQLite format 3|PK\x03\x04|<!doctype html|# exifnorm-|%%%% HASHDEEP|[0-9a-f]{64}  |exifnorm-pictures: "
+    rb"|\xff[\xd8\x4f\x0a]|II|MM|MRM|FUJI|FOVb|\x89PNG|RIFF|8BPS|GIF8|....(ftyp|JXL |jP  ))",
+    re.IGNORECASE | re.DOTALL,
+)
 
 
 class NotReplaced(Failure):
@@ -56,7 +62,7 @@ def replace(out: bytes, write: Write, allowed: Callable[[bytes], bool], kept: Tu
     there = os.path.realpath(out)
     try:
         _check(there, allowed, kept)
-        sweep(os.path.dirname(there), _LEFT, lambda entry: _remove_dead(entry.path, allowed))
+        remove_left(os.path.dirname(there))
         _replace(there, write, kept)
     except OSError as error:  # the file that it names may be the one that gets its name in the end
         raise NotReplaced(reason(error)) from None
@@ -109,6 +115,11 @@ def _check(out: bytes, allowed: Callable[[bytes], bool], kept: Tuple[str, ...]) 
         raise NotReplaced("it is there, and is a file of another kind")
 
 
+def remove_left(folder: bytes) -> None:
+    """Removes the files that killed runs have left in a folder."""
+    sweep(folder, _LEFT, lambda entry: _remove_dead(entry.path))
+
+
 def sweep(folder: AnyStr, names: "Pattern[AnyStr]", remove: "Callable[[os.DirEntry[AnyStr]], None]") -> None:
     """Removes what killed runs have left in a folder under such names; `remove` leaves what it may not remove, or raises `OSError`."""
     with contextlib.suppress(OSError), os.scandir(folder) as entries:
@@ -118,16 +129,14 @@ def sweep(folder: AnyStr, names: "Pattern[AnyStr]", remove: "Callable[[os.DirEnt
                     remove(entry)
 
 
-def _remove_dead(path: bytes, allowed: Callable[[bytes], bool]) -> None:
-    """Removes a file that a killed run of this user has left, which nobody has locked, if it is empty or of an allowed kind."""
+def _remove_dead(path: bytes) -> None:
+    """Removes a file that a killed run of this user has left, which nobody has locked, if it begins as what this program writes."""
     with open(os.open(path, os.O_RDONLY | os.O_NOFOLLOW | os.O_NONBLOCK | os.O_CLOEXEC), "rb") as file:
         now = os.fstat(file.fileno())
-        if not stat.S_ISREG(now.st_mode) or now.st_uid != os.geteuid():
-            return
-        fcntl.flock(file, fcntl.LOCK_EX | fcntl.LOCK_NB)
-        head = file.read(_HEAD)
-        if not head or allowed(head):
-            os.unlink(path)
+        if stat.S_ISREG(now.st_mode) and now.st_uid == os.geteuid():
+            fcntl.flock(file, fcntl.LOCK_EX | fcntl.LOCK_NB)
+            if _OURS.match(file.read(_HEAD)):
+                os.unlink(path)
 
 
 @contextlib.contextmanager
@@ -152,16 +161,17 @@ def _opened(folder: bytes, out: bytes, mode: int) -> Tuple[int, Optional[bytes]]
     """A new file that is locked, as far as the file system can, and its name if it needs one."""
     if hasattr(os, "O_TMPFILE"):
         with contextlib.suppress(OSError):
-            return _locked(os.open(folder, os.O_TMPFILE | os.O_RDWR | os.O_CLOEXEC, mode)), None
+            return locked(os.open(folder, os.O_TMPFILE | os.O_RDWR | os.O_CLOEXEC, mode)), None
     while True:
         name = _free_name(out)
-        number = _locked(os.open(name, os.O_RDWR | os.O_CREAT | os.O_EXCL | os.O_CLOEXEC, mode))
+        number = locked(os.open(name, os.O_RDWR | os.O_CREAT | os.O_EXCL | os.O_CLOEXEC, mode))
         if os.fstat(number).st_nlink:
             return number, name
         os.close(number)  # another run has taken it for that of a dead one, before it was locked
 
 
-def _locked(number: int) -> int:
+def locked(number: int) -> int:
+    """A file that is open, locked as far as the file system can."""
     with contextlib.suppress(OSError):  # a file system without locks
         fcntl.flock(number, fcntl.LOCK_EX)
     return number
@@ -180,9 +190,7 @@ def _link(file: BinaryIO, name: Optional[bytes], out: bytes) -> None:
         return
     try:
         os.link(name, out)
-    except FileExistsError:
-        raise
-    except OSError:  # a file system without hard links
+    except OSError:  # also of a file system without hard links
         if os.path.lexists(out):
             raise FileExistsError(out) from None
         os.rename(name, out)

@@ -20,7 +20,7 @@ from typing import Any, Iterator, List, Optional, Sequence, Tuple
 
 from ..model.texts import reason, shown_path
 from . import opening, rights, signals
-from .atomic import NotReplaced, sweep
+from .atomic import NotReplaced, locked, sweep
 
 _LONGEST = 64 << 20  # bytes of a list of names
 _AT_ONCE = 1000  # files that are removed
@@ -114,9 +114,7 @@ def _locked(beside: bytes) -> Tuple[bytes, int]:
     """A new folder, and the number by which this process has locked it, as far as the file system can."""
     while True:
         room = tempfile.mkdtemp(prefix=_PREFIX, suffix=_SUFFIX, dir=beside)
-        lock = os.open(room, os.O_RDONLY | os.O_DIRECTORY | os.O_CLOEXEC)
-        with contextlib.suppress(OSError):
-            fcntl.flock(lock, fcntl.LOCK_EX)
+        lock = locked(os.open(room, os.O_RDONLY | os.O_DIRECTORY | os.O_CLOEXEC))
         if os.path.lexists(room):
             return room, lock
         os.close(lock)  # another run took it for one of a killed run, before it was locked

@@ -3,6 +3,7 @@
 from __future__ import annotations
 
 import contextlib
+import functools
 import os
 import re
 import tempfile
@@ -80,6 +81,7 @@ def mend(picture: bytes, out: bytes, session: Session, folder: Optional[bytes] =
     folder. With `folder` the folders of `out` are made; no link may lead out of it. A copy is judged before it gets its name, since another
     process may write to the picture meanwhile.
     """
+    _remove_left(os.path.dirname(os.path.realpath(out)))
     if os.path.lexists(out):
         raise NotWritten("the copy is there already")
     with tempfile.TemporaryDirectory(dir=session.room) as own:
@@ -99,6 +101,9 @@ def mend(picture: bytes, out: bytes, session: Session, folder: Optional[bytes] =
         _put(file, picture, out, check)
     result.is_written = True
     return result
+
+
+_remove_left = functools.lru_cache(maxsize=64)(atomic.remove_left)  # so that a folder of many copies is listed once
 
 
 def attempt(session: Session, picture: bytes, room: str) -> Tuple[Mended, Optional[bytes]]:

@@ -2,7 +2,6 @@
 
 from __future__ import annotations
 
-import os
 import time
 from typing import Iterable, Iterator, List, Optional, Sequence, Tuple
 
@@ -143,18 +142,14 @@ def _unless_changed(file: FoundFile, began: int) -> Optional[Stamp]:
     If it was changed so shortly before that a further edit could leave the same times, they are kept with a ctime that no file has, as
     git does it: the next run looks again, and a file that moves is still recognised.
     """
-    try:
-        now = os.stat(file.path)
-    except (OSError, ValueError):
+    now = Stamp.at(file.path)
+    if now is None or file.stamp != now:
         return None
-    if file.stamp is None or file.stamp != Stamp.of(now):
-        return None
-    times = (now.st_mtime_ns, now.st_ctime_ns)
-    if began - max(times) > COARSE:
-        return file.stamp
-    if not began:
-        return file.stamp._replace(changed=RACY)
-    return file.stamp._replace(changed=RACY) if _is_racy(times, began) else file.stamp
+    times = (now.modified, now.changed)
+    is_old = began - max(times) > COARSE
+    if not began or not is_old and _is_racy(times, began):
+        return now._replace(changed=RACY)
+    return now
 
 
 def _is_racy(times: Sequence[int], began: int) -> bool:
