@@ -497,7 +497,7 @@ class Catalogue:
             and _is_left_open(self.file)
         ):
             return NoCatalogue(
-                f"{self.name} is as a killed run has left it, and can't be read so:"
+                f"{self.name} is as a killed run has left it, with a journal or a log, and can't be read so:"
                 " index, or another command that writes to it, mends that"
             )
         if isinstance(error, (Damaged, UnicodeDecodeError)) or type(error) is sqlite3.DatabaseError:
