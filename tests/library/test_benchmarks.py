@@ -176,6 +176,14 @@ def test_python_package(library, folder):
     numbers_of(r"^  exifnorm.normal over C: normalise: ([\d.]+)$", printed)
 
 
+def test_memory_of_packets(program):
+    """As SECURITY.md has it."""
+    rows = [line.split("|")[2:5] for line in benchmark("packets/memory.py", program).splitlines()[2:]]
+    for length, asked, held in ((int(it.replace(",", "")) for it in row) for row in rows):
+        assert 0 < asked <= 5034 and 0 < held <= 130 and length < 490_000
+    assert len(rows) == 4
+
+
 def test_packets_of_xmp(library):
     printed = benchmark("packets/run.py", library)
     read = dict(re.findall(r"^\| (.*?) \| ([\d,]+) \| [\d.]*\s*\|$", printed, re.M))

@@ -1,0 +1,80 @@
+#!/usr/bin/env python3
+"""Counts what `show` of a packet of XMP that was made to cost much asks the allocator for, and prints a table.
+
+  bench/packets/memory.py PROGRAM [PACKET ..]
+
+PROGRAM is one such as out/exifnorm. Each PACKET is a file with a packet; without any, packets of about
+480,000 bytes are made. The figures don't depend on the machine.
+"""
+
+import argparse
+import subprocess
+import sys
+import tempfile
+from pathlib import Path
+from typing import Dict
+
+TOP = Path(__file__).resolve().parent.parent.parent
+sys.path[:0] = [str(TOP / "tests"), str(TOP / "tests" / "program"), str(TOP / "tests" / "blocks")]
+sys.dont_write_bytecode = True
+
+from cases import Case
+from watching import watched
+
+LENGTH = 480_000
+RDF = "http://www.w3.org/1999/02/22-rdf-syntax-ns#"
+
+
+def packet(inside: str, path: str = "") -> bytes:
+    """A packet with properties whose namespace is that of the letter d."""
+    spaces = f"xmlns:r='{RDF}' xmlns:d='http://{path}/'"
+    return f"<r:RDF {spaces}><r:Description>{inside}</r:Description></r:RDF>".encode()
+
+
+def numbered(form: str) -> str:
+    """Pieces with numbers, the greatest first, as many as there is room for."""
+    count = LENGTH // len(form.format(100_000))
+    return "".join(form.format(100_000 + it) for it in range(count, 0, -1))
+
+
+def nested(inside: str, depth: int) -> str:
+    """Bags of two structures in one another: each is sorted by what it has."""
+    begin, end = "<r:Bag><r:li r:parseType='Resource'><d:b>", "</d:b><d:a/></r:li></r:Bag>"
+    return f"<d:a>{begin * depth}<r:Bag><r:li r:parseType='Resource'>{inside}</r:li></r:Bag>{end * depth}</d:a>"
+
+
+# The name of a property in a form has its namespace
+PACKETS: Dict[str, bytes] = {
+    "properties in no order": packet(numbered("<d:a{0}/>")),
+    "a bag in no order": packet(f"<d:a><r:Bag>{numbered('<r:li>{0}</r:li>')}</r:Bag></d:a>"),
+    "a namespace of 240 bytes": packet(numbered("<d:a{0}/>"), "d" * 240),
+    "the same in 31 bags": packet(nested(numbered("<d:a{0}/>"), 31), "d" * 240),
+}
+
+
+def main() -> None:
+    words = argparse.ArgumentParser(description=__doc__.splitlines()[0])
+    words.add_argument("program")
+    words.add_argument("packets", nargs="*", metavar="PACKET")
+    given = words.parse_args()
+    packets = {name: Path(name).read_bytes() for name in given.packets} or PACKETS
+    with tempfile.TemporaryDirectory() as folder:
+        shim = f"{folder}/watch.so"
+        source = str(TOP / "tests" / "program" / "watch_calls.c")
+        subprocess.run(["cc", "-shared", "-fPIC", "-O2", "-o", shim, source, "-ldl"], check=True)
+        print(
+            "| Packet | Bytes | Asked for a byte, all requests together | In use at once for a byte |"
+        )
+        print("|---|---|---|---|")
+        for name, octets in packets.items():
+            _, counts = watched(
+                given.program, shim, Case("", words=["show", "a"], files={"a": octets})
+            )
+            print(
+                f"| {name} | {len(octets):,} | {counts.asked / len(octets):,.0f} | {counts.held / len(octets):,.0f} |",
+                flush=True,
+            )
+
+
+if __name__ == "__main__":
+    main()
