@@ -10,6 +10,7 @@ from concurrent.futures import ThreadPoolExecutor
 from pathlib import Path
 
 import pytest
+from made_museum import first_night
 from studio import TOP, needs, put
 from test_api import BEFORE, BOWL, FORMATS, Unseekable, facts
 
@@ -72,6 +73,15 @@ def test_without_programs_none_is_started(tmp_path):
     assert not [name for name in whole if found[name][0] != "Picture"]
     assert found["text.jpg"][0] == found["empty.jpg"][0] == found["djvu.jpg"][0] == "NoPicture"
     assert found["head.jpg"][0] == "NeedsExifTool"
+
+
+def test_without_programs_none_is_started_for_a_museum(tmp_path):
+    """Its pictures as they are, cut in two, and with the endings of raw pictures, which exiv2 reads."""
+    made = [(name[-9:].replace("/", "-"), data) for name, data in first_night().items() if isinstance(data, bytes)]
+    files = {f"{number}-{name}": data for number, (name, data) in enumerate(made)}
+    files.update({f"cut-{name}": data[: len(data) // 2] for name, data in files.items()})
+    files.update({f"{number}.{ending}": data for number, (_, data) in enumerate(made) for ending in ("crw", "mrw")})
+    assert len(files) > 500 and not [name for name, (_, started) in watched(tmp_path, "without", files).items() if started]
 
 
 @needs("exiftool")

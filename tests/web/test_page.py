@@ -889,6 +889,8 @@ def test_names_are_text(browser, folder):
         "a\u202egpj.exe.jpg",
         "\x1b[31m.jpg",
         "two\nlines.jpg",
+        "__proto__",
+        "constructor",
     ]
     for side, source in (("first", VASE), ("second", BOWL)):
         (folder / side / "<b>").mkdir(parents=True)
