@@ -128,6 +128,25 @@ def test_a_call_that_lies(name, call, number, tmp_path, monkeypatch):
 
 
 PICTURE = pictures.read_bytes(PICTURES["jpg"])
+ODD = [None, True, b"", "text", -1, 1 << 70, float("nan"), [], {}, object(), OddName("x"), OddNumber(7), Odd(b"a"), type, *ERRORS]
+CALLS = ("read", "tell", "seek", "seekable", "readable", "fileno", "close", "name", "mode", "closed", "__iter__", "readinto")
+
+
+@pytest.mark.parametrize("number", range(len(ODD)))
+@pytest.mark.parametrize("call", CALLS)
+def test_anything_from_any_call(call, number, monkeypatch, tmp_path):
+    """As an attribute, and as what a call returns or raises."""
+    monkeypatch.setattr(tempfile, "tempdir", str(tmp_path))
+    lie = ODD[number]
+    answers = lie if callable(lie) and lie is not type else lambda *_: lie
+    for attribute in (lie, answers, property(answers)):
+        made = type("Odd", (io.BytesIO,), {call: attribute})
+        with pictures.Reader(programs=False) as reader:
+            for ask in (reader.read, lambda file: pictures.compare(file, PICTURE)):
+                try:
+                    ask(made(PICTURES["jpg"]))
+                except RAISED as error:
+                    assert "internal" not in str(error) and "\n" not in str(error), repr(error)
 
 
 @pytest.mark.parametrize("error", [ValueError("closed"), KeyError("x"), struct.error("7"), OSError(5, "no"), AttributeError("y")], ids=repr)
