@@ -62,14 +62,10 @@ def main() -> None:
         shim = f"{folder}/watch.so"
         source = str(TOP / "tests" / "program" / "watch_calls.c")
         subprocess.run(["cc", "-shared", "-fPIC", "-O2", "-o", shim, source, "-ldl"], check=True)
-        print(
-            "| Packet | Bytes | Asked for a byte, all requests together | In use at once for a byte |"
-        )
+        print("| Packet | Bytes | Asked for a byte, all requests together | In use at once for a byte |")
         print("|---|---|---|---|")
         for name, octets in packets.items():
-            _, counts = watched(
-                given.program, shim, Case("", words=["show", "a"], files={"a": octets})
-            )
+            _, counts = watched(given.program, shim, Case("", words=["show", "a"], files={"a": octets}))
             print(
                 f"| {name} | {len(octets):,} | {counts.asked / len(octets):,.0f} | {counts.held / len(octets):,.0f} |",
                 flush=True,
