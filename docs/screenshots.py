@@ -2,13 +2,17 @@
 """Takes the pictures of the report and of the page for the tutorial and the README, with Chromium. Needs Pillow.
 
   docs/screenshots.py [COMMAND [PAGE]]
+  docs/screenshots.py --check
 
 COMMAND is exifnorm-pictures; by default it is the one of this clone. The pictures show the report that the tutorial makes. PAGE is the page that
 compares pictures in a browser; by default docs/exifnorm.html. Its picture shows the samples of both days.
+
+--check says, by docs/screenshots.txt, whether what the pictures are made from has changed since then.
 """
 
 from __future__ import annotations
 
+import hashlib
 import re
 import shutil
 import subprocess
@@ -32,6 +36,36 @@ PICTURES = {
     "report-same.png": ["Pictures with the same metadata"],
     "report-refused.png": ["Refused blocks and what helps"],
 }
+
+
+# What the pictures show: the samples, the page, and the parts of the package that write the report
+SOURCES = (
+    "samples/before/**/*",
+    "samples/after/**/*",
+    "docs/screenshots.py",
+    "docs/exifnorm.html",
+    "python/exifnorm_pictures/report/**/*.*",
+    "python/exifnorm_pictures/comparison/edit*.py",
+    "python/exifnorm_pictures/comparison/group_sentence.py",
+)
+RECORD = DOCS / "screenshots.txt"
+
+
+def sources() -> str:
+    """A line for each of them, with a digest."""
+    top = DOCS.parent
+    found = sorted(it for pattern in SOURCES for it in top.glob(pattern) if it.is_file())
+    kept = [it for it in found if "__pycache__" not in it.parts]
+    lines = (f"{hashlib.sha256(it.read_bytes()).hexdigest()[:16]} {it.relative_to(top)}\n" for it in kept)
+    return "".join(lines)
+
+
+def check() -> None:
+    """Ends with a message if a source has changed."""
+    before, now = (set(it.splitlines()) for it in (RECORD.read_text(encoding="utf-8"), sources()))
+    changed = sorted({it.partition(" ")[2] for it in before ^ now})
+    if changed:
+        sys.exit(f"older than {', '.join(changed)}: run docs/screenshots.py, and look at its pictures")
 
 
 def report(command: str, folder: Path) -> str:
@@ -109,12 +143,16 @@ def take_page(page: Path, folder: Path) -> Image.Image:
 def main(words: list[str]) -> None:
     if len(words) > 2:
         sys.exit(__doc__)
+    if words == ["--check"]:
+        check()
+        return
     command = str(Path(words[0] if words else DOCS.parent / "exifnorm-pictures").resolve())
     with tempfile.TemporaryDirectory() as name:
         keep(take_page(Path(words[1]) if len(words) > 1 else DOCS / "exifnorm.html", Path(name)), "page.png")
         page = report(command, Path(name))
         for file, titles in PICTURES.items():
             keep(take(only(page, titles), Path(name)), file)
+    RECORD.write_text(sources(), encoding="utf-8")
 
 
 if __name__ == "__main__":

@@ -19,7 +19,11 @@ from exifnorm_pictures.comparison.edit_groups import Kinds
 from exifnorm_pictures.comparison.edit_words import line_of
 from exifnorm_pictures.comparison.edits import edits_of
 from exifnorm_pictures.comparison.marking import Marker
+from exifnorm_pictures.comparison.summary_lines import lacking_of
+from exifnorm_pictures.comparison.wording import look
 from exifnorm_pictures.model.results import Result
+from exifnorm_pictures.model.texts import safe
+from exifnorm_pictures.model.verdicts import Verdict
 
 
 def one(where, key, kind, *values):
@@ -195,7 +199,9 @@ def test_one_value_for_all_is_one_edit_whatever_was_there():
 
 def test_many_texts_of_their_own_are_one_group():
     """But what was removed isn't hidden among them."""
-    changes = [("", f"plate {number}") for number in range(50)] + [(f"plate {number}", "") for number in range(2)] + [("a vase", "a bowl")]
+    changes = (
+        [("", "plate" + "e" * number) for number in range(50)] + [(f"plate {number}", "") for number in range(2)] + [("a vase", "a bowl")]
+    )
     assert groups_of(*changes) == [
         (1, ["caption (IPTC, XMP): [-vase-]{+bowl+}"]),
         (2, ["caption (IPTC, XMP) removed"]),
@@ -204,9 +210,9 @@ def test_many_texts_of_their_own_are_one_group():
 
 
 def test_a_day_of_keywords():
-    """Twenty pictures get a keyword, whatever they had, and six lose their rating; three went wrong."""
+    """Of 343 pictures 69 get a keyword, whatever they had, and six lose their rating; three went wrong."""
     rating = one("xmp", "xmp:Rating", "text", "3")
-    days = [(keywords(*"abc"[: number % 3]), keywords(*"abc"[: number % 3], "digitised")) for number in range(20)]
+    days = [(keywords(*"abc"[: number % 3]), keywords(*"abc"[: number % 3], "digitised")) for number in range(69)]
     days += [(one("xmp", "xmp:Rating", "text", str(number % 2)) + caption("a"), caption("a")) for number in range(6)]
     days += [(caption("a bowl, 1820") + keywords("a"), caption("a bowl, 1280") + keywords("a", "digitised"))]
     days += [(one("iptc", "2:80", "octets", "Lena"), one("iptc", "2:80", "octets", "Unknown"))]
@@ -214,11 +220,13 @@ def test_a_day_of_keywords():
     kinds = Kinds()
     for number, (before, after) in enumerate(days):
         kinds.add(b"%02d" % number, differences(before, after))
+    assert [kinds.add(b"same", differences(caption("a"), caption("a"))) for _ in range(265)] == [0] * 265
+    assert sum(it.pictures for it in kinds.kinds) == 78
     groups = kinds.groups()
-    assert [(it.pictures, it.names) for it in groups if it.is_odd] == [(1, [b"26"]), (1, [b"27"]), (1, [b"28"])]
+    assert [(it.pictures, it.names) for it in groups if it.is_odd] == [(1, [b"75"]), (1, [b"76"]), (1, [b"77"])]
     assert [(it.pictures, line_of(it.edits[0])) for it in groups if not it.is_odd] == [
         (6, "XMP-xmp:Rating removed"),
-        (20, "keywords (IPTC): {+digitised+}"),
+        (69, "keywords (IPTC): {+digitised+}"),
     ]
 
 
@@ -229,13 +237,54 @@ def test_memory_has_a_limit(monkeypatch):
         for text in (f"{number} {'x' * 10_000}", f"{number} {'y ' * 10_000}"):
             kinds.add(b"%d" % number, differences(caption("a vase"), caption(text)))
     assert len(kinds.kinds) == 20 and kinds.further == 180
-    assert max(len(step.text) for kind in kinds.kinds for edit in kind.edits for step in edit.steps) < 400
+    assert max(len(step.text) for kind in kinds.kinds for one in kind.edits for step in one.edit.steps) < 400
     assert sum(it.pictures for it in kinds.groups()) == 20
 
 
 def test_a_strangers_fields_are_limited():
     changes = differences([], [one("xmp", f"x:f{number}", "text", "a")[0] for number in range(2000)])
-    assert len(edits_of(changes, False)) <= 101
+    edits = edits_of(changes, False)
+    assert len(edits) <= 101
+    other = differences([], [one("xmp", f"x:f{number}", "text", "b" if number == 1998 else "a")[0] for number in range(2000)])
+    kinds = Kinds(False)
+    assert [kinds.add(b"p", it) for it in (changes, other, changes)] == [1, 2, 1], "further edits are one only if all are equal"
+
+
+WORDS = st.lists(
+    st.sampled_from(["vase", "bowl", " ", "\u00a0", "é", "e\u0301", "\u200b", "-]{+", "+}", "7", "x" * 400]), min_size=1, max_size=4
+)
+
+
+@given(st.lists(st.tuples(WORDS, WORDS), min_size=2, max_size=6))
+def test_edits_that_differ_never_look_alike(texts):
+    """Whatever characters don't show, and whatever brackets a text has."""
+    kinds = Kinds()
+    for number, (before, after) in enumerate(texts):
+        kinds.add(b"%d" % number, differences(caption("".join(before)), caption("".join(after))))
+    groups = kinds.groups()
+    shown = [look(safe(it.words())) for it in groups]
+    assert len(set(shown)) == len(groups)
+
+
+@given(st.lists(st.integers(0, 9999), min_size=11, max_size=14, unique=True), st.sampled_from(["harbour", "12 vases", "market hall no. 4"]))
+def test_a_picture_whose_words_have_another_shape_is_odd(numbers, word):
+    """Though each of the others has words of its own, too."""
+    changes = [("a harbour", f"a market, plate {number}") for number in numbers]
+    groups = groups_of(*changes[:5], ("a harbour by Lena", f"a harbour by {word}"), *changes[5:])
+    assert [count for count, _ in groups] == [1, len(numbers)]
+    assert groups[1][1] == ["caption (IPTC, XMP): different numbers in each: [-harbour-]{+market, plate #+}"]
+
+
+def test_a_picture_that_was_not_edited_in_a_standard_that_it_has_is_named():
+    """Where the others of its group were."""
+    found = summary.Summary(most_names=3)
+    for number in range(9):
+        texts = (caption(it)[: 1 if number in (4, 6) else 2] for it in ("vase", "bowl"))
+        has_xmp = Verdict("xmp", Result.ABSENT if number == 6 else Result.SAME)
+        verdicts = (Verdict("iptc", Result.DIFFERENT), has_xmp)
+        found.add(Compared(b"%d.jpg" % number, Result.DIFFERENT, changes=differences(*texts), verdicts=verdicts))
+    (group,) = found.kinds.groups()
+    assert [it.line for it in lacking_of(group)] == ["caption not edited in the XMP of 4.jpg"]
 
 
 # An archive's day: each caption gets the same words, and three pictures get something else
@@ -252,14 +301,14 @@ def record(text, *words):
 def day(folder):
     for side in ("before", "after"):
         (folder / side).mkdir()
-    for number in range(30):
+    for number in range(200):
         text = b"Plate %d: the market, %d, signed on the back" % (number, 1900 + number)
         later = text + b", recto"
         later = {7: b"Plate 8: the market, 1908, signed on the back, recto", 12: b"", 16: later.replace(b"1916", b"1196")}.get(
             number, later
         )
-        (folder / f"before/{number:02}.jpg").write_bytes(record(text, b"loan"))
-        (folder / f"after/{number:02}.jpg").write_bytes(record(later, b"loan"))
+        (folder / f"before/{number:03}.jpg").write_bytes(record(text, b"loan"))
+        (folder / f"after/{number:03}.jpg").write_bytes(record(later, b"loan"))
     return folder
 
 
@@ -267,17 +316,33 @@ def test_the_odd_ones_come_first(day, called):
     status, out, _ = called("changed", "before", "after")
     assert status == 1
     assert out.splitlines()[2:12] == [
-        "3 pictures changed like no other:",
-        "  07.jpg",
-        "    caption (IPTC): Plate [-7-]{+8+}: the market, [-1907-]{+1908+}, signed on the back{+, recto+}",
-        "  12.jpg",
-        "    caption (IPTC) removed: [-Plate 12: the market, 1912, signed on the back-]",
-        "  16.jpg",
-        "    caption (IPTC): Plate 16: the market, [-1916-]{+1196+}, signed on the back{+, recto+}",
+        "197 pictures (edit 1): caption (IPTC): .. {+, recto+}",
+        "  000.jpg, 001.jpg, 002.jpg ..",
         "",
-        "27 pictures: caption (IPTC): .. {+, recto+}",
-        "  00.jpg, 01.jpg, 02.jpg ..",
+        "3 pictures changed like no other:",
+        "  007.jpg",
+        "    caption (IPTC): Plate [-7-]{+8+}: the market, [-1907-]{+1908+}, signed on the back{+, recto+}",
+        "  012.jpg",
+        "    caption (IPTC) removed: [-Plate 12: the market, 1912, signed on the back-]",
+        "  016.jpg",
+        "    caption (IPTC): Plate 16: the market, [-1916-]{+1196+}, signed on the back{+, recto+}",
     ]
+
+
+def test_the_pictures_of_a_group(day, called):
+    """By their names, with NUL for other programs, and as rows and objects."""
+    status, out, _ = called("changed", "before", "after", "--edit", "2")
+    assert (status, out) == (1, "007.jpg\n")
+    names = called("changed", "before", "after", "--edit", "1")[1].splitlines()
+    assert len(names) == 197 and not {"007.jpg", "012.jpg", "016.jpg"} & set(names)
+    paths = called("changed", "before", "after", "--edit", "1", "-0")[1].split("\0")
+    assert [it.rpartition("/")[2] for it in paths] == [*names, ""] and paths[0].startswith("/")
+    rows = list(csv.DictReader(called("changed", "before", "after", "--edit", "1", "--csv")[1].splitlines()))
+    assert [it["picture"] for it in rows] == names and {it["edit number"] for it in rows} == {"1"}
+    *pictures, summary_ = map(json.loads, called("changed", "before", "after", "--edit", "1", "--json")[1].splitlines())
+    assert [it["path"] for it in pictures] == names and summary_["counts"] == {"different": 200}
+    status, out, err = called("changed", "before", "after", "--edit", "99")
+    assert (status, out) == (3, "") and "--edit 99" in err
 
 
 def test_words_are_coloured_if_that_is_asked_for():
@@ -289,7 +354,7 @@ def test_words_are_coloured_if_that_is_asked_for():
         )
     )
     for colours in (False, True):
-        page_lines = list(page.lines(found, Counter({Result.DIFFERENT: 1}), (), 40, colours))
+        page_lines = list(page.lines(found, Counter({Result.DIFFERENT: 1}), (), page.Style(40, colours)))
         bare = [re.sub("\x1b\\[(31;9|32;4)?m", "", it) for it in page_lines]
         assert "\x1b" not in "".join(bare) and max(map(len, bare)) <= 60
         assert ("\x1b[31;9m1943\x1b[m\x1b[32;4m1093\x1b[m" in "".join(page_lines)) == colours
@@ -298,12 +363,14 @@ def test_words_are_coloured_if_that_is_asked_for():
 
 def test_json_and_csv_have_the_groups(day, called):
     objects = [json.loads(it) for it in called("changed", "before", "after", "--json")[1].splitlines()]
-    groups = [it for it in objects if it["record"] == "edits"]
-    assert [it["pictures"] for it in groups] == [1, 1, 1, 27]
-    numbers = [it["edit"] for it in objects if it["record"] == "picture"]
+    assert {it["record"] for it in objects[:-1]} == {"picture"}
+    groups = objects[-1]["edits"]
+    assert [it["pictures"] for it in groups] == [1, 1, 1, 197]
+    numbers = [it["edit"] for it in objects[:-1]]
     assert all(sum(numbers.count(one) for one in it["edit"]) == it["pictures"] for it in groups)
     rows = list(csv.DictReader(called("changed", "before", "after", "--csv")[1].splitlines()))
-    assert sum(it["edit"] == "caption (IPTC): .. {+, recto+}" for it in rows) == 27
+    assert sum(it["edit"] == "caption (IPTC): .. {+, recto+}" for it in rows) == 197
+    assert sorted(it["edit number"] for it in rows) == sorted(map(str, numbers))
 
 
 def test_the_report_begins_with_the_odd_ones(day, called):
@@ -312,6 +379,30 @@ def test_the_report_begins_with_the_odd_ones(day, called):
     called("report", "after.catalogue", "--since", "before.catalogue", "--html", "page.html")
     page = (day / "page.html").read_text(encoding="utf-8")
     summary = page[page.index('id="summary"') : page.index('id="glance"')]
-    places = [summary.index(it) for it in (">07.jpg<", ">12.jpg<", ">16.jpg<", "<h4>27 pictures")]
+    places = [summary.index(it) for it in (">007.jpg<", ">012.jpg<", ">016.jpg<", "<h4>197 pictures")]
     assert places == sorted(places) and summary.count('<rect class="odd"') == 3
-    assert "#find=edit:4;&amp;kind=changed" in summary and page.count("edit:4;") == 28
+    assert "#find=edit:1;&amp;kind=changed" in summary and page.count("edit:1;") == 198
+
+
+def test_all_counts_of_the_page_are_those_of_json(day, called):
+    """And each leads to what it counts."""
+    (day / "after/new.jpg").write_bytes(record(b"Another day", b"loan"))
+    (day / "after/copy.jpg").write_bytes((day / "after/new.jpg").read_bytes())
+    (day / "after/003.jpg").unlink()
+    for side in ("before", "after"):
+        called("index", side, "--catalogue", f"{side}.catalogue", "--quiet")
+    words = ("report", "after.catalogue", "--since", "before.catalogue")
+    called(*words, "--html", "page.html")
+    page = (day / "page.html").read_text(encoding="utf-8")
+    objects = [json.loads(it) for it in called(*words, "--json")[1].splitlines()]
+    records = Counter(it["record"] for it in objects)
+    results = next(it["results"] for it in objects if it["record"] == "changes")
+    listed = dict(re.findall(r'kind=changed/([^"]+)">([\d,]+) ', page))
+    assert {it.replace("%20", " "): int(count) for it, count in listed.items()} == results
+    contents = dict(re.findall(r'<li><a href="#(\w+)">[^<]+</a> <span class="note">([\d,]+) ', page))
+    assert int(contents["changed"]) == sum(results.values()) == records["change"]
+    assert int(contents["same"]) == records["group"] > 0
+    assert int(contents["folders"]) == next(it["pictures"] for it in objects if it["record"] == "summary") == 201
+    for place in re.findall(r'href="#([\w-]+)"', page):
+        assert f'id="{place}"' in page, place
+    assert '<a class="name" href="./after/new.jpg">' in page and "file://" not in page

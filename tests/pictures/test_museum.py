@@ -118,6 +118,8 @@ CALLS = {
         changed before plain --xlsx changed.xlsx
         changed full.before full --undo undo.args --only creator --only title --only caption
         changed one/desk archive/copies --match stem
+        changed full.before full --edit 2
+        changed full.before full --edit 99 --json
     """,
     "history": """
         history archive/work/retitled.jpg full.before full

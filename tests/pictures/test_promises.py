@@ -22,7 +22,9 @@ from exifnorm_pictures.scan import index
 from exifnorm_pictures.extract.formats import jpeg_tail
 
 DOUBLED = BLOCKS["Doubled"]
-OUTSIDE = re.compile(r"<script|<link|src=.(?!data:)|href=.(?!file:///|#)")  # what a page runs, or loads from elsewhere, or leads to
+OUTSIDE = re.compile(
+    r"<script|<link|src=.(?!data:)|href=.(?!file:///|#|\.{1,2}/)"
+)  # what a page runs, or loads from elsewhere, or leads to
 MANY = b"\x11" * 100_000  # picture data that is longer than the tail
 
 
@@ -293,9 +295,9 @@ class Catalogues(Promises):
         )
         for part in (
             "<b>2</b> accepted",
-            '<th scope="row">Doubled</th>',
+            '">Doubled</a></th>',
             "2 pictures <span",
-            '<img src="data:image/',
+            '<image href="data:image/',
             "IFD0:Make",
             "trailer of 4 bytes",
             "Remedy",

@@ -33,7 +33,7 @@ class Text(HTMLParser):
         if tag == "section":
             self.within = dict(attributes).get("id", "")
         for name, value in attributes:
-            if name.startswith("on") or (name in ("src", "href") and not value.startswith(("data:", "file:///", "#"))):
+            if name.startswith("on") or (name in ("src", "href") and not value.startswith(("data:", "file:///", "#", "./", "../"))):
                 self.wrong.append((tag, name, value))
             if name == "href":
                 self.links.append(value)
@@ -83,7 +83,7 @@ class Report(WithPictures):
         """Of 23 pictures that are there each is in the list by folder, with what the other lists say of it, and each link leads to a file."""
         page = Text(self.page)
         files = {os.path.join(self.path("p"), it) for it in os.listdir(self.path("p"))}
-        linked = {os.fsdecode(unquote_to_bytes(it[7:])) for it in page.links if it.startswith("file://")}
+        linked = {self.path(os.fsdecode(unquote_to_bytes(it[2:]))) for it in page.links if it.startswith("./")}
         self.assertEqual(linked, files, "one that is gone has no link")
         self.assertEqual({it for it in page.texts("small") if it.endswith(".jpg")}, {os.path.basename(it) for it in files})
         self.assertEqual(

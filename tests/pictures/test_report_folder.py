@@ -34,8 +34,10 @@ def pages_of(folder: Path) -> Dict[str, str]:
     return {it.name: it.read_text(encoding="utf-8") for it in folder.glob("*.html")}
 
 
-def files_of(links: List[str]) -> Set[bytes]:
-    return {unquote_to_bytes(it[7:]) for it in links if it.startswith("file://")}
+def files_of(links: List[str], folder: Path) -> Set[bytes]:
+    """The files beside the report, or beside its folder, to which some links lead."""
+    names = [unquote_to_bytes(it.partition("./")[2]) for it in links if it.startswith(("./", "../"))]
+    return {os.path.join(os.fsencode(folder), it) for it in names}
 
 
 @pytest.fixture
@@ -62,10 +64,10 @@ def test_every_picture_is_there_on_pages_of_at_most_200(archive: Path, called: C
     everything = {os.fsencode(path) for path in (archive / "p").rglob("*.jpg")}
     linked: Dict[str, Set[bytes]] = {}
     for name, text in texts.items():
-        linked.setdefault(re.sub(r"-\d+\.html", "", name), set()).update(files_of(text.links))
-        assert len(files_of(text.links)) <= 200, f"{name} has more pictures than a page should"
+        linked.setdefault(re.sub(r"-\d+\.html", "", name), set()).update(files_of(text.links, archive))
+        assert len(files_of(text.links, archive)) <= 200, f"{name} has more pictures than a page should"
         if name.startswith("folders-"):
-            assert len({os.path.dirname(it) for it in files_of(text.links)}) == 1, f"{name} has several folders"
+            assert len({os.path.dirname(it) for it in files_of(text.links, archive)}) == 1, f"{name} has several folders"
     assert linked["folders"] == everything
     assert len(linked["changed"]) == 440 and len(linked["refused"]) == 205 and len(linked["same"]) >= 240
     values = "".join(page for name, page in pages.items() if name.startswith("changed-"))
@@ -83,7 +85,7 @@ def test_each_link_leads_to_a_page_and_a_place_of_the_report(archive: Path, call
     reached = {"index.html"}
     for name, page in pages.items():
         for link in Text(page).links:
-            if not link.startswith("file://"):
+            if not link.startswith("../"):
                 target, _, place = link.partition("#")
                 reached.add(target or name)
                 assert not place or place.startswith("find=") or f'id="{place}"' in pages[target or name], f"{link} in {name} leads nowhere"
@@ -99,12 +101,12 @@ def test_hostile_names_are_linked_and_escaped(folder: Path, called: Called) -> N
         called("report", "c", "--html", "page.html", *words)
         page = (folder / "page.html").read_text(encoding="utf-8")
         assert "<b onclick" not in page and "\\nend.jpg" in page and "latin\\xff.jpg" in page
-        links = [unescape(it) for it in re.findall(r'href="([^"]*)"', page) if not it.startswith("#")]
+        links = [unescape(it) for it in re.findall(r'<a [^>]*href="([^"]*)"', page) if not it.startswith("#")]
         if words:
             assert {unquote_to_bytes(it.partition("/x/")[2].partition("?n=")[0]) for it in links} == set(NAMES)
             assert {unquote_to_bytes(it.partition("?n=")[2]) for it in links} == set(NAMES)
         else:
-            assert {os.path.basename(it) for it in files_of(links)} == set(NAMES)
+            assert {os.path.basename(it) for it in files_of(links, folder)} == set(NAMES)
 
 
 @pytest.mark.parametrize("address", ["javascript:alert(1)//{path}", "https://dam.example/", "dam.example/{path}", "data:text/html,{path}"])
@@ -364,9 +366,11 @@ def test_another_picture_is_shown_beside_the_earlier_one(is_replaced: bool, fold
     called("report", "c", "--since", "old", "--html", "page.html")
     (pair,) = re.findall(r'<ul class="small pair">(.*?)</ul>', (folder / "page.html").read_text(encoding="utf-8"), re.S)
     before, after = pair.split("<li>")[1:]
-    assert [os.path.dirname(it) for it in files_of(re.findall('href="([^"]*)"', before))] == [os.fsencode(folder / "x")] * (not is_replaced)
-    assert ("<img" in before, "the earlier file is gone" in before) == (not is_replaced, is_replaced)
-    assert files_of(re.findall('href="([^"]*)"', after)) == {os.fsencode(folder / sides[1] / "a.jpg")} and "<img" in after
+    assert [os.path.dirname(it) for it in files_of(re.findall('<a href="([^"]*)"', before), folder)] == [os.fsencode(folder / "x")] * (
+        not is_replaced
+    )
+    assert ("<svg" in before, "the earlier file is gone" in before) == (not is_replaced, is_replaced)
+    assert files_of(re.findall('<a href="([^"]*)"', after), folder) == {os.fsencode(folder / sides[1] / "a.jpg")} and "<svg" in after
 
 
 def test_damaged_pictures_come_first(folder: Path, called: Called) -> None:

@@ -31,9 +31,10 @@ def shrinker() -> Iterator[thumbnails.Shrinker]:
 
 def small(paths: Sequence[bytes], shrinker: thumbnails.Shrinker) -> Dict[bytes, str]:
     """The addresses of the small pictures of some files, on one page."""
-    pictures = small_pictures.SmallPictures([], small_pictures.InPage())
+    kept = small_pictures.InPage()
+    pictures = small_pictures.SmallPictures([], kept)
     pictures._shrinker = shrinker
-    return pictures.of(paths)
+    return {path: data_of(kept, address) for path, address in pictures.of(paths).items()}
 
 
 def half_red(size: Any = (800, 400), mode: str = "RGB") -> Any:
@@ -46,6 +47,11 @@ def half_red(size: Any = (800, 400), mode: str = "RGB") -> Any:
 def saved(picture: Any, path: Path, **words: Any) -> bytes:
     picture.save(path, **words)
     return os.fsencode(path)
+
+
+def data_of(kept: small_pictures.InPage, address: str) -> str:
+    """The data of a small picture, to which its address leads."""
+    return next(it.data for it in kept.symbols if f"#{it.name}" == address)
 
 
 def shown(uris: Dict[bytes, str], path: bytes) -> Any:
@@ -232,7 +238,7 @@ def test_one_page_decodes_each_picture_once(folder: Path, called: Called, made: 
     called("index", "p", "--catalogue", "c", "--quiet")
     called("report", "c", "--html", "page.html")
     assert sorted(made) == ["0.jpg", "cut.jpg"]
-    assert (folder / "page.html").read_text(encoding="utf-8").count('<img src="data:') == 6
+    assert (folder / "page.html").read_text(encoding="utf-8").count('<image href="data:') == 1
 
 
 def test_the_earlier_picture_of_a_file_that_was_replaced(folder: Path, called: Called) -> None:
@@ -334,8 +340,9 @@ def made_heif(folder: Path, ending: str, *words: str) -> Path:
 def test_heic_and_avif_have_one(ending: str, words: Sequence[str], tmp_path: Path) -> None:
     path = os.fsencode(made_heif(tmp_path, ending, *words))
     with session.Session(60.0, room=str(tmp_path)) as ours:
-        with contextlib.closing(small_pictures.SmallPictures([], small_pictures.InPage(), ours)) as pictures:
-            address = pictures.of([path])[path]
+        kept = small_pictures.InPage()
+        with contextlib.closing(small_pictures.SmallPictures([], kept, ours)) as pictures:
+            address = data_of(kept, pictures.of([path])[path])
         assert os.listdir(ours.folder()) == []
     picture = Image.open(io.BytesIO(base64.b64decode(address.partition(",")[2])))
     width, height = picture.size

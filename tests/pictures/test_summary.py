@@ -90,12 +90,14 @@ def test_the_counts_are_those_of_exiftool(edit, archive, run):
     status, lines = run("changed", "before", "after")
     assert status == 1 and len(lines) <= page.LINES
     heads = [
-        int(it[1].replace(",", "")) for it in (re.match(r"([\d,]+) pictures?(?: changed like no other)?:", line) for line in lines) if it
+        int(it[1].replace(",", ""))
+        for it in (re.match(r"([\d,]+) pictures?(?: \(edit \d+\)| changed like no other)?:", line) for line in lines)
+        if it
     ]
     assert sum(heads) == sum(tags != after[name] for name, tags in before.items())
     if edit in SAID:
         said, count = SAID[edit]
-        assert f"{count} pictures: {said[0]}" in lines, lines
+        assert f"{count} pictures (edit 1): {said[0]}" in lines, lines
 
 
 # Words
@@ -158,11 +160,13 @@ def test_a_removed_block_is_one_edit(run, folder):
     tool(folder, "exiftool", "-q", "-overwrite_original", "-EXIF:all=", "after/1.jpg", "after/2.jpg")
     status, lines = run("changed", "before", "after")
     assert (
-        status == 1 and "2 pictures: Exif (creator, copyright) removed" in lines and "    copyright (Exif) removed: [-Museum-]" in lines
+        status == 1
+        and "2 pictures (edit 2): Exif (creator, copyright) removed" in lines
+        and "    copyright (Exif) removed: [-Museum-]" in lines
     ), lines
     for word in ("Copyright", "IFD0:Copyright"):
-        assert "3 pictures: copyright (Exif) removed" in run("changed", "before", "after", "--only", word)[1]
-    assert "3 pictures: copyright (Exif): {+Museum+}" in run("changed", "after", "before", "--only", "Copyright")[1]
+        assert "3 pictures (edit 1): copyright (Exif) removed" in run("changed", "before", "after", "--only", word)[1]
+    assert "3 pictures (edit 1): copyright (Exif): {+Museum+}" in run("changed", "after", "before", "--only", "Copyright")[1]
 
 
 def test_the_end_of_a_long_caption(called, folder):
@@ -172,4 +176,4 @@ def test_the_end_of_a_long_caption(called, folder):
         for name in ("a.jpg", "b.jpg"):
             (folder / side / name).write_bytes(jpeg(with_record(b"\x1c\2\x78\0" + bytes((len(octets),)) + octets)))
     printed = called("changed", "before", "after")[1]
-    assert "2 pictures: caption (IPTC): [-1820-]{+1280+}" in printed, printed
+    assert "2 pictures (edit 1): caption (IPTC): [-1820-]{+1280+}" in printed, printed

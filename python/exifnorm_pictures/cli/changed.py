@@ -9,12 +9,12 @@ import os
 import shutil
 import sys
 from collections import Counter
-from typing import Callable, Iterable, Iterator, List, NamedTuple, Sequence
+from typing import Callable, Iterable, Iterator, List, NamedTuple, Optional, Sequence, Set, Tuple
 
 from ..catalogue.store import Catalogue, NoCatalogue, of_day
 from ..comparison import changed as changes
 from ..comparison.coded import Coded, sentence_of_coded
-from ..comparison.pairs import heads_of
+from ..comparison.pairs import AFTER, heads_of
 from ..comparison.summary import Summary
 from ..comparison.wording import NONE, line_of, tell_apart
 from ..fields.choosing import Choice
@@ -31,97 +31,177 @@ from .looking import catalogue_of, files_of, is_of_pictures
 from .names import from_list, refuse_pictures, say_unknown
 from .options import Fields, Files, Output, Run, group_of
 from .output import print_line, print_lines, say_notes, table_of
-from .summary import lines
+from .summary import Style, lines
 from .undo import Undo
 
 
 def run(arguments: argparse.Namespace) -> int:
     """Prints the differences between two states."""
     sides = (arguments.before, arguments.after)
-    run, output, fields = group_of(Run, arguments), group_of(Output, arguments), group_of(Fields, arguments)
+    run = group_of(Run, arguments)
     _refuse_missing(*sides)
     refuse_pictures(*sides)
     _refuse_for_catalogues(run, *sides)
     names = from_list(group_of(Files, arguments))
-    only = None if names is None else {place for it in names for place in (os.path.normpath(it), os.path.abspath(it))}
-    counts: "Counter[Result]" = Counter()
-    pictures: "Counter[Coded]" = Counter()  # by what is known of the coded ones
-    notes = _Notes(sides, fields, pictures)
     with contextlib.ExitStack() as open_:
         run = _with_sidecars(run, *sides)
         before, after = (open_.enter_context(catalogue_of(it, run, True)) for it in sides)
-        if before.has_digests() and after.has_digests():
-            notes.pixels = ""
-        choice = choice_of(fields)
-        refuse_unknown(choice, listings_of(before, after))
-        comparisons = changes.changed(
-            before,
-            after,
-            counts,
-            only,
+        asked = _Asked(
+            arguments.before,
+            arguments.after,
+            arguments.each,
             arguments.all,
-            None if arguments.no_exiftool else run.session,
-            choice,
-            None if arguments.match else pictures,
-            bool(arguments.match),
+            arguments.edit,
+            arguments.null,
+            arguments.match,
+            arguments.no_exiftool,
         )
-        comparisons = _then_noted(comparisons, choice, before, after)
-        undo = None
+        work = _Work(asked, group_of(Fields, arguments), run, before, after, names)
+        output = group_of(Output, arguments)
         if arguments.undo:
-            undo = Undo(open_.enter_context(open(os.path.join(run.session.room, "undo"), "w+b")))
-            comparisons = undo.seen(comparisons)
-        form = _Form(output, arguments.each, arguments.all, bool(arguments.match))
-        _print(form, comparisons, counts, choice, notes)
-        if undo:
+            work.undo = Undo(open_.enter_context(open(os.path.join(run.session.room, "undo"), "w+b")))
+        work.print(output)
+        if work.undo:
             kept = [file for side in sides for file in files_of(side)]
-            said = undo.put(arguments.undo, heads_of((before, after))[1], kept)
-            say_notes(*said) if output.csv or output.json else print_lines(said)
+            said = work.undo.put(arguments.undo, heads_of((before, after))[AFTER], kept)
+            say_notes(*said) if output.csv or output.json or arguments.null else print_lines(said)
         if names:
             say_unknown(names, _knows(before, after))
-    return max(status_of_results(counts), UNKNOWN * bool(undo and undo.left))
-
-
-class _Form(NamedTuple):
-    """The form of the answer."""
-
-    output: Output
-    has_each: bool  # picture, in place of the summary
-    has_same: bool  # ones, too
-    by_stem: bool  # are the pictures paired
-
-
-def _print(form: _Form, comparisons: Comparisons, counts: "Counter[Result]", choice: Choice, notes: _Notes) -> None:
-    """Prints the comparisons."""
-    output = form.output
-    listed = (it for it in comparisons if form.has_same or it.result.has_changed is not False or notes.has_news_of(it))
-    table = table_of(output, changed_tables.HEADS)
-    if table:
-        changed_tables.print_table(table, listed, choice)
-        say_notes(*notes.of_pictures())
-    elif output.json:
-        changed_tables.print_objects(listed, counts, choice, notes.counts)
-    elif form.has_each or form.has_same or output.exact:
-        _print_each(output.exact, listed, counts, choice, notes)
-    else:
-        _print_summary(comparisons, counts, choice, notes, form.by_stem)
+    return max(status_of_results(work.counts), UNKNOWN * bool(work.undo and work.undo.left))
 
 
 Comparisons = Iterable[changes.Compared]
 
 
-def _then_noted(comparisons: Comparisons, choice: Choice, before: Catalogue, after: Catalogue) -> Iterator[changes.Compared]:
-    """The pictures; when all are compared, it is noted which words fit no field of them."""
-    yield from comparisons
-    note_absent(choice, before, after)
+class _Asked(NamedTuple):
+    """The options of this command alone."""
+
+    before: str
+    after: str
+    each: bool
+    all: bool
+    edit: int
+    null: bool
+    match: str
+    no_exiftool: bool
+
+
+class _Work:
+    """Two catalogues, and which of their pictures are compared and listed."""
+
+    def __init__(
+        self,
+        asked: _Asked,
+        fields: Fields,
+        run: Run,
+        before: Catalogue,
+        after: Catalogue,
+        names: Optional[Sequence[bytes]],
+    ) -> None:
+        self.counts: "Counter[Result]" = Counter()
+        self.asked, self.before, self.after = asked, before, after
+        self.choice = choice_of(fields)
+        refuse_unknown(self.choice, listings_of(before, after))
+        self._session = None if asked.no_exiftool else run.session
+        self._only = None if names is None else {it for name in names for it in _places(name)}
+        self._pictures: "Counter[Coded]" = Counter()  # by what is known of the coded ones
+        has_pixels = before.has_digests() and after.has_digests()
+        self.notes = _Notes(asked, fields, self._pictures, has_pixels)
+        self.undo: Optional[Undo] = None
+
+    def print(self, output: Output) -> None:
+        """Prints all in the form that is asked for."""
+        table = table_of(output, changed_tables.HEADS)
+        listed = self._listed()
+        if table:
+            changed_tables.print_table(table, listed, self.choice)
+            say_notes(*self.notes.of_pictures())
+        elif output.json:
+            changed_tables.print_objects(listed, self.counts, self.choice, self._pictures)
+        elif self.asked.each or self.asked.all or output.exact:
+            _print_each(output.exact, listed, self.counts, self.choice, self.notes)
+        elif self.asked.edit:
+            self._print_names(listed)
+        else:
+            by_stem = bool(self.asked.match)
+            _print_summary(self._seen(self._compared()), self.counts, self.choice, self.notes, by_stem)
+
+    def _compared(self) -> Comparisons:
+        """The pictures; when all are compared, it is noted which words fit no field of them."""
+        yield from changes.changed(
+            self.before,
+            self.after,
+            self.counts,
+            self._only,
+            self.asked.all,
+            self._session,
+            self.choice,
+            None if self.asked.match else self._pictures,
+            bool(self.asked.match),
+        )
+        note_absent(self.choice, self.before, self.after)
+
+    def _listed(self) -> Comparisons:
+        """The pictures that are listed: those that aren't the same, or those of a group, which is
+        known once all are compared. So these are compared twice."""
+        if self.asked.edit:
+            kinds = self._kinds(self.asked.edit)
+            summary = Summary(self.choice, 1)
+            yield from self._seen(it for it in self._compared() if summary.add(it) in kinds)
+            return
+        for it in self._seen(self._compared()):
+            if self.asked.all or it.result.has_changed is not False or self.notes.has_news_of(it):
+                yield it
+
+    def _seen(self, comparisons: Comparisons) -> Comparisons:
+        """The comparisons, whose earlier texts are noted if they are to be put back."""
+        return self.undo.seen(comparisons) if self.undo else comparisons
+
+    def _kinds(self, number: int) -> Set[int]:
+        """The numbers that the pictures of a group have. Raises `WrongUse` without such a one."""
+        summary = Summary(self.choice, 1)
+        for comparison in self._compared():
+            summary.add(comparison)
+        self.counts.clear()
+        self._pictures.clear()
+        self.choice.left_out.clear()
+        for group in summary.kinds.groups():
+            if number in group.kinds:
+                return set(group.kinds)
+        raise WrongUse(f"--edit {number}: no group of pictures has it; changed lists the groups")
+
+    def _print_names(self, comparisons: Comparisons) -> None:
+        """The pictures as they are named after the change; for other programs their paths."""
+        head = heads_of((self.before, self.after))[AFTER]
+        for it in comparisons:
+            name = it.name if it.moved_to is None else it.moved_to
+            if not self.asked.null:
+                print_line(shown_path(name))
+            else:
+                path = name if name.startswith(b"/") else head + name
+                sys.stdout.buffer.write(path + b"\0")
+        sys.stdout.buffer.flush()
+
+
+def _places(name: bytes) -> Tuple[bytes, bytes]:
+    return os.path.normpath(name), os.path.abspath(name)
 
 
 class _Notes:
     """What was compared of the coded pictures, once all are compared."""
 
-    def __init__(self, sides: Sequence[str], fields: Fields, counts: "Counter[Coded]") -> None:
-        folders = sum(map(is_of_pictures, sides))
-        self.pixels = ("index --pixels", "index --pixels, and --pixels here,", "--pixels")[folders]
-        self.is_asked = not (fields.only or fields.only_file)  # the words of --only are all that is asked
+    def __init__(
+        self,
+        asked: _Asked,
+        fields: Fields,
+        counts: "Counter[Coded]",
+        has_pixels: bool,
+    ) -> None:
+        folders = sum(map(is_of_pictures, (asked.before, asked.after)))
+        words = ("index --pixels", "index --pixels, and --pixels here,", "--pixels")
+        self.pixels = "" if has_pixels else words[folders]
+        # the words of --only are all that is asked
+        self.is_asked = not (fields.only or fields.only_file)
         self.counts = counts
 
     def has_news_of(self, comparison: changes.Compared) -> bool:
@@ -143,15 +223,27 @@ def _print_each(exact: bool, comparisons: Comparisons, counts: "Counter[Result]"
     print_lines([*notes.of_pictures(), *lines_of_choice(choice, True)])
 
 
-def _print_summary(comparisons: Comparisons, counts: "Counter[Result]", choice: Choice, notes: _Notes, by_stem: bool) -> None:
+def _print_summary(
+    comparisons: Comparisons,
+    counts: "Counter[Result]",
+    choice: Choice,
+    notes: _Notes,
+    by_stem: bool,
+) -> None:
     counted = Summary(choice)
     for comparison in comparisons:
         counted.add(comparison)
-    is_terminal = sys.stdout.isatty()
-    screen = shutil.get_terminal_size().columns if is_terminal else None
-    colours = is_terminal and not os.environ.get("NO_COLOR") and os.environ.get("TERM", "dumb") != "dumb"
-    for line in lines(counted, counts, [*notes.of_pictures(), *lines_of_choice(choice, True)], screen, colours, by_stem):
+    texts = [*notes.of_pictures(), *lines_of_choice(choice, True)]
+    for line in lines(counted, counts, texts, _style(), by_stem):
         print(line) if "\x1b" in line else print_line(line)  # all texts in it were made safe
+
+
+def _style() -> Style:
+    """Colours only on a terminal that has them, unless somebody wants none (no-color.org)."""
+    if not sys.stdout.isatty():
+        return Style()
+    has_colours = os.environ.get("TERM", "dumb") != "dumb" and not os.environ.get("NO_COLOR")
+    return Style(shutil.get_terminal_size().columns, has_colours)
 
 
 def _knows(*sides: Catalogue) -> Callable[[bytes], bool]:

@@ -8,9 +8,10 @@ from typing import TYPE_CHECKING, Iterable, Optional, Sequence, Tuple
 from ..comparison.changed import Compared
 from ..comparison.coded import Coded
 from ..comparison.differing import FieldDifference, exact_side
-from ..comparison.edit_groups import Group, Kinds
+from ..comparison.edit_groups import Counted, Group
 from ..comparison.edit_words import line_of
 from ..comparison.edits import edit_of
+from ..comparison.summary import Summary
 from ..comparison.wording import plain_sides
 from ..fields.choosing import Choice
 from ..fields.left_out import lines, members_of
@@ -18,6 +19,7 @@ from ..fields.field import Field
 from ..fields.listing import MAKER_NOTE
 from ..fields.plain_names import exact_key, group_name
 from ..fields.typed import together
+from ..judge.maker_notes import NoteDifference
 from ..model.results import Result
 from ..model.steps import Step
 from ..model.texts import Members, path_members
@@ -42,65 +44,100 @@ HEADS = (
     "coded picture",
     "edit",
     "partner",
+    "edit number",
 )
 
 
 def print_table(table: Table, comparisons: Comparisons, choice: Choice) -> None:
     """A row for each field that differs, and one for each other picture."""
+    summary = Summary(choice, 1)
     for comparison in comparisons:
         about = (comparison.name, comparison.result, comparison.moved_to)
+        number = summary.add(comparison) or None
+        beside = (comparison.partner, number)
+        coded = comparison.picture
         for change in comparison.changes:
-            values = (None,) * 4 if change.note else (*plain_sides(change), exact_side(change.before), exact_side(change.after))
-            table.row(
-                *about,
-                change.name,
-                *values,
-                change.note or comparison.note,
-                comparison.picture,
-                line_of(edit_of(change)),
-                comparison.partner,
-            )
+            values = (*plain_sides(change), *map(exact_side, (change.before, change.after)))
+            values = (None,) * 4 if change.note else values
+            note, edit = change.note or comparison.note, line_of(edit_of(change))
+            table.row(*about, change.name, *values, note, coded, edit, *beside)
         for value in comparison.maker_note or ():
+            name, note = f"{_MAKER_NOTE} {value.name}", "as ExifTool reads it"
             sides = (value.before, value.after, None, None)
-            table.row(*about, f"{_MAKER_NOTE} {value.name}", *sides, "as ExifTool reads it", comparison.picture, None, comparison.partner)
+            table.row(*about, name, *sides, note, coded, None, *beside)
         if not comparison.changes:
-            table.row(*about, *(None,) * 5, comparison.note, comparison.picture, None, comparison.partner)
+            table.row(*about, *(None,) * 5, comparison.note, coded, None, *beside)
     for text in lines(choice, True):
-        table.row(*(None,) * 8, text, None, None, None)
+        table.row(*(None,) * 8, text, *(None,) * 4)
 
 
-def print_objects(comparisons: Comparisons, counts: "Counter[Result]", choice: Choice, pictures: "Counter[Coded]") -> None:
-    """An object for each picture, one for each group of pictures that were edited alike, and one for all."""
-    kinds = Kinds(not choice.only)
+def print_objects(
+    comparisons: Comparisons,
+    counts: "Counter[Result]",
+    choice: Choice,
+    pictures: "Counter[Coded]",
+) -> None:
+    """An object for each picture, and one for all with the groups of those edited alike."""
+    summary = Summary(choice, 1)
     for comparison in comparisons:
-        print_object("changed", "picture", {**_members(comparison), "edit": kinds.add(comparison.name, comparison.changes) or None})
-    for group in kinds.groups():
-        print_object("changed", "edits", _group_members(group))
-    known = {"counts": dict(counts), "left_out": dict(choice.left_out), "labels": choice.labels(), "coded_pictures": dict(pictures)}
-    print_object("changed", "summary", {**known, "edits_not_grouped": kinds.further, **members_of(choice)})
+        edit = summary.add(comparison) or None
+        print_object("changed", "picture", {**_members(comparison), "edit": edit})
+    known: Members = {
+        "counts": dict(counts),
+        "left_out": dict(choice.left_out),
+        "labels": choice.labels(),
+        "coded_pictures": dict(pictures),
+        "edits": [_group_members(it) for it in summary.kinds.groups()],
+        "edits_not_grouped": summary.kinds.further,
+    }
+    print_object("changed", "summary", {**known, **members_of(choice)})
 
 
 def _group_members(group: Group) -> Members:
-    edits = [
-        {"name": it.name, "fields": it.fields, "note": it.note or None, "words": [{"sign": one.sign, "text": one.text} for one in it.core]}
-        for it in group.edits
-    ]
-    return {"pictures": group.pictures, "first": path_members(group.names[0]), "edit": group.kinds, "edits": edits}
+    edits = [_edit_members(it) for it in group.counted]
+    first = path_members(group.names[0])
+    return {"pictures": group.pictures, "first": first, "edit": group.kinds, "edits": edits}
+
+
+def _edit_members(counted: Counted) -> Members:
+    edit = counted.edit
+    return {
+        "name": edit.name,
+        "fields": edit.fields,
+        "note": edit.note or None,
+        "words": [{"sign": it.sign, "text": it.text} for it in edit.core],
+        "lacking": {it: few.pictures for it, few in counted.odd().items()},
+    }
 
 
 def _members(comparison: Compared) -> Members:
-    members: Members = {**path_members(comparison.name), "result": comparison.result, "note": comparison.note or None}
-    members["coded_picture"] = comparison.picture
-    members["damage"] = {word: damage or None for word, damage in zip(("before", "after"), comparison.damage)}
-    members["moved_to"] = None if comparison.moved_to is None else path_members(comparison.moved_to)
-    members["partner"] = None if comparison.partner is None else path_members(comparison.partner)
-    members["kinds"] = {one.kind: one.result for one in comparison.verdicts}
-    members["maker_note"] = None
-    if comparison.maker_note is not None:
-        values = [{"name": one.name, "before": one.before, "after": one.after} for one in comparison.maker_note]
-        members["maker_note"] = {"reads": "otherwise" if values else "the same", "values": values}
-    members["repairs"] = [_repair_members(*one) for one in comparison.repairs]
-    return {**members, "fields": [field_members(one) for one in comparison.changes], "left_out": comparison.left_out}
+    damage = {side: it or None for side, it in zip(("before", "after"), comparison.damage)}
+    return {
+        **path_members(comparison.name),
+        "result": comparison.result,
+        "note": comparison.note or None,
+        "coded_picture": comparison.picture,
+        "damage": damage,
+        "moved_to": _path_members(comparison.moved_to),
+        "partner": _path_members(comparison.partner),
+        "kinds": {one.kind: one.result for one in comparison.verdicts},
+        "maker_note": _note_members(comparison.maker_note),
+        "repairs": [_repair_members(*one) for one in comparison.repairs],
+        "fields": [field_members(one) for one in comparison.changes],
+        "left_out": comparison.left_out,
+    }
+
+
+def _path_members(path: Optional[bytes]) -> Optional[Members]:
+    return None if path is None else path_members(path)
+
+
+def _note_members(differences: Optional[Sequence[NoteDifference]]) -> Optional[Members]:
+    """What ExifTool reads of a MakerNote; None if it wasn't asked."""
+    if differences is None:
+        return None
+    values = [{"name": it.name, "before": it.before, "after": it.after} for it in differences]
+    return {"reads": "otherwise" if values else "the same", "values": values}
 
 
 def _repair_members(name: str, before: Sequence[Step], after: Sequence[Step]) -> Members:

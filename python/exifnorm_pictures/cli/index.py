@@ -13,7 +13,7 @@ from ..catalogue.nights import copy_over
 from ..catalogue.store import Catalogue
 from ..model.errors import WrongUse
 from ..model.problems import NOT_READABLE
-from ..model.texts import escaped, moved_line, pictures_in_words, shown_path
+from ..model.texts import escaped, kind_of_part, moved_line, pictures_in_words, shown_path
 from ..scan.excluded import Excluded
 from ..scan.index import DAMAGED, OF_LAST_RUN, OF_XMP, REFUSED, IndexOptions, index, lacking, number_of
 from . import objects
@@ -21,7 +21,7 @@ from .exit_codes import SUCCESS, UNKNOWN
 from .looking import how_of, xmp_files_alone
 from .names import is_catalogue, named
 from .options import Files, Output, Run, group_of
-from .output import counted, kind_of_part, print_line, print_lines, record_lines, say_notes
+from .output import counted, print_line, print_lines, record_lines, say_notes
 from .sources import settle_first, with_first
 
 

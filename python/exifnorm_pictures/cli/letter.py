@@ -2,13 +2,14 @@
 
 from __future__ import annotations
 
-import os
 from itertools import groupby
 from typing import Iterator, List, Sequence
 
-from ..comparison.news import Kind, Named, News, Values
-from ..comparison.wording import NONE, moved, tell_apart
-from ..model.texts import escaped, pictures_in_words, shown_path
+from ..comparison.edit_groups import Group
+from ..comparison.edit_words import line_of
+from ..comparison.news import Kind, Named, News
+from ..comparison.wording import moved
+from ..model.texts import escaped, pictures_in_words, safe, shown_path
 from .columns import width
 
 LINES, COLUMNS = 30, 80
@@ -40,9 +41,10 @@ _WORDS = {
 _PLURAL = {"keywords": "keywords", "instructions": "instructions", "usage terms": "usage terms"}  # which have no article
 
 
-def letter(head: str, news: Sequence[News], end: Sequence[str], values: Sequence[Values] = ()) -> Iterator[str]:
-    """The lines: a head, the news, texts before and now as far as there is room, and what stands below them. If there are too many news, the last
-    ones are counted."""
+def letter(head: str, news: Sequence[News], end: Sequence[str], groups: Sequence[Group] = ()) -> Iterator[str]:
+    """The lines: a head, the news, as far as there is room the groups of pictures that were edited
+    alike, those that changed like no other first, and what is printed below them. If there are too
+    many news, the last ones are counted."""
     lines = [*_of_folders(news), *_of_pictures([it for it in news if it.kind not in _OF_FOLDERS])]
     room = LINES - 3 - len(end)
     yield cut(head)
@@ -50,7 +52,8 @@ def letter(head: str, news: Sequence[News], end: Sequence[str], values: Sequence
     yield from lines[: room if len(lines) <= room else room - 1]
     if len(lines) > room:
         yield f"  .. and {len(lines) - room + 1:,} more lines, which changed --each has"
-    rows = [_of_values(it) for it in values[: max(room - len(lines) - 1, 0)]]
+    rows = [line for it in groups[:LINES] for line in _of_edits(it)]
+    rows = rows[: max(room - len(lines) - 1, 0)]
     yield from [""] * bool(rows)
     yield from rows
     if end:
@@ -58,24 +61,13 @@ def letter(head: str, news: Sequence[News], end: Sequence[str], values: Sequence
         yield from end
 
 
-_BEFORE = 8  # characters that are shown before the first that differs
-
-
-def _of_values(values: Values) -> str:
-    """A text before and now in a line, each cut to half of it: what both begin with is left out first.
-
-    >>> _of_values(Values(b"a.jpg", "title", ["Tile"], ["A tile", "B"]))
-    '  a.jpg title: Tile -> A tile, B'
-    >>> _of_values(Values(b"a.jpg", "title", [], ["x" * 90]))[:40]
-    '  a.jpg title: (none) -> xxxxxxxxxxxxxxx'
-    """
-    head = f"  {_from_behind(shown_path(values.path), COLUMNS // 3)} {escaped(values.label)}: "
-    both = tell_apart([", ".join(map(escaped, it)) or NONE for it in (values.before, values.now)])
-    half = (COLUMNS - width(head) - len(" -> ")) // 2
-    begin = len(os.path.commonprefix(both)) - _BEFORE
-    if begin > 0 and max(map(width, both)) > half:
-        both = [f"..{it[begin:]}" for it in both]
-    return head + " -> ".join(cut(it, half) for it in both)
+def _of_edits(group: Group) -> List[str]:
+    """Pictures that were edited alike, in a line; of one that changed like no other each edit."""
+    edits = [safe(line_of(it)) for it in group.edits]
+    if group.is_odd:
+        name = _from_behind(shown_path(group.names[0]), COLUMNS // 3)
+        return [cut(f"  {name} {it}") for it in edits]
+    return [cut(f"  {pictures_in_words(group.pictures)}: {'; '.join(edits)}")]
 
 
 _OF_FOLDERS = (Kind.ABSENT, Kind.CLOSED)

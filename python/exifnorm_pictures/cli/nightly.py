@@ -15,7 +15,8 @@ from ..catalogue.checking import Checked
 from ..catalogue.nights import Nights
 from ..catalogue.store import Catalogue, NoCatalogue, earlier_release
 from ..comparison.coded import sentence_of_coded
-from ..comparison.news import Between, Kind, News, Tally, Values
+from ..comparison.edit_groups import Group
+from ..comparison.news import Between, Kind, News, Tally
 from ..comparison.newly_broken import newly_broken, newly_unread
 from ..comparison.pairs import heads_of
 from ..fields.rules import Rule
@@ -50,7 +51,7 @@ class Night:
         self.since = ""
         self.pictures = self.with_news = 0
         self.news: List[News] = []
-        self.values: List[Values] = []
+        self.groups: List[Group] = []
         self.broken: Broken = None
         self.notes: List[str] = []
         self.unread: "Counter[str]" = Counter()  # pictures that lack what an option reads
@@ -110,7 +111,7 @@ class Night:
             self._add_closed(between, last)
             if self.rules:
                 self._check(between, last, tonight)
-            self.news, self.values = between.tally.all(), between.values
+            self.news, self.groups = between.tally.all(), between.kinds.groups()
             self.pictures, self.with_news = between.pictures, between.with_news
             self.notes = list(filter(None, [sentence_of_coded(between.coded, "--pixels")]))
 
@@ -203,7 +204,7 @@ def _print_news(night: Night) -> None:
     if night.output.json:
         _print_objects(night)
     else:
-        print_lines(letter(_head(night), night.news, _end(night), night.values))
+        print_lines(letter(_head(night), night.news, _end(night), night.groups))
     sys.stdout.flush()
     say_unused(night.excluded.unused())
     if night.output.html:

@@ -12,7 +12,7 @@ from ..model.texts import Members, path_members
 
 # The versions of commands whose objects have another one than 1. A version grows if a key is renamed or removed, or gets another meaning; a new
 # key alone doesn't count.
-_VERSIONS: Dict[str, int] = {}
+_VERSIONS: Dict[str, int] = {"changed": 2}
 
 
 _ENCODER = json.JSONEncoder(allow_nan=False)

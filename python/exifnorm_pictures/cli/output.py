@@ -4,7 +4,6 @@ from __future__ import annotations
 
 import contextlib
 import os
-import re
 import shutil
 import sys
 from collections import Counter
@@ -141,15 +140,6 @@ def counted(counts: "Counter[str]", damaged: int = 0) -> str:
     ordered = sorted(counts, key=lambda it: (-counts[it], words[it], it))
     states = ", ".join(f"{counts[it]:,} {words[it]}{AS_BEFORE * it.endswith(AS_BEFORE)}" for it in ordered) or "no file"
     return states + f"; {damaged:,} cut off or damaged" * bool(damaged)
-
-
-def kind_of_part(what: str) -> str:
-    """A part that was not read without the numbers that differ from picture to picture.
-
-    >>> kind_of_part("1,024 bytes that only the MakerNote can reach"), kind_of_part("trailer of 12 bytes"), kind_of_part("x (at 12)")
-    ('bytes that only the MakerNote can reach', 'trailer', 'x')
-    """
-    return re.sub(r" of [\d,]+ bytes| \(.*?\)|^[\d,]+ (?=byte)", "", what).replace("byte that", "bytes that")
 
 
 def local_time(when: str) -> str:

@@ -19,8 +19,10 @@ def write_report(about: About, name: str, kept: Sequence[str]) -> None:
     """Writes one page, or a folder of pages if the name ends with a slash or is a folder's. It may replace an earlier report, and nothing else;
     least of all one of the catalogues `kept`, whose rights it gets. Raises `NotReplaced`, and `TooLarge` for one page."""
     out = os.fsencode(name)
+    about.beside = os.path.join(os.path.dirname(os.path.abspath(out.rstrip(b"/"))), b"")
     try:
         if name.endswith("/") or os.path.isdir(out):
+            about.up = "../"
             with folders.replaced(out, MARK, kept) as folder:
                 folder.write("index.html", _octets(_shown(about, folder)))
         else:

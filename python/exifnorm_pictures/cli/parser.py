@@ -106,9 +106,10 @@ def _refuse_apart(parser: _Parser, arguments: argparse.Namespace) -> None:
             first, second = ("/".join(known[name].option_strings) for name in given[:2])  # as argparse names them
             parser.error(f"argument {second}: not allowed with argument {first}{_WHY.get((given[0], given[1]), '')}")
     for name, needed in _ONLY_WITH.items():
-        if name in names and needed in known and needed not in names:
+        there = [it for it in needed if it in known]
+        if name in names and there and not set(there) & set(names):
             option = "/".join(known[name].option_strings)
-            parser.error(f"argument {option}: not allowed without argument {needed}")
+            parser.error(f"argument {option}: not allowed without argument {' or '.join(there)}")
 
 
 def _refuse_unknown(whole: _Parser, commands: "Dict[str, _Parser]", words: Sequence[str]) -> None:
@@ -350,6 +351,8 @@ def _changed_arguments(parser: argparse.ArgumentParser) -> None:
     _flag(parser, "--exact", words)
     words = "compare pictures whose names differ only in folders and endings, as a master 7.tif and its copy web/7.jpg"
     parser.add_argument("--match", choices=("stem",), metavar="stem", help=words)
+    words = "list the pictures of a group, by the number that the summary gives it"
+    parser.add_argument("--edit", type=_positive, default=0, metavar="N", help=words)
     words = "write arguments for exiftool -@ FILE, which put the earlier texts of labels back"
     _path(parser, "--undo", "FILE", words)
     _flag(parser, "--no-exiftool", _NO_EXIFTOOL)
@@ -588,7 +591,12 @@ _APART: Dict[str, Tuple[Tuple[str, ...], ...]] = {
     "conflicts": (("--catalogue", "--files-from"), ("--catalogue", "--whole"), ("--all", "--json")),
 }
 # Options that have no effect without another one
-_ONLY_WITH = {"--title": "--html", "--link-to": "--html", "--form": "--evidence", "--null": "--files-from"}
+_ONLY_WITH = {
+    "--title": ("--html",),
+    "--link-to": ("--html",),
+    "--form": ("--evidence",),
+    "--null": ("--files-from", "--edit"),
+}
 _WHY = {
     ("--shards", "--keep-old"): ", which copies one catalogue: copy the folder of --shards before the run",
     ("--catalogue", "--whole"): ": a catalogue has what index --whole read",

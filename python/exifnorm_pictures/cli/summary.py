@@ -1,16 +1,26 @@
-"""The page of `changed`: groups of pictures that were edited alike, the odd ones first, on about 30 lines."""
+"""The page of `changed`: groups of pictures that were edited alike, and those that changed like no
+other, on about 30 lines."""
 
 from __future__ import annotations
 
 from collections import Counter
 from itertools import islice
-from typing import Iterator, List, Optional, Sequence, Tuple
+from typing import Iterator, List, NamedTuple, Optional, Sequence
 
 from ..comparison.edit_groups import KINDS, Group
 from ..comparison.edit_words import BRACKETS, head_of, steps_of
+from ..comparison.edits import Edit
 from ..comparison.marking import IN, KEPT, OUT, Step
 from ..comparison.summary import MOST_NAMES, Summary
-from ..comparison.summary_lines import LONGEST_NAMES, fitting, results_of, sentence, sentence_of_partners, shown_name
+from ..comparison.summary_lines import (
+    LONGEST_NAMES,
+    fitting,
+    lacking_of,
+    results_of,
+    sentence,
+    sentence_of_partners,
+    shown_name,
+)
 from ..model.results import Result
 from ..model.texts import pictures_in_words, safe
 from .columns import width
@@ -22,40 +32,70 @@ LONGEST = 600  # characters of an edit
 COLOURS = {OUT: "\x1b[31;9m", IN: "\x1b[32;4m"}  # red and struck through, green and underlined
 
 
+class Style(NamedTuple):
+    """How words are marked, and how many columns a terminal has."""
+
+    screen: Optional[int] = None
+    colours: bool = False
+
+
 def lines(
     summary: Summary,
     counts: "Counter[Result]",
     notes: Sequence[str] = (),
-    screen: Optional[int] = None,
-    colours: bool = False,
+    style: Style = Style(),
     by_stem: bool = False,
 ) -> Iterator[str]:
-    """The page, with some notes after the results. `screen` has the columns of a terminal."""
+    """The page, with some notes after the results."""
     results = [*map(safe, results_of(summary, counts)), *map(safe, notes)]
     groups = summary.kinds.groups()
-    odd, alike = [it for it in groups if it.is_odd], [it for it in groups if not it.is_odd]
+    odd = [it for it in groups if it.is_odd]
+    alike = [it for it in reversed(groups) if not it.is_odd]  # the largest first
+    texts = [[*_group(it, style)] for it in alike]
+    pictures = [[*_picture(it, style)] for it in odd[:LINES]]
     room = LINES - len(results) - 6
-    texts = [[*_group(it, screen, colours)] for it in reversed(alike)]
-    shown = _fitting(texts, LEAST, room - min(sum(2 + len(it.edits) for it in odd), room // 2))
+    shown = _fitting(texts, LEAST, room - min(sum(map(len, pictures)), room // 2))
+    many = _fitting(pictures, ODD, room - sum(map(len, texts[:shown])))
     yield sentence_of_partners(counts) if by_stem else sentence(counts)
-    if odd:
-        pictures = [[*_picture(it, screen, colours)] for it in odd[:LINES]]
-        many = _fitting(pictures, ODD, room - sum(map(len, texts[:shown])))
-        yield from ["", f"{pictures_in_words(len(odd))} changed like no other:"]
-        yield from (line for it in pictures[:many] for line in it)
-        if len(odd) > many:
-            yield f"  and {len(odd) - many:,} more, which --json has"
-    if alike:
-        yield ""
-        left = alike[: len(alike) - shown]
-        if left:
-            sizes = f"{left[0].pictures:,}" if left[0].pictures == left[-1].pictures else f"{left[0].pictures:,} to {left[-1].pictures:,}"
-            yield f"{len(left):,} more group{'s' * (len(left) > 1)} of {sizes} pictures that changed alike"
-        yield from (line for it in reversed(texts[:shown]) for line in it)
-    if summary.kinds.further:
-        yield f"More than {KINDS:,} kinds of edit: {pictures_in_words(summary.kinds.further)} more, which aren't grouped"
+    yield from [""] * bool(alike)
+    yield from _lines(texts[:shown])
+    yield from _smaller(alike[shown:])
+    yield from _further(summary.kinds.further)
+    yield from _odd(pictures[:many], len(odd))
     yield from ["", *results] if results else []
-    yield from ["", "--each lists each picture with its fields."] if any(counts[it] for it in counts if it.has_changed is not False) else []
+    yield from _hint(counts, bool(alike))
+
+
+def _further(count: int) -> Iterator[str]:
+    if count:
+        many = pictures_in_words(count)
+        yield f"More than {KINDS:,} kinds of edit: {many} more, which aren't grouped"
+
+
+def _odd(texts: Sequence[List[str]], count: int) -> Iterator[str]:
+    """The pictures that changed like no other, as far as there is room."""
+    if count:
+        yield from ["", f"{pictures_in_words(count)} changed like no other:", *_lines(texts)]
+    if count > len(texts):
+        yield f"  and {count - len(texts):,} more, which --json has"
+
+
+def _hint(counts: "Counter[Result]", has_groups: bool) -> Iterator[str]:
+    if any(counts[it] for it in counts if it.has_changed is not False):
+        of_group = ", --edit N the pictures of a group" * has_groups
+        yield from ["", f"--each lists each picture with its fields{of_group}."]
+
+
+def _lines(texts: Sequence[List[str]]) -> Iterator[str]:
+    return (line for text in texts for line in text)
+
+
+def _smaller(groups: Sequence[Group]) -> Iterator[str]:
+    """How many groups there is no room for."""
+    if groups:
+        most, least = groups[0].pictures, groups[-1].pictures
+        sizes = f"{least:,}" if least == most else f"{least:,} to {most:,}"
+        yield f"{len(groups):,} more group{'s' * (len(groups) > 1)} of {sizes} pictures"
 
 
 def _fitting(texts: Sequence[List[str]], least: int, room: int) -> int:
@@ -68,54 +108,66 @@ def _fitting(texts: Sequence[List[str]], least: int, room: int) -> int:
     return len(texts)
 
 
-def _picture(group: Group, screen: Optional[int], colours: bool) -> Iterator[str]:
+def _picture(group: Group, style: Style) -> Iterator[str]:
     yield f"  {shown_name(group.names[0])}"
     edits = group.firsts[0][1]
     for edit in edits[:EDITS]:
-        yield from _edit("    ", head_of(edit), steps_of(edit, True), screen, colours)
+        yield from _edit(f"    {head_of(edit)}", edit, True, style)
     if len(edits) > EDITS:
         yield f"    and {len(edits) - EDITS:,} more edits"
 
 
-def _group(group: Group, screen: Optional[int], colours: bool) -> Iterator[str]:
-    head = f"{pictures_in_words(group.pictures)}: "
+def _group(group: Group, style: Style) -> Iterator[str]:
+    head = f"{pictures_in_words(group.pictures)} (edit {group.number}): "
     for edit, places in zip(group.edits[:EDITS], group.places):
-        yield from _edit(head, head_of(edit, places, group.pictures), steps_of(edit, False), screen, colours)
+        yield from _edit(head + head_of(edit, places, group.pictures), edit, False, style)
         head = " " * len(head)
     if len(group.edits) > EDITS:
         yield f"{head}and {len(group.edits) - EDITS:,} more edits"
     names = list(islice(fitting(map(shown_name, group.names), LONGEST_NAMES), MOST_NAMES))
     yield f"  {', '.join(names)}{' ..' * (len(names) < group.pictures)}"
+    yield from (f"  {it.line}" for it in lacking_of(group))
 
 
-def _edit(indent: str, head: str, steps: Sequence[Step], screen: Optional[int], colours: bool) -> Iterator[str]:
+def _edit(head: str, edit: Edit, is_one: bool, style: Style) -> Iterator[str]:
     """The lines of an edit: one, or on a terminal as many as it takes, broken between words."""
-    runs = [Step(KEPT, f"{indent}{head}{': ' * bool(steps)}"), *_limited(steps)]
-    words: List[List[Step]] = [[]]
-    for sign, text in runs:
-        marked = text if sign == KEPT or colours else text.join(BRACKETS[sign])
-        for at, one in enumerate(safe(marked).split(" ") if screen else [safe(marked)]):
-            words += [[]] * bool(at)
-            words[-1] = [*words[-1], Step(sign, one)]
+    steps = steps_of(edit, is_one)
+    words = _words([Step(KEPT, head + ": " * bool(steps)), *_limited(steps)], style)
+    indent = len(head) - len(head.lstrip())
     line, taken = "", 0
     for at, word in enumerate(words):
         wide = sum(width(it.text) for it in word)
-        if screen and line.strip() and taken + 1 + wide > screen:
+        if style.screen and line.strip() and taken + 1 + wide > style.screen:
             yield line
-            line, taken = " " * (len(indent) + 2), len(indent) + 1
+            line, taken = " " * (indent + 2), indent + 1
         elif at:
             line += " "
-        line += "".join(f"{COLOURS[it.sign]}{it.text}\x1b[m" if colours and it.sign in COLOURS and it.text else it.text for it in word)
+        line += "".join(_coloured(it) if style.colours else it.text for it in word)
         taken += wide + bool(at)
     yield line
 
 
-def _limited(steps: Sequence[Step]) -> Iterator[Tuple[str, str]]:
+def _words(steps: Sequence[Step], style: Style) -> List[List[Step]]:
+    """Each word of a terminal's line, in pieces; all in one if lines aren't broken."""
+    words: List[List[Step]] = [[]]
+    for sign, text in steps:
+        shown = safe(text if sign == KEPT or style.colours else text.join(BRACKETS[sign]))
+        first, *others = shown.split(" ") if style.screen else [shown]
+        words[-1].append(Step(sign, first))
+        words += [[Step(sign, it)] for it in others]
+    return words
+
+
+def _coloured(step: Step) -> str:
+    return f"{COLOURS[step.sign]}{step.text}\x1b[m" if step.sign != KEPT and step.text else step.text
+
+
+def _limited(steps: Sequence[Step]) -> Iterator[Step]:
     """The words, without those for which there is no room."""
     left = LONGEST
     for sign, text in steps:
         if left <= 0:
-            yield KEPT, " .."
+            yield Step(KEPT, " ..")
             return
-        yield sign, text if len(text) <= left else f"{text[:left]} .."
+        yield Step(sign, text if len(text) <= left else f"{text[:left]} ..")
         left -= len(text)

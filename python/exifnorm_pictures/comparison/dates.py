@@ -14,28 +14,40 @@ _DATE = re.compile(r"(\d{4})[:-](\d\d)[:-](\d\d)[ T](\d\d):(\d\d)(?::(\d\d))?(.*
 _IPTC_DATE, _IPTC_TIME = re.compile(r"(\d{4})(\d\d)(\d\d)()()()()"), re.compile(r"()()()(\d\d)(\d\d)(\d\d)(.*)", re.S)
 _IPTC = {"2:55": _IPTC_DATE, "2:60": _IPTC_TIME, "2:62": _IPTC_DATE, "2:63": _IPTC_TIME}
 _TIME_OF = {"2:55": "2:60", "2:62": "2:63"}  # the DataSet of the time of a date
+_DATE_OF = {time: date for date, time in _TIME_OF.items()}
 
 
 def shifts(changes: Sequence[FieldDifference]) -> Dict[timedelta, List[FieldDifference]]:
-    """The dates that moved, by how much later they are. The date and the time of IPTC move together, as over midnight."""
+    """The dates that moved, by how much later they are. The date and the time of IPTC move together,
+    as over midnight."""
     found: Dict[timedelta, List[FieldDifference]] = {}
     by_tag = {(it.tag, it.block): it for it in changes if it.directory == "iptc"}
     for change in changes:
-        of_time = by_tag.get((_TIME_OF.get(change.tag, ""), change.block)) if change.directory == "iptc" else None
-        is_time = change.directory == "iptc" and any(
-            (date, change.block) in by_tag for date, time in _TIME_OF.items() if time == change.tag
-        )
-        moved = None if is_time else _shift(change)
-        if of_time and moved is not None:
-            of_day = _shift(of_time)
-            moved = None if of_day is None else moved + of_day
-        if moved:
-            found.setdefault(moved, []).extend([change, of_time] if of_time else [change])
+        fields = _together(change, by_tag)
+        moved = [_shift(it) for it in fields]
+        known = [it for it in moved if it is not None]
+        shift = sum(known, timedelta())
+        if shift and len(known) == len(moved):
+            found.setdefault(shift, []).extend(fields)
     return found
 
 
+_ByTag = Dict[Tuple[str, str], FieldDifference]
+
+
+def _together(change: FieldDifference, by_tag: _ByTag) -> List[FieldDifference]:
+    """A date with its time; nothing for a time whose date has it."""
+    if change.directory != "iptc":
+        return [change]
+    if (_DATE_OF.get(change.tag, ""), change.block) in by_tag:
+        return []
+    of_time = by_tag.get((_TIME_OF.get(change.tag, ""), change.block))
+    return [change, of_time] if of_time else [change]
+
+
 def _shift(change: FieldDifference) -> Optional[timedelta]:
-    """How much later a date is, if it is one on both sides, with the same time zone: with another one that isn't known."""
+    """How much later a date is, if it is one on both sides, with the same time zone: with another
+    one that isn't known."""
     if len(change.before) != 1 or len(change.after) != 1 or change.note:
         return None
     first, second = (_date_of(it[0]) for it in (change.before, change.after))
@@ -43,20 +55,24 @@ def _shift(change: FieldDifference) -> Optional[timedelta]:
 
 
 def _date_of(field: Field) -> Optional[Tuple[datetime, str]]:
-    """The time of a date, and what follows it; None for a field that is none, or for a date that isn't in the calendar."""
-    if field.directory == "xmp":
-        texts = xmp_texts(field) or []
-        text = texts[0][0] if len(texts) == 1 else ""
-    else:
-        text = text_of(field) or ""
-    match = (_IPTC.get(field.tag, _DATE) if field.directory == "iptc" else _DATE).fullmatch(text)
+    """The time of a date, and what follows it; None for a field that is none, or for a date that
+    isn't in the calendar."""
+    form = _IPTC.get(field.tag, _DATE) if field.directory == "iptc" else _DATE
+    match = form.fullmatch(_text(field))
     if not match:
         return None
-    year, month, day, hour, minute, second = (int(it or 0) for it in match.groups()[:6])
+    numbers = [int(it or least) for it, least in zip(match.groups(), (2000, 1, 1, 0, 0, 0))]
     try:
-        return datetime(year or 2000, month or 1, day or 1, hour, minute, second), match[7]
+        return datetime(*numbers), match[7]  # type: ignore[arg-type]
     except ValueError:
         return None
+
+
+def _text(field: Field) -> str:
+    if field.directory != "xmp":
+        return text_of(field) or ""
+    texts = xmp_texts(field) or []
+    return texts[0][0] if len(texts) == 1 else ""
 
 
 def in_words(shift: timedelta) -> str:

@@ -2,13 +2,17 @@
 
 from __future__ import annotations
 
+import re
 from collections import Counter
 from typing import List, Optional, Sequence
 
 from .edits import Edit, places_of
 from .marking import IN, KEPT, OUT, Step
+from .wording import numbered
 
 AROUND = 40  # characters of kept text that are shown on each side of what changed
+NUMBERED = "different numbers in each"
+_BRACKET = re.compile(r"([-\[\]{}+])")
 _VERBS = ("removed", "added", "changed", "written otherwise")
 BRACKETS = {OUT: ("[-", "-]"), IN: ("{+", "+}")}  # as git marks words
 
@@ -29,19 +33,31 @@ def head_of(edit: Edit, places: "Optional[Counter[str]]" = None, pictures: int =
 
 
 def steps_of(edit: Edit, is_one: bool) -> List[Step]:
-    """The words of an edit: of one picture with some of the text around them, of several with `..` in its place; members of a list one by one."""
-    if edit.note and not is_one:
+    """The words of an edit: of one picture with some of the text around them, of several with `..`
+    in its place; members of a list one by one."""
+    if edit.note and edit.note != NUMBERED and not is_one:
         return []
+    steps = edit.steps if is_one or edit.note else edit.core
+    steps = tuple(map(_exactly, steps)) if edit.is_exact else steps
     if edit.is_list:
-        return [one for it in edit.steps for one in (Step(KEPT, ", "), it)][1:]
-    steps = edit.steps if is_one else edit.core
-    if not is_one:
-        return [
-            it if it.sign != KEPT else Step(KEPT, (" " if at else "") + ".." + (" " if at < len(steps) - 1 else ""))
-            for at, it in enumerate(steps)
-        ]
-    last = len(steps) - 1
-    return [it if it.sign != KEPT else Step(KEPT, _around(it.text, at > 0, at < last)) for at, it in enumerate(steps)]
+        return [one for it in steps for one in (Step(KEPT, ", "), it)][1:]
+    return [_shown(it, at, len(steps) - 1, is_one) for at, it in enumerate(steps)]
+
+
+def _shown(step: Step, at: int, last: int, is_one: bool) -> Step:
+    """A step as it is shown: of words that were kept those around the others, or `..`."""
+    if step.sign != KEPT:
+        return step
+    has_before, has_after = at > 0, at < last
+    if is_one:
+        return Step(KEPT, _around(step.text, has_before, has_after))
+    return Step(KEPT, f"{' ' * has_before}..{' ' * has_after}")
+
+
+def _exactly(step: Step) -> Step:
+    """Words with the numbers of characters that don't show, or that might be brackets."""
+    text = step.text if step.sign == KEPT else _BRACKET.sub(r"<\1>", numbered(step.text))
+    return Step(step.sign, text)
 
 
 def _around(text: str, has_before: bool, has_after: bool) -> str:

@@ -1,13 +1,16 @@
-"""Edits: what somebody did to the fields of a picture, so that equal edits of many pictures are one, and the odd ones are seen.
+"""Edits: what somebody did to the fields of a picture, so that equal edits of many pictures are
+one, and the odd ones are seen.
 
-The edit of a text is the words that were taken out and put in, not its two values; of a list its members. Dates that all moved by the same time
-are one edit, and so is the same edit of one text in Exif, IPTC and XMP.
+The edit of a text is the words that were taken out and put in, not its two values; of a list its
+members. Dates that all moved by the same time are one edit, and so is the same edit of one text in
+Exif, IPTC and XMP.
 """
 
 from __future__ import annotations
 
 import functools
 import hashlib
+import re
 from collections import Counter
 from datetime import timedelta
 from typing import Dict, Iterator, List, NamedTuple, Optional, Sequence, Set, Tuple
@@ -23,21 +26,33 @@ from .differing import FieldDifference
 from .marking import IN, KEPT, OUT, Marker, Step
 from .wording import plain_sides
 
-STEPS = 10_000  # of comparing words, for a text: two that have 100 words each, blanks and signs among them
-MOST = 100  # edits of a picture; of a stranger's with more the further ones are one edit
-FEW = 6  # fields of a block that came with a text, and that don't count: programs write some of their own into a new block
+# Steps of comparing words, for a text: two that have 100 words each, blanks and signs among them.
+# A longer middle is one edit as a whole, which is coarser and still true.
+STEPS = 10_000
+# Edits of a picture. No person makes so many; of a stranger's picture with more, the further ones
+# are one edit, which equals another's only if all of them are equal.
+MOST = 100
+# Fields of a block that came with a text, and that don't count: Photoshop and ExifTool write up to
+# six of their own into a new block, as versions, character set, resolution and toolkit.
+FEW = 6
+# A date that moved by a multiple of this was moved by somebody: all time zones differ by quarters
+# of an hour. A program that saves writes the time of the day, once in 900 s such a multiple.
+_QUARTER = timedelta(minutes=15)
 WHOLE, SMALL = "whole", "small"  # a block or directory that came or went
 DATES, PROGRAMS, NUMBERS = "dates", "what programs write by themselves", "equal numbers"
-_QUARTER = timedelta(minutes=15)  # somebody moved a date by a multiple of it; a program that saves writes the time of the day
+FURTHER = "further fields"
 BY_THEMSELVES = (*SAVES, "IPTC:EnvelopeRecordVersion", "IPTC:ApplicationRecordVersion")
 # DataSets that IPTC-NAA IIM 4.2 allows to be repeated, and that are lists of texts
 _REPEATED = ("2:12", "2:20", "2:25", "2:26", "2:27", "2:80", "2:85", "2:118", "2:122")
+_DIGITS = re.compile(r"\d+")
+_DONE = {IN: "added", OUT: "removed", "~": "other bytes"}
 
 
 class Edit(NamedTuple):
     """What somebody did to a text, a list or another value.
 
-    `steps` are all its words, or those members of a list that came or went. `note` is in place of words: `removed`, `1 h later`.
+    `steps` are all its words, or those members of a list that came or went. `note` is in place of
+    words: `removed`, `1 h later`.
     """
 
     name: str  # the label of its fields, such as `caption`, or the name of the field
@@ -47,34 +62,56 @@ class Edit(NamedTuple):
     value: str = ""  # the new value; empty if there is none
     is_list: bool = False
     is_minor: bool = False  # whether it counts only if it is all that was edited
+    is_exact: bool = False  # whether characters that don't show are written as their numbers
 
     @property
     def sign(self) -> str:
-        """`+` for a value that came where there was none, `-` for one that went, and `~` for one that changed."""
+        """`+` for a value that came where there was none, `-` for one that went, and `~` for one
+        that changed."""
         signs = {it.sign for it in self.steps}
         return "~" if self.note or len(signs) != 1 else signs.pop()
 
     @property
     def core(self) -> Tuple[Step, ...]:
-        """What equal edits have in common: what was taken out and put in, and whether that is between kept words."""
-        if not self.is_list and all(it.sign != KEPT for it in self.steps):  # nothing was kept: only the new value counts
+        """What equal edits have in common: what was taken out and put in, and whether that is
+        between kept words."""
+        signs = [it.sign for it in self.steps]
+        if not self.is_list and KEPT not in signs:  # only the new value counts
             return tuple(it for it in self.steps if it.sign == IN)
-        bare = [Step(it.sign, it.text.strip() or it.text) if it.sign != KEPT else Step(KEPT, "") for it in self.steps]
-        signs = [it.sign for it in bare]
-        if signs[:2] == [KEPT, OUT]:  # what took its place, and what was removed, may be anywhere in a text
-            del bare[0]
-        if signs[-1:] == [KEPT] and OUT in signs[-3:-1]:
-            del bare[-1]
-        return tuple(bare)
+        # what took the place of words, and what was removed, may be anywhere in a text
+        first = signs[:2] == [KEPT, OUT]
+        last = len(signs) - (signs[-1:] == [KEPT] and OUT in signs[max(first, len(signs) - 3) : -1])
+        return tuple(map(_bare, self.steps[first:last]))
 
     @property
     def key(self) -> bytes:
         """Equal for equal edits."""
-        return digest(repr((self.name, self.note, not self.note and self.core)))
+        words = _plain(self.core) if not self.note else self.name == FURTHER and self.value
+        return digest(repr((self.name, self.note, words)))
+
+    @property
+    def shape(self) -> bytes:
+        """Equal for edits whose words differ only in their digits."""
+        return digest(repr((self.name, self.note, _plain(numberless(self.core)))))
+
+
+def _plain(steps: Sequence[Step]) -> List[Tuple[str, str]]:
+    return [(sign, text) for sign, text in steps]
+
+
+def numberless(steps: Sequence[Step]) -> Tuple[Step, ...]:
+    """Words with `#` in place of each number."""
+    return tuple(Step(it.sign, _DIGITS.sub("#", it.text)) for it in steps)
+
+
+def _bare(step: Step) -> Step:
+    text = "" if step.sign == KEPT else step.text.strip() or step.text
+    return Step(step.sign, text)
 
 
 def places_of(edit: Edit) -> List[str]:
-    """In which standards an edit was, which dates moved, or the labels of the texts that went with a block; nothing if the name says it."""
+    """In which standards an edit was, which dates moved, or the labels of the texts that went with
+    a block; nothing if the name says it."""
     labels = {label_of_fields().get(it, "") for it in edit.fields}
     if edit.note in ("removed", "added") and "" not in labels and edit.name not in labels:
         return sorted(labels, key=lambda it: _order()[it])
@@ -82,72 +119,107 @@ def places_of(edit: Edit) -> List[str]:
         return []
     if edit.name == DATES:
         return list(dict.fromkeys(it.rpartition(":")[2] for it in edit.fields))
-    return sorted({NAMES[IPTC] if it.startswith("IPTC") else NAMES[XMP] if it.startswith("XMP") else NAMES[EXIF] for it in edit.fields})
+    return sorted({NAMES[standard_of(it)] for it in edit.fields})
+
+
+def standard_of(field: str) -> str:
+    """The standard of a field, by its name."""
+    return next((kind for kind in (IPTC, XMP) if field.startswith(NAMES[kind])), EXIF)
 
 
 def digest(text: str) -> bytes:
-    """What stands for a text that may be long."""
+    """A short form of a text that may be long."""
     return hashlib.sha256(text.encode("utf-8", "surrogatepass")).digest()[:16]
 
 
 def edits_of(changes: Sequence[FieldDifference], has_parts: bool = True) -> List[Edit]:
-    """The edits of a picture by the fields that differ: those with a label first, and last what programs write by themselves. A block or directory
-    that came or went is one edit, but for the texts that came with it, unless only some fields are compared."""
-    parts = _parts(changes) if has_parts else {}
-    dates, positions, others = _parted(changes, [it for it in parts if parts[it] == WHOLE and it[0] == OUT])
+    """The edits of a picture by the fields that differ: those with a label first, and last what
+    programs write by themselves. A block or directory that came or went is one edit, but for the
+    texts that came with it, unless only some fields are compared."""
     edits: Dict[bytes, Edit] = {}
-    for edit in (*dates, *_positions(positions), *(_edit(it, parts.get((it.sign, it.part), "")) for it in others)):
-        key = edit.key
-        known = edits.get(key)
-        if known:
-            edits[key] = known._replace(
-                fields=tuple(dict.fromkeys((*known.fields, *edit.fields))), is_minor=known.is_minor and edit.is_minor
-            )
-        elif len(edits) < MOST:
-            edits[key] = edit
-        else:
-            edits[b""] = Edit("further fields", (), "changed")
+    for edit in _single(changes, _parts(changes) if has_parts else {}):
+        _add(edits, edit)
     major = [it for it in edits.values() if not it.is_minor]
     names = tuple(name for it in edits.values() if it.is_minor for name in it.fields)
-    minor = [Edit(PROGRAMS, (), "changed", names, is_minor=bool(major))] if names else []
-    return sorted(major, key=lambda it: (_order().get(it.name, len(_order())), it.name)) + minor
+    major.sort(key=lambda it: (_order().get(it.name, len(_order())), it.name))
+    minor = Edit(PROGRAMS, (), "changed", names, is_minor=bool(major))
+    return [*major, minor] if names else major
 
 
-def _parts(changes: Sequence[FieldDifference]) -> Dict[Tuple[str, str], str]:
-    """The blocks and directories that came or went. A small one isn't an edit by itself: what counts are the texts that came with it, or the only
-    one that went with it."""
-    counts = Counter((it.sign, it.part) for it in changes if it.part)
-    texts: Dict[Tuple[str, str], Set[str]] = {it: set() for it in counts}
-    for change in changes:
-        if change.part and _name(change) != change.name:
+def _add(edits: Dict[bytes, Edit], edit: Edit) -> None:
+    """Adds an edit to those of a picture, of which equal ones are one."""
+    key = edit.key
+    known = edits.get(key)
+    if known:
+        fields = tuple(dict.fromkeys((*known.fields, *edit.fields)))
+        edits[key] = known._replace(fields=fields, is_minor=known.is_minor and edit.is_minor)
+    elif len(edits) < MOST:
+        edits[key] = edit
+    else:
+        earlier = edits[b""].value if b"" in edits else ""
+        value = digest(f"{earlier} {key.hex()}").hex()
+        edits[b""] = Edit(FURTHER, (), "changed", value=value)
+
+
+_Part = Tuple[str, str]  # whether it came or went, and its name
+
+
+def _parts(changes: Sequence[FieldDifference]) -> Dict[_Part, str]:
+    """The blocks and directories that came or went. A small one isn't an edit by itself: what
+    counts are the texts that came with it, or the only one that went with it."""
+    parted = [it for it in changes if it.part]
+    texts: Dict[_Part, Set[str]] = {(it.sign, it.part): set() for it in parted}
+    for change in parted:
+        if _has_label(change):
             texts[change.sign, change.part].add(_name(change))
-    return {it: SMALL if count <= FEW and (it[0] == IN or len(texts[it]) == 1) else WHOLE for it, count in counts.items()}
+    counts = Counter((it.sign, it.part) for it in parted)
+    return {it: _size(it, count, len(texts[it])) for it, count in counts.items()}
 
 
-def _parted(
-    changes: Sequence[FieldDifference], gone: Sequence[Tuple[str, str]] = ()
-) -> Tuple[List[Edit], List[FieldDifference], List[FieldDifference]]:
-    """The edits of dates that moved, the changes of positions that didn't go with a block or directory, and all others."""
+def _size(part: _Part, count: int, texts: int) -> str:
+    return SMALL if count <= FEW and (part[0] == IN or texts == 1) else WHOLE
+
+
+def _single(changes: Sequence[FieldDifference], parts: Dict[_Part, str]) -> Iterator[Edit]:
+    """The edits of single fields, and of those that are one: dates that moved, and positions that
+    didn't go with a block or directory."""
     moved = shifts([it for it in changes if not it.is_equal_number])
-    dates = []
-    for shift, fields in moved.items():
-        names = tuple(it.name for it in fields)
-        before, after = plain_sides(fields[0])
-        steps = (Step(OUT, before or ""), Step(IN, after or ""))
-        dates.append(
-            Edit(DATES, steps, in_words(shift), names, after or "", is_minor=set(names) <= set(BY_THEMSELVES) and bool(shift % _QUARTER))
-        )
-    known = {id(it) for fields in moved.values() for it in fields}
-    left = [it for it in changes if id(it) not in known]
-    is_own = ((it.sign, it.part) not in gone and not it.note and not it.is_equal_number for it in left)
-    positions = [it for it, is_alone in zip(left, is_own) if is_alone and _name(it) == POSITION]
-    return dates, positions, [it for it in left if it not in positions] if positions else left
+    dates = [it for fields in moved.values() for it in fields]
+    left = _without(changes, dates)
+    positions = [it for it in left if _is_position(it, parts)]
+    yield from (_of_dates(shift, fields) for shift, fields in moved.items())
+    yield from _positions(positions)
+    for change in _without(left, positions):
+        yield _edit(change, parts.get((change.sign, change.part), ""))
+
+
+_Changes = Sequence[FieldDifference]
+
+
+def _without(changes: _Changes, others: _Changes) -> _Changes:
+    """The changes but for these ones."""
+    known = set(map(id, others))
+    return [it for it in changes if id(it) not in known] if known else changes
+
+
+def _of_dates(shift: timedelta, fields: Sequence[FieldDifference]) -> Edit:
+    names = tuple(it.name for it in fields)
+    before, after = (side or "" for side in plain_sides(fields[0]))
+    is_minor = bool(shift % _QUARTER) and set(names) <= set(BY_THEMSELVES)
+    steps = (Step(OUT, before), Step(IN, after))
+    return Edit(DATES, steps, in_words(shift), names, after, is_minor=is_minor)
+
+
+def _is_position(change: FieldDifference, parts: Dict[_Part, str]) -> bool:
+    if _name(change) != POSITION or change.note or change.is_equal_number:
+        return False
+    return change.sign != OUT or parts.get((OUT, change.part)) != WHOLE
 
 
 def edit_of(change: FieldDifference) -> Edit:
     """The edit of one field by itself."""
-    dates, _, others = _parted([change])
-    return dates[0] if dates else _edit(change, "")
+    found: List[Edit] = [*_single([change], {})]
+    return found[0] if found else _edit(change, "")
 
 
 @functools.lru_cache(maxsize=1)
@@ -161,27 +233,43 @@ def _name(change: FieldDifference) -> str:
     return label_of_fields().get(name, name) + block
 
 
+def _has_label(change: FieldDifference) -> bool:
+    return _name(change) != change.name
+
+
 def _edit(change: FieldDifference, of_part: str) -> Edit:
-    name, fields = _name(change), (change.name,)
+    has_label = _has_label(change)
     if change.is_equal_number:
-        return Edit(NUMBERS, (), "written otherwise", fields)
-    if of_part == WHOLE and (change.sign == OUT or name == change.name):
-        return Edit(change.part, (), "removed" if change.sign == OUT else "added", (change.name,) * (name != change.name))
-    is_minor = change.name in BY_THEMSELVES or (of_part == SMALL and name == change.name)
+        return Edit(NUMBERS, (), "written otherwise", (change.name,))
+    if of_part == WHOLE and (change.sign == OUT or not has_label):
+        return Edit(change.part, (), _DONE[change.sign], (change.name,) * has_label)
+    note = _note_of(change)
+    edit = Edit(_name(change), (), note, (change.name,)) if note else _of_values(change)
+    is_minor = change.name in BY_THEMSELVES or (of_part == SMALL and not has_label)
+    return edit._replace(is_minor=is_minor)
+
+
+def _note_of(change: FieldDifference) -> str:
+    """What is said in place of words."""
     if change.note:
-        return Edit(name, (), change.note.partition(":")[0], fields, is_minor=is_minor)  # without the number of values
-    if change[:2] == MAKER_NOTE or (change.directory == "thumb" and change.tag in ("jpeg", "strip")):
-        return Edit(name, (), "other bytes" if change.sign == "~" else "added" if change.after else "removed", fields, is_minor=is_minor)
-    if not change.after:
-        return Edit(name, (Step(OUT, plain_sides(change)[0] or ""),), "removed", fields, is_minor=is_minor)
-    members = _members(change.before), _members(change.after)
-    if None not in members and not all(len(it or ()) == 1 for it in members):
-        return _of_list(name, members[0] or (), members[1] or (), fields)._replace(is_minor=is_minor)
+        return change.note.partition(":")[0]  # without the number of values
+    is_thumbnail = change.directory == "thumb" and change.tag in ("jpeg", "strip")
+    return _DONE[change.sign] if is_thumbnail or change[:2] == MAKER_NOTE else ""
+
+
+def _of_values(change: FieldDifference) -> Edit:
+    """The words that changed, or the members of a list."""
+    name, fields = _name(change), (change.name,)
     before, after = (side or "" for side in plain_sides(change))
-    steps = list(_script(before, after))
+    if not change.after:
+        return Edit(name, (Step(OUT, before),), "removed", fields)
+    less, more = _members(change.before), _members(change.after)
+    if less is not None and more is not None and not len(less) == len(more) == 1:
+        return _of_list(name, less, more, fields)
+    steps = _script(before, after)
     if not any(it.sign == KEPT and it.text.strip() for it in steps):
-        steps = [Step(OUT, before)] * bool(before) + [Step(IN, after)]
-    return Edit(name, tuple(steps), "", fields, after, is_minor=is_minor)
+        steps = (*(Step(OUT, before),) * bool(before), Step(IN, after))
+    return Edit(name, steps, "", fields, after)
 
 
 @functools.lru_cache(maxsize=8)
@@ -193,22 +281,28 @@ def _script(before: str, after: str) -> Tuple[Step, ...]:
 # Lists
 
 
-def _of_list(name: str, before: Sequence[str], after: Sequence[str], fields: Tuple[str, ...]) -> Edit:
+def _of_list(name: str, before: List[str], after: List[str], fields: Tuple[str, ...]) -> Edit:
     """What a list has more and less."""
-    less, more = (sorted((Counter(one) - Counter(other)).elements()) for one, other in ((before, after), (after, before)))
-    steps = [Step(OUT, it) for it in less] + [Step(IN, it) for it in more]
-    note = "" if steps else "the same list in another order" if list(before) != list(after) else "written otherwise"
-    return Edit(name, tuple(steps), note, fields, "; ".join(after), True)
+    less, more = Counter(before) - Counter(after), Counter(after) - Counter(before)
+    steps = [Step(OUT, it) for it in sorted(less.elements())]
+    steps += [Step(IN, it) for it in sorted(more.elements())]
+    order = "the same list in another order" if before != after else "written otherwise"
+    return Edit(name, tuple(steps), "" if steps else order, fields, "; ".join(after), True)
 
 
 def _members(fields: Sequence[Field]) -> Optional[List[str]]:
     """The members of a list of texts; None for a field that is none."""
     if not fields:
         return []
-    if fields[0].directory == "iptc" and fields[0].tag in _REPEATED:
+    first = fields[0]
+    if first.directory == "iptc" and first.tag in _REPEATED:
         return [it.text for it in fields]
-    texts = xmp_texts(fields[0]) if len(fields) == 1 and fields[0].type in ("Bag", "Seq") else None
-    return None if texts is None else [f"{text} ({language})" if language else text for text, language in texts]
+    texts = xmp_texts(first) if len(fields) == 1 and first.type in ("Bag", "Seq") else None
+    return None if texts is None else [_member(*it) for it in texts]
+
+
+def _member(text: str, language: str) -> str:
+    return f"{text} ({language})" if language else text
 
 
 # Positions
@@ -218,7 +312,12 @@ def _positions(changes: Sequence[FieldDifference]) -> Iterator[Edit]:
     """The latitude and the longitude as one text, of Exif and of XMP."""
     for is_xmp in (False, True):
         mine = [it for it in changes if (it.directory == "xmp") == is_xmp]
-        before, after = (", ".join(side for it in mine for side in [plain_sides(it)[at]] if side is not None) for at in (0, 1))
-        steps = tuple([Step(OUT, before)] * bool(before) + [Step(IN, after)] * bool(after))
+        before, after = (_joined([plain_sides(it)[at] for it in mine]) for at in (0, 1))
+        steps = (Step(OUT, before),) * bool(before) + (Step(IN, after),) * bool(after)
         if steps:
-            yield Edit(POSITION, steps, "" if after else "removed", tuple(it.name for it in mine), after)
+            names = tuple(it.name for it in mine)
+            yield Edit(POSITION, steps, "" if after else "removed", names, after)
+
+
+def _joined(sides: Sequence[Optional[str]]) -> str:
+    return ", ".join(filter(None, sides))

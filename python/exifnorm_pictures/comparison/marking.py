@@ -70,7 +70,7 @@ class Marker:
         first, second = words[start : len(words) - ends], others[start : len(others) - ends]
         self.steps -= len(first) * len(second)
         codes = [("replace", 0, len(first), 0, len(second))]
-        if self.steps >= 0:
+        if self.steps >= 0 and first and second:
             codes = difflib.SequenceMatcher(None, first, second, False).get_opcodes()
         steps = [Step(KEPT, "".join(words[:start]))]
         for word, begin, end, other_begin, other_end in codes:

@@ -21,8 +21,9 @@ from ..scan.moved import moved_together
 from .absent import Absent
 from .changed import Compared, changed, total
 from .coded import Coded
+from .edit_groups import Kinds
+from .summary import standards_of
 
-VALUES = 20  # texts that are shown before and after
 SHOWN = 3  # pictures of each kind of news that are named
 
 
@@ -60,15 +61,6 @@ class Named(NamedTuple):
 
     path: bytes
     to: Optional[bytes] = None
-
-
-class Values(NamedTuple):
-    """A text of a picture by its label, before and now."""
-
-    path: bytes
-    label: str
-    before: List[str]
-    now: List[str]
 
 
 @dataclass
@@ -112,7 +104,7 @@ class Between:
         self.coded: "Counter[Coded]" = Counter()
         self.pictures = 0
         self.with_news = 0
-        self.values: List[Values] = []  # the first ones
+        self.kinds = Kinds()
         self._sides = (before, now)
         roots = [it.roots() for it in self._sides]
         is_one = all(len(it) <= 1 for it in roots)  # then names are below it, as `Pairs` has them
@@ -212,10 +204,9 @@ class Between:
         """Counts the texts by label that a picture has lost, got or changed; or else that other fields have changed."""
         name = comparison.moved_to or comparison.name
         before, now = self._texts(0, comparison.name), self._texts(1, name)
+        self.kinds.add(name, comparison.changes, standards_of(comparison))
         labels = [label for label in _labels(comparison) if before.get(label) != now.get(label)]
         for label in labels:
-            if len(self.values) < VALUES:
-                self.values.append(Values(name, label, *(sorted(it.get(label, ())) for it in (before, now))))
             kind = _kind_of_text(label, label in before, label in now)
             self.tally.add(kind, name, "" if kind == Kind.POSITION else label)
         if not labels and not has_kind:

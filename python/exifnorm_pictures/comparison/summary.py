@@ -5,13 +5,20 @@ from __future__ import annotations
 from typing import Dict, List, Tuple
 
 from ..fields.choosing import EVERYTHING, Choice
+from ..model.found import NAMES
 from ..model.results import Result
 from .changed import Compared
 from .edit_groups import Kinds
 from .moved_folders import MovedFolders
 
 NOW = b"\0"  # between the name of a picture that moved and its new one: no name has it
+_NOT_THERE = (Result.ABSENT, Result.MISSING_AFTER)
 MOST_NAMES = 3  # pictures of a result that are named
+
+
+def standards_of(comparison: Compared) -> List[str]:
+    """The standards that a picture has."""
+    return [NAMES[it.kind] for it in comparison.verdicts if it.result not in _NOT_THERE]
 
 
 class Summary:
@@ -26,7 +33,8 @@ class Summary:
         """Counts a picture that was compared. Returns the number of its kind of edit, or 0."""
         self._add_name(comparison)
         place = b"" if comparison.moved_to is None else NOW + comparison.moved_to
-        return self.kinds.add(comparison.name + place, comparison.changes)
+        name = comparison.name + place
+        return self.kinds.add(name, comparison.changes, standards_of(comparison))
 
     def _add_name(self, comparison: Compared) -> None:
         """Keeps the name of a picture, if it is one of the first; of those that moved with their folder that of the first one."""

@@ -9,6 +9,7 @@ from typing import Iterable, Iterator, List, NamedTuple
 from ..model.results import Result
 from ..model.texts import pictures_in_words, shown_path
 from . import changed
+from .edit_groups import Group, Lacking
 from .summary import NOW, Summary
 from .wording import moved
 
@@ -63,6 +64,28 @@ def fitting(names: Iterable[str], longest: int) -> Iterator[str]:
             return
         taken += len(name)
         yield name
+
+
+class LeftOut(NamedTuple):
+    """Pictures of a group in which an edit wasn't made in a standard that they have, though it was
+    in most of the others."""
+
+    what: str
+    few: Lacking
+
+    @property
+    def line(self) -> str:
+        """All in a line."""
+        more = " .." * (self.few.pictures > len(self.few.names))
+        return f"{self.what} {', '.join(map(shown_name, self.few.names))}{more}"
+
+
+def lacking_of(group: Group) -> Iterator[LeftOut]:
+    """These pictures, by edit and standard."""
+    for counted in group.counted:
+        for standard, few in counted.odd().items():
+            many = f"{pictures_in_words(few.pictures)}: " * (few.pictures > 1)
+            yield LeftOut(f"{counted.edit.name} not edited in the {standard} of {many}".strip(), few)
 
 
 # The results

@@ -51,7 +51,7 @@ def tell_apart(texts: Sequence[str]) -> List[str]:
     """Any number of texts in this way."""
     shown = list(texts)
     for hidden in (_HIDDEN, _NOT_ASCII):
-        if len(set(map(_look, shown))) == len(set(texts)):
+        if len(set(map(look, shown))) == len(set(texts)):
             break
         shown = [hidden.sub(_number, text) for text in texts]
     return shown
@@ -70,9 +70,18 @@ _NOT_ASCII = re.compile("[^\x00-\x7f]")
 _NOTHING, _SPACE = re.compile(f"[{_IGNORED}]"), re.compile(f"[{_BLANKS}]")
 
 
-def _look(text: str) -> str:
+def look(text: str) -> str:
     """Equal of texts that look alike."""
     return " ".join(_SPACE.sub(" ", _NOTHING.sub("", unicodedata.normalize("NFC", text))).split())
+
+
+def numbered(text: str) -> str:
+    """A text with the numbers of the characters that don't show.
+
+    >>> numbered("a\u00a0b "), numbered("Zu\u0308rich")
+    ('a<U+00A0>b<U+0020>', 'Zu<U+0308>rich')
+    """
+    return _HIDDEN.sub(_number, text)
 
 
 def _number(character: "re.Match[str]") -> str:

@@ -137,3 +137,12 @@ def pictures_in_words(count: int) -> str:
 def moved_line(old: bytes, new: bytes, count: int) -> str:
     """A line for the pictures of a folder that moved together."""
     return f"{shown_path(old)}: Moved: {pictures_in_words(count)} to {shown_path(new)}"
+
+
+def kind_of_part(what: str) -> str:
+    """A part that was not read without the numbers that differ from picture to picture.
+
+    >>> kind_of_part("1,024 bytes that only the MakerNote can reach"), kind_of_part("trailer of 12 bytes"), kind_of_part("x (at 12)")
+    ('bytes that only the MakerNote can reach', 'trailer', 'x')
+    """
+    return re.sub(r" of [\d,]+ bytes| \(.*?\)|^[\d,]+ (?=byte)", "", what).replace("byte that", "bytes that")

@@ -19,6 +19,7 @@ from .small_pictures import InPage, Kept
 
 MOST_OF_A_PAGE = 2_000  # files of a report that is one page
 MOST_BYTES = 64 << 20  # of such a page
+CAPTIONED = "The same picture, other captions"
 SHORT = 20  # pictures of a list that is on the first page of a folder
 
 Put = Callable[[str, str], None]  # writes a page by its name
@@ -109,6 +110,7 @@ class Book:
         if rules:
             yield Section("broken", "Broken rules", "picture", lists.breaking(rules))
         yield Section("same", "Pictures with the same metadata", "group", lists.same(about, counts))
+        yield Section("captioned", CAPTIONED, "group", lists.captioned(about))
         yield Section("refused", "Refused blocks and what helps", "block", lists.refusals(about, counts))
         yield Section("damaged", "Cut off or damaged", "picture", lists.damaged(about))
         yield Section("unread", "Not wholly read", "picture", lists.unread(about))
@@ -118,31 +120,36 @@ class Book:
     def _written(self, section: Section) -> Written:
         """Writes a list: on the first page, if that is the only one or the list is short, and otherwise on pages of its own."""
         written = Written(section)
-        pages = pages_of(section.entries, section.key == "folders" and self._put is not None and self.counts.total > SHORT)
+        is_apart = section.key == "folders" and self.counts.total > SHORT
+        pages = pages_of(section.entries, bool(self._put) and is_apart)
         page = next(pages, None)
         while page is not None:
             following = next(pages, None)
-            is_own = self._put is not None and bool(written.pages or following or sum(len(it.pictures) for it in page) > SHORT)
-            name = f"{section.key}-{len(written.pages) + 1}.html" if is_own else ""
-            body = self._rendered(written, page, name)
-            if is_own and self._put:
-                written.pages.append(PageLink(name, _label(section, page, len(written.pages) + 1)))
-                self._put(name, self._renderer.page(section, len(written.pages), following is not None, body))
+            has_more = bool(written.pages or following)
+            if self._put and (has_more or sum(len(it.pictures) for it in page) > SHORT):
+                self._write_page(written, page, following is not None, self._put)
             else:
-                written.body = self._renderer.joined([written.body, body])
+                written.body = self._renderer.joined([written.body, self._rendered(written, page, "")])
             page = following
         return written
 
+    def _write_page(self, written: Written, page: List[Entry], has_next: bool, put: Put) -> None:
+        section, number = written.section, len(written.pages) + 1
+        name = f"{section.key}-{number}.html"
+        body = self._rendered(written, page, name)
+        written.pages.append(PageLink(name, _label(section, page, number)))
+        put(name, self._renderer.page(section, number, has_next, body))
+
     def _rendered(self, written: Written, page: List[Entry], name: str) -> Any:
         key, first = written.section.key, written.entries + 1
-        places = ((path, f"{name}#{key}-{number}") for number, entry in enumerate(page, first) for path in entry.pictures)
-        self._marks.add(key, places)
+        for number, entry in enumerate(page, first):
+            place = f"{name}#{key}-{number}"
+            self._marks.add(key, ((path, place) for path in entry.pictures))
+            if self._search:
+                self._search.add(key, place, entry)
         body = self._renderer.entries(key, page, first)
-        if self._search:
-            for number, entry in enumerate(page, first):
-                self._search.add(key, f"{name}#{key}-{number}", entry)
         written.entries += len(page)
-        written.number += sum(it.is_counted if key == "same" else len(it.pictures) for it in page)
+        written.number += sum(_number(it, written.section) for it in page)
         if key in WITH_PICTURES:
             self._shown += self._marks.shown(path for it in page for path in it.pictures)
             self.done(min(self._shown, self.counts.total))  # the older catalogue may have more
@@ -150,6 +157,10 @@ class Book:
         if not self._put and self._size > MOST_BYTES:
             raise TooLarge("what these pictures have is too much")
         return body
+
+
+def _number(entry: Entry, section: Section) -> int:
+    return entry.is_counted if section.what == "group" else len(entry.pictures)
 
 
 def _label(section: Section, page: List[Entry], number: int) -> str:

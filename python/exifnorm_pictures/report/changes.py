@@ -4,7 +4,7 @@ from __future__ import annotations
 
 import json
 from collections import Counter
-from typing import Dict, Iterator, List, NamedTuple, Optional, Tuple
+from typing import Dict, Iterable, Iterator, List, NamedTuple, Optional, Tuple
 
 from ..catalogue.store import Known
 from ..comparison import changed
@@ -16,7 +16,7 @@ from ..comparison.edit_groups import KINDS, Group
 from ..comparison.edit_words import head_of
 from ..comparison.edits import Edit
 from ..comparison.summary import NOW, Summary
-from ..comparison.summary_lines import results_of, sentence
+from ..comparison.summary_lines import lacking_of
 from ..comparison.wording import sides
 from ..fields.left_out import lines
 from ..model.records import Stamp, is_as_before
@@ -73,6 +73,8 @@ class ShownGroup(NamedTuple):
     pictures: List[Tuple[ChangedPicture, List[Edit]]]
     start: float  # of its part of the bar
     length: float
+    # pictures that weren't edited in a standard that they have, and what is said of them
+    left_out: List[Tuple[str, List[ChangedPicture]]]
 
 
 class Changes:
@@ -99,7 +101,7 @@ class Changes:
             raise
         self.left_out = list(lines(about.choice, True))
         self._groups = self.summary.kinds.groups()
-        self._group_of: Dict[int, int] = {kind: number for number, group in enumerate(self._groups, 1) for kind in group.kinds}
+        self._group_of: Dict[int, int] = {kind: group.number for group in self._groups for kind in group.kinds}
 
     def close(self) -> None:
         """Removes the temporary database."""
@@ -119,39 +121,35 @@ class Changes:
         self._equal.add(json.dumps([rank, note, rows, is_other, kind]), name, False, rank)
 
     @property
-    def number_changed(self) -> int:
-        """How many pictures have changed."""
-        return changed.number_changed(self.results)
+    def compared(self) -> int:
+        """How many pictures were compared."""
+        return changed.total(self.results)
 
     @property
-    def number_moved(self) -> int:
-        """How many have another name, and nothing else is other."""
-        return self.results[Result.MOVED]
-
-    @property
-    def number_undecided(self) -> int:
-        """Of how many nobody knows whether they have changed."""
-        return changed.number_undecided(self.results)
-
-    @property
-    def sentence(self) -> str:
-        """How many pictures were compared, and how many changed."""
-        return sentence(self.results)
+    def counted(self) -> List[Tuple[Result, int]]:
+        """How many pictures have each result, those first that are listed."""
+        there = [(it, self.results[it]) for it in Result if self.results[it]]
+        return sorted(there, key=lambda it: it[0].has_changed is False)
 
     def groups(self) -> List[ShownGroup]:
-        """The groups of pictures that were edited alike, the smallest first: so many of one picture, and the largest ones."""
-        odd = [number for number, it in enumerate(self._groups) if it.is_odd]
-        shown = [*odd[:GROUPS], *range(max(len(odd), len(self._groups) - GROUPS), len(self._groups))]
-        lengths = [
-            max(THINNEST, BAR * self._groups[it].pictures / max(1, sum(self._groups[one].pictures for one in shown))) for it in shown
-        ]
+        """The groups of pictures that were edited alike, the smallest first: so many of one picture,
+        and the largest ones."""
+        first = max(self.number_odd, len(self._groups) - GROUPS)
+        shown = [*self._groups[: self.number_odd][:GROUPS], *self._groups[first:]]
+        pictures = max(1, sum(it.pictures for it in shown))
+        lengths = [max(THINNEST, BAR * it.pictures / pictures) for it in shown]
         scale, start, groups = BAR / max(1, sum(lengths)), 0.0, []
-        for at, length in zip(shown, lengths):
-            group = self._groups[at]
-            heads = [head_of(edit, places, group.pictures) for edit, places in zip(group.edits, group.places)]
-            groups.append(ShownGroup(at + 1, group.edits, heads, group.pictures, self._shown(group), start, length * scale))
+        for group, length in zip(shown, lengths):
+            groups.append(self._shown_group(group, start, length * scale))
             start += length * scale
         return groups
+
+    def _shown_group(self, group: Group, start: float, length: float) -> ShownGroup:
+        many = group.pictures
+        heads = [head_of(it, places, many) for it, places in zip(group.edits, group.places)]
+        few = [(it.what, self._pictures(it.few.names)) for it in lacking_of(group)]
+        shown = self._shown(group)
+        return ShownGroup(group.number, group.edits, heads, many, shown, start, length, few)
 
     @property
     def number_odd(self) -> int:
@@ -166,14 +164,18 @@ class Changes:
     def _shown(self, group: Group) -> List[Tuple[ChangedPicture, List[Edit]]]:
         """The first pictures of a group, with their own edits if each has others."""
         if group.is_odd or len(group.kinds) > 1:
-            return [(self._picture(Result.DIFFERENT, name, False), edits) for name, edits in group.firsts[:SHEET]]
-        return [(self._picture(Result.DIFFERENT, name, False), []) for name in group.names]
+            names, edits = zip(*group.firsts[:SHEET])
+            return list(zip(self._pictures(names), edits))
+        return [(it, []) for it in self._pictures(group.names)]
+
+    def _pictures(self, names: Iterable[bytes]) -> List[ChangedPicture]:
+        return [self._picture(Result.DIFFERENT, name, False) for name in names]
 
     def notes(self) -> List[str]:
-        """The results, what was compared of the pictures, and what is left out."""
+        """What was compared of the pictures, and what is left out."""
         further = self.summary.kinds.further
         more = [f"More than {KINDS:,} kinds of edit: {pictures_in_words(further)} more, which aren't grouped"] * bool(further)
-        return [*more, *results_of(self.summary, self.results), *filter(None, [sentence_of_coded(self.coded)]), *self.left_out]
+        return [*more, *filter(None, [sentence_of_coded(self.coded)]), *self.left_out]
 
     def folders(self) -> List[MovedFolder]:
         """The folders that moved."""

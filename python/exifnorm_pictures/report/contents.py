@@ -41,6 +41,8 @@ class About:
     title: str = "Pictures and their metadata"
     link_to: str = ""  # where the names of pictures lead, with {path} in it; empty: to the files
     rules: Sequence[Rule] = ()
+    beside: bytes = b""  # the folder in which the report will lie
+    up: str = "./"  # leads from a page to that folder
     _table: Optional[str] = None
 
     def table(self) -> Optional[str]:

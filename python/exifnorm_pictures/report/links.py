@@ -39,14 +39,20 @@ class Links:
 
     address: str  # empty: those of the files
     roots: Sequence[bytes]
+    beside: bytes = b""  # the folder in which the report lies
+    up: str = "./"  # leads from a page to that folder
 
     def of(self, path: bytes) -> str:
         """The address of a picture, in which each byte that isn't plain is escaped.
 
         >>> Links("", []).of(b"/p/a b\\xff?.jpg"), Links("https://dam.example/{path}", [b"/p"]).of(b"/p/x/y.jpg")
         ('file:///p/a%20b%FF%3F.jpg', 'https://dam.example/x/y.jpg')
+        >>> Links("", [], b"/p/").of(b"/p/x/y:.jpg"), Links("", [], b"/p/", "../").of(b"/q/y.jpg")
+        ('./x/y%3A.jpg', 'file:///q/y.jpg')
         """
         if not self.address:
+            if self.beside and path.startswith(self.beside):  # they may be moved or sent together
+                return self.up + quote(path[len(self.beside) :])
             return f"file://{quote(path)}"
         name = quote(below(path, self.roots).lstrip(b"/"))
         return self.address.replace("{path}", name).replace("{name}", quote(os.path.basename(path)))

@@ -2,24 +2,32 @@
 
 from __future__ import annotations
 
+import contextlib
+import json
 import os.path
 import shlex
 from collections import Counter
 from dataclasses import dataclass, field
 from itertools import groupby
-from typing import Iterator, List, NamedTuple, Tuple
+from typing import Dict, Iterator, List, NamedTuple, Sequence, Tuple
 
 from ..catalogue.checking import Broken, Checked
 from ..catalogue.store import PICTURE_COLUMNS
+from ..catalogue.texts import texts_of
 from ..comparison import groups
+from ..comparison.changed import Equal
 from ..comparison.conflicts import Conflict
+from ..comparison.group import Group
 from ..comparison.group_sentence import sentence_of
+from ..comparison.keeping import Keep, keeping
+from ..fields.labels import LABEL_WORDS
 from ..fields.rules import Rule
 from ..model.found import each_kind
 from ..model.problems import NOT_THERE, Problem
-from ..model.records import has, has_short, picture_of_row
+from ..model.texts import kind_of_part
+from ..model.records import PictureRecord, has, has_short, picture_of_row
 from .contents import About, Refused, chosen, refused
-from .contradictions import Contradictions, checked
+from .contradictions import Contradictions, checked, texts_by_standard
 from .entries import Entry, chunks
 
 MOST_PARTS = 20  # parts that were not read, in the table of the most frequent ones
@@ -57,7 +65,10 @@ def counts_of(about: About) -> Counts:
     counts.causes.update(dict(about.catalogue.rows(query, (), _counted_word)))
     counts.groups = groups.totals(about.catalogue, only=about.table(), choice=about.choice)
     source = f"FROM not_read JOIN pictures ON pictures.id = picture WHERE {chosen(about)}"
-    query = f"SELECT what, count(DISTINCT picture) {source} GROUP BY what ORDER BY 2 DESC, what LIMIT {MOST_PARTS}"
+    with about.catalogue.guarded():
+        about.catalogue.base.create_function("kind_of", 1, kind_of_part, deterministic=True)
+    kinds = f"SELECT kind_of(what) AS kind, count(DISTINCT picture) {source} GROUP BY kind"
+    query = f"{kinds} ORDER BY 2 DESC, kind LIMIT {MOST_PARTS}"
     counts.parts = list(about.catalogue.rows(query, (), _counted_word))
     counts.unread = about.catalogue.number_of(f"SELECT count(*) FROM pictures WHERE not_read IS NOT '' AND {chosen(about)}")
     counts.damaged = about.catalogue.number_of(f"SELECT count(*) FROM pictures WHERE damage != ''{_and_chosen(about)}")
@@ -77,19 +88,41 @@ def _counted_word(row: Tuple[str, int]) -> Tuple[str, int]:
 
 
 class Contradicting(NamedTuple):
-    """A picture that contradicts itself."""
+    """Pictures that contradict themselves in the same texts."""
 
-    path: bytes
-    conflicts: List[Conflict]
+    rows: List[Tuple[str, str, Dict[str, str]]]  # a label, what is said of it, and its texts
+    total: int  # of all its pictures
+    pictures: List[bytes]
+    is_first: bool
+
+    @property
+    def labels(self) -> str:
+        """The labels whose texts differ."""
+        return ", ".join(label for label, _, _ in self.rows)
+
+
+# Keywords last: a picture often has others in IPTC than in XMP, and nobody publishes them
+_ORDER = {label: at for at, label in enumerate(LABEL_WORDS) if label != "keywords"}
+
+
+def _rank(conflict: Conflict) -> int:
+    return _ORDER.get(conflict.label, len(LABEL_WORDS))
 
 
 def contradicting(about: About, counts: Counts) -> Iterator[Entry]:
-    """The pictures whose Exif, IPTC and XMP have different texts for one label."""
-    for picture in checked(about.catalogue, about.catalogue.pictures(about.table())):
-        counts.contradictions.add(picture)
-        if picture.real:
-            size = sum(len(text.line) for conflict in picture.real for text in conflict.texts)
-            yield Entry(Contradicting(picture.path, picture.real), (picture.path,), len(picture.real), True, size)
+    """The pictures whose Exif, IPTC and XMP have different texts for one label: those with equal
+    texts together, titles and captions first."""
+    with contextlib.closing(Equal()) as equal:
+        for picture in checked(about.catalogue, about.catalogue.pictures(about.table())):
+            counts.contradictions.add(picture)
+            real = sorted(picture.real, key=_rank)
+            if real:
+                rows = [(it.label, it.detail, texts_by_standard(it)) for it in real]
+                equal.add(json.dumps(rows), picture.path, False, _rank(real[0]))
+        for text, count, names in equal.all(by_rank=True):
+            for number, few in enumerate(chunks(names, lambda it: it)):
+                one = Contradicting(json.loads(text), count, few, not number)
+                yield Entry(one, tuple(few), len(one.rows), not number, len(text))
 
 
 class Breaking(NamedTuple):
@@ -115,17 +148,59 @@ class Same(NamedTuple):
 
     total: int  # of all its pictures
     sentence: str
-    pictures: List[bytes]
+    note: str  # what is known of all its pictures, such as why none may go
+    pictures: List[Tuple[bytes, Keep]]
     is_first: bool
+    may_go: int = 0  # pictures of the group that another one has, and the bytes of their files
+    octets: int = 0
 
 
 def same(about: About, counts: Counts) -> Iterator[Entry]:
-    """The groups, the largest first."""
-    for group in groups.Groups(about.catalogue, about.table(), about.look).by_meaning(choice=about.choice):
-        sentence = sentence_of(group)
-        for number, pictures in enumerate(chunks(group.pictures(), lambda path: path)):
-            yield Entry(Same(group.count, sentence, pictures, not number), tuple(pictures), 1, not number)
+    """The groups, the largest first, and which of their pictures may go."""
+    found = groups.Groups(about.catalogue, about.table(), about.look)
+    for group in found.by_meaning(choice=about.choice):
+        keeps = keeping(group, False) if about.look and not about.choice else {}
+        yield from _same(group, [keeps.get(it.id, Keep()) for it in group.members])
     counts.unknown = groups.but_for_notes(about.catalogue, only=about.table(), choice=about.choice)
+
+
+def _same(group: Group, keeps: Sequence[Keep]) -> Iterator[Entry]:
+    """A group, with what may be done with each of its pictures."""
+    gone = [it.size or 0 for it, one in zip(group.members, keeps) if one.keep is False]
+    notes = {it.note for it in keeps}
+    of_all = (group.count, sentence_of(group), notes.pop() if len(notes) == 1 else "")
+    pictures = zip(group.pictures(), keeps)
+    for number, few in enumerate(chunks(pictures, lambda it: it[0])):
+        one = Same(*of_all, few, not number, len(gone), sum(gone))
+        yield Entry(one, tuple(path for path, _ in few), 1, not number)
+
+
+class Captioned(NamedTuple):
+    """Files with one coded picture and different texts, each with its texts."""
+
+    total: int
+    pictures: List[Tuple[bytes, List[str]]]
+    is_first: bool = True
+
+
+_CAPTIONS = ("title", "caption")
+
+
+def captioned(about: About) -> Iterator[Entry]:
+    """The groups of files with the same picture whose titles or captions differ."""
+    for group in groups.Groups(about.catalogue, about.table(), about.look).by_coded_picture():
+        pictures = [(it.path, _captions(about, it)) for it in group.members]
+        if len({repr(texts) for _, texts in pictures}) > 1:
+            for number, few in enumerate(chunks(pictures, lambda it: it[0])):
+                size = sum(len(text) for _, texts in few for text in texts)
+                paths = tuple(path for path, _ in few)
+                one = Captioned(group.count, few, not number)
+                yield Entry(one, paths, len(few), not number, size)
+
+
+def _captions(about: About, picture: PictureRecord) -> List[str]:
+    found = texts_of(about.catalogue.blocks_with_fields(picture), _CAPTIONS).texts
+    return list(dict.fromkeys(it.line for it in found if it.label in _CAPTIONS))
 
 
 class Mendable(NamedTuple):

@@ -4,14 +4,14 @@ from __future__ import annotations
 
 import base64
 import hashlib
+import os
 from datetime import datetime
 from typing import TYPE_CHECKING, Any, Dict, List, Optional, Sequence
 
 from ..catalogue.checking import Checked
 from ..model.found import STANDARDS
 from ..model.problems import NOT_THERE
-from ..model.results import Result
-from .changes import Changes
+from .changes import ChangedPicture, Changes
 from .contents import About, unproved
 from .entries import Entry
 from .links import Links, below
@@ -25,7 +25,7 @@ if TYPE_CHECKING:
     from .book import Section, Written
 
 
-WITH_PICTURES = ("changed", "same", "folders")  # the lists that show small pictures
+WITH_PICTURES = ("changed", "same", "captioned", "folders")  # the lists that show small pictures
 
 
 class Renderer:
@@ -36,9 +36,13 @@ class Renderer:
 
         self._html = Markup
         self.small_pictures = SmallPictures([one for one in (about.catalogue, about.old) if one], kept, about.session)
-        self._look = about.look
+        self._look, self._kept = about.look, kept
         roots, runs = about.catalogue.roots(), about.catalogue.runs()
-        filters = {"address": Links(about.link_to, roots).of, "below": lambda path: below(path, roots), "marks": marks.of}
+        filters = {
+            "address": Links(about.link_to, roots, about.beside, about.up).of,
+            "below": lambda path: below(path, roots),
+            "marks": marks.of,
+        }
         self._templates = environment(filters)
         for name in self._templates.list_templates(extensions=["html"]):
             self._templates.get_template(name)  # compiled once, whatever is listed
@@ -57,7 +61,10 @@ class Renderer:
             "script_digest": digest(script),
             "files": 0,
             "of_pictures": kept.SOURCES,
-            "mend_all": mending_all(about.catalogue.name),
+            "mend_all": mending_all(os.path.abspath(about.catalogue.name)),
+            "has_pillow": self.small_pictures.has_pillow or not about.look,
+            "look": about.look,
+            "symbols": [],
         }
 
     def entries(self, key: str, entries: Sequence[Entry], first: int) -> Any:
@@ -71,11 +78,12 @@ class Renderer:
         if not self._look or key not in WITH_PICTURES:
             return {}
         paths = [path for entry in entries for path in entry.pictures]
-        others = [one for entry in entries if key == "changed" and entry.data.is_other for one in entry.data.pictures]
+        others = _others(entries) if key == "changed" else []
         compared = [path for one in others for path in (one.after, one.earlier) if path]
-        digests = {one.digest for one in others if one.digest}
         pictures: Dict[Any, str] = {**self.small_pictures.of(paths, compared)}
-        pictures.update((digest, address) for digest in digests if (address := self.small_pictures.of_digest(digest)))
+        for digest_ in {one.digest for one in others if one.digest}:
+            address = self.small_pictures.of_digest(digest_)
+            pictures.update({digest_: address} if address else {})
         return pictures
 
     def page(self, section: "Section", number: int, has_next: bool, body: Any) -> str:
@@ -85,17 +93,32 @@ class Renderer:
 
     def index(self, counts: Counts, lists: List["Written"], changes: Optional[Changes], rules: Optional[Checked], files: int) -> str:
         """The first page, or the only one, whose search box looks into the index if that has files."""
-        results = [it for it in Result if changes and changes.results[it] and it.has_changed is not False]
-        kinds = kinds_of([(it.section.key, it.section.title) for it in lists if it.entries], results)
-        values = {**self._shared, "counts": counts, "lists": lists, "changes": changes, "rules": rules, "files": files, "kinds": kinds}
+        results = [it for it, _ in changes.counted if it.has_changed is not False] if changes else []
+        titles = [(it.section.key, it.section.title) for it in lists if it.entries]
         groups = changes.groups() if changes else []
         paths = [one.after for group in groups for one, _ in group.pictures if one.after]
-        values.update(groups=groups, pictures=self.small_pictures.of(paths, []) if self._look else {})
+        values = {
+            **self._shared,
+            "counts": counts,
+            "lists": lists,
+            "changes": changes,
+            "rules": rules,
+            "files": files,
+            "kinds": kinds_of(titles, results),
+            "groups": groups,
+            "pictures": self.small_pictures.of(paths) if self._look else {},
+            "symbols": self._kept.symbols,
+        }
         return str(self._templates.get_template("index.html").render(values))
 
     def joined(self, parts: Sequence[Any]) -> Any:
         """Several parts as one."""
         return self._html("").join(parts)
+
+
+def _others(entries: Sequence[Entry]) -> List[ChangedPicture]:
+    """The pictures that are other ones or damaged."""
+    return [one for entry in entries if entry.data.is_other for one in entry.data.pictures]
 
 
 def digest(text: str) -> str:

@@ -4,14 +4,14 @@ from __future__ import annotations
 
 import functools
 import json
-from typing import Callable, Iterable, List, Optional, Sequence, Tuple
+from typing import Any, Callable, Dict, Iterable, List, Optional, Sequence, Tuple
 
 from ..fields.labels import label_of_fields
 from ..model.texts import safe, shown_path
 from .changes import ChangedPicture, Difference, Row
 from .entries import Entry
 from .links import below
-from .lists import Breaking, Contradicting, Folder, Mendable, Same, Unread
+from .lists import Breaking, Captioned, Contradicting, Folder, Mendable, Same, Unread
 
 _LENGTH = 200_000  # characters of a script; fewer than the longest entry has more
 
@@ -60,23 +60,44 @@ def _changed(picture: ChangedPicture, name: Callable[[bytes], str]) -> str:
     return " \N{RIGHTWARDS ARROW} ".join(dict.fromkeys(names))
 
 
-def _words(data: object) -> Iterable[Optional[str]]:
+_Words = Callable[[Any], Iterable[Optional[str]]]
+
+
+def _words(data: Any) -> Iterable[Optional[str]]:
     """What the page says of an entry, besides the names of its pictures."""
-    if isinstance(data, Difference):
-        return [*map(_row, data.rows), *(f"{it};" for it in (data.note, labels_of(data.rows)) if it), data.result, f"edit:{data.group};"]
-    if isinstance(data, Contradicting):
-        return [text for one in data.conflicts for text in (one.label, one.detail, *(it.line for it in one.texts))]
-    if isinstance(data, Breaking):
-        return [text for rule, one in data.broken for text in (one.label, one.text, f"line {rule.line}: {rule.text}")]
-    if isinstance(data, Same):
-        return [data.sentence]
-    if isinstance(data, Mendable):
-        return [data.block.name, data.block.refusal]
-    if isinstance(data, Unread):
-        return data.parts
-    if isinstance(data, Folder):
-        return []
-    return [getattr(data, "problem", ""), getattr(data, "detail", "")]  # a file without an answer
+    words: _Words = _WORDS.get(type(data), _of_problem)
+    return words(data)
+
+
+def _of_problem(data: Any) -> List[Optional[str]]:
+    """A file without an answer, or a damaged one."""
+    return [getattr(data, "problem", ""), getattr(data, "detail", "")]
+
+
+def _of_difference(data: Difference) -> List[str]:
+    said = [f"{it};" for it in (data.note, labels_of(data.rows)) if it]
+    return [*map(_row, data.rows), *said, data.result, f"edit:{data.group};"]
+
+
+def _of_contradiction(data: Contradicting) -> List[str]:
+    return [text for label, detail, texts in data.rows for text in (label, detail, *texts.values())]
+
+
+def _of_rules(data: Breaking) -> List[Optional[str]]:
+    rules = [(one.label, one.text, f"line {rule.line}: {rule.text}") for rule, one in data.broken]
+    return [text for texts in rules for text in texts]
+
+
+_WORDS: Dict[type, _Words] = {
+    Difference: _of_difference,
+    Contradicting: _of_contradiction,
+    Breaking: _of_rules,
+    Same: lambda data: [data.sentence, data.note, *(keep.note for _, keep in data.pictures)],
+    Captioned: lambda data: [text for _, texts in data.pictures for text in texts],
+    Mendable: lambda data: [data.block.name, data.block.refusal],
+    Unread: lambda data: list(data.parts),
+    Folder: lambda data: [],
+}
 
 
 def _row(row: Row) -> str:

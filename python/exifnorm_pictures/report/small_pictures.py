@@ -6,8 +6,9 @@ from __future__ import annotations
 import base64
 import hashlib
 import os
+import re
 from itertools import islice
-from typing import Dict, Iterable, NamedTuple, Optional, Protocol, Sequence, Set
+from typing import Dict, Iterable, List, NamedTuple, Optional, Protocol, Sequence, Set
 
 from ..catalogue.store import Catalogue
 from ..extract import coded_picture
@@ -28,12 +29,22 @@ class Kept(Protocol):
     """Where small pictures are kept."""
 
     SOURCES: str  # what a content security policy has to allow
+    symbols: "List[Symbol]"  # the pictures that the page itself has
 
     def address(self, name: str) -> str:
         """The address of a small picture; empty if it isn't there yet. Raises `OSError`."""
 
     def put(self, name: str, octets: bytes) -> str:
         """Keeps a small picture, and returns its address. Raises `OSError`."""
+
+
+class Symbol(NamedTuple):
+    """A small picture that a page has once."""
+
+    name: str
+    data: str
+    width: int
+    height: int
 
 
 class InPage:
@@ -43,12 +54,22 @@ class InPage:
 
     def __init__(self) -> None:
         self._addresses: Dict[str, str] = {}  # of the pictures of one page, which are few
+        self.symbols: List[Symbol] = []
 
     def address(self, name: str) -> str:
         return self._addresses.get(name, "")
 
     def put(self, name: str, octets: bytes) -> str:
-        return self._addresses.setdefault(name, f"data:image/jpeg;base64,{base64.b64encode(octets).decode('ascii')}")
+        """Keeps a picture once, however often the page shows it."""
+        address = self._addresses[name] = f"#picture-{len(self.symbols)}"
+        size = _FRAME.search(octets)
+        height, width = (int.from_bytes(it, "big") for it in size.groups()) if size else (3, 4)
+        data = f"data:image/jpeg;base64,{base64.b64encode(octets).decode('ascii')}"
+        self.symbols.append(Symbol(address[1:], data, width, height))
+        return address
+
+
+_FRAME = re.compile(rb"\xff[\xc0-\xc3].{2}\x08(..)(..)", re.S)  # the head of a JPEG's frame
 
 
 class InFolder:
@@ -58,6 +79,7 @@ class InFolder:
 
     def __init__(self, folder: NewFolder) -> None:
         self._folder = folder
+        self.symbols: List[Symbol] = []
 
     def address(self, name: str) -> str:
         return name if self._folder.has(name) else ""
@@ -81,6 +103,7 @@ class SmallPictures:
         """`catalogues` may know the digests of coded pictures."""
         self._catalogues, self._kept, self._session = catalogues, kept, session
         self._shrinker = Shrinker()
+        self.has_pillow = self._shrinker.is_there
         self._failed: Set[str] = set()
         self._known: Dict[bytes, str] = {}
 

@@ -108,8 +108,14 @@
   });
   form.hidden = false;
   const readAddress = () => {
-    const asked = new URLSearchParams(location.hash.slice(1));
-    if (!asked.has("find")) return;
+    const asked = new URLSearchParams(location.hash.slice(1)), place = document.getElementById(location.hash.slice(1));
+    if (!asked.has("find")) {
+      if (!place || !box.value && !choice?.value) return;
+      form.reset(); // the place may be hidden
+      search();
+      place.scrollIntoView();
+      return;
+    }
     box.value = asked.get("find");
     if (choice) choice.value = asked.get("kind");
     search();
