@@ -1,8 +1,10 @@
 #!/usr/bin/env python3
-"""Writes the version and the list of causes in exifnorm.h. The version is px_engine's. The names of the causes, their numbers and what they
-mean are those of px_bytes' causes.rt.
+"""Writes the version and the lists of causes of blocks and of packets in exifnorm.h.
 
-  packaging/header.py            writes both into the header
+The version is px_engine's. The causes and what they mean are those of px_bytes and of px_xmp_forms,
+and their numbers those of px_bytes and of px_c.
+
+  packaging/header.py            writes them into the header
   packaging/header.py --check    ends with 1 if the header has others
 """
 
@@ -13,39 +15,50 @@ import sys
 from pathlib import Path
 
 CRATES = Path(__file__).resolve().parent.parent / "crates"
-SOURCE, HEADER = CRATES / "px_bytes" / "src" / "causes.rt", CRATES / "px_c" / "include" / "exifnorm.h"
+HEADER = CRATES / "px_c" / "include" / "exifnorm.h"
 VERSION = CRATES / "px_engine" / "src" / "version.rt"
 MACROS = re.compile(r'#define EXIFNORM_VERSION ".*"\n(?:#define EXIFNORM_VERSION_[A-Z]+ \d+\n){3}')
-LIST = re.compile(r"(?<=/\* The causes of a refusal, in the order of docs/FORMAT\.md\. \*/\nenum \{\n).*?(?=\};\n)", re.S)
 MEMBER = re.compile(r"((?:    /// .*\n)+)    (\w+),\n")
+NUMBER = re.compile(r"Cause::(\w+) => (\d+),")
+# of each list how its names begin, the source with the causes, and the one with their numbers
+LISTS = (
+    ("EXIFNORM_CAUSE", "px_bytes/src/causes.rt", "px_bytes/src/causes.rt"),
+    ("EXIFNORM_XMP", "px_xmp_forms/src/faults.rt", "px_c/src/xmp.rt"),
+)
 
 
-def name_in_c(name: str) -> str:
+def name_in_c(begins: str, name: str) -> str:
     """The name of a cause as a constant in C.
 
-    >>> name_in_c("DataSetCut")
+    >>> name_in_c("EXIFNORM_CAUSE", "DataSetCut")
     'EXIFNORM_CAUSE_DATASET_CUT'
     """
     parts = re.findall("[A-Z][a-z]+", name.replace("DataSet", "Dataset"))
-    return "_".join(["EXIFNORM_CAUSE", *parts]).upper()
+    return "_".join([begins, *parts]).upper()
 
 
 def meaning(comment: str) -> str:
     """The first sentence of a comment in Rattle, as a comment in C.
 
-    >>> meaning("    /// Longer than `LIMIT`\\n    /// bytes. More.\\n")
+    >>> meaning("    /// Rare: longer than `LIMIT`\\n    /// bytes. More.\\n")
     '/* longer than EXIFNORM_LIMIT bytes */'
     """
-    sentence = " ".join(re.sub("^ *///", "", comment, flags=re.M).split()).partition(". ")[0].rstrip(".")
-    return f"/* {sentence[0].lower()}{sentence[1:].replace('`LIMIT`', 'EXIFNORM_LIMIT')} */"
+    words = re.sub("^ *///", "", comment, flags=re.M).split()
+    sentence = " ".join(words).partition(". ")[0].rstrip(".").replace("Rare: ", "")
+    plain = sentence.replace("`LIMIT`", "EXIFNORM_LIMIT").replace("`", "")
+    return f"/* {plain[0].lower()}{plain[1:]} */"
 
 
-def members(source: str) -> str:
-    """The members of the header's list."""
+def members(begins: str, source: str, numbered: str) -> str:
+    """The members of a list of the header."""
     declared = re.search(r"pub enum Cause \{\n(.*?)\n\}", source, re.S)
     causes = MEMBER.findall(declared[1] + "\n" if declared else "")
-    lines = [f"    {name_in_c(name)} = {number}" + "," * (number < len(causes)) for number, (_, name) in enumerate(causes, 1)]
-    return "".join(f"{line:{max(map(len, lines))}} {meaning(comment)}\n" for line, (comment, _) in zip(lines, causes))
+    numbers = dict(NUMBER.findall(numbered))
+    lines = [f"    {name_in_c(begins, name)} = {numbers[name]}," for _, name in causes]
+    lines[-1] = lines[-1].rstrip(",")
+    width = max(map(len, lines))
+    comments = [meaning(comment) for comment, _ in causes]
+    return "".join(f"{line:{width}} {comment}\n" for line, comment in zip(lines, comments))
 
 
 def macros(source: str) -> str:
@@ -64,8 +77,12 @@ def macros(source: str) -> str:
 
 def printed(header: str) -> str:
     """The header with the printed parts as they must be."""
-    for pattern, print_part, source in ((LIST, members, SOURCE), (MACROS, macros, VERSION)):
-        part = print_part(source.read_text(encoding="utf-8"))
+    parts = [(MACROS, macros(VERSION.read_text(encoding="utf-8")))]
+    for begins, source, numbered in LISTS:
+        texts = [(CRATES / it).read_text(encoding="utf-8") for it in (source, numbered)]
+        listed = re.compile(rf"(?<=enum \{{\n)    {begins}_TOO_LONG = .*?(?=\}};\n)", re.S)
+        parts.append((listed, members(begins, *texts)))
+    for pattern, part in parts:
         header, count = pattern.subn(lambda _: part, header)
         if count != 1:
             sys.exit("the header has no list of causes, or no version")

@@ -11,7 +11,6 @@ import exifnorm
 from commands import run, text_of
 from compiling import HEADERS, HERE, STRICT, need
 from exifnorm import _jpeg, _library
-from exifnorm._causes import OF_PACKETS
 from judged import NAMES
 from meanings import LIMIT
 
@@ -60,7 +59,6 @@ def numbers_of_the_sources():
     """The numbers that the header's names must have, from the sources in Rattle."""
     table = text_of("crates", "px_bytes", "src", "causes.rt")
     causes = re.findall(r"^ +(\d+) => Some\(Cause::(\w+)\),$", table, re.M)
-    assert [name for _, name in causes] == re.findall(r'^ +Cause::\w+ => b"(\w+)",$', table, re.M) == NAMES
     known = {f"EXIFNORM_{name}": int(number) for name, number in STATUSES.items()}
     known.update((f"EXIFNORM_CAUSE_{in_capitals(name)}", int(number)) for number, name in causes)
     known.update((f"EXIFNORM_JPEG_{name}", number) for name, number in numbers_of_jpegs().items())
@@ -150,11 +148,10 @@ def test_python_has_the_same_statuses_causes_and_version(way, version):
     assert (exifnorm.LIMIT, exifnorm.version(), exifnorm.__version__) == (LIMIT, version, VERSION)
 
 
-def test_causes_of_xmp_have_names_and_sentences():
+def test_causes_of_xmp_have_names():
     names = {number: f"Xmp{name}" for name, number in numbers_of_xmp().items()}
     assert {number: _library.library().cause_name(number) for number in names} == names
-    assert sorted(names.values()) == sorted(OF_PACKETS)
-    assert {name for number, name in names.items() if number > 250} == {it for it in OF_PACKETS if it.startswith("XmpRare")}
+    assert {name for number, name in names.items() if number > 250} == {it for it in names.values() if it.startswith("XmpRare")}
     assert {_library.library().cause_name(number) for number in (200, 213, 250, 263)} == {""}
 
 
@@ -162,7 +159,6 @@ def test_python_has_the_same_numbers_and_structs_of_jpegs():
     kinds = {it.upper().replace(" ", "_") or "OTHER": number for number, it in enumerate(_jpeg.PART_KINDS)}
     numbers = numbers_of_jpegs()
     assert {name: number for name, number in numbers.items() if number in kinds.values()} == kinds
-    assert sorted(_jpeg.CAUSES) == sorted({*numbers.values()} - {*kinds.values()})
     assert all(_library.library().cause_name(number) == name for number, name in _jpeg.CAUSES.items())
     structs = {
         "jpeg_part": _library.PartStruct,

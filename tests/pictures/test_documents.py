@@ -12,8 +12,6 @@ import subprocess
 
 import exifnorm_pictures
 from exifnorm_pictures.cli import parser, statuses
-from exifnorm_pictures.refusals import causes
-from made_blocks import BLOCKS
 from made_files import app1, exif, jpeg, turned
 from studio import SMALL_JPEG, Studio, TOP, WithPictures, needs, put, read, run, tool, write
 
@@ -27,9 +25,6 @@ class Documents(WithPictures):
             tool(self.folder, "exiftool", "-q", "-overwrite_original", "-Artist=Someone", os.path.join(before, name))
         shutil.copytree(os.path.join(self.folder, before), os.path.join(self.folder, after))
         tool(self.folder, "exiftool", "-q", "-overwrite_original", "-Copyright=The Museum", os.path.join(after, "first.jpg"))
-
-    def test_refusals_are_the_programs_own_texts(self):
-        self.assertEqual(list(causes.CAUSES), list(BLOCKS))
 
     def test_what_is_not_compared(self):
         """The page lists the segments of a JPEG that the reader leaves out, and no other ones."""

@@ -211,11 +211,6 @@ def test_the_example_of_the_manual_page_in_c(folder: Path, environment: dict[str
 # ---- lists that must agree
 
 
-def causes() -> list[str]:
-    body = re.search(r"pub enum Cause \{(.*?)\n\}", text_of("crates/px_bytes/src/causes.rt"), re.S)
-    return re.findall(r"(?m)^    (\w+),$", body[1])
-
-
 def help_of(environment: dict[str, str], *words: str) -> str:
     return run(TOP, {**environment, "COLUMNS": "500"}, *words, "--help")
 
@@ -223,18 +218,6 @@ def help_of(environment: dict[str, str], *words: str) -> str:
 def plain(page: str) -> str:
     """A manual page without macros of fonts and escapes."""
     return re.sub(r'(?m)^\.(?:BR|BI|IR|RB|B|I) |"|\\f[BIRP]', "", page).replace("\\-", "-")
-
-
-def test_causes_are_those_of_the_format_and_of_the_refusals() -> None:
-    listed = re.findall(r"(?m)^\| (\w+) \| .* \| .* \|$", text_of("docs/FORMAT.md").split("## 5.")[1].split("## 6.")[0])
-    assert [it for it in listed if it != "Cause"] == causes()
-    assert [it for it in re.findall(r"(?m)^## (\w+)", text_of("docs/REFUSALS.md")) if it in causes()] == causes()
-
-
-def test_causes_are_those_of_the_header_in_their_order() -> None:
-    listed = re.findall(r"EXIFNORM_CAUSE_(\w+) = (\d+)", text_of(HEADER))
-    assert [int(number) for _, number in listed] == list(range(1, len(causes()) + 1))
-    assert [name.replace("_", "") for name, _ in listed] == [it.upper() for it in causes()]
 
 
 def test_the_list_of_causes_in_the_header_is_printed(tmp_path: Path, monkeypatch: pytest.MonkeyPatch) -> None:

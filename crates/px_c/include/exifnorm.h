@@ -399,10 +399,10 @@ enum {
     EXIFNORM_XMP_SEVERAL_SUBJECTS = 212, /* the packet has properties of several subjects */
     EXIFNORM_XMP_RARE_ENCODING = 251,    /* another encoding than UTF-8 */
     EXIFNORM_XMP_RARE_NAME = 252,        /* a name that is not of ASCII */
-    EXIFNORM_XMP_RARE_NAMESPACE = 253,   /* a namespace that is long or has odd characters, is a name itself, or begins as RDF's or XML's */
+    EXIFNORM_XMP_RARE_NAMESPACE = 253,   /* a namespace that has more than 256 octets or odd ones, could be part of a name, or begins as one of XML's own */
     EXIFNORM_XMP_RARE_COUNT = 254,       /* more than 256 attributes of a tag, or too many prefixes in scope */
     EXIFNORM_XMP_RARE_ELEMENT = 255,     /* an element where the usual forms of RDF/XML have none */
-    EXIFNORM_XMP_RARE_ATTRIBUTE = 256,   /* an attribute that the usual forms don't have */
+    EXIFNORM_XMP_RARE_ATTRIBUTE = 256,   /* an attribute that the usual forms do not have */
     EXIFNORM_XMP_RARE_TEXT = 257,        /* text between elements */
     EXIFNORM_XMP_RARE_LANGUAGE = 258,    /* a language that is none, or has more than 100 characters */
     EXIFNORM_XMP_RARE_RESOURCE = 259,    /* a resource that is no absolute URI of ASCII */
