@@ -703,7 +703,7 @@ def test_blocks_are_read_once(monkeypatch):
 
 
 def test_no_command_line_is_loaded():
-    code = "import sys, exifnorm_pictures as p; p.read(sys.argv[1]).captions; p.compare(sys.argv[1], sys.argv[1]); print('argparse' in sys.modules)"
+    code = "import sys, exifnorm as p; p.read(sys.argv[1]).captions; p.compare(sys.argv[1], sys.argv[1]); print('argparse' in sys.modules)"
     done = subprocess.run(
         [sys.executable, "-c", code, str(BEFORE / BOWL)],
         stdout=subprocess.PIPE,

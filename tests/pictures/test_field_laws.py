@@ -237,6 +237,9 @@ def test_fields_of_xmp_are_equal_exactly_if_they_mean_the_same(one, other, chanc
 def test_a_qualifier_of_a_list_takes_no_text_away(properties, chance):
     """As ExifTool reads both. Another property of the node of a list is about the whole list (XMP part 1, 6.4)."""
     plain = packet(properties, chance)
-    both = [statements_of.statements(it, {}, set()) for it in (plain, re.sub(rb"<rdf:(Bag|Seq)>", rb"<rdf:\1 xmp:q='1'>", plain))]
+    both = [
+        statements_of.statements(it, statements_of.Extensions({}), set())
+        for it in (plain, re.sub(rb"<rdf:(Bag|Seq)>", rb"<rdf:\1 xmp:q='1'>", plain))
+    ]
     texts = [[(it.field, it.texts) for it in labels.of_block(xmp_properties.fields_of_statements(it))] for it in both]
     assert texts[0] == texts[1]

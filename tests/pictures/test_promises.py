@@ -22,9 +22,8 @@ from exifnorm_pictures.scan import index
 from exifnorm_pictures.extract.formats import jpeg_tail
 
 DOUBLED = BLOCKS["Doubled"]
-OUTSIDE = re.compile(
-    r"<script|<link|src=.(?!data:)|href=.(?!file:///|#|\.{1,2}/)"
-)  # what a page runs, or loads from elsewhere, or leads to
+# what a page runs, or loads from elsewhere, or leads to
+OUTSIDE = re.compile(r"<script|<link|src=.(?!data:)|href=.(?!file:///|#|\.{1,2}/|data:image/)")
 MANY = b"\x11" * 100_000  # picture data that is longer than the tail
 
 

@@ -488,7 +488,7 @@ class Reported(WithPictures):
         about = contents.About(self.catalogue("many", *rows), self.catalogue("before", *old), look=False)
         self.assertEqual([it.data.path[-2:] for it in lists.problems(about)], [b"u0", b"u1", b"u2", b"n0", b"n1", b"n2"])
         self.assertEqual([it.data.block.path for it in lists.refusals(about, lists.counts_of(about))], [b"/a/o0", b"/a/o1", b"/a/o2"])
-        groups = [it.data.pictures for it in lists.same(about, lists.Counts())]
+        groups = [[path for path, _ in it.data.pictures] for it in lists.same(about, lists.Counts())]
         self.assertEqual(groups, [[b"/a/g2a", b"/a/g2b", b"/a/g2c"], [b"/a/g1a", b"/a/g1b"], [b"/a/o0", b"/a/o1", b"/a/o2"]])
         with contextlib.closing(Changes(about)) as changes:
             found = [(it.data.result, [one.name for one in it.data.pictures]) for it in changes.entries()]

@@ -11,7 +11,7 @@ from ..fields.packing import unpacked
 from ..model.found import other_name
 from ..model.texts import escaped, reason
 from .options import Fields
-from .word_files import words_of_file
+from .word_files import text_of, words_in
 
 
 def choice_of(fields: Fields) -> Choice:
@@ -32,7 +32,8 @@ def _of_files(names: Sequence[str]) -> Iterator[str]:
     """The names in some files: one in each line. A line that begins with # is a comment."""
     for name in names:
         try:
-            yield from words_of_file(name)
+            with open(name, "rb") as file:  # the user's own, which may be a pipe
+                yield from words_in(text_of(file, name), name)
         except OSError as error:
             raise UnknownField(f"{escaped(name)}: {reason(error)}") from None
 
