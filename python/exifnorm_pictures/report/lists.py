@@ -17,6 +17,7 @@ from ..catalogue.texts import texts_of
 from ..comparison import groups
 from ..comparison.changed import Equal
 from ..comparison.conflicts import Conflict
+from ..comparison.edits import digest
 from ..comparison.group import Group
 from ..comparison.group_sentence import sentence_of
 from ..comparison.keeping import Keep, keeping
@@ -26,7 +27,7 @@ from ..model.found import each_kind
 from ..model.problems import NOT_THERE, Problem
 from ..model.texts import kind_of_part
 from ..model.records import PictureRecord, has, has_short, picture_of_row
-from .contents import About, Refused, chosen, refused
+from .contents import About, Refused, chosen, refused, shortened
 from .contradictions import Contradictions, checked, texts_by_standard
 from .entries import Entry, chunks
 
@@ -189,8 +190,12 @@ _CAPTIONS = ("title", "caption")
 def captioned(about: About) -> Iterator[Entry]:
     """The groups of files with the same picture whose titles or captions differ."""
     for group in groups.Groups(about.catalogue, about.table(), about.look).by_coded_picture():
-        pictures = [(it.path, _captions(about, it)) for it in group.members]
-        if len({repr(texts) for _, texts in pictures}) > 1:
+        different, pictures = set(), []
+        for it in group.members:
+            texts = _captions(about, it)
+            different.add(digest(repr(texts)))
+            pictures.append((it.path, list(map(shortened, texts))))
+        if len(different) > 1:
             for number, few in enumerate(chunks(pictures, lambda it: it[0])):
                 size = sum(len(text) for _, texts in few for text in texts)
                 paths = tuple(path for path, _ in few)
