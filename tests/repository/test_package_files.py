@@ -41,7 +41,7 @@ class TestDebianLists:
         "lib/python3/dist-packages/exifnorm/__init__.py": "python3-exifnorm",
         "lib/python3/dist-packages/exifnorm/py.typed": "python3-exifnorm",
         "lib/python3/dist-packages/exifnorm_pictures/py.typed": "python3-exifnorm",
-        "lib/python3/dist-packages/exifnorm_pictures/extract/formats/jpeg.py": "exifnorm-pictures",
+        "lib/python3/dist-packages/exifnorm_pictures/extract/formats/jpeg.py": "python3-exifnorm",
         f"lib/python3/dist-packages/exifnorm-{VERSION}.dist-info/METADATA": "python3-exifnorm",
         "share/doc/exifnorm/FORMAT.md": "exifnorm",
         "share/man/man1/exifnorm.1": "exifnorm",
