@@ -133,12 +133,16 @@ CONTRAST = """(() => {
 })()"""
 
 
+UNFOLD = "document.querySelectorAll('details').forEach((it) => { it.open = true; })"
+
+
 @pytest.mark.parametrize("dark", [False, True])
 @pytest.mark.parametrize("page, least", [("page.html", 200), ("many/*-1.html", 10)])
 def test_each_text_has_contrast(page: str, least: int, dark: bool, browser: Browser, report: Path) -> None:
     for file in sorted(report.glob(page)):
         browser.show(dark=dark)
         browser.open(f"file://{file}")
+        browser.ask(UNFOLD)
         texts, faint = browser.ask(CONTRAST)
         assert texts > least and faint == [], file.name
 
@@ -195,6 +199,7 @@ def test_contents_lead_to_each_section(browser: Browser, report: Path) -> None:
 @pytest.mark.parametrize("page, steps", [("page.html", 40), ("many/unread-1.html", 24), ("many/problems-1.html", 3)])
 def test_everything_is_reached_by_the_keyboard_in_the_order_of_the_page(page: str, steps: int, browser: Browser, report: Path) -> None:
     browser.open(f"file://{report}/{page}")
+    browser.ask(UNFOLD)
     reached = "[...document.querySelectorAll('a, input, select, summary')].filter((it) => it.checkVisibility())"
     wanted = browser.ask(f"{reached}.map((it, at) => (it.dataset.at = at)).length")
     seen = []
@@ -298,11 +303,14 @@ def test_without_scripts_everything_is_there(page: str, browser: Browser, report
     try:
         browser.open(f"file://{report}/{page}")
         assert browser.ask("[...document.querySelectorAll('[hidden]')].map((it) => it.id)") in (["search"], ["search", "found"])
-        assert browser.ask(
-            "[...document.querySelectorAll('main, section, article, li:not(#found li, details li), tr, summary')].every((it) => it.checkVisibility())"
-        )
+        unfolded = "main, section, article:not(details *), li:not(#found *, details *), tr:not(details *), summary"
+        assert browser.ask(f"[...document.querySelectorAll('{unfolded}')].every((it) => it.checkVisibility())")
     finally:
         browser.call("Emulation.setScriptExecutionDisabled", value=False)
+
+
+OF_SYMBOLS = """[...document.querySelectorAll("svg.image use")].map(
+  (it) => Number(document.querySelector(`${it.getAttribute("href")} image`).getAttribute("width")))"""
 
 
 @pytest.mark.parametrize("pages", ["page.html", "pages/*.html"])
@@ -312,7 +320,7 @@ def test_small_pictures_are_shown(pages: str, browser: Browser, report: Path) ->
     shown = 0
     for page in sorted(report.glob(pages)):
         browser.open(f"file://{page}")
-        widths = browser.ask("[...document.images].map((it) => it.naturalWidth)")
+        widths = browser.ask("[...document.images].map((it) => it.naturalWidth)") + browser.ask(OF_SYMBOLS)
         assert 0 not in widths, f"{page.name} has pictures that nobody sees"
         shown += len(widths)
     assert shown > 1 and browser.log == []
