@@ -4,6 +4,7 @@ import base64
 import functools
 import importlib.util
 import os
+import re
 import shutil
 import struct
 import subprocess
@@ -277,6 +278,18 @@ def needs(*names):
     lacking = [f"{it} (package {PROGRAMS[it]})" for it in names if it in PROGRAMS and not shutil.which(it)]
     lacking += [f"{it} (package {MODULES[it]})" for it in names if it in MODULES and not interpreter_with(it)]
     return unittest.skipIf(lacking, "not installed: " + ", ".join(lacking))
+
+
+def counts_of_summary(printed):
+    """How many pictures have each result, by the summary that `changed` prints."""
+    _, _, below = printed.partition("\n")
+    return {result: count for count, result in re.findall(r"(?m)^([\d,]+) ((?!picture)[^:\n]+)", below)}
+
+
+def counts_of_page(page):
+    """The same by the first line of a report."""
+    text = re.sub("<.*?>", "", re.search(r"<p><b>[\d,]+ pictures? compared:(.*?)</b></p>", page)[1])
+    return {result: count for count, result in re.findall(r"([\d,]+) (.*?)(?:, (?=\d)|\.$)", text)}
 
 
 class WithPictures(unittest.TestCase):

@@ -8,7 +8,7 @@ import pytest
 import test_cr3
 from made_boxes import cr3
 from made_files import app1, exif, jpeg
-from studio import TOP, needs, put
+from studio import TOP, counts_of_page, counts_of_summary, needs, put
 
 # A raw file whose directory is cut, from which exiv2 extracts nothing
 CUT = b"IIRO\x08\0\0\0\xff\xff" + bytes(30)
@@ -74,8 +74,7 @@ def test_nights_by_the_recipe(archive, called):
         assert called("changed", "archive.catalogue", "archive.catalogue")[0] == 0
         called("report", "--catalogue", "archive.catalogue", "--since", "last.catalogue", "--html", "page.html", "--no-look")
         page = (archive.parent / "page.html").read_text(encoding="utf-8")
-        many = int((re.search(r" compared: (\d+) changed", printed) or re.search("()none changed", printed) or [0, 0])[1] or 0)
-        assert f"<b>{many}</b> changed since the older catalogue" in page, (printed, number)
+        assert counts_of_page(page) == counts_of_summary(printed), (number, happens.__name__)
 
 
 @needs("exiftool", "exiv2")

@@ -58,6 +58,7 @@ VALUES = {
     "--count": "creator",
     "--differ": "title",
     "--each": "",
+    "--edit": "1",
     "--equal-numbers": "",
     "--evidence": "sums",
     "--exact": "",
