@@ -30,7 +30,7 @@ This page is printed by `packaging/pages.py`. A crate uses only crates to its le
 
 `.rt` files are code, `.antt` files definitions (`specs/`) and proofs (`proofs/`).
 
-What a call promises stands in its contract, above its body in `crates/NAME/src`, and in words in the comment above that. To trust a contract, read it and the definitions that it names; [READING](../docs/READING.md) explains their words, and [PROOFS](../docs/PROOFS.md) lists the promises of the library and the program. To trust all of them, read the definitions below in this order, together with [FORMAT](../docs/FORMAT.md). Two folders need no reading: `specs/lemmas` has what is proved of the definitions, as `proofs/` has, and `specs/calls` has definitions for single calls.
+A call's contract, above its body in `crates/NAME/src`, says what it promises, and the comment above that says it in words. To trust a contract, read it and the definitions that it names; [READING](../docs/READING.md) explains their words, and [PROOFS](../docs/PROOFS.md) lists the promises of the library and the program. To trust all of them, read the definitions below in this order, together with [FORMAT](../docs/FORMAT.md). Two folders need no reading: `specs/lemmas` has what is proved of the definitions, as `proofs/` has, and `specs/calls` has definitions for single calls.
 """
 
 

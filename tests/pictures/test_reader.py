@@ -1,4 +1,4 @@
-"""A `Reader`: several pictures with the same limits, and without other programs if it is told so."""
+"""A `Reader`: several pictures with the same limits, and without other programs if asked."""
 
 import io
 import json

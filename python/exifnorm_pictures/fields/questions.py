@@ -5,7 +5,7 @@
     factor      "not" factor | "(" question ")" | ("with" | "without") label | label comparison value
     comparison  "=" | "!=" | "has" | "like" | "<" | "<=" | ">" | ">=" | "is" | "one of" | "from"
 
-A value with `and`, `or`, `not`, brackets or quotes in it stands in quotes. Capitals don't matter in any of the words. A value of a field may be
+A value with `and`, `or`, `not`, brackets or quotes in it is written in quotes. Capitals don't matter in any of the words. A value of a field may be
 as `show`, ExifTool or exiv2 print it; a date is also `today`, `today + 30 days`, or `impossible`. `is`, `one of` (several texts with commas) and
 `from` (a file of them) take no other text for the same, but for how accents are composed.
 """
