@@ -17,7 +17,7 @@ GROUPS = {
     "XMP": "px_xmp_text px_xmp_marks px_xmp_attributes px_xmp_tree px_xmp_forms px_xmp_spaces px_xmp_document px_xmp px_xmp_lines",
     "Engine": "px_text px_engine",
     "Pictures": "px_jpeg px_pictures px_xmp_pictures",
-    "Doors": "px_c px_words px_jobs px_runs px_cli",
+    "Doors": "px_c px_words px_runs px_cli",
     "Tests": "px_devices px_calls px_picture_calls",
 }
 HEAD = """# The crates

@@ -1,2 +1,6 @@
-mod Headlines
+pub mod EndLaws
+pub mod LineLaws
+pub mod TextLaws
+pub mod PacketLaws
+pub mod Headlines
 mod Logged

@@ -1,5 +1,9 @@
+pub mod Lines
+pub mod Packets
+pub mod Endings
 pub mod Programs
 pub mod Laws
 pub mod Logs
 pub mod Named
+pub mod calls
 pub mod lemmas

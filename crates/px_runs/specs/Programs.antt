@@ -4,16 +4,16 @@ use Rattle.px_engine.specs.declared.Fault.{Fault}
 use Rattle.px_engine.specs.declared.Fault.TheVariants.{OutOfMemory, ReadFailed, WriteFailed}
 use Rattle.px_engine.specs.declared.Side.{Side}
 use Rattle.px_engine.specs.declared.Side.TheVariants as side
-use Rattle.px_jobs.specs.declared.Job.{Job}
-use Rattle.px_jobs.specs.declared.Job.TheVariants as job
+use Rattle.px_runs.specs.declared.job.Job.{Job}
+use Rattle.px_runs.specs.declared.job.Job.TheVariants as job
 use Rattle.px_words.specs.declared.One.{One}
 use Rattle.px_words.specs.declared.One.TheVariants as one
 use Rattle.px_words.specs.declared.Words.{Words}
 use Rattle.px_words.specs.declared.Words.TheVariants as words
 use Rattle.px_bytes.specs.Devices.{Calls, Device, no_calls}
 use Rattle.px_bytes.specs.Allocations.{MemoryCounts}
-use Rattle.px_jobs.specs.Lines.{ReportsFault, ReportsWords}
-use Rattle.px_jobs.specs.Endings.{Ends, EndsCompare, IsIdle}
+use Rattle.px_runs.specs.Lines.{ReportsFault, ReportsWords}
+use Rattle.px_runs.specs.Endings.{Ends, EndsCompare, IsIdle}
 use Rattle.px_words.specs.Words.{out_is_file, AskedBy, CountsAllocFailureInWords}
 use Rattle.px_runs.specs.declared.run.NoWords.{NoWords}
 use Rattle.px_runs.specs.declared.run.NoWords.TheVariants as no

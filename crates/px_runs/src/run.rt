@@ -1,15 +1,16 @@
 // Runs the program for its arguments.
 ghost use Rattle.std.specs.Prelude.{◌≡◌, drop, map, IfErr, IfOk};
-ghost use Rattle.px_jobs.specs.declared.Job.TheVariants.{Normalise};
-ghost use Rattle.px_jobs.specs.Endings.{Ends, IsIdle};
+ghost use Rattle.px_runs.specs.declared.job.Job.TheVariants.{Normalise};
+ghost use Rattle.px_runs.specs.Endings.{Ends, IsIdle};
 ghost use Rattle.px_runs.specs.Programs.{job_of, DoesRequest, EndsBeside, EndsFile, EndsFiles, EndsForm, EndsJob, EndsOther, EndsPair};
 ghost use Rattle.px_runs.specs.Programs.{EndsWords, ReportsClosed, ReportsNoWords};
 ghost use Rattle.px_bytes.specs.Devices.{CanCountFailure, no_calls, device_of};
 
+use crate::job::{Job, run_compare_in, run_one_in};
+use crate::lines::{print_text, report_fault};
 use crate::opens::Opens;
 use px_bytes::{Memory, Sink, Source, Watched};
 use px_engine::{Fault, Side, VERSION};
-use px_jobs::{Job, print_text, report_fault, run_compare_in, run_one_in};
 use px_words::{OUT_IS_FILE, One, Parser, Words, parse};
 use std::convert::AsStr;
 

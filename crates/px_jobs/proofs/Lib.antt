@@ -1,5 +1,0 @@
-pub mod EndLaws
-pub mod LineLaws
-pub mod TextLaws
-pub mod Headlines
-pub mod PacketLaws

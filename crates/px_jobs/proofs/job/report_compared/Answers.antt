@@ -1,7 +1,0 @@
-use Rattle.px_jobs.proofs.job.report_compared.Goals as goal
-
-pub returns-in-Ok-clause-reported : goal.returns-in-Ok-clause-reported
-returns-in-Ok-clause-reported g c = rw c.in-Ok.is (rw (c.compared.ensures, c.compared_status.ensures) at c.print_bytes.ensures.reported)
-
-pub returns-in-Err-clause-reported : goal.returns-in-Err-clause-reported
-returns-in-Err-clause-reported g c = rw c.in-Err.is c.report_fault.ensures.reported

@@ -1,5 +1,0 @@
-use Rattle.px_jobs.proofs.EndLaws.{writes_last}
-use Rattle.px_jobs.proofs.job.run_normalise.Goals as goal
-
-pub returns-clause-form_last : goal.returns-clause-form_last
-returns-clause-form_last g c = writes_last c.normalise_in.result _ _ _ c.normalise_in.ensures.writes c.normalise_in.ensures.flushed

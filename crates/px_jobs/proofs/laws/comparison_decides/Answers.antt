@@ -1,5 +1,0 @@
-use Rattle.px_jobs.proofs.Headlines as reported
-use Rattle.px_jobs.proofs.laws.comparison_decides.Goals as goal
-
-pub returns : goal.returns
-returns c = reported.comparison_decides c.comparing_decides.ensures

@@ -1,4 +1,0 @@
-use Rattle.px_jobs.proofs.packets.is_other.Goals as goal
-
-pub returns-in-Err : goal.returns-in-Err
-returns-in-Err c = rw c.in-Err.is c.is_other_fault.ensures

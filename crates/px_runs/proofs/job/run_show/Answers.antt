@@ -1,0 +1,23 @@
+use Rattle.px_engine.specs.Prints.{listing}
+use Rattle.px_engine.specs.Input.{most_read}
+use Rattle.px_bytes.specs.Devices.{device_of}
+use Rattle.px_runs.proofs.PacketLaws.{file_shown, read_few, unread_shown}
+use Rattle.px_runs.proofs.job.run_show.Goals as goal
+
+pub returns-in-Ok-clause-ends : goal.returns-in-Ok-clause-ends
+returns-in-Ok-clause-ends g c = file_shown listing
+    (device_of g.R.Device.calls g.R.Source.bytes_left c.args.reader.now c.read_all_in.new.reader)
+    (device_of g.L.Device.calls g.L.Sink.bytes_taken c.args.lines.now c.show_file.new.lines) c.args.memory.now c.read_all_in.new.memory
+    c.show_file.new.memory c.show_file.result c.in-Ok.file.items
+    c.in-Ok.ensures.found c.in-Ok.ensures.lost c.in-Ok.ensures.count c.in-Ok.ensures.memory c.in-Ok.ensures.asked
+    (rw c.as_slice.ensures.value at c.show_file.ensures.ends)
+
+pub show_file-requires-clause-few : goal.show_file-requires-clause-few
+show_file-requires-clause-few g c = rw c.as_slice.ensures.value (read_few _ _ most_read c.in-Ok.file.items c.in-Ok.ensures.found)
+
+pub returns-in-Err-clause-ends : goal.returns-in-Err-clause-ends
+returns-in-Err-clause-ends g c = unread_shown listing c.in-Err.fault
+    (device_of g.R.Device.calls g.R.Source.bytes_left c.args.reader.now c.read_all_in.new.reader)
+    (device_of g.L.Device.calls g.L.Sink.bytes_taken c.args.lines.now c.report_fault.new.lines) c.args.memory.now c.read_all_in.new.memory
+    c.report_fault.result c.in-Err.ensures.fault
+    c.in-Err.ensures.lost c.in-Err.ensures.count c.in-Err.ensures.memory c.in-Err.ensures.asked c.report_fault.ensures.reported
