@@ -74,6 +74,7 @@ impl Growing {
 impl Device for Growing {
     ghost calls = { λ g. record { failed = g.failed_allocations; flushes = g.flushes } };
 
+    // The calls that failed: each could not enlarge the vector.
     fn failures(&self) -> u64 {
         self.failed_allocations
     }
@@ -90,6 +91,8 @@ impl Sink for Growing {
 
     ghost flushed = { λ _ _. ⊤ };
 
+    // Appends the first bytes of `buf`, at most `CHUNK`. `Err`: the vector could not be enlarged,
+    // and is as before.
     fn write_some(&mut self, buf: &[u8]) -> Result<usize, Failed> {
         let some = &buf[..buf.len().min(CHUNK)];
         match self.memory.extend_from_slice(&mut self.taken, some) {
@@ -105,10 +108,13 @@ impl Sink for Growing {
         }
     }
 
+    // Never takes the bytes: this writer fills no slice. The caller then writes them by
+    // `write_some`.
     fn write_encoded<S: Encode>(&mut self, _: &S, _: usize) -> bool {
         false
     }
 
+    // Never fails: the bytes are in memory already. Only the number of flushes rises.
     fn flush_all(&mut self) -> Result<(), Failed> {
         let flushes = self.flushes.one_more();
         self.flushes = flushes;

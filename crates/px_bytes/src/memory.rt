@@ -20,6 +20,7 @@ pub struct AllocFailed {
 }
 
 impl From<AllocFailed> for AllocError {
+    // The same failure as the error of std, for calls that return that type.
     fn from(_: AllocFailed) -> AllocError {
         AllocError
     }

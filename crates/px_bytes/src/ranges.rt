@@ -155,6 +155,7 @@ fn bits(low: usize, high: usize) -> u64
     (u64::MAX >> (WIDTH - high)) - ((1 << low) - 1)
 }
 
+// The word at an index, or 0 past the end of the list: bytes there are not claimed.
 #[inline(always)]
 fn word_at(words: &[u64], at: usize) -> u64
     ensures { result ≡ get_or words.now at 0 }

@@ -26,6 +26,7 @@ impl From<Failed> for ReadFault {
 
     ghost from_gives = { λ _ e. e ≡ ReadFailed };
 
+    // A failed call of the reader, as the reason why a file is not read.
     fn from(_: Failed) -> ReadFault {
         ReadFault::ReadFailed
     }
@@ -37,6 +38,7 @@ impl From<AllocFailed> for ReadFault {
 
     ghost from_gives = { λ _ e. e ≡ OutOfMemory };
 
+    // A failed allocation, as the reason why a file is not read.
     fn from(_: AllocFailed) -> ReadFault {
         ReadFault::OutOfMemory
     }

@@ -3,6 +3,7 @@ use crate::built::CAPTION;
 use px_iim::{Iim, append_iim, normal_len, read_iim, same_iim};
 use std::test::Fail;
 
+// `CAPTION` with an extended length of four bytes, and a zero after it.
 const CAPTION_EXTENDED: &[u8] = b"\x1c\x02\x78\x80\x04\x00\x00\x00\x03abc\x00";
 
 // A by-line and its title, which share a group.

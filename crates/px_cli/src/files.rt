@@ -82,6 +82,8 @@ struct FileId {
     inode: u64,
 }
 
+// The numbers that identify a regular file: its device and inode. None: the file is a device, a
+// pipe or of another kind.
 fn id_of(metadata: &Metadata) -> Option<FileId>
     ensures { IsSome result ↔ IsFile (file_type metadata.now) }
 {
@@ -163,8 +165,10 @@ impl<'a, R> System<'a, R> {
 }
 
 impl<'a, R: Files> Opens for System<'a, R> {
+    // An open file to read.
     type Reader = R::File;
 
+    // An open file to write.
     type Writer = R::File;
 
     ghost use Rattle.std.specs.Prelude.{⊤};
@@ -175,14 +179,18 @@ impl<'a, R: Files> Opens for System<'a, R> {
 
     ghost closes = { λ _ _ _ _. ⊤ };
 
+    // Opens the named file to read.
     fn open(&mut self, name: &str) -> Result<R::File, Fault> {
         open(self.rt, name)
     }
 
+    // Creates or empties the named file, to write the normal form of `file`. None: it is the same
+    // file.
     fn make_beside(&mut self, name: &str, file: &R::File) -> Result<Option<R::File>, Fault> {
         make_beside(self.rt, name, file)
     }
 
+    // Stores what was written, and closes the file.
     fn close(&mut self, out: R::File) -> Result<(), Fault> {
         close(out)
     }

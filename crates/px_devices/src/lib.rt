@@ -30,6 +30,7 @@ impl KeepsBack {
 }
 
 impl Write for KeepsBack {
+    // Takes all bytes and keeps only their number.
     fn write(&mut self, buf: &[u8]) -> io::Result<usize>
         ensures all { result ≡ Ok (length buf.now) }
         ensures count { self.new.count ≡ min (self.old.count + length buf.now) (2 ^ 64 - 1) }
@@ -39,6 +40,8 @@ impl Write for KeepsBack {
         Ok(buf.len())
     }
 
+    // Counts the call and fails with `Interrupted`, the error after which a caller usually repeats
+    // the call.
     fn flush(&mut self) -> io::Result<()>
         ensures failed { IsErr result }
         ensures count { self.new.count ≡ self.old.count }

@@ -53,6 +53,7 @@ impl From<AllocFailed> for Fault {
 
     ghost from_gives = { λ _ e. e ≡ OutOfMemory };
 
+    // A failed allocation, as the fault of a run.
     fn from(_: AllocFailed) -> Fault {
         Fault::OutOfMemory
     }
@@ -64,6 +65,7 @@ impl From<ReadFault> for Fault {
 
     ghost from_gives = { λ r e. e ≡ read_fault r };
 
+    // Why a file was not read, as the fault of a run.
     fn from(fault: ReadFault) -> Fault {
         match fault {
             ReadFault::ReadFailed => Fault::ReadFailed,
@@ -78,6 +80,7 @@ impl From<Refusal> for Fault {
 
     ghost from_gives = { λ r e. e ≡ refused r };
 
+    // Why a block was refused, as the fault of a run: the cause and the byte offset stay the same.
     fn from(refusal: Refusal) -> Fault {
         match refusal {
             Refusal::Content { cause, place } => Fault::Refused { cause, place },
@@ -92,6 +95,7 @@ impl From<WriteRefusal> for Fault {
 
     ghost from_gives = { λ r e. e ≡ unwritten r };
 
+    // Why a normal form was not written, as the fault of a run.
     fn from(refusal: WriteRefusal) -> Fault {
         match refusal {
             WriteRefusal::NormalTooLong => Fault::NormalTooLong,

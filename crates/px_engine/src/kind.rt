@@ -16,12 +16,14 @@ pub enum BlockKind {
 // The six bytes before an Exif block in a JPEG segment.
 const PREFIX: [u8; 6] = [0x45, 0x78, 0x69, 0x66, 0x00, 0x00];
 
+// Whether the file begins with `PREFIX`, "Exif" and two zeros.
 fn is_prefixed(file: &[u8]) -> bool
     ensures { result ≡ is_prefixed file.now }
 {
     file.starts_with(&PREFIX)
 }
 
+// Whether the file begins with the tag marker of a DataSet, 1C (IIM 4.2 chapter 1).
 fn is_marked(file: &[u8]) -> bool
     ensures { result ≡ is_marked file.now }
 {

@@ -225,6 +225,7 @@ impl<'a> Device for Filling<'a> {
 
     ghost calls = { λ f. calls_in f };
 
+    // How many calls have failed since the slice became full: 0 while it has space.
     fn failures(&self) -> u64 {
         if self.filled < self.space.len() {
             return 0;
@@ -245,6 +246,8 @@ impl<'a> Sink for Filling<'a> {
 
     ghost flushed = { λ _ _. ⊤ };
 
+    // Copies the first bytes of `buf` into the slice: `AT_ONCE` at most, or all that fit if these
+    // are `MANY` or more. `Err`: there is a byte to write and no space.
     fn write_some(&mut self, buf: &[u8]) -> Result<usize, Failed> {
         if buf.is_empty() {
             return Ok(0);
@@ -269,6 +272,8 @@ impl<'a> Sink for Filling<'a> {
         Ok(n)
     }
 
+    // Lets the bytes be encoded directly into the slice, if it has space for all of them. False: it
+    // has not, and nothing was written.
     fn write_encoded<S: Encode>(&mut self, encoded: &S, count: usize) -> bool {
         if self.filled >= self.space.len() || count > self.space.len() - self.filled {
             return false;
@@ -282,6 +287,7 @@ impl<'a> Sink for Filling<'a> {
         true
     }
 
+    // Never fails: the bytes are in the slice already. Only the number of flushes rises.
     fn flush_all(&mut self) -> Result<(), Failed> {
         let flushes = self.flushes.one_more();
         self.flushes = flushes;

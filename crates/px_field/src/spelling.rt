@@ -97,6 +97,8 @@ fn encode_element(order: Order, element: Element, into: &mut [u8; 8]) -> usize
     }
 }
 
+// Writes `n` into the first two bytes of `into` and leaves the others. Returns 2, the number of
+// bytes written.
 fn encode16(order: Order, n: u16, into: &mut [u8; 8]) -> usize
     ensures width { result ≡ 2 }
     ensures front { into.new ≡ spelling order 2 n ++ drop 2 into.old }
@@ -105,6 +107,8 @@ fn encode16(order: Order, n: u16, into: &mut [u8; 8]) -> usize
     2
 }
 
+// Writes `n` into the first four bytes of `into` and leaves the others. Returns 4, the number of
+// bytes written.
 fn encode32(order: Order, n: u32, into: &mut [u8; 8]) -> usize
     ensures width { result ≡ 4 }
     ensures front { into.new ≡ spelling order 4 n ++ drop 4 into.old }
@@ -113,6 +117,8 @@ fn encode32(order: Order, n: u32, into: &mut [u8; 8]) -> usize
     4
 }
 
+// Fills `into` with a fraction, the numerator `n` and then the denominator `d`, as TIFF 6.0 section
+// 2, "Types", orders them. Returns 8, the number of bytes written.
 fn encode_fraction(order: Order, n: u32, d: u32, into: &mut [u8; 8]) -> usize
     ensures width { result ≡ 8 }
     ensures front { into.new ≡ spelling order 4 n ++ spelling order 4 d }

@@ -83,6 +83,7 @@ fn turn_one(count: usize, from: &[u8], to: &mut [u8])
     to.copy_from_slice(&from[..count]);
 }
 
+// Converts `count` numbers of two bytes: SHORT and SSHORT.
 fn turn_two(read: Order, write: Order, count: usize, from: &[u8], to: &mut [u8])
     requires from { count * 2 ≤ length from.now }
     requires to { length to.old ≡ count * 2 }
@@ -94,6 +95,7 @@ fn turn_two(read: Order, write: Order, count: usize, from: &[u8], to: &mut [u8])
     }
 }
 
+// Converts `count` numbers of four bytes: LONG, SLONG and FLOAT.
 fn turn_four(read: Order, write: Order, count: usize, from: &[u8], to: &mut [u8])
     requires from { count * 4 ≤ length from.now }
     requires to { length to.old ≡ count * 4 }
@@ -105,6 +107,7 @@ fn turn_four(read: Order, write: Order, count: usize, from: &[u8], to: &mut [u8]
     }
 }
 
+// Converts `count` fractions, eight bytes each: RATIONAL and SRATIONAL.
 fn turn_pairs(read: Order, write: Order, count: usize, from: &[u8], to: &mut [u8])
     requires from { count * 8 ≤ length from.now }
     requires to { length to.old ≡ count * 8 }
@@ -116,6 +119,8 @@ fn turn_pairs(read: Order, write: Order, count: usize, from: &[u8], to: &mut [u8
     }
 }
 
+// Converts one fraction: the two numbers of four bytes keep their places, and the bytes of each are
+// put in the other order.
 fn turn_pair(read: Order, write: Order, from: &[u8], to: &mut [u8])
     requires from { length from.now ≡ 8 }
     requires to { length to.old ≡ 8 }
@@ -125,6 +130,7 @@ fn turn_pair(read: Order, write: Order, from: &[u8], to: &mut [u8])
     write.put32(read.get32(&from[4..]), &mut to[4..]);
 }
 
+// Converts `count` numbers of eight bytes: DOUBLE.
 fn turn_eight(read: Order, write: Order, count: usize, from: &[u8], to: &mut [u8])
     requires from { count * 8 ≤ length from.now }
     requires to { length to.old ≡ count * 8 }
@@ -136,6 +142,8 @@ fn turn_eight(read: Order, write: Order, count: usize, from: &[u8], to: &mut [u8
     }
 }
 
+// Converts `count` SHORT to LONG: two bytes are read for each, and four are written. The number
+// stays the same.
 fn turn_wide(read: Order, write: Order, count: usize, from: &[u8], to: &mut [u8])
     requires from { count * 2 ≤ length from.now }
     requires to { length to.old ≡ count * 4 }

@@ -34,6 +34,8 @@ pub(crate) fn rest(bytes: &[u8], at: usize) -> &[u8]
     bytes.split_at(at).1
 }
 
+// Whether the first byte is the tag marker, 1C, with which each DataSet begins (IIM 4.2 chapter 1).
+// False without a byte.
 fn is_marked(octets: &[u8]) -> bool
     ensures { result ≡ is_marked octets.now }
 {
@@ -60,6 +62,9 @@ fn extra(pair: u32) -> u32
     pair - TOP_BIT
 }
 
+// Whether the first two bytes of a length, read as `pair`, are allowed: a standard length of up to
+// 32,767 bytes of data, or the announcement of one to four more bytes with the length (IIM 4.2
+// chapter 1, extended DataSets).
 fn has_form(pair: u32) -> bool
     ensures { (x : List ℕ) → pair ≡ form x → result ≡ has_form x }
 {

@@ -134,12 +134,15 @@ impl<'b, 'a> Iterator for All<'b, 'a> {
     ghost use Rattle.std.specs.Iterator.{item_count, YieldsFirstRef};
     ghost use Rattle.px_iim.specs.calls.View.{octets_left};
 
+    // The data of one DataSet.
     type Item = &'a [u8];
 
     ghost next_gives = { YieldsFirstRef octets_left };
 
     ghost remaining = { item_count octets_left };
 
+    // The data of the next DataSet of the number that `Iim::all` was asked for. None: there is no
+    // other.
     fn next(&mut self) -> Option<&'a [u8]> {
         while self.at < self.items.len() {
             let item = self.items[self.at];

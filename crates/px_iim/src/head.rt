@@ -10,6 +10,7 @@ use px_bytes::Order;
 /// The longest head in bytes: the marker, two numbers, and an extended length of six bytes.
 pub(crate) const HEAD: usize = 9;
 
+// The number in two bytes, the most significant one first, as IIM 4.2 chapter 1 orders them.
 fn two_octets(n: u16) -> [u8; 2]
     ensures { result ≡ spelling Most 2 n }
 {
@@ -18,6 +19,7 @@ fn two_octets(n: u16) -> [u8; 2]
     octets
 }
 
+// The number in four bytes, the most significant one first.
 fn four_octets(n: u32) -> [u8; 4]
     ensures { result ≡ spelling Most 4 n }
 {

@@ -5,18 +5,22 @@ ghost use Rattle.px_iim.specs.calls.View.{item_view, part_view};
 use crate::group::Item;
 use crate::iim::Iim;
 
+// Whether the data of two DataSets is the same, byte for byte.
 fn same_octets(first: &[u8], second: &[u8]) -> bool
     ensures { MatchBool result (first.now ≡ second.now) (first.now ≡ second.now → ⊥) }
 {
     first == second
 }
 
+// Whether two DataSets have the same number and the same data. The caller compares their record
+// numbers.
 fn same_item(first: &Item, second: &Item) -> bool
     ensures { MatchBool result (item_view first.now ≡ item_view second.now) (item_view first.now ≡ item_view second.now → ⊥) }
 {
     first.number == second.number && same_octets(first.octets, second.octets)
 }
 
+// Whether two groups have the same DataSets in the same order: in a group, the order has a meaning.
 fn same_items(first: &[Item], second: &[Item]) -> bool
     ensures { MatchBool result (map item_view first.now ≡ map item_view second.now)
         (map item_view first.now ≡ map item_view second.now → ⊥) }
@@ -32,6 +36,8 @@ fn same_items(first: &[Item], second: &[Item]) -> bool
     true
 }
 
+// Whether two groups are the same. Each is its record number, the number that names the group, and
+// its DataSets.
 fn same_group(first: (u8, u8, &[Item]), second: (u8, u8, &[Item])) -> bool
     ensures { MatchBool result (part_view first.entry ≡ part_view second.entry) (part_view first.entry ≡ part_view second.entry → ⊥) }
 {

@@ -55,12 +55,15 @@ impl<'b, 'a> Model for Groups<'b, 'a> {
 }
 
 impl<'b, 'a> Iterator for Groups<'b, 'a> {
+    // A group: its record number, the number that names the group, and its DataSets in order.
     type Item = (u8, u8, &'b [Item<'a>]);
 
     ghost next_gives = { YieldsFirstBy part_view (λ left. left) };
 
     ghost remaining = { item_count (λ left. left) };
 
+    // The next group, in ascending order of record number and then of the number that names the
+    // group. None: there is no other.
     fn next(&mut self) -> Option<(u8, u8, &'b [Item<'a>])> {
         let items = self.items;
         if self.at >= items.len() {

@@ -15,6 +15,9 @@ use crate::head::head;
 use crate::iim::Iim;
 use px_bytes::{AllocFailed, CAPACITY, Failed, LIMIT, Memory, Pending, Sink, WriteRefusal};
 
+// Adds one DataSet of record `rec` in the normal form to the output buffer: its head, and its data
+// after that. `Err`: a call of the writer failed, here and in all functions below that take
+// `pending`, the output buffer, and `writer`, which gets its bytes when the buffer is full.
 fn put_item<W: Sink>(
     pending: &mut Pending<'_>,
     writer: &mut W,
@@ -31,6 +34,7 @@ fn put_item<W: Sink>(
     pending.put(writer, item.octets)
 }
 
+// Adds the DataSets of one group of record `rec`, one after another, to the output buffer.
 fn put_group<W: Sink>(
     pending: &mut Pending<'_>,
     writer: &mut W,

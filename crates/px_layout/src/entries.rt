@@ -227,6 +227,8 @@ impl<'m, 'a> Entries<'m, 'a> {
 
 // ---- further entries, each inserted among the fields and the further entries before it, if there is one
 
+// The further entry with this tag and item, and how many fields come before it. None: the directory
+// has no such item.
 fn first_extra<'m, 'a>(
     fields: &Fields,
     tag: u16,
@@ -247,6 +249,7 @@ fn first_extra<'m, 'a>(
     }
 }
 
+// The same, with its index among the fields and `first`, if that is there.
 fn second_extra<'m, 'a>(
     fields: &Fields,
     first: &Option<Extra>,
@@ -269,6 +272,7 @@ fn second_extra<'m, 'a>(
     }
 }
 
+// The same, with its index among the fields, `first` and `second`, if these are there.
 fn third_extra<'m, 'a>(
     fields: &Fields,
     first: &Option<Extra>,
@@ -334,6 +338,7 @@ fn record_item<'m, 'a>(iim: &'m Option<Iim<'a>>) -> Option<Item<'m, 'a>>
     }
 }
 
+// The pointer to the Exif directory, if there is that directory.
 fn exif_link<'m, 'a>(part: &Option<ExifPart>) -> Option<Item<'m, 'a>>
     ensures { option_map item_of result ≡ link Dir.Exif (option_map exif_of part.now) }
 {
@@ -353,6 +358,8 @@ fn fields_link<'m, 'a>(dir: Dir, fields: &Option<Fields>) -> Option<Item<'m, 'a>
     }
 }
 
+// The item of JPEGInterchangeFormatLength: the length of the thumbnail's JPEG in bytes. None: there
+// is no JPEG.
 fn jpeg_length<'m, 'a>(jpeg: Option<&[u8]>) -> Option<Item<'m, 'a>>
     requires { IfSome (option_map (λ x. x.now) jpeg) IsBytes }
     ensures item { option_map item_of result ≡ option_map (λ x. JpegSize (length x)) (option_map (λ x. x.now) jpeg.entry) }
@@ -364,6 +371,8 @@ fn jpeg_length<'m, 'a>(jpeg: Option<&[u8]>) -> Option<Item<'m, 'a>>
     }
 }
 
+// The item of StripOffsets: an offset for each of the thumbnail's strips. None: there are no
+// strips.
 fn strip_offsets<'m, 'a>(strips: &'m Option<Strips<'a>>) -> Option<Item<'m, 'a>>
     requires { IfSome strips.now (λ s. length s ≤ limit) }
     ensures item { option_map item_of result ≡ option_map (λ s. AtStrips (length s)) strips.now }
@@ -375,6 +384,8 @@ fn strip_offsets<'m, 'a>(strips: &'m Option<Strips<'a>>) -> Option<Item<'m, 'a>>
     }
 }
 
+// The item of StripByteCounts: the length in bytes of each of the thumbnail's strips. None: there
+// are no strips.
 #[tactic(auto, using(crate::proofs::plans::EntryLists::lengths_counted))]
 fn strip_lengths<'m, 'a>(strips: &'m Option<Strips<'a>>) -> Option<Item<'m, 'a>>
     requires { IfSome strips.now (λ s. (length s ≤ limit) × AllByRecursion IsBytes s) }
@@ -387,6 +398,8 @@ fn strip_lengths<'m, 'a>(strips: &'m Option<Strips<'a>>) -> Option<Item<'m, 'a>>
     }
 }
 
+// The entries of the main directory: its fields, the record of IPTC-NAA (83BB), and the pointers to
+// the GPS directory (8825) and the Exif directory (8769).
 fn main_entries<'m, 'a>(m: &'m Meaning<'a>) -> Entries<'m, 'a>
     requires few { length m.now.main < 2 ^ 16 }
     requires counted { IfSome m.now.iptc (λ i. length (normal_iim i) ≤ 2 * limit) }
@@ -399,6 +412,8 @@ fn main_entries<'m, 'a>(m: &'m Meaning<'a>) -> Entries<'m, 'a>
     Entries::layered(fields, iptc, gps, exif, None)
 }
 
+// The entries of the Exif directory: its fields, and the pointer to the Interoperability directory
+// (A005).
 fn exif_part_entries<'m, 'a>(part: &'m ExifPart<'a>) -> Entries<'m, 'a>
     requires { length part.now.fields < 2 ^ 16 }
     ensures { result ≡ exif_items (exif_of part.now) }
@@ -411,6 +426,8 @@ fn exif_part_entries<'m, 'a>(part: &'m ExifPart<'a>) -> Entries<'m, 'a>
     Entries::layered(&part.fields, interop, None, None, None)
 }
 
+// The entries of the thumbnail directory: its fields, StripByteCounts (0117), StripOffsets (0111),
+// and JPEGInterchangeFormatLength (0202) and JPEGInterchangeFormat (0201).
 fn thumb_part_entries<'m, 'a>(thumb: &'m Thumb<'a>) -> Entries<'m, 'a>
     requires few { length thumb.now.fields < 2 ^ 16 }
     requires fits { IsWritableThumb (thumb_of thumb.now) }
@@ -435,6 +452,7 @@ fn field_entries<'m, 'a>(fields: &'m Option<Fields<'a>>) -> Option<Entries<'m, '
     }
 }
 
+// The entries of the Exif directory. None: the meaning has none.
 fn exif_entries<'m, 'a>(part: &'m Option<ExifPart<'a>>) -> Option<Entries<'m, 'a>>
     requires { IfSome (option_map exif_of part.now) (λ e. length e.fields < 2 ^ 16) }
     ensures { result ≡ option_map exif_items (option_map exif_of part.now) }
@@ -445,6 +463,7 @@ fn exif_entries<'m, 'a>(part: &'m Option<ExifPart<'a>>) -> Option<Entries<'m, 'a
     }
 }
 
+// The entries of the Interoperability directory. None: the meaning has none.
 fn interop_entries<'m, 'a>(part: &'m Option<ExifPart<'a>>) -> Option<Entries<'m, 'a>>
     requires { IfSome (option_map exif_of part.now) (λ e. IfSome e.interop (λ fs. length fs < 2 ^ 16)) }
     ensures { result ≡ option_and_then (λ e. option_map field_items e.interop) (option_map exif_of part.now) }
@@ -455,6 +474,7 @@ fn interop_entries<'m, 'a>(part: &'m Option<ExifPart<'a>>) -> Option<Entries<'m,
     }
 }
 
+// The entries of the thumbnail directory. None: the meaning has none.
 fn thumb_entries<'m, 'a>(thumb: &'m Option<Thumb<'a>>) -> Option<Entries<'m, 'a>>
     requires few { IfSome (option_map thumb_of thumb.now) (λ t. length t.fields < 2 ^ 16) }
     requires fits { IfSome (option_map thumb_of thumb.now) IsWritableThumb }
@@ -466,6 +486,8 @@ fn thumb_entries<'m, 'a>(thumb: &'m Option<Thumb<'a>>) -> Option<Entries<'m, 'a>
     }
 }
 
+// Whether the meaning has an Interoperability directory. Without an Exif directory, which alone has
+// a pointer to one, it has none.
 fn has_interop(part: &Option<ExifPart>) -> bool
     ensures { result ≡ is_some (option_and_then (λ e. option_map field_items e.interop) (option_map exif_of part.now)) }
 {

@@ -132,6 +132,7 @@ impl<'v, 'a> Encode for Ordered<'v, 'a> {
 
     ghost bytes = { λ o. encoded o.order o.value.now };
 
+    // Writes the elements in the byte order `order`, one after another.
     fn encode(&self, out: &mut [u8]) {
         self.value.encode_all(self.order, out);
     }

@@ -117,6 +117,7 @@ fn put_strip_offsets<W: Sink>(
     Ok(())
 }
 
+// The same for strips that may be missing: then it puts nothing.
 fn put_any_offsets<W: Sink>(
     pending: &mut Pending<'_>,
     writer: &mut W,

@@ -11,6 +11,8 @@ use crate::put::put_padding;
 use px_bytes::{Failed, Pending, Sink};
 use px_meaning::{Strips, Thumb};
 
+// Puts bytes into the output buffer `pending`, and a zero after an odd number of bytes. `writer`
+// gets the bytes when the buffer is full. `Err`, here and below: a call of the writer failed.
 fn put_padded<W: Sink>(
     pending: &mut Pending<'_>,
     writer: &mut W,
@@ -23,6 +25,8 @@ fn put_padded<W: Sink>(
     put_padding(pending, writer, bytes.len() as u64)
 }
 
+// Puts the strips in order, each padded. `run_at` gives several strips at once if no zero comes
+// between them.
 fn put_strips<W: Sink>(
     pending: &mut Pending<'_>,
     writer: &mut W,
@@ -42,6 +46,7 @@ fn put_strips<W: Sink>(
     Ok(())
 }
 
+// Puts the strips, if the thumbnail has any.
 fn put_all_strips<W: Sink>(
     pending: &mut Pending<'_>,
     writer: &mut W,
@@ -57,6 +62,7 @@ fn put_all_strips<W: Sink>(
     }
 }
 
+// Puts the JPEG with its padding, if the thumbnail has one.
 fn put_jpeg<W: Sink>(
     pending: &mut Pending<'_>,
     writer: &mut W,
@@ -72,6 +78,7 @@ fn put_jpeg<W: Sink>(
     }
 }
 
+// Puts the JPEG of a thumbnail, and its strips after that.
 fn put_parts<W: Sink>(
     pending: &mut Pending<'_>,
     writer: &mut W,

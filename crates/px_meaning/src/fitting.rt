@@ -90,6 +90,7 @@ fn fits_fields(dir: Dir, fields: &Fields) -> bool
     true
 }
 
+// Whether a directory may have these fields. True without the directory.
 fn fits_optional(dir: Dir, fields: &Option<Fields>) -> bool
     ensures { IsTrue result ↔ IfSome fields.now (AreWritableFields dir) }
 {
@@ -99,6 +100,8 @@ fn fits_optional(dir: Dir, fields: &Option<Fields>) -> bool
     }
 }
 
+// Whether the record can be written: it has a DataSet, and its normal form is at most twice as long
+// as the longest block. True without a record.
 fn fits_record(iim: &Option<Iim>) -> bool
     ensures { IsTrue result ↔ IfSome iim.now (λ i. IsRecord i × (length (normal_iim i) ≤ 2 * limit)) }
 {
@@ -118,6 +121,8 @@ fn is_alone(m: &Meaning) -> bool
     }
 }
 
+// Whether the Exif directory and the Interoperability directory may have their fields. True without
+// an Exif directory.
 fn fits_exif(part: &Option<ExifPart>) -> bool
     ensures { IsTrue result ↔ IfSome (option_map exif_of part.now) IsWritableExif }
 {
@@ -129,12 +134,14 @@ fn fits_exif(part: &Option<ExifPart>) -> bool
     }
 }
 
+// Whether a part of the thumbnail is no longer than the longest block.
 fn fits_bytes(bytes: &[u8]) -> bool
     ensures { IsTrue result ↔ IsBytes bytes.now }
 {
     bytes.len() <= LIMIT as usize
 }
 
+// Whether the JPEG of the thumbnail is no longer than the longest block. True without a JPEG.
 fn fits_jpeg(jpeg: Option<&[u8]>) -> bool
     ensures { IsTrue result ↔ IfSome (option_map (λ x. x.now) jpeg.entry) IsBytes }
 {
@@ -144,6 +151,8 @@ fn fits_jpeg(jpeg: Option<&[u8]>) -> bool
     }
 }
 
+// Whether neither the number of strips nor the length of one is above `LIMIT`, so that each number
+// fits in the LONG of an entry.
 fn fits_strips(strips: &Strips) -> bool
     ensures { IsTrue result ↔ ((length strips.now ≤ limit) × AllByRecursion IsBytes strips.now) }
 {
@@ -158,6 +167,7 @@ fn fits_strips(strips: &Strips) -> bool
     true
 }
 
+// The same for a thumbnail that may have no strips: then it is true.
 fn fits_optional_strips(strips: &Option<Strips>) -> bool
     ensures { IsTrue result ↔ IfSome strips.now (λ s. (length s ≤ limit) × AllByRecursion IsBytes s) }
 {
@@ -167,6 +177,8 @@ fn fits_optional_strips(strips: &Option<Strips>) -> bool
     }
 }
 
+// Whether the thumbnail directory may have its fields, and its JPEG and strips are short enough.
+// True without a thumbnail.
 fn fits_thumb(thumb: &Option<Thumb>) -> bool
     ensures { IsTrue result ↔ IfSome (option_map thumb_of thumb.now) IsWritableThumb }
 {

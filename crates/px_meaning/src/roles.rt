@@ -97,6 +97,7 @@ fn any_role(dir: Dir, tag: u16) -> Role
     }
 }
 
+// Whether a tag lies between two others and is none of them.
 fn is_between(low: u16, tag: u16, high: u16) -> bool
     ensures { result ≡ true → (low < tag) × (tag < high) }
 {

@@ -20,6 +20,7 @@ pub fn same_meaning(a: &Meaning, b: &Meaning) -> bool
         && same_thumb(&a.thumb, &b.thumb)
 }
 
+// Whether the fields at index `i` of two lists have the same tag and the same value.
 fn same_field(a: &Fields, b: &Fields, i: usize) -> bool
     requires here { i < length a.now }
     requires there { i < length b.now }
@@ -30,6 +31,8 @@ fn same_field(a: &Fields, b: &Fields, i: usize) -> bool
     tag == other_tag && same_value(value, other_value)
 }
 
+// Whether two directories have the same fields. Both lists ascend by tag, so one walk over both is
+// enough.
 fn same_fields(a: &Fields, b: &Fields) -> bool
     ensures { IsTrue result ↔ (a.now ≡ b.now) }
 {
@@ -44,6 +47,8 @@ fn same_fields(a: &Fields, b: &Fields) -> bool
     true
 }
 
+// Whether two directories that may be missing are the same: both are missing, or both have the same
+// fields.
 fn same_optional_fields(a: &Option<Fields>, b: &Option<Fields>) -> bool
     ensures { IsTrue result ↔ (a.now ≡ b.now) }
 {
@@ -54,6 +59,7 @@ fn same_optional_fields(a: &Option<Fields>, b: &Option<Fields>) -> bool
     }
 }
 
+// Whether both meanings lack a record of IIM, or both have the same one.
 fn same_record(a: &Option<Iim>, b: &Option<Iim>) -> bool
     ensures { IsTrue result ↔ (a.now ≡ b.now) }
 {
@@ -64,6 +70,8 @@ fn same_record(a: &Option<Iim>, b: &Option<Iim>) -> bool
     }
 }
 
+// Whether both meanings lack an Exif directory, or both have one with the same fields and the same
+// Interoperability directory.
 fn same_exif(a: &Option<ExifPart>, b: &Option<ExifPart>) -> bool
     ensures { IsTrue result ↔ (option_map exif_of a.now ≡ option_map exif_of b.now) }
 {
@@ -76,6 +84,7 @@ fn same_exif(a: &Option<ExifPart>, b: &Option<ExifPart>) -> bool
     }
 }
 
+// Whether both thumbnails lack a JPEG, or both have the same one, byte for byte.
 fn same_jpeg(a: Option<&[u8]>, b: Option<&[u8]>) -> bool
     ensures { IsTrue result ↔ (option_map (λ x. x.now) a.entry ≡ option_map (λ x. x.now) b.entry) }
 {
@@ -86,6 +95,7 @@ fn same_jpeg(a: Option<&[u8]>, b: Option<&[u8]>) -> bool
     }
 }
 
+// Whether both thumbnails lack strips, or both have the same ones in the same order.
 fn same_strips(a: &Option<Strips>, b: &Option<Strips>) -> bool
     ensures { IsTrue result ↔ (a.now ≡ b.now) }
 {
@@ -96,6 +106,7 @@ fn same_strips(a: &Option<Strips>, b: &Option<Strips>) -> bool
     }
 }
 
+// Whether two lists of strips have the same number of strips, and the same bytes in each.
 fn same_lists(a: &Strips, b: &Strips) -> bool
     ensures { IsTrue result ↔ (a.now ≡ b.now) }
 {
@@ -110,6 +121,7 @@ fn same_lists(a: &Strips, b: &Strips) -> bool
     true
 }
 
+// Whether both meanings lack a thumbnail, or both have one with the same fields, JPEG and strips.
 fn same_thumb(a: &Option<Thumb>, b: &Option<Thumb>) -> bool
     ensures { IsTrue result ↔ (option_map thumb_of a.now ≡ option_map thumb_of b.now) }
 {

@@ -43,6 +43,8 @@ pub(crate) enum Piece<'e, 'm, 'a> {
     Value(Item<'m, 'a>),
 }
 
+// Adds the bytes of a piece to the output buffer `pending`, whose bytes `writer` gets when it is
+// full. `Err`: a call of the writer failed.
 fn put_piece<W: Sink>(
     pending: &mut Pending<'_>,
     writer: &mut W,
@@ -60,6 +62,8 @@ fn put_piece<W: Sink>(
     }
 }
 
+// Writes the bytes of a piece, by an output buffer of `CAPACITY` bytes on the stack. `Err`: a call
+// of the writer failed.
 fn write_piece<W: Sink>(writer: &mut W, layout: &Layout, piece: Piece) -> Result<(), Failed>
     requires few { CanCountFailure (W.calls writer.old) }
     requires piece { IsPiece piece }
@@ -100,6 +104,7 @@ fn lay_strips(block: &mut [u8], layout: &Layout, strips: &Strips)
     }
 }
 
+// Writes the strips, if the thumbnail has any.
 fn lay_all_strips(block: &mut [u8], layout: &Layout, strips: &Option<Strips>)
     requires few { IfSome strips.now (λ s. length s ≤ limit) }
     requires inside { AreInside (length block.old) (at_places layout.now (all_strip_contents strips.now)) }
@@ -111,6 +116,7 @@ fn lay_all_strips(block: &mut [u8], layout: &Layout, strips: &Option<Strips>)
     }
 }
 
+// Writes the JPEG, if the thumbnail has one.
 fn lay_jpeg(block: &mut [u8], layout: &Layout, jpeg: Option<&[u8]>)
     requires { AreInside (length block.old) (at_places layout.now (jpeg_contents (option_map (λ x. x.now) jpeg))) }
     ensures len { length block.new ≡ length block.old }
@@ -121,6 +127,8 @@ fn lay_jpeg(block: &mut [u8], layout: &Layout, jpeg: Option<&[u8]>)
     }
 }
 
+// Writes the strips of a thumbnail and then its JPEG: pieces are written from the last to the
+// first.
 fn lay_parts(block: &mut [u8], layout: &Layout, thumb: &Thumb)
     requires few { IfSome (thumb_of thumb.now).strips (λ s. length s ≤ limit) }
     requires strips { AreInside (length block.old) (at_places layout.now (all_strip_contents (thumb_of thumb.now).strips)) }
@@ -198,6 +206,10 @@ fn lay_values(
     Ok(())
 }
 
+// Writes the table of a directory at its offset: the number of entries, the entries, and the offset
+// of the next directory. `Err`: an allocation failed, and the block is as before. The allocator is
+// asked for up to six bytes for each byte of the table, and for 131,072 more if an allocation
+// fails.
 fn lay_table(
     memory: &mut Memory,
     block: &mut [u8],
@@ -291,6 +303,8 @@ fn lay_dirs(memory: &mut Memory, block: &mut [u8], layout: &Layout) -> Result<()
     lay_dir(memory, block, layout, Dir::Main)
 }
 
+// Writes the header, the first eight bytes: the byte order, the number 42, and the offset of the
+// main directory. TIFF 6.0 section 2, "Image File Header". `Err`: an allocation failed.
 fn lay_header(memory: &mut Memory, block: &mut [u8], layout: &Layout) -> Result<(), AllocFailed>
     requires { 8 ≤ length block.old }
     ensures memory { CountsAllocFailure result memory.old memory.new }

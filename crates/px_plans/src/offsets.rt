@@ -20,6 +20,7 @@ pub(crate) struct DirOffsets {
 }
 
 impl DirOffsets {
+    // No offset yet. It allocates nothing.
     fn new(memory: &Memory) -> DirOffsets
         ensures table { result.table ≡ None }
         ensures size { dir_size result ≡ 0 }
@@ -32,6 +33,7 @@ impl DirOffsets {
         }
     }
 
+    // How many chunks of this directory have an offset: the table, and the values.
     fn size(&self) -> u128
         ensures value { result ≡ dir_size self.now }
         ensures bound { result ≤ 2 ^ 64 }
@@ -88,6 +90,7 @@ impl Offsets {
             + self.strips.size()
     }
 
+    // The offsets of one directory.
     fn dir(&self, dir: Dir) -> &DirOffsets
         ensures { result.now ≡ dir_in self.now dir }
     {
@@ -112,6 +115,7 @@ impl Offsets {
         }
     }
 
+    // Adds the offset of the table of a directory. It allocates nothing.
     fn put_table(&mut self, dir: Dir, offset: u32)
         requires { offset_in self.old (Table dir) ≡ None }
         ensures size { size_in self.new ≡ size_in self.old + 1 }
@@ -128,6 +132,8 @@ impl Offsets {
         }
     }
 
+    // Adds the offset of the value of the entry with this tag. `Err`: an allocation failed, and all
+    // offsets are as before.
     fn put_value(
         &mut self,
         memory: &mut Memory,
@@ -155,6 +161,7 @@ impl Offsets {
         }
     }
 
+    // Adds the offset of the thumbnail's JPEG. It allocates nothing.
     fn put_jpeg(&mut self, offset: u32)
         requires { offset_in self.old Jpeg ≡ None }
         ensures size { size_in self.new ≡ size_in self.old + 1 }
@@ -164,6 +171,8 @@ impl Offsets {
         self.jpeg = Some(offset);
     }
 
+    // Adds the offset of strip `i`, counted from 0. `Err`: an allocation failed, and all offsets
+    // are as before.
     fn put_strip(&mut self, memory: &mut Memory, i: u32, offset: u32) -> Result<(), AllocFailed>
         requires { offset_in self.old (Strip i) ≡ None }
         ensures ok { OnOk result ((c : AnyChunk) → offset_in self.new c ≡ (if same_chunk (Strip i) c then Some offset else offset_in

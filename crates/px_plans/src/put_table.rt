@@ -10,6 +10,9 @@ use px_bytes::{Failed, Pending, Sink};
 use px_layout::{Chunk, Entries, put_filler, put_long, put_short};
 use px_tree::{Dir, magic_of};
 
+// Adds the header to the output buffer `pending`: the byte order, the number 42, and the offset of
+// the main directory. `writer` gets the bytes when the buffer is full. `Err`, here and below: a
+// call of the writer failed.
 pub(crate) fn put_header<W: Sink>(
     pending: &mut Pending<'_>,
     writer: &mut W,
@@ -23,6 +26,7 @@ pub(crate) fn put_header<W: Sink>(
     put_place(pending, writer, layout, Chunk::Table(Dir::Main))
 }
 
+// Adds the entries of a directory by ascending tag, twelve bytes each.
 fn put_entries<W: Sink>(
     pending: &mut Pending<'_>,
     writer: &mut W,

@@ -55,6 +55,7 @@ fn push_value(
     push_chunk(memory, out, (Chunk::Placed(dir, tag), size))
 }
 
+// Appends the chunks of the values that are too long for their entries, by ascending tag.
 fn push_values(
     memory: &mut Memory,
     out: &mut Vec<(Chunk, u64)>,
@@ -94,6 +95,7 @@ fn push_entries(
     push_values(memory, out, dir, entries)
 }
 
+// Appends the chunks of a directory: nothing if the meaning lacks it.
 fn push_dir(
     memory: &mut Memory,
     out: &mut Vec<(Chunk, u64)>,
@@ -114,6 +116,7 @@ fn push_dir(
     }
 }
 
+// Appends the chunk of the JPEG, if the thumbnail has one.
 fn push_jpeg(
     memory: &mut Memory,
     out: &mut Vec<(Chunk, u64)>,
@@ -132,6 +135,7 @@ fn push_jpeg(
     push_chunk(memory, out, (Chunk::Jpeg, jpeg.len() as u64))
 }
 
+// Appends a chunk for each strip, numbered from 0.
 #[tactic(auto, using(px_layout::specs::lemmas::WalkLaws::strips_done))]
 fn push_strips(
     memory: &mut Memory,
@@ -156,6 +160,7 @@ fn push_strips(
     Ok(())
 }
 
+// The same for strips that may be missing.
 fn push_optional_strips(
     memory: &mut Memory,
     out: &mut Vec<(Chunk, u64)>,
@@ -175,6 +180,8 @@ fn push_optional_strips(
     }
 }
 
+// Appends the chunks of the thumbnail's bytes: the JPEG and then the strips. Those of its directory
+// are not among them.
 #[tactic(auto, unfolding(px_layout::specs::Chunks::thumb_chunks))]
 fn push_thumb(
     memory: &mut Memory,

@@ -44,6 +44,7 @@ pub fn write_with_in(
     Ok(block)
 }
 
+// A block of `n` bytes, each of which is the filler. `Err`: the allocation failed.
 fn filled(memory: &mut Memory, n: usize, filler: u8) -> Result<Vec<u8>, AllocFailed>
     requires { IsModestRequest n }
     ensures bytes { IfOk result (λ block. block.items ≡ replicate n filler) }

@@ -24,6 +24,9 @@ fn is_plain(byte: u8) -> bool
     0x20 <= byte && byte <= 0x7E && byte != 0x5C
 }
 
+// Adds one byte to the output buffer `pending`: a printable character of ASCII as it is, and any
+// other byte, or a backslash, as a backslash and two hexadecimal digits. `writer` gets the bytes
+// when the buffer is full. `Err`, here and below: a call of the writer failed.
 fn put_byte<W: Sink>(pending: &mut Pending<'_>, writer: &mut W, byte: u8) -> Result<(), Failed>
     requires { CanCountFailure (W.calls writer.old) }
     ensures { Adds result (device_of W.calls W.bytes_taken writer.old writer.new) pending.old pending.new (escaped_byte byte) }
@@ -50,6 +53,7 @@ fn put_escaped<W: Sink>(
     Ok(())
 }
 
+// Adds the line of a caption: its label, its text with escapes, and a line feed.
 #[tactic(auto, unfolding(crate::specs::Captions::caption_line))]
 fn put_line<W: Sink>(
     pending: &mut Pending<'_>,

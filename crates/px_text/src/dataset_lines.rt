@@ -10,6 +10,9 @@ use crate::texts::{put_decimal, put_ended, put_sized};
 use px_bytes::{Failed, Pending, Sink};
 use px_iim::{Iim, Item};
 
+// Adds the line of one DataSet to the output buffer `pending`, as `2:120 3: 616263` for the three
+// bytes `abc` in DataSet 2:120. `writer` gets the bytes when the buffer is full. `Err`, here and
+// below: a call of the writer failed.
 #[tactic(auto, unfolding(crate::specs::Listing::dataset_line))]
 fn put_dataset<W: Sink>(
     pending: &mut Pending<'_>,
@@ -26,6 +29,7 @@ fn put_dataset<W: Sink>(
     put_sized(pending, writer, item.octets)
 }
 
+// Adds the lines of the DataSets of one group, all of record `rec`, in their order.
 fn put_group<W: Sink>(
     pending: &mut Pending<'_>,
     writer: &mut W,

@@ -78,6 +78,8 @@ fn put_digits64<W: Sink>(pending: &mut Pending<'_>, writer: &mut W, n: u64) -> R
     put_hex(pending, writer, &bytes)
 }
 
+// Adds a fraction as its two numbers in decimal with a slash between them. It is not reduced,
+// because the numbers are the value.
 fn put_fraction<W: Sink, I: Integer>(
     pending: &mut Pending<'_>,
     writer: &mut W,
@@ -92,6 +94,8 @@ fn put_fraction<W: Sink, I: Integer>(
     put_decimal(pending, writer, denominator)
 }
 
+// Adds one element: a byte, FLOAT or DOUBLE in hexadecimal, a whole number in decimal, and a
+// fraction as its two numbers.
 fn put_element<W: Sink>(
     pending: &mut Pending<'_>,
     writer: &mut W,
@@ -176,6 +180,7 @@ fn put_head<W: Sink>(
     put_ended(pending, writer, value.count(), b":")
 }
 
+// Adds the line of one field, as `0112 SHORT 1: 1` for Orientation.
 #[tactic(auto, unfolding(crate::specs::Listing::field_line))]
 fn put_field<W: Sink>(
     pending: &mut Pending<'_>,

@@ -62,6 +62,8 @@ fn put_directory<W: Sink>(
     }
 }
 
+// Adds the Exif directory and the Interoperability directory that it has a pointer to: nothing if
+// the meaning lacks them.
 fn put_exif<W: Sink>(
     pending: &mut Pending<'_>,
     writer: &mut W,
@@ -93,6 +95,7 @@ fn put_part<W: Sink>(
     put_sized(pending, writer, bytes)
 }
 
+// Adds the line of the JPEG, if the thumbnail has one.
 fn put_jpeg<W: Sink>(
     pending: &mut Pending<'_>,
     writer: &mut W,
@@ -108,6 +111,7 @@ fn put_jpeg<W: Sink>(
     }
 }
 
+// Adds a line for each strip, in their order.
 fn put_each_strip<W: Sink>(
     pending: &mut Pending<'_>,
     writer: &mut W,
@@ -139,6 +143,7 @@ fn put_strips<W: Sink>(
     put_each_strip(pending, writer, strips)
 }
 
+// Adds the thumbnail directory, its JPEG and its strips: nothing if the meaning has no thumbnail.
 fn put_thumb<W: Sink>(
     pending: &mut Pending<'_>,
     writer: &mut W,

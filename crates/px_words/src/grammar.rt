@@ -7,11 +7,14 @@ ghost use Rattle.px_words.specs.Words.{bare, exifnorm, of_one, of_two, required}
 use clap::{Arg, Command};
 use std::alloc::{AllocError, Global};
 
+// The name of the program in its help.
 const NAME: &str = "exifnorm";
 
+// What the program does, at the beginning of its help.
 const ABOUT: &str = "Shows, checks, compares and normalises Exif and IPTC (IIM) metadata blocks. \
     Without arguments it normalises standard input to standard output.";
 
+// The exit statuses, at the end of its help.
 const STATUSES: &str = "Statuses:
   0  success (compare: the blocks mean the same)
   1  compare: the blocks mean different things

@@ -46,6 +46,9 @@ impl Parser for Clap {
 
     ghost lacks = { λ _ _. ⊤ };
 
+    // Parses the arguments `words` by the grammar of the program. `version` is what `--version`
+    // prints. `Err`: a mistake in them, a request for help or for the version, or a failed
+    // allocation.
     fn matches_of<'a, S: AsStr>(
         &self,
         words: &'a [S],

@@ -81,6 +81,7 @@ impl Plain {
 }
 
 impl fmt::Write for Plain {
+    // Appends `more`, each control character but a line feed as `?`. `Err`: an allocation failed.
     fn write_str(&mut self, more: &str) -> fmt::Result {
         match push_all(&mut self.memory, &mut self.text, more) {
             Ok(()) => Ok(()),
