@@ -3,6 +3,7 @@ use Rattle.std.specs.Prelude.{ℕ, List, codes, ◌==◌, if◌then◌else◌, O
 use Rattle.px_bytes.specs.declared.causes.Cause.{Cause}
 use Rattle.px_bytes.specs.declared.causes.Cause.TheVariants as cause
 
+-- the name of a cause, as it is printed, in ASCII
 abbrev pub name_of : Cause → List ℕ
 name_of cause.TooLong = codes "TooLong"
 name_of cause.UnknownKind = codes "UnknownKind"

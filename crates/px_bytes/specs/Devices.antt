@@ -70,6 +70,8 @@ Writes (Err e) old new bytes = AppendsPrefix old new bytes
 
 -- ---- a device over a call: its calls and its bytes, before and after
 
+-- the counts of failures and flushes before and after a call, and the bytes that were taken or are
+-- still to come, before and after it; None if these are unknown
 pub record Device : Type 0 where
   pub calls : Calls
   pub calls_now : Calls

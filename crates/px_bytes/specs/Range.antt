@@ -4,13 +4,16 @@ use Rattle.std.specs.Prelude.{◌≡◌, ℕ, ◌+◌, ◌<◌, ◌≤◌, nat_l
 use Rattle.std.specs.List.{list_all, AllByRecursion}
 use Rattle.px_bytes.specs.Claimed.{IsFree}
 
+-- a range: the offset of its first byte, and how many bytes it has
 pub record Range : Type 0 where
   pub start : ℕ
   pub size : ℕ
 
+-- the range of n bytes at the offset x
 abbrev pub range : ℕ → ℕ → Range
 range x n = record { start = x; size = n }
 
+-- the byte at p is in the range
 abbrev pub IsIn : ℕ → Range → Type 0
 IsIn p r = (r.start ≤ p) × (p < r.start + r.size)
 
@@ -18,6 +21,7 @@ IsIn p r = (r.start ≤ p) × (p < r.start + r.size)
 abbrev pub Apart : Range → Range → Type 0
 Apart r s = (p : ℕ) → IsIn p r → IsIn p s → ⊥
 
+-- no two ranges of the list share a byte
 abbrev pub AllApart : List Range → Type 0
 AllApart [] = ⊤
 AllApart (r ∷ rs) = AllByRecursion (Apart r) rs × AllApart rs

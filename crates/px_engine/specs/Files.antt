@@ -27,6 +27,7 @@ pub data Said : Type 0 where
 abbrev pub prefix : List ℕ
 prefix = 0x45 ∷ 0x78 ∷ 0x69 ∷ 0x66 ∷ 0 ∷ 0 ∷ []
 
+-- the file begins with these six bytes
 abbrev pub is_prefixed : List ℕ → Bool
 is_prefixed f = starts_with nat_eq f prefix
 
@@ -34,14 +35,17 @@ is_prefixed f = starts_with nat_eq f prefix
 abbrev pub is_marked : List ℕ → Bool
 is_marked f = starts_with nat_eq f (0x1C ∷ [])
 
+-- the kind of block that a file is read as
 unfoldable pub kind_of : List ℕ → BlockKind
 kind_of f = if is_prefixed f then kind.Exif else if is_marked f then kind.Iim else kind.Exif
 
+-- the block in a file: what follows the six bytes, or all
 unfoldable pub block_of : List ℕ → List ℕ
 block_of f = if is_prefixed f then drop 6 f else f
 
 -- ---- its meaning
 
+-- a block, read as this kind, has this meaning
 abbrev pub MeansAs : BlockKind → List ℕ → Said → Type 0
 MeansAs kind.Exif b (Exif m) = SaysExif b m
 MeansAs kind.Iim b (Iim i) = SaysIim b i
@@ -68,6 +72,7 @@ normal (Iim i) = normal_iim i
 
 -- ---- its faults; byte offsets count from the block's first byte
 
+-- the first fault of a block, by the checks of this kind
 abbrev pub FirstIn : BlockKind → List ℕ → Cause → ℕ → Type 0
 FirstIn kind.Exif b c p = FirstExifFault b c p
 FirstIn kind.Iim b c p = FirstIimFault b c p
@@ -76,6 +81,7 @@ FirstIn kind.Iim b c p = FirstIimFault b c p
 abbrev pub FirstFaultOf : List ℕ → Cause → ℕ → Type 0
 FirstFaultOf f c p = FirstIn (kind_of f) (block_of f) c p
 
+-- a fault of a block, read as this kind
 abbrev pub IsFaultIn : BlockKind → List ℕ → Cause → ℕ → Type 0
 IsFaultIn kind.Exif b c p = ExifFault b c p
 IsFaultIn kind.Iim b c p = IimFault b c p

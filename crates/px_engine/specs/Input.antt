@@ -40,9 +40,11 @@ IsRefusedIn k b refused refusal.OutOfMemory = 0 < refused
 abbrev pub HasMeaning : List ℕ → Said → Type 0
 HasMeaning f s = HasMeaningAs (kind_of f) (block_of f) s
 
+-- the first fault of the block in a file
 abbrev pub IsFaulty : List ℕ → Cause → ℕ → Type 0
 IsFaulty f cause place = IsFaultyIn (kind_of f) (block_of f) cause place
 
+-- a refusal of the block in a file; `refused` is how many allocations have failed
 abbrev pub IsRefused : List ℕ → ℕ → Refusal → Type 0
 IsRefused f refused r = IsRefusedIn (kind_of f) (block_of f) refused r
 
@@ -64,10 +66,12 @@ abbrev pub CountsAllocFailureOfFault : Fault → ℕ → ℕ → Type 0
 CountsAllocFailureOfFault OutOfMemory old new = new ≡ old + 1
 CountsAllocFailureOfFault fault old new = new ≡ old
 
+-- the same of a result: success counts none
 abbrev pub CountsAllocFailureInRunBy : {A : Type 0} → Result A Fault → ℕ → ℕ → Type 0
 CountsAllocFailureInRunBy (Ok x) old new = new ≡ old
 CountsAllocFailureInRunBy (Err fault) old new = CountsAllocFailureOfFault fault old new
 
+-- the same of a call for two files
 abbrev pub CountsAllocFailureInPairBy : {A : Type 0} → Result A CompareFault → ℕ → ℕ → Type 0
 CountsAllocFailureInPairBy (Ok x) old new = new ≡ old
 CountsAllocFailureInPairBy (Err e) old new = CountsAllocFailureOfFault e.fault old new
@@ -76,6 +80,7 @@ CountsAllocFailureInPairBy (Err e) old new = CountsAllocFailureOfFault e.fault o
 abbrev pub CountsAllocFailureInRun : {A : Type 0} → Result A Fault → MemoryCounts → MemoryCounts → Type 0
 CountsAllocFailureInRun r old new = CountsAllocFailureInRunBy r old.failed_allocations new.failed_allocations
 
+-- the same of a call for two files, with the counts of a memory
 abbrev pub CountsAllocFailureInPair : {A : Type 0} → Result A CompareFault → MemoryCounts → MemoryCounts → Type 0
 CountsAllocFailureInPair r old new = CountsAllocFailureInPairBy r old.failed_allocations new.failed_allocations
 
@@ -84,6 +89,7 @@ abbrev pub CountsFault : Fault → Calls → Calls → Type 0
 CountsFault ReadFailed calls calls_now = calls_now ≡ one_failed calls
 CountsFault fault calls calls_now = calls_now ≡ calls
 
+-- the same of a result: success counts none
 abbrev pub CountsReads : {A : Type 0} → Result A Fault → Calls → Calls → Type 0
 CountsReads (Ok x) calls calls_now = calls_now ≡ calls
 CountsReads (Err fault) calls calls_now = CountsFault fault calls calls_now

@@ -11,6 +11,7 @@ use Rattle.px_engine.specs.Files.{Said, Exif, Iim}
 use Rattle.px_engine.specs.Input.{HasMeaning, CountsReads, most_read}
 use Rattle.px_engine.specs.Runs.{KnownMeaning, Stops}
 
+-- the text that `show` prints
 abbrev pub listing : Said → List ℕ
 listing (Exif m) = exif_listing m
 listing (Iim i) = iim_listing i

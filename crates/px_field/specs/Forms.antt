@@ -20,6 +20,7 @@ code Float = 11
 code Double = 12
 code Utf8 = 129
 
+-- all thirteen types
 abbrev pub forms : List Form
 forms = Byte ∷ Ascii ∷ Short ∷ Long ∷ Rational ∷ SByte ∷ Undefined ∷ SShort ∷ SLong ∷ SRational ∷ Float ∷ Double ∷ Utf8 ∷ []
 

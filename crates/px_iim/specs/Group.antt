@@ -28,9 +28,11 @@ named rec number =
 abbrev pub is_before : ℕ → ℕ → ℕ → ℕ → Bool
 is_before rec number other_rec other = nat_lt rec other_rec || ((rec == other_rec) && nat_lt number other)
 
+-- whether the group is the one with this record number and number
 abbrev pub is_at : ℕ → ℕ → Group → Bool
 is_at rec number g = (g.rec == rec) && (g.number == number)
 
+-- each group is before all later ones, so no two have the same name
 abbrev pub IsAscending : Record → Type 0
 IsAscending [] = ⊤
 IsAscending (g ∷ gs) = AllByRecursion (λ h. is_before g.rec g.number h.rec h.number ≡ true) gs × IsAscending gs
@@ -76,6 +78,7 @@ pub record IsItem (rec number : ℕ) (x : ℕ × List ℕ) : Type 0 where
   pub bytes : AreBytes x.1
   pub bounded : length x.1 ≤ limit
 
+-- a group that a block can have: it has a DataSet, and each is valid
 pub record IsGroup (g : Group) : Type 0 where
   pub byte : g.rec < 256
   pub some : 1 ≤ length g.items

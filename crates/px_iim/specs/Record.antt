@@ -41,15 +41,20 @@ count x = if nat_lt (form x) top_bit then form x else number Most (extra x) (dro
 abbrev pub size : List ℕ → ℕ
 size x = 5 + extra x + count x
 
+-- x begins with the tag marker
 abbrev pub is_marked : List ℕ → Bool
 is_marked x = nat_le 1 (length x) && (slice_index x 0 == marker)
 
+-- the length is a standard one, or an extended one of one to four bytes
 abbrev pub has_form : List ℕ → Bool
 has_form x = nat_lt (form x) top_bit || (nat_le 1 (extra x) && nat_le (extra x) 4)
 
+-- x begins with a whole DataSet: marker, record number, number, length, and as many bytes of data
+-- as that says
 unfoldable pub is_dataset : List ℕ → Bool
 is_dataset x = is_marked x && nat_le 5 (length x) && has_form x && nat_le (5 + extra x) (length x) && nat_le (size x) (length x)
 
+-- that DataSet
 unfoldable pub dataset : List ℕ → DataSet
 dataset x = record { rec = slice_index x 1; number = slice_index x 2; octets = part x (5 + extra x) (count x) }
 
@@ -75,9 +80,11 @@ iim_of x = if nat_le (length x) limit then option_map (gather []) (sequence_of (
 unfoldable pub normal_count : ℕ → List ℕ
 normal_count n = if nat_lt n top_bit then spelling Most 2 n else spelling Most 2 (top_bit + 4) ++ spelling Most 4 n
 
+-- a DataSet of record `rec`, given by its number and its data: marker, both numbers, length, data
 unfoldable pub normal_dataset : ℕ → ℕ × List ℕ → List ℕ
 normal_dataset rec x = marker ∷ rec ∷ x.0 ∷ (normal_count (length x.1) ++ x.1)
 
+-- the DataSets of a group, one after another
 abbrev pub normal_group : Group → List ℕ
 normal_group g = flat_map (normal_dataset g.rec) g.items
 

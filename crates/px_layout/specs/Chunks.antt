@@ -11,6 +11,8 @@ use Rattle.px_meaning.specs.Writable.{Item, item_size, items}
 use Rattle.px_layout.specs.declared.chunks.Chunk.{Chunk}
 use Rattle.px_layout.specs.declared.chunks.Chunk.TheVariants.{Table, Placed, Jpeg, Strip}
 
+-- whether two chunks are the same: the table of a directory, the value of a tag in a directory, the
+-- JPEG, or a strip by its index
 abbrev pub same_chunk : Chunk → Chunk → Bool
 same_chunk (Table d) (Table e) = dir_number d == dir_number e
 same_chunk (Placed d t) (Placed e u) = (dir_number d == dir_number e) && (t == u)
@@ -26,10 +28,12 @@ placed_chunk d i = if nat_lt 4 (item_size i.1) then Some (Placed d i.0, item_siz
 abbrev pub dir_chunks : Dir → List (ℕ × Item) → List (Chunk × ℕ)
 dir_chunks d xs = (Table d, table_size (length xs)) ∷ filter_map (placed_chunk d) xs
 
+-- the same of a directory that the meaning may lack
 abbrev pub chunks_of_dir : Dir → Option (List (ℕ × Item)) → List (Chunk × ℕ)
 chunks_of_dir d None = []
 chunks_of_dir d (Some xs) = dir_chunks d xs
 
+-- the JPEG, if the thumbnail has one
 abbrev pub jpeg_chunks : Option (List ℕ) → List (Chunk × ℕ)
 jpeg_chunks None = []
 jpeg_chunks (Some x) = (Jpeg, length x) ∷ []
@@ -39,10 +43,12 @@ abbrev pub strip_chunks : ℕ → List (List ℕ) → List (Chunk × ℕ)
 strip_chunks n [] = []
 strip_chunks n (x ∷ xs) = (Strip n, length x) ∷ strip_chunks (n + 1) xs
 
+-- all strips, if the thumbnail has any
 abbrev pub all_strip_chunks : Option (List (List ℕ)) → List (Chunk × ℕ)
 all_strip_chunks None = []
 all_strip_chunks (Some xs) = strip_chunks 0 xs
 
+-- the thumbnail's bytes: the JPEG, then the strips
 unfoldable pub thumb_chunks : Option Thumbnail → List (Chunk × ℕ)
 thumb_chunks None = []
 thumb_chunks (Some t) = jpeg_chunks t.jpeg ++ all_strip_chunks t.strips

@@ -18,11 +18,13 @@ use Rattle.px_layout.specs.declared.chunks.Chunk.{Chunk}
 use Rattle.px_layout.specs.declared.chunks.Chunk.TheVariants.{Table, Placed, Jpeg, Strip}
 use Rattle.px_layout.specs.Plans.{Plan, place}
 
+-- a number in four bytes: a LONG of TIFF
 abbrev pub long_bytes : Order → ℕ → List ℕ
 long_bytes o n = spelling o 4 n
 
 -- ---- the bytes of each chunk
 
+-- the JPEG with its bytes, if the thumbnail has one
 abbrev pub jpeg_contents : Option (List ℕ) → List (Chunk × List ℕ)
 jpeg_contents None = []
 jpeg_contents (Some x) = (Jpeg, x) ∷ []
@@ -32,10 +34,12 @@ abbrev pub strip_contents : ℕ → List (List ℕ) → List (Chunk × List ℕ)
 strip_contents n [] = []
 strip_contents n (x ∷ xs) = (Strip n, x) ∷ strip_contents (n + 1) xs
 
+-- all strips with their bytes, if the thumbnail has any
 abbrev pub all_strip_contents : Option (List (List ℕ)) → List (Chunk × List ℕ)
 all_strip_contents None = []
 all_strip_contents (Some xs) = strip_contents 0 xs
 
+-- the thumbnail's chunks with their bytes
 unfoldable pub thumb_contents : Option Thumbnail → List (Chunk × List ℕ)
 thumb_contents None = []
 thumb_contents (Some t) = jpeg_contents t.jpeg ++ all_strip_contents t.strips
@@ -66,6 +70,7 @@ module _ (plan : Plan) (o : Order) (filler : ℕ) where
   next_bytes m Thumb = long_bytes o 0
   next_bytes m _ = replicate 4 filler
 
+  -- the table of a directory: the number of entries, the entries, the offset of the next directory
   unfoldable pub table_bytes : Meaning → Dir → List (ℕ × Item) → List ℕ
   table_bytes m d xs = spelling o 2 (length xs) ++ (flat_map (entry_bytes d) xs ++ next_bytes m d)
 
@@ -73,13 +78,16 @@ module _ (plan : Plan) (o : Order) (filler : ℕ) where
   unfoldable pub placed_content : Dir → ℕ × Item → Option (Chunk × List ℕ)
   placed_content d i = if nat_lt 4 (item_size i.1) then Some (Placed d i.0, item_bytes i.1) else None
 
+  -- the table of a directory and its values that have an offset; none if the meaning lacks it
   abbrev pub contents_of_dir : Meaning → Dir → Option (List (ℕ × Item)) → List (Chunk × List ℕ)
   contents_of_dir m d None = []
   contents_of_dir m d (Some xs) = (Table d, table_bytes m d xs) ∷ filter_map (placed_content d) xs
 
+  -- all chunks of the meaning, each with its bytes, in the order of the normal form
   unfoldable pub contents : Meaning → List (Chunk × List ℕ)
   contents m = flat_map (λ d. contents_of_dir m d (items m d)) dirs ++ thumb_contents m.thumb
 
+  -- the first eight bytes: the byte order, the number 42, and the offset of the main directory
   unfoldable pub header : List ℕ
   header = magic o ++ long_bytes o (place plan (Table Main))
 
@@ -94,5 +102,6 @@ abbrev pub byte_at : ℕ → List (ℕ × List ℕ) → ℕ → ℕ
 byte_at filler [] p = filler
 byte_at filler (x ∷ xs) p = if nat_le x.0 p && nat_lt p (x.0 + length x.1) then slice_index x.1 (p - x.0) else byte_at filler xs p
 
+-- the block: each byte from 0 up to the plan's length
 unfoldable pub laid : Meaning → Plan → Order → ℕ → List ℕ
 laid m plan o filler = map (byte_at filler (laid_pieces plan o filler m)) (range_with_len 0 plan.length)

@@ -8,6 +8,7 @@ use Rattle.px_layout.specs.Chunks.{same_chunk, chunks}
 use Rattle.px_layout.specs.Plans.{Plan}
 use Rattle.px_layout.specs.Laid.{header, contents}
 
+-- n, or the next even number
 abbrev pub even : ℕ → ℕ
 even n = n + n % 2
 
@@ -21,11 +22,14 @@ abbrev pub padded_size : List (Chunk × ℕ) → ℕ
 padded_size [] = 0
 padded_size (c ∷ cs) = even c.1 + padded_size cs
 
+-- the plan of the normal form: the chunks follow the header, which has eight bytes
 unfoldable pub normal_plan : Meaning → Plan
 normal_plan m = record { length = 8 + padded_size (chunks m); offset = running 8 (chunks m) }
 
+-- bytes, and a zero after an odd number of them
 abbrev pub padded : List ℕ → List ℕ
 padded x = x ++ replicate (length x % 2) 0
 
+-- the bytes of the normal form: the header, and the chunks, each padded
 unfoldable pub normal_exif : Meaning → List ℕ
 normal_exif m = header (normal_plan m) Most 0 ++ flat_map (λ c. padded c.1) (contents (normal_plan m) Most 0 m)

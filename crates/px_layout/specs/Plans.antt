@@ -13,6 +13,7 @@ pub record Plan : Type 0 where
   pub length : ℕ
   pub offset : Chunk → Option ℕ
 
+-- the offset of a chunk; 0 if it has none
 abbrev pub place : Plan → Chunk → ℕ
 place plan c = unwrap_or (plan.offset c) 0
 

@@ -24,6 +24,7 @@ use Rattle.px_meaning.specs.Tree.{Fields}
 abbrev pub short : Order → List ℕ → ℕ
 short o x = number o 2 x
 
+-- a number of four bytes: a LONG of TIFF
 abbrev pub long : Order → List ℕ → ℕ
 long o x = number o 4 x
 
@@ -36,6 +37,7 @@ pub record Entry : Type 0 where
   pub count : ℕ
   pub last : List ℕ
 
+-- the entry that twelve bytes encode
 unfoldable pub entry : Order → List ℕ → Entry
 entry o x = record { tag = short o (part x 0 2); code = short o (part x 2 2); count = long o (part x 4 4); last = part x 8 4 }
 
@@ -55,11 +57,13 @@ table b o a = if has_table b o a then part b a (table_size (short o (part b a 2)
 unfoldable pub entries : Order → List ℕ → List Entry
 entries o t = map (entry o) (pieces (short o (take 2 t)) 12 (drop 2 t))
 
+-- the last four bytes of a table: the offset of the next directory, or 0 if none follows
 unfoldable pub next : Order → List ℕ → ℕ
 next o t = long o (drop (2 + 12 * short o (take 2 t)) t)
 
 -- ---- the raw bytes of an entry
 
+-- the bytes of n elements of a type, or 0 of an unknown type
 abbrev pub sized : Option Form → ℕ → ℕ
 sized None n = 0
 sized (Some f) n = n * size f
@@ -72,6 +76,7 @@ raw_size e = sized (form_of e.code) e.count
 abbrev pub needs_place : ℕ → Bool
 needs_place n = nat_lt 4 n
 
+-- the value of the entry is at an offset, not in the entry
 abbrev pub is_placed : Entry → Bool
 is_placed e = needs_place (raw_size e)
 
@@ -83,14 +88,17 @@ offset o e = long o e.last
 unfoldable pub raw : List ℕ → Order → Entry → List ℕ
 raw b o e = if is_placed e then part b (offset o e) (raw_size e) else take (raw_size e) e.last
 
+-- the bytes of the value lie inside the block; those in the entry itself always do
 unfoldable pub has_raw : List ℕ → Order → Entry → Bool
 has_raw b o e = if is_placed e then nat_le (offset o e + raw_size e) (length b) else true
 
 -- ---- the conditions for an entry in a directory
 
+-- one LONG, of type 4: the form of a pointer
 abbrev pub is_one_long : Entry → Bool
 is_one_long e = (e.code == 4) && (e.count == 1)
 
+-- any number of SHORT, of type 3, or of LONG, of type 4
 abbrev pub is_short_or_long : Entry → Bool
 is_short_or_long e = (e.code == 3) || (e.code == 4)
 
@@ -144,6 +152,7 @@ record_in Byte x = iim_of x
 record_in Undefined x = iim_of x
 record_in _ x = None
 
+-- the value is a field only if its bytes are no record
 abbrev pub unless_record : Option Iim → Value → Option Value
 unless_record None v = Some v
 unless_record (Some i) v = None
@@ -155,6 +164,8 @@ field_value_in b o e Widened f = Some (widened_value f (entry_elements b o e f))
 field_value_in b o e Record f = unless_record (record_in f (raw b o e)) (record { kind = Of f; elements = entry_elements b o e f })
 field_value_in b o e _ f = None
 
+-- the tag and value of an entry, if it is a field: its type is known, and its role is that of a
+-- field
 unfoldable pub field : List ℕ → Order → Dir → Entry → Option (ℕ × Value)
 field b o d e = option_map (λ v. (e.tag, v)) (option_and_then (field_value_in b o e (role d e.tag)) (form_of e.code))
 

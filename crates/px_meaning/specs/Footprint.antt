@@ -27,6 +27,7 @@ table_range b o a = range a (table_size (short o (part b a 2)))
 unfoldable pub dir_ranges : List ℕ → Order → ℕ → List Range
 dir_ranges b o a = table_range b o a ∷ filter_map (placed_range o) (entries_at b o a)
 
+-- the ranges of a directory, or none if the block lacks it
 abbrev pub ranges_at : List ℕ → Order → Dir → List Range
 ranges_at b o d = listed (option_map (dir_ranges b o) (dir_at b o d))
 

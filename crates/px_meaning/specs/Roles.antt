@@ -14,9 +14,11 @@ use Rattle.px_meaning.specs.declared.roles.Role.TheVariants.{StripLengths, To}
 abbrev pub exif_tag : ℕ
 exif_tag = 0x8769
 
+-- in the main directory: the offset of the GPS IFD
 abbrev pub gps_tag : ℕ
 gps_tag = 0x8825
 
+-- in the Exif IFD: the offset of the Interoperability IFD
 abbrev pub interop_tag : ℕ
 interop_tag = 0xA005
 
@@ -28,6 +30,7 @@ record_tag = 0x83BB
 abbrev pub jpeg_offset_tag : ℕ
 jpeg_offset_tag = 0x0201
 
+-- the number of bytes of the JPEG
 abbrev pub jpeg_length_tag : ℕ
 jpeg_length_tag = 0x0202
 
@@ -35,6 +38,7 @@ jpeg_length_tag = 0x0202
 abbrev pub strip_offsets_tag : ℕ
 strip_offsets_tag = 0x0111
 
+-- the number of bytes of each strip
 abbrev pub strip_lengths_tag : ℕ
 strip_lengths_tag = 0x0117
 
@@ -42,15 +46,19 @@ strip_lengths_tag = 0x0117
 abbrev pub width_tag : ℕ
 width_tag = 0x0100
 
+-- ImageLength: the number of rows
 abbrev pub length_tag : ℕ
 length_tag = 0x0101
 
+-- RowsPerStrip
 abbrev pub rows_tag : ℕ
 rows_tag = 0x0116
 
+-- PixelXDimension: the number of columns
 abbrev pub pixel_x_tag : ℕ
 pixel_x_tag = 0xA002
 
+-- PixelYDimension: the number of rows
 abbrev pub pixel_y_tag : ℕ
 pixel_y_tag = 0xA003
 
@@ -58,9 +66,11 @@ pixel_y_tag = 0xA003
 abbrev pub free_offsets_tag : ℕ
 free_offsets_tag = 0x0120
 
+-- TileOffsets: where the tiles of an image begin
 abbrev pub tile_offsets_tag : ℕ
 tile_offsets_tag = 0x0144
 
+-- SubIFDs: where further directories begin
 abbrev pub sub_dirs_tag : ℕ
 sub_dirs_tag = 0x014A
 
@@ -68,9 +78,11 @@ sub_dirs_tag = 0x014A
 abbrev pub jpeg_q_tag : ℕ
 jpeg_q_tag = 0x0207
 
+-- JPEGDCTables
 abbrev pub jpeg_dc_tag : ℕ
 jpeg_dc_tag = 0x0208
 
+-- JPEGACTables
 abbrev pub jpeg_ac_tag : ℕ
 jpeg_ac_tag = 0x0209
 
@@ -107,6 +119,7 @@ offset_tags =
     ∷ (sub_dirs_tag, Forbidden) ∷ (jpeg_offset_tag, Forbidden) ∷ (jpeg_length_tag, Forbidden) ∷ (jpeg_q_tag, Forbidden)
     ∷ (jpeg_dc_tag, Forbidden) ∷ (jpeg_ac_tag, Forbidden) ∷ (exif_tag, Forbidden) ∷ (gps_tag, Forbidden) ∷ (interop_tag, Forbidden) ∷ []
 
+-- the role that a table has, or r if the tag is not in it
 abbrev pub role_or : Option Role → Role → Role
 role_or None r = r
 role_or (Some r) _ = r

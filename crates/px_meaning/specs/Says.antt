@@ -22,9 +22,13 @@ unfoldable pub record_at : List ℕ → Order → ℕ → Option Iim
 record_at b o a =
     option_and_then (λ e. option_and_then (λ f. record_in f (raw b o e)) (form_of e.code)) (entry_with record_tag (entries_at b o a))
 
+-- the fields of the Exif directory at a, and those of the Interoperability directory, if there is
+-- one
 unfoldable pub exif_part : List ℕ → Order → ℕ → ExifPart
 exif_part b o a = record { fields = fields b o Exif a; interop = fields_at b o Interop }
 
+-- the fields of the thumbnail directory at a, and the bytes of its JPEG and of its strips, if it
+-- has them
 unfoldable pub thumbnail : List ℕ → Order → ℕ → Thumbnail
 thumbnail b o a = record {
   fields = fields b o Thumb a;
@@ -32,6 +36,7 @@ thumbnail b o a = record {
   strips = option_map (map (bytes_of b)) (strip_ranges b o (entries_at b o a));
 }
 
+-- the meaning of a block in a byte order: its directories by what they contain, without any offset
 unfoldable pub meaning : List ℕ → Order → Meaning
 meaning b o = record {
   main = fields b o Main (main_at b o);

@@ -30,6 +30,7 @@ whole_number (Short n) = n
 whole_number (Long n) = n
 whole_number _ = 0
 
+-- the elements as numbers; none of an unknown type
 abbrev pub numbers_in : List ℕ → Order → Entry → Option Form → List ℕ
 numbers_in b o e None = []
 numbers_in b o e (Some f) = map whole_number (entry_elements b o e f)
@@ -38,9 +39,11 @@ numbers_in b o e (Some f) = map whole_number (entry_elements b o e f)
 unfoldable pub numbers : List ℕ → Order → Entry → List ℕ
 numbers b o e = numbers_in b o e (form_of e.code)
 
+-- the bytes of the block in a range
 abbrev pub bytes_of : List ℕ → Range → List ℕ
 bytes_of b r = part b r.start r.size
 
+-- the range ends within the block
 abbrev pub IsInside : List ℕ → Range → Type 0
 IsInside b r = r.start + r.size ≤ length b
 

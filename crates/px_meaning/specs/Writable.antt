@@ -57,6 +57,7 @@ abbrev pub put : {X : Type 0} → ℕ → X → List (ℕ × X) → List (ℕ ×
 put t x [] = (t, x) ∷ []
 put t x (y ∷ ys) = if nat_lt t y.0 then (t, x) ∷ y ∷ ys else y ∷ put t x ys
 
+-- the same, if there is an item
 abbrev pub put_some : {X : Type 0} → ℕ → Option X → List (ℕ × X) → List (ℕ × X)
 put_some t None xs = xs
 put_some t (Some x) xs = put t x xs
@@ -65,17 +66,23 @@ put_some t (Some x) xs = put t x xs
 abbrev pub link : {X : Type 0} → Dir → Option X → Option Item
 link d o = option_map (λ _. Link d) o
 
+-- each field as an entry
 abbrev pub field_items : Fields → List (ℕ × Item)
 field_items fs = map (λ p. (p.0, Field p.1)) fs
 
+-- the entries of the main directory: its fields, the record, and the pointers to the GPS and the
+-- Exif directory
 abbrev pub main_items : Meaning → List (ℕ × Item)
 main_items m =
     put_some exif_tag (link Exif m.exif) (put_some gps_tag (link Gps m.gps) (put_some record_tag (option_map Iptc m.iptc)
     (field_items m.main)))
 
+-- the entries of the Exif directory: its fields, and the pointer to the Interoperability directory
 abbrev pub exif_items : ExifPart → List (ℕ × Item)
 exif_items e = put_some interop_tag (link Interop e.interop) (field_items e.fields)
 
+-- the entries of the thumbnail directory: its fields, and two for the JPEG and two for the strips,
+-- if it has them
 abbrev pub thumb_items : Thumbnail → List (ℕ × Item)
 thumb_items t =
     put_some jpeg_offset_tag (option_map (λ _. AtJpeg) t.jpeg) (put_some jpeg_length_tag (option_map (λ x. JpegSize (length x)) t.jpeg)
@@ -100,11 +107,13 @@ Allows Widened v = ((v.kind ≡ Of Short) → ⊥) × ((v.kind ≡ Of Long) → 
 Allows Record v = ((v.kind ≡ Whole) → ⊥) × (record_in (form_in v.kind) (encoded Least v) ≡ None)
 Allows _ v = ⊥
 
+-- a field, given by tag and value, that the directory d may have
 pub record IsWritableField (d : Dir) (p : ℕ × Value) : Type 0 where
   pub tag : p.0 < 2 ^ 16
   pub allowed : Allows (role d p.0) p.1
   pub value : IsValue p.1
 
+-- fields that the directory d may have, by strictly ascending tag
 pub record AreWritableFields (d : Dir) (fs : Fields) : Type 0 where
   pub rising : Rising (map (λ p. p.0) fs)
   pub each : AllByRecursion (IsWritableField d) fs
@@ -114,10 +123,13 @@ pub record IsBytes (x : List ℕ) : Type 0 where
   pub most : length x ≤ limit
   pub each : AreBytes x
 
+-- the Exif directory and the Interoperability directory may have their fields
 pub record IsWritableExif (e : ExifPart) : Type 0 where
   pub fields : AreWritableFields Exif e.fields
   pub interop : IfSome e.interop (AreWritableFields Interop)
 
+-- the thumbnail directory may have its fields, and neither the JPEG, nor a strip, nor the number of
+-- strips passes the limit
 pub record IsWritableThumb (t : Thumbnail) : Type 0 where
   pub fields : AreWritableFields Thumb t.fields
   pub jpeg : IfSome t.jpeg IsBytes

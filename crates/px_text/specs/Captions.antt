@@ -49,6 +49,7 @@ caption_groups = 5 ∷ 120 ∷ 105 ∷ 110 ∷ 115 ∷ 116 ∷ 80 ∷ 25 ∷ 103
 abbrev pub group_captions : Record → ℕ → List Labelled
 group_captions i n = filter_map labelled (items_at 2 (named 2 n) i)
 
+-- the captions of a record, group by group
 unfoldable pub iim_captions : Record → List Labelled
 iim_captions i = flat_map (group_captions i) caption_groups
 
@@ -56,6 +57,7 @@ iim_captions i = flat_map (group_captions i) caption_groups
 abbrev pub utf8_designation : List ℕ
 utf8_designation = 0x1B ∷ 0x25 ∷ 0x47 ∷ []
 
+-- the list is one DataSet, whose data is that escape sequence
 abbrev pub is_designation : List (ℕ × List ℕ) → Bool
 is_designation (x ∷ []) = bytes_eq x.1 utf8_designation
 is_designation _ = false
@@ -66,6 +68,7 @@ declares_utf8 i = is_designation (items_at 1 (named 1 90) i)
 
 -- ---- captions of an Exif block
 
+-- a text: of type ASCII, or UTF-8 of Exif 3.0
 abbrev pub is_text : Kind → Bool
 is_text (Of Ascii) = true
 is_text (Of Utf8) = true
@@ -84,22 +87,27 @@ caption_texts = (0x010E, Description) ∷ (0x013B, Artist) ∷ (0x8298, Copyrigh
 abbrev pub tag_captions : Fields → ℕ × Label → List Labelled
 tag_captions fs t = text_captions t.1 (at_tag t.0 fs)
 
+-- those of all three tags
 unfoldable pub exif_captions : Fields → List Labelled
 exif_captions fs = flat_map (tag_captions fs) caption_texts
 
 -- ---- all: whether UTF-8 is declared, and the captions, of an Exif block and of a record
 
+-- the record, if there is one, declares UTF-8
 abbrev pub record_declares : Option Record → Bool
 record_declares None = false
 record_declares (Some i) = declares_utf8 i
 
+-- the captions of the record, if there is one
 abbrev pub record_captions : Option Record → List Labelled
 record_captions None = []
 record_captions (Some i) = iim_captions i
 
+-- of an Exif block: those of its fields, and those of the record inside it
 abbrev pub captions_of_exif : Meaning → Bool × List Labelled
 captions_of_exif m = (record_declares m.iptc, exif_captions m.main ++ record_captions m.iptc)
 
+-- of a record
 abbrev pub captions_of_iim : Record → Bool × List Labelled
 captions_of_iim i = (declares_utf8 i, iim_captions i)
 
@@ -114,12 +122,15 @@ caption_bytes = 96
 abbrev pub is_plain : ℕ → Bool
 is_plain b = nat_le 0x20 b && nat_le b 0x7E && not (b == 0x5C)
 
+-- one byte, as it is printed
 abbrev pub escaped_byte : ℕ → List ℕ
 escaped_byte b = if is_plain b then b ∷ [] else codes "\\" ++ encode_lower (b ∷ [])
 
+-- bytes, as they are printed
 abbrev pub escaped : List ℕ → List ℕ
 escaped x = flat_map escaped_byte x
 
+-- a label, as it is printed
 abbrev pub label_word : Label → List ℕ
 label_word Title = codes "title"
 label_word Caption = codes "caption"
@@ -134,12 +145,15 @@ label_word Inventory = codes "inventory"
 label_word Description = codes "description"
 label_word Artist = codes "artist"
 
+-- a caption's line: its label, a colon and a space, its text with escapes, a line feed
 unfoldable pub caption_line : Labelled → List ℕ
 caption_line c = label_word c.0 ++ codes ": " ++ escaped c.1 ++ codes "\n"
 
+-- the lines of captions, in order
 abbrev pub caption_lines : List Labelled → List ℕ
 caption_lines cs = flat_map caption_line cs
 
+-- the line about the character set of a record
 abbrev pub charset_line : Bool → List ℕ
 charset_line declared = if declared then codes "charset: UTF-8\n" else codes "charset: not declared\n"
 
@@ -147,6 +161,7 @@ charset_line declared = if declared then codes "charset: UTF-8\n" else codes "ch
 abbrev pub iim_lines : Record → List ℕ
 iim_lines i = charset_line (declares_utf8 i) ++ caption_lines (iim_captions i)
 
+-- those of the record inside an Exif block, if there is one
 abbrev pub record_lines : Option Record → List ℕ
 record_lines None = []
 record_lines (Some i) = iim_lines i
@@ -155,5 +170,6 @@ record_lines (Some i) = iim_lines i
 abbrev pub exif_text : Meaning → List ℕ
 exif_text m = codes "exif\n" ++ caption_lines (exif_captions m.main) ++ record_lines m.iptc
 
+-- that of a record
 abbrev pub iim_text : Record → List ℕ
 iim_text i = codes "iim\n" ++ iim_lines i

@@ -62,18 +62,22 @@ field_line p =
     encode_lower (spelling Most 2 p.0) ++ codes " " ++ type_word p.1.kind ++ codes " " ++ decimal (length p.1.elements) ++ codes ":"
     ++ shown_elements p.1.kind p.1.elements ++ codes "\n"
 
+-- a line for each field, by ascending tag
 abbrev pub field_lines : Fields → List ℕ
 field_lines fs = flat_map field_line fs
 
 -- ---- the bytes of a thumbnail
 
+-- the line of the JPEG, if there is one: its length and its bytes
 abbrev pub jpeg_lines : Option (List ℕ) → List ℕ
 jpeg_lines None = []
 jpeg_lines (Some x) = codes "jpeg" ++ sized_bytes x
 
+-- the line of a strip: its length and its bytes
 abbrev pub strip_line : List ℕ → List ℕ
 strip_line x = codes "strip" ++ sized_bytes x
 
+-- how many strips there are, and a line for each; nothing without strips
 abbrev pub strips_lines : Option (List (List ℕ)) → List ℕ
 strips_lines None = []
 strips_lines (Some xs) = codes "strips " ++ decimal (length xs) ++ codes ":\n" ++ flat_map strip_line xs
@@ -84,6 +88,7 @@ strips_lines (Some xs) = codes "strips " ++ decimal (length xs) ++ codes ":\n" +
 unfoldable pub dataset_line : ℕ → ℕ × List ℕ → List ℕ
 dataset_line rec x = decimal rec ++ codes ":" ++ decimal x.0 ++ sized_bytes x.1
 
+-- a line for each DataSet of a group
 abbrev pub group_lines : Group → List ℕ
 group_lines g = flat_map (dataset_line g.rec) g.items
 
@@ -103,10 +108,12 @@ abbrev pub directory_lines : List ℕ → Option Fields → List ℕ
 directory_lines name None = []
 directory_lines name (Some fs) = name ++ field_lines fs
 
+-- the Exif directory and the Interoperability directory, if the meaning has them
 abbrev pub exif_lines : Option ExifPart → List ℕ
 exif_lines None = []
 exif_lines (Some e) = codes "[exif]\n" ++ field_lines e.fields ++ directory_lines (codes "[interop]\n") e.interop
 
+-- the thumbnail directory, its JPEG and its strips, if the meaning has a thumbnail
 abbrev pub thumb_lines : Option Thumbnail → List ℕ
 thumb_lines None = []
 thumb_lines (Some t) = codes "[thumb]\n" ++ field_lines t.fields ++ jpeg_lines t.jpeg ++ strips_lines t.strips
@@ -119,5 +126,6 @@ exif_listing m =
     codes "exif\n[main]\n" ++ field_lines m.main ++ record_lines m.iptc ++ exif_lines m.exif
     ++ directory_lines (codes "[gps]\n") m.gps ++ thumb_lines m.thumb
 
+-- the word `iim`, and a line for each DataSet
 unfoldable pub iim_listing : Record → List ℕ
 iim_listing i = codes "iim\n" ++ dataset_lines i

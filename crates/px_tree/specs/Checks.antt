@@ -24,6 +24,7 @@ use Rattle.px_meaning.specs.Footprint.{listed, placed_range, table_range, ranges
 
 -- ---- the header
 
+-- whether two lists have the same bytes
 abbrev pub same_bytes : List ℕ → List ℕ → Bool
 same_bytes [] [] = true
 same_bytes (x ∷ xs) (y ∷ ys) = (x == y) && same_bytes xs ys
@@ -38,6 +39,7 @@ abbrev pub begins_header : List ℕ → Bool
 begins_header b =
     nat_lt 0 (length b) && (same_bytes (take 4 b) (take (length b) (magic Least)) || same_bytes (take 4 b) (take (length b) (magic Most)))
 
+-- the checks of the first eight bytes: TIFF 6.0 section 2, "Image File Header"
 abbrev pub header_checks : List ℕ → List Check
 header_checks b =
     check TooLong limit (nat_le (length b) limit)
@@ -52,10 +54,12 @@ abbrev pub is_not_below : Option ℕ → ℕ → Bool
 is_not_below None t = true
 is_not_below (Some u) t = nat_le u t
 
+-- whether a tag differs from the one before, if there is one
 abbrev pub differs : Option ℕ → ℕ → Bool
 differs None t = true
 differs (Some u) t = not (u == t)
 
+-- whether a value shares no byte with what is claimed; one without an offset shares none
 abbrev pub is_free_value : List Range → Option Range → Bool
 is_free_value claimed None = true
 is_free_value claimed (Some r) = is_free claimed r
@@ -77,6 +81,7 @@ value_checks b o claimed p e =
     ∷ check Overlap p (is_free_value claimed (placed_range o e))
     ∷ []
 
+-- all checks of the entry at offset p, after one with tag u
 unfoldable pub entry_checks : List ℕ → Order → Dir → List Range → ℕ → Option ℕ → Entry → List Check
 entry_checks b o d claimed p u e = shape_checks d p u e ++ value_checks b o claimed p e
 
@@ -102,6 +107,8 @@ opening_checks b o earlier claimed p a =
     ∷ check Overlap p (is_free claimed (table_range b o a))
     ∷ []
 
+-- the checks of the directory d at a, with a pointer at p: of its table, and of its entries, the
+-- first of which is at a + 2
 unfoldable pub dir_checks : List ℕ → Order → List ℕ → List Range → ℕ → Dir → ℕ → List Check
 dir_checks b o earlier claimed p d a =
     opening_checks b o earlier claimed p a ++ entries_checks b o d (table_range b o a ∷ claimed) (a + 2) None (entries_at b o a)
@@ -111,6 +118,7 @@ abbrev pub place_of : (Entry → Bool) → ℕ → List Entry → ℕ
 place_of test p [] = p
 place_of test p (e ∷ es) = if test e then p else place_of test (p + 12) es
 
+-- the offset of the entry in the directory at a that is a pointer with tag t
 abbrev pub pointer_place : List ℕ → Order → ℕ → ℕ → ℕ
 pointer_place b o a t = place_of (is_pointer t) (a + 2) (entries_at b o a)
 
@@ -149,6 +157,8 @@ place_with t p es = place_of (λ e. e.tag == t) p es
 abbrev pub pair_place : ℕ → ℕ → ℕ → List Entry → ℕ
 pair_place t u p es = if is_some (entry_with t es) then place_with t p es else place_with u p es
 
+-- whether the offsets and the lengths are as many; true if one is missing, which another check
+-- finds
 abbrev pub same_count : Option Entry → Option Entry → Bool
 same_count (Some x) (Some y) = x.count == y.count
 same_count _ _ = true
@@ -186,20 +196,25 @@ unfoldable pub thumb_checks : List ℕ → Order → List Range → ℕ → List
 thumb_checks b o claimed a =
     pair_checks (a + 2) (entries_at b o a) ++ end_checks b o a ++ part_checks b o claimed (a + 2) (entries_at b o a)
 
+-- the same, if there is a thumbnail directory
 abbrev pub thumb_checks_at : List ℕ → Order → List Range → Option ℕ → List Check
 thumb_checks_at b o claimed None = []
 thumb_checks_at b o claimed (Some a) = thumb_checks b o claimed a
 
 -- ---- all checks
 
+-- the checks after those of the header, whose eight bytes are claimed: of all directories, and of
+-- the thumbnail
 unfoldable pub tree_checks : List ℕ → Order → List Check
 tree_checks b o =
     dirs_checks b o [] (range 0 8 ∷ []) dirs ++ thumb_checks_at b o (dirs_claimed b o (range 0 8 ∷ []) dirs) (dir_at b o Thumb)
 
+-- the same in the byte order of the header, if it has one
 abbrev pub checks_in : List ℕ → Option Order → List Check
 checks_in b None = []
 checks_in b (Some o) = tree_checks b o
 
+-- all checks of a block
 unfoldable pub checks : List ℕ → List Check
 checks b = header_checks b ++ checks_in b (order_of b)
 

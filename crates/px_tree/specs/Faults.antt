@@ -51,6 +51,7 @@ value_owners o p (e ∷ es) = cons_option (option_map (λ r. (p, r)) (placed_ran
 unfoldable pub dir_owners : List ℕ → Order → Dir → ℕ → List (ℕ × Range)
 dir_owners b o d a = (named_at b o d, table_range b o a) ∷ value_owners o (a + 2) (entries_at b o a)
 
+-- the same of a directory, or none if the block lacks it
 abbrev pub owners_at : List ℕ → Order → Dir → List (ℕ × Range)
 owners_at b o d = listed (option_map (dir_owners b o d) (dir_at b o d))
 
@@ -94,6 +95,7 @@ PartAt b o p r =
 
 -- ---- the fault
 
+-- the block b has a fault of this cause at the offset p
 abbrev pub ExifFault : List ℕ → Cause → ℕ → Type 0
 -- the block is longer than the limit
 ExifFault b TooLong p = (p ≡ limit) × (limit < length b)

@@ -21,6 +21,7 @@ required id = record (new_rule id) { required = true }
 abbrev pub of_one : Text → Shape
 of_one name = (with_rule (new_app name) (required (codes "FILE"))).top
 
+-- a subcommand with two required arguments
 abbrev pub of_two : Text → Text → Text → Shape
 of_two name first second = (with_rule (with_rule (new_app name) (required first)) (required second)).top
 
@@ -35,6 +36,7 @@ bare = record (new_app (codes "exifnorm")) {
   };
 }
 
+-- the grammar of the program: five subcommands, and the files that each requires
 abbrev pub exifnorm : App
 exifnorm =
     with_subcommand (with_subcommand (with_subcommand (with_subcommand (with_subcommand bare
@@ -43,6 +45,7 @@ exifnorm =
 
 -- ---- the result for a match of the arguments
 
+-- the subcommand with one file, as it is typed
 abbrev pub name_of : One → Text
 name_of one.Show = codes "show"
 name_of one.Check = codes "check"

@@ -1,6 +1,7 @@
 -- The bytes of a writer into memory, the number of its failed allocations, that of its flushes, and that of its bytes since.
 use Rattle.std.specs.Prelude.{ℕ, List, length, min, ◌≤◌, ◌+◌, ◌*◌}
 
+-- the bytes taken, the failed allocations, the flushes, and the bytes taken since the last flush
 pub record Grown : Type 0 where
   pub taken : List ℕ
   pub failed_allocations : ℕ

@@ -9,14 +9,17 @@ use Rattle.px_bytes.specs.declared.WriteRefusal.TheVariants as write
 use Rattle.px_engine.specs.declared.error.Fault.{Fault}
 use Rattle.px_engine.specs.declared.error.Fault.TheVariants.{Refused, NormalTooLong, OutOfMemory, ReadFailed, WriteFailed}
 
+-- why a file was not read
 abbrev pub read_fault : ReadFault → Fault
 read_fault read.ReadFailed = ReadFailed
 read_fault read.OutOfMemory = OutOfMemory
 
+-- why a block was refused
 abbrev pub refused : Refusal → Fault
 refused (refusal.Content cause place) = Refused cause place
 refused refusal.OutOfMemory = OutOfMemory
 
+-- why a normal form was not written
 abbrev pub unwritten : WriteRefusal → Fault
 unwritten write.NormalTooLong = NormalTooLong
 unwritten write.OutOfMemory = OutOfMemory

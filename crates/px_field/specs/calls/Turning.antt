@@ -30,6 +30,7 @@ read_by width.Pair = 8
 read_by width.Eight = 8
 read_by width.Widened = 2
 
+-- only a widened number is written in more bytes than it was read from
 abbrev pub written_by : Width → ℕ
 written_by width.Widened = 4
 written_by w = read_by w

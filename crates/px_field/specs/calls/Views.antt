@@ -12,6 +12,8 @@ use Rattle.px_field.specs.Values as values
 abbrev pub shown : Bool → Order → Form → List ℕ → values.Value
 shown widened o f raw = if widened then values.whole_in o f raw else values.value_in o f raw
 
+-- the value of the program's representation: a type, a byte order, bytes, and whether the tag is
+-- widened
 abbrev pub value_of : Inside → values.Value
 value_of v = shown v.widened v.order v.form v.raw.now
 

@@ -10,6 +10,7 @@ use Rattle.px_iim.specs.Group.{Record}
 use Rattle.px_iim.specs.Record.{SaysIim, iim_of, size, dataset, is_dataset}
 use Rattle.px_iim.specs.Check.{dataset_checks, IimFault}
 
+-- the DataSet that the reader found
 abbrev pub found_view : Found → DataSet
 found_view f = record { rec = f.rec; number = f.number; octets = f.octets.now }
 

@@ -18,6 +18,7 @@ dataset_view x = record { rec = x.rec; number = x.number; octets = x.octets.now 
 abbrev pub octets_of : ℕ → List (ℕ × List ℕ) → List (List ℕ)
 octets_of n items = filter_map (λ x. if x.0 == n then Some x.1 else None) items
 
+-- the data that the iterator `All` has not returned yet
 abbrev pub octets_left : All → List (List ℕ)
 octets_left a = octets_of a.number (map item_view (drop a.at a.items.now))
 

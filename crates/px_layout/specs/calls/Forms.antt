@@ -11,10 +11,11 @@ use Rattle.px_layout.specs.Plans.{Plan}
 use Rattle.px_layout.specs.Normal.{normal_plan, normal_exif}
 use Rattle.px_layout.specs.calls.Starting.{AreStarts}
 
--- its meaning
+-- the meaning of the normal form
 abbrev pub meaning_in : NormalForm → Meaning
 meaning_in form = meaning_of form.m.now
 
+-- the plan of the normal form
 abbrev pub plan_in : NormalForm → Plan
 plan_in form = normal_plan (meaning_in form)
 

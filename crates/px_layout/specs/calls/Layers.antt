@@ -26,12 +26,15 @@ FindsEntryAt (Under j) ys xs i = (slice_get ys i ≡ slice_get xs j) × (j < len
 abbrev pub IsEntryAt : Step → Option Extra → List (ℕ × Item) → ℕ → Type 0
 IsEntryAt p e xs i = FindsEntryAt p (with_extra e xs) xs i
 
+-- the entries before the second further one is inserted: the fields and the first
 abbrev pub under_second : Inside → List (ℕ × Item)
 under_second e = with_extra e.first (field_items e.fields.now)
 
+-- the same before the third
 abbrev pub under_third : Inside → List (ℕ × Item)
 under_third e = with_extra e.second (under_second e)
 
+-- the same before the fourth
 abbrev pub under_fourth : Inside → List (ℕ × Item)
 under_fourth e = with_extra e.third (under_third e)
 

@@ -2,6 +2,7 @@
 use Rattle.std.specs.Prelude.{◌≡◌, ℕ, ◌<◌, ◌≤◌, List, length, map, slice_index}
 use Rattle.px_meaning.specs.Tree.{Fields}
 
+-- the tags of fields, in the order of the list
 abbrev pub tags : Fields → List ℕ
 tags fields = map (λ p. p.0) fields
 

@@ -5,9 +5,11 @@ use Rattle.px_meaning.specs.declared.meanings.Meaning.{Meaning}
 use Rattle.px_meaning.specs.declared.meanings.ExifPart.{ExifPart}
 use Rattle.px_meaning.specs.declared.meanings.Thumb.{Thumb}
 
+-- the Exif directory
 abbrev pub exif_of : ExifPart → meaning.ExifPart
 exif_of e = record { fields = e.fields; interop = e.interop }
 
+-- the thumbnail: its JPEG is a reference in the program, and its bytes here
 abbrev pub thumb_of : Thumb → meaning.Thumbnail
 thumb_of t = record {
   fields = t.fields;
@@ -15,6 +17,7 @@ thumb_of t = record {
   strips = t.strips;
 }
 
+-- the whole meaning
 abbrev pub meaning_of : Meaning → meaning.Meaning
 meaning_of m = record {
   main = m.main;

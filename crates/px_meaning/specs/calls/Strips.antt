@@ -9,6 +9,7 @@ use Rattle.px_field.specs.Values.{Value}
 use Rattle.px_meaning.specs.declared.strip_lists.StripLists.{StripLists}
 use Rattle.px_meaning.specs.Thumbnail.{whole_number, ranges_of, bytes_of, IsInside}
 
+-- the range of each strip
 abbrev pub ranges_in : StripLists → List Range
 ranges_in l = ranges_of (map whole_number l.starts.elements) (map whole_number l.sizes.elements)
 

@@ -9,9 +9,11 @@ use Rattle.px_plans.specs.declared.offsets.DirOffsets.{DirOffsets}
 use Rattle.px_plans.specs.declared.offsets.Offsets.{Offsets}
 use Rattle.px_plans.specs.calls.Keyed.{offset_at}
 
+-- the offset at a key: a tag, or the index of a strip
 abbrev pub key_in : KeyedOffsets → ℕ → Option ℕ
 key_in o key = offset_at key o.list.items
 
+-- the offsets of one directory
 abbrev pub dir_in : Offsets → Dir → DirOffsets
 dir_in o Main = o.main
 dir_in o Exif = o.exif
@@ -19,6 +21,7 @@ dir_in o Interop = o.interop
 dir_in o Gps = o.gps
 dir_in o Thumb = o.thumb
 
+-- the offset of a chunk, if it has one
 abbrev pub offset_in : Offsets → Chunk → Option ℕ
 offset_in o (Table d) = (dir_in o d).table
 offset_in o (Placed d t) = key_in (dir_in o d).values t
@@ -27,12 +30,15 @@ offset_in o (Strip i) = key_in o.strips i
 
 -- ---- how many chunks have an offset
 
+-- those in a list by key
 abbrev pub keyed_size : KeyedOffsets → ℕ
 keyed_size o = vec_len o.list
 
+-- those of a directory: its table, and its values
 abbrev pub dir_size : DirOffsets → ℕ
 dir_size d = (if is_some d.table then 1 else 0) + keyed_size d.values
 
+-- those of all directories, of the JPEG and of the strips
 abbrev pub size_in : Offsets → ℕ
 size_in o =
     dir_size o.main + dir_size o.exif + dir_size o.interop + dir_size o.gps + dir_size
@@ -40,9 +46,11 @@ size_in o =
 
 -- ---- the bytes that they have paid for, and that the allocator wasn't asked for yet: of a list that doubles, as in `AskedAndPaid`
 
+-- of one list, whose pairs of key and offset have 8 bytes each
 abbrev pub keyed_paid : KeyedOffsets → ℕ
 keyed_paid o = 8 * (4 * vec_len o.list - 2 * vec_capacity o.list)
 
+-- of all lists
 abbrev pub paid_in : Offsets → ℕ
 paid_in o =
     keyed_paid o.main.values + keyed_paid o.exif.values + keyed_paid o.interop.values + keyed_paid o.gps.values

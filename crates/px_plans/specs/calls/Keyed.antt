@@ -1,6 +1,7 @@
 -- Offsets by key, in a list of pairs by ascending key.
 use Rattle.std.specs.Prelude.{◌≡◌, ℕ, ◌<◌, ◌≤◌, ◌==◌, if◌then◌else◌, Option, Some, None, List, [], ◌∷◌, length, map, slice_index}
 
+-- the keys, in the order of the list
 abbrev pub keys : List (ℕ × ℕ) → List ℕ
 keys pairs = map (λ p. p.0) pairs
 

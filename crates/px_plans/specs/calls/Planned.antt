@@ -6,6 +6,7 @@ use Rattle.px_layout.specs.Chunks.{same_chunk}
 use Rattle.px_layout.specs.Plans as spec
 use Rattle.px_plans.specs.calls.Kept.{offset_in, paid_in}
 
+-- the length of a plan, and the offset of each chunk
 unfoldable pub plan_of : Plan → spec.Plan
 plan_of p = record { length = p.len; offset = offset_in p.offsets }
 

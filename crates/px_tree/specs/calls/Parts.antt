@@ -45,6 +45,7 @@ pub record HasNumbers (b : List ℕ) (o : Order) (f : Found) : Type 0 where
   pub formed : is_short_or_long (bare f.head) ≡ true
   pub whole : has_raw b o (entry_here b o f) ≡ true
 
+-- the same of an entry that may be missing
 abbrev pub HaveNumbers : List ℕ → Order → Option Found → Type 0
 HaveNumbers b o x = IfSome x (HasNumbers b o)
 
@@ -61,6 +62,7 @@ abbrev pub count_check : Option Found → Option Found → List Check
 count_check (Some f) (Some g) = check ThumbnailPair f.place (f.head.count == g.head.count) ∷ []
 count_check _ _ = []
 
+-- the checks of the JPEG's pair, and of the strips' pair
 abbrev pub pairs_checks : Uses → List Check
 pairs_checks p =
     pair_check p.jpeg_offset p.jpeg_length ++ (pair_check p.strip_offsets p.strip_lengths ++ count_check p.strip_offsets p.strip_lengths)
@@ -72,9 +74,11 @@ HaveSameCount _ _ = ⊤
 
 -- ---- the ranges
 
+-- the range of the JPEG, if both of its entries are there
 abbrev pub jpeg_of : Option Found → Option Found → Option Range
 jpeg_of x n = both (λ f g. range f.head.offset g.head.offset) x n
 
+-- the range of each strip, if both of their entries are there
 abbrev pub strips_of : List ℕ → Order → Option Found → Option Found → Option (List Range)
 strips_of b o x n = both (λ f g. ranges_of (numbers b o (entry_here b o f)) (numbers b o (entry_here b o g))) x n
 

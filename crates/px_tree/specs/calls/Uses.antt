@@ -62,6 +62,7 @@ pub record NoUses (u : Uses) : Type 0 where
 abbrev pub kept : (Entry → Bool) → Found → Option Found → Option Found
 kept test f x = if test (bare f.head) then Some f else x
 
+-- the entry f replaces the kept entry of each use that it passes
 pub record Keeps (old new : Uses) (f : Found) : Type 0 where
   pub exif : new.exif ≡ kept (is_pointer exif_tag) f old.exif
   pub gps : new.gps ≡ kept (is_pointer gps_tag) f old.gps
