@@ -1,6 +1,8 @@
 // Opens the files that the arguments name. No contract can state what this file has to show: a missing file is
 // reported only for an error of the system, the file that is opened, created or emptied is the one that was
 // named, no other is, and the bytes of a writer are those of its file.
+//
+// `rt` is the runtime, through which alone a program opens files.
 ghost use Rattle.std.specs.Prelude.{◌≡◌, ◌≢◌, ◌↔◌, IsSome, IsTrue, Ok, Err, IfOk, IfErr};
 ghost use Rattle.std.specs.Fs.{file_type, IsFile};
 ghost use Rattle.std.specs.IoError.{error_kind};
@@ -113,7 +115,8 @@ fn are_one(file: Option<FileId>, out: Option<FileId>) -> bool
     }
 }
 
-// Empties a file that was opened to write. Anything but a regular file, such as a device, stays.
+// Empties a file that was opened to write. Anything but a regular file, such as a device, stays as
+// it is.
 fn emptied<F: OpenFile + Drop>(out: F, metadata: &Metadata) -> Result<F, Fault>
     ensures { IfErr result (IsLacking WriteFailed) }
 {

@@ -84,7 +84,7 @@ fn send_captions<W: Sink>(meaning: &Said, writer: &mut W) -> Result<(), Failed>
     send_and_flush(&mut pending, writer)
 }
 
-// The result of a text's writer as the result of a run.
+// The result of writing a text, as the result of a run: a failed call is `WriteFailed`.
 fn as_fault(outcome: Result<(), Failed>) -> Result<(), Fault>
     ensures { result ≡ as_fault outcome }
 {
@@ -114,7 +114,7 @@ pub(crate) fn write_captions<W: Sink>(meaning: &Said, writer: &mut W) -> Result<
     as_fault(send_captions(meaning, writer))
 }
 
-// The listing, in memory.
+// The listing, in memory. `Err`: an allocation failed.
 pub(crate) fn listing(memory: &mut Memory, meaning: &Said) -> Result<Vec<u8>, AllocFailed>
     ensures text { IfOk result (λ text. text.items ≡ listing (said_view meaning.now)) }
     ensures memory { CountsAllocFailure result memory.old memory.new }
@@ -126,7 +126,7 @@ pub(crate) fn listing(memory: &mut Memory, meaning: &Said) -> Result<Vec<u8>, Al
     writer.finish_in(memory)
 }
 
-// The text of the captions, in memory.
+// The text of the captions, in memory. `Err`: an allocation failed.
 pub(crate) fn caption_text(memory: &mut Memory, meaning: &Said) -> Result<Vec<u8>, AllocFailed>
     ensures text { IfOk result (λ text. text.items ≡ caption_text (said_view meaning.now)) }
     ensures memory { CountsAllocFailure result memory.old memory.new }

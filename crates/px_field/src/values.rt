@@ -227,7 +227,7 @@ impl<'a> Value<'a> {
         self.encode_few(order)
     }
 
-    // The same for any value.
+    // The same for any value of at most four bytes, without a special case.
     fn encode_few(&self, order: Order) -> [u8; 4]
         requires { length (encoded order self.now) ≤ 4 }
         ensures { result ≡ encoded order self.now ++ replicate (4 - length (encoded order self.now)) 0 }
@@ -270,7 +270,8 @@ pub fn same_value(a: &Value, b: &Value) -> bool
     same_elements(a, b)
 }
 
-// Compares the bytes of two values of one kind, if both were read in that order and are not widened.
+// Whether two values of one kind have the same bytes, if both were read in `order` and neither is
+// widened. None: one was read in the other order or is widened.
 fn same_bytes(order: Order, a: &Value, b: &Value) -> Option<bool>
     requires kind { a.now.kind ≡ b.now.kind }
     requires left { IsValue a.now }

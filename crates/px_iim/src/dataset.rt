@@ -87,7 +87,7 @@ fn number_of(octets: &[u8]) -> u32
     number
 }
 
-// The length; its first two bytes were read as `pair`.
+// The number of bytes of data, as the length says whose first two bytes were read as `pair`.
 fn count(octets: &[u8], pair: u32) -> u32
     requires there { 5 + extra octets.now ≤ length octets.now }
     requires formed { has_form octets.now ≡ true }
@@ -101,7 +101,8 @@ fn count(octets: &[u8], pair: u32) -> u32
     number_of(&octets[5..5 + extra])
 }
 
-// The DataSet at the start of some bytes, or its fault.
+// The DataSet at the start of some bytes, and how many bytes it has; or the first check of it that
+// fails.
 pub(crate) fn read_dataset<'a>(octets: &'a [u8]) -> Result<Found<'a>, Cause>
     ensures { MatchResult result (Reads octets.now) (λ cause. (p : ℕ) → first_false (dataset_checks p octets.now) ≡ Some (cause, p)) }
 {
@@ -131,7 +132,7 @@ pub(crate) fn read_dataset<'a>(octets: &'a [u8]) -> Result<Found<'a>, Cause>
     })
 }
 
-// The DataSet at the first octet of octets that begin with one: it does not test them again.
+// The DataSet at the start of bytes that were judged to begin with one, without a second check.
 pub(crate) fn judged_dataset<'a>(octets: &'a [u8]) -> Found<'a>
     requires { is_dataset octets.now ≡ true }
     ensures { Reads octets.now result }
@@ -154,7 +155,8 @@ pub(crate) fn is_end(octets: &[u8]) -> bool
     octets.len() <= 3 && octets.iter().all(|octet| *octet == 0)
 }
 
-// The DataSet at an offset, or its refusal.
+// The DataSet at the offset `at`, and how many bytes it has. `Content`: the first check of it that
+// fails, with that offset.
 pub(crate) fn dataset_at<'a>(bytes: &'a [u8], at: usize) -> Result<Found<'a>, Refusal>
     requires inside { at ≤ length bytes.now }
     requires bounded { length bytes.now ≤ limit }

@@ -23,7 +23,7 @@ fn head_len(count: u32) -> u32
     9
 }
 
-// A length and one more DataSet, or None above MOST.
+// The length `total`, and that of one more DataSet in the normal form. None: the sum is above MOST.
 fn with_item(total: u32, item: &Item) -> Option<u32>
     requires counted { total ≤ 2 * limit }
     requires short { length item.now.octets.now ≤ limit }
@@ -37,7 +37,7 @@ fn with_item(total: u32, item: &Item) -> Option<u32>
     Some(longer)
 }
 
-// The length of a normal form and one more DataSet, or None above MOST.
+// The same from a length that may be above MOST already, which is None.
 pub(crate) fn longer(len: Option<u32>, item: &Item) -> Option<u32>
     requires counted { IfSome len (λ total. total ≤ 2 * limit) }
     requires short { length item.now.octets.now ≤ limit }

@@ -15,9 +15,8 @@ use crate::head::head;
 use crate::iim::Iim;
 use px_bytes::{AllocFailed, CAPACITY, Failed, LIMIT, Memory, Pending, Sink, WriteRefusal};
 
-// Adds one DataSet of record `rec` in the normal form to the output buffer: its head, and its data
-// after that. `Err`: a call of the writer failed, here and in all functions below that take
-// `pending`, the output buffer, and `writer`, which gets its bytes when the buffer is full.
+// Adds one DataSet of record `rec` in the normal form to the output buffer `pending`, which
+// `writer` gets when it is full: the head, and then the data. `Err`: a call of the writer failed.
 fn put_item<W: Sink>(
     pending: &mut Pending<'_>,
     writer: &mut W,
@@ -138,7 +137,8 @@ fn append_item(
     memory.extend_from_slice(out, item.octets)
 }
 
-// The same for all DataSets of a group.
+// Appends the normal forms of all DataSets of a group of record `rec`; the vector has capacity for
+// them.
 fn append_group(
     memory: &mut Memory,
     rec: u8,
@@ -159,7 +159,7 @@ fn append_group(
     Ok(())
 }
 
-// The same for a record.
+// Appends the normal form of a record; the vector has capacity for it.
 fn append_record(memory: &mut Memory, iim: &Iim, out: &mut Vec<u8>) -> Result<(), AllocFailed>
     requires { vec_len out.old + length (normal_iim iim.now) ≤ vec_capacity out.old }
     ensures grown { Grows result out.old.items out.new.items (normal_iim iim.now) }

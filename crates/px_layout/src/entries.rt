@@ -57,7 +57,8 @@ impl<'m, 'a> Model for Entries<'m, 'a> {
     ghost invariant = { AreLayers };
 }
 
-// Looks up an index where one further entry may be.
+// What is at index `i` of a list of entries into which the further entry `extra`, if there is one,
+// is inserted: that entry, or the index in the list without it.
 fn pass<'m, 'a>(extra: &Option<Extra<'m, 'a>>, i: usize) -> Step<'m, 'a>
     ensures { (xs : List (ℕ × spec.Item)) → IsAtRank extra.now xs → i < length (with_extra extra.now xs) → IsEntryAt result extra.now xs i }
 {
@@ -73,7 +74,7 @@ fn pass<'m, 'a>(extra: &Option<Extra<'m, 'a>>, i: usize) -> Step<'m, 'a>
     Step::Under(i - 1)
 }
 
-// Looks up an index where two further entries may be, the upper one first.
+// The same with two further entries, of which `upper` was inserted after `lower`.
 fn pass_both<'m, 'a>(
     upper: &Option<Extra<'m, 'a>>,
     lower: &Option<Extra<'m, 'a>>,
@@ -101,7 +102,8 @@ fn number(extra: &Option<Extra>) -> usize
     }
 }
 
-// How many entries it adds before the first entry with a greater tag.
+// How many entries a further entry adds before the first entry with a greater tag than `tag`: one
+// if its own tag is at most that, and otherwise none.
 fn adds(extra: &Option<Extra>, tag: u16) -> usize
     ensures added { (xs : List (ℕ × spec.Item)) → rank tag (with_extra extra.now xs) ≡ rank tag xs + result }
     ensures bound { result ≤ 1 }
@@ -134,7 +136,7 @@ fn fields_before(fields: &Fields, tag: u16) -> usize
     low
 }
 
-// The smaller of an index and the index of a further entry.
+// The smaller of the index `most` and the index of a further entry: no further entry is before it.
 fn clear_of(extra: &Option<Extra>, most: usize) -> usize
     ensures clear { NoneBefore result extra.now }
     ensures others { (e : Option CodeExtra) → NoneBefore most e → NoneBefore result e }
@@ -146,7 +148,8 @@ fn clear_of(extra: &Option<Extra>, most: usize) -> usize
 }
 
 impl<'m, 'a> Entries<'m, 'a> {
-    // The fields, with each further entry inserted among those before it.
+    // The fields, with each further entry inserted among the fields and the further entries before
+    // it by ascending tag.
     fn layered(
         fields: &'m Fields<'a>,
         first: Option<Extra<'m, 'a>>,
@@ -249,7 +252,8 @@ fn first_extra<'m, 'a>(
     }
 }
 
-// The same, with its index among the fields and `first`, if that is there.
+// The same for the second further entry, with its index among the fields and `first`, if there is
+// that.
 fn second_extra<'m, 'a>(
     fields: &Fields,
     first: &Option<Extra>,
@@ -272,7 +276,8 @@ fn second_extra<'m, 'a>(
     }
 }
 
-// The same, with its index among the fields, `first` and `second`, if these are there.
+// The same for the third further entry, with its index among the fields, `first` and `second`, if
+// there are these.
 fn third_extra<'m, 'a>(
     fields: &Fields,
     first: &Option<Extra>,
@@ -326,7 +331,7 @@ fn jpeg_extra<'m, 'a>(
 
 // ---- what the entries mean
 
-// The record, if there is one.
+// The item of the record. None: the meaning has no record.
 fn record_item<'m, 'a>(iim: &'m Option<Iim<'a>>) -> Option<Item<'m, 'a>>
     requires { IfSome iim.now (λ i. length (normal_iim i) ≤ 2 * limit) }
     ensures item { option_map item_of result ≡ option_map Iptc iim.now }

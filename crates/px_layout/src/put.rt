@@ -1,4 +1,8 @@
 // Puts numbers, values and filler into the output buffer.
+//
+// `pending` is the output buffer, and `writer` gets its bytes when it is full. `Err` of a function
+// here: a call of the writer failed, which has taken a prefix of the buffered bytes and of those
+// that the function adds.
 ghost use Rattle.std.specs.Prelude.{◌≡◌, ◌≤◌, ◌%◌, length, replicate, flat_map};
 ghost use Rattle.px_bytes.specs.Devices.{CanCountFailure};
 ghost use Rattle.px_bytes.specs.Numbers.{spelling};

@@ -1,5 +1,10 @@
 // Puts the parts of a normal form into the output buffer. Each is padded to an even number of bytes. TIFF 6.0
 // section 2, "IFD Entry".
+//
+// A placed value is one of more than four bytes: it is at an offset, and not in its entry.
+// `pending` is the output buffer, and `writer` gets its bytes when it is full. `Err` of a function
+// here: a call of the writer failed, which has taken a prefix of the buffered bytes and of those
+// that the function adds.
 ghost use Rattle.std.specs.Prelude.{◌≡◌, Some, flat_map};
 ghost use Rattle.px_bytes.specs.Devices.{CanCountFailure, device_of};
 ghost use Rattle.px_bytes.specs.Waiting.{Waits, Adds, AddsBuffered};
@@ -102,7 +107,8 @@ fn put_any_placed<W: Sink>(
     Ok(())
 }
 
-// The same. Most entries are fields, so these are put without a check for the other kinds of entries.
+// The same for an entry of any kind: fields, which most entries are, are put without a check for
+// the other kinds.
 fn put_placed<W: Sink>(
     pending: &mut Pending<'_>,
     writer: &mut W,

@@ -1,4 +1,9 @@
 // Puts the entries of a normal form into the output buffer. Offsets are computed on the way, so no plan is kept.
+//
+// A placed value is one of more than four bytes: it is at an offset, and not in its entry.
+// `pending` is the output buffer, and `writer` gets its bytes when it is full. `Err` of a function
+// here: a call of the writer failed, which has taken a prefix of the buffered bytes and of those
+// that the function adds.
 ghost use Rattle.std.specs.Prelude.{◌≡◌, ◌<◌, ◌≤◌, ◌+◌, ◌-◌, ◌*◌, ◌++◌, ◌^◌, ℕ, Some, None, length, take, drop, flat_map, unwrap_or, []};
 ghost use Rattle.std.specs.Prelude.{replicate, map};
 ghost use Rattle.std.specs.List.{AllByRecursion};
@@ -270,7 +275,8 @@ fn put_any_entry<W: Sink>(
     put_near_entry(pending, writer, form, &entry)
 }
 
-// The same. Most entries are fields, so these are put without a check for the other kinds of entries.
+// The same for an entry of any kind: fields, which most entries are, are put without a check for
+// the other kinds.
 fn put_given_entry<W: Sink>(
     pending: &mut Pending<'_>,
     writer: &mut W,

@@ -1,4 +1,8 @@
 // Puts the lengths of strips into the output buffer. TIFF 6.0 section 8, "StripByteCounts".
+//
+// `pending` is the output buffer, and `writer` gets its bytes when it is full. `Err` of a function
+// here: a call of the writer failed, which has taken a prefix of the buffered bytes and of those
+// that the function adds.
 ghost use Rattle.std.specs.Prelude.{◌≡◌, ◌≤◌, ◌-◌, ◌*◌, ◌++◌, length, take, map, flat_map};
 ghost use Rattle.std.specs.List.{AllByRecursion};
 ghost use Rattle.px_bytes.specs.Devices.{CanCountFailure};

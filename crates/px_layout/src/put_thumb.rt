@@ -1,5 +1,9 @@
 // Puts the thumbnail's bytes, after all directories: the JPEG, then the strips, each padded to an even number
 // of bytes. CIPA DC-008 4.5.5; TIFF 6.0 section 8.
+//
+// `pending` is the output buffer, and `writer` gets its bytes when it is full. `Err` of a function
+// here: a call of the writer failed, which has taken a prefix of the buffered bytes and of those
+// that the function adds.
 ghost use Rattle.std.specs.Prelude.{Some, option_map, flat_map};
 ghost use Rattle.px_bytes.specs.Devices.{CanCountFailure};
 ghost use Rattle.px_bytes.specs.Waiting.{AddsBuffered};
@@ -11,8 +15,7 @@ use crate::put::put_padding;
 use px_bytes::{Failed, Pending, Sink};
 use px_meaning::{Strips, Thumb};
 
-// Puts bytes into the output buffer `pending`, and a zero after an odd number of bytes. `writer`
-// gets the bytes when the buffer is full. `Err`, here and below: a call of the writer failed.
+// Puts bytes, and a zero after an odd number of bytes.
 fn put_padded<W: Sink>(
     pending: &mut Pending<'_>,
     writer: &mut W,

@@ -112,7 +112,8 @@ impl<'a> Fields<'a> {
     }
 }
 
-// The index of the tag, or the index where it would be inserted.
+// `Ok`: the index of the tag. `Err`: no field has it, and this is the index where it would be
+// inserted.
 fn position_of(list: &[(u16, Value)], tag: u16) -> Result<usize, usize>
     requires { IsInOrder list.now }
     ensures found { IfOk result (IsAt list.now tag) }

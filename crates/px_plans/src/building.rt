@@ -1,5 +1,10 @@
 // Writes the pieces of a block at their offsets, from the last to the first: the definition takes each byte
 // from the first piece that has it.
+//
+// A piece is made in memory by a vector that doubles, and then copied to its place. So a function
+// here asks for at most six bytes for each byte that it writes, and for 131,072 more, twice the
+// 65,536 bytes of one write, if an allocation fails. `Err` of a function that has `memory`: an
+// allocation failed, and what the block then contains is not stated.
 ghost use Rattle.std.specs.Prelude.{◌≡◌, ◌≤◌, ◌<◌, ◌+◌, ◌*◌, ◌^◌, [], ◌∷◌, length, replicate, Some, option_map, flat_map, IfSome, OnOk};
 ghost use Rattle.std.specs.Prelude.{IfOk};
 ghost use Rattle.px_bytes.specs.Devices.{CanCountFailure, Sends, device_of};
@@ -23,7 +28,7 @@ use px_bytes::{AllocFailed, CAPACITY, Failed, Growing, Memory, Pending, Sink};
 use px_layout::{Chunk, Entries, Entry, Item, entries_in};
 use px_tree::{Dir, Strips, Thumb, needs_place};
 
-// Writes bytes at an offset.
+// Copies bytes into the block from the offset `at` on.
 fn put_at(block: &mut [u8], at: u32, bytes: &[u8])
     requires { at + length bytes.now ≤ length block.old }
     ensures len { length block.new ≡ length block.old }
@@ -43,8 +48,8 @@ pub(crate) enum Piece<'e, 'm, 'a> {
     Value(Item<'m, 'a>),
 }
 
-// Adds the bytes of a piece to the output buffer `pending`, whose bytes `writer` gets when it is
-// full. `Err`: a call of the writer failed.
+// Adds the bytes of a piece to the output buffer `pending`, which `writer` gets when it is full.
+// `Err`: a call of the writer failed.
 fn put_piece<W: Sink>(
     pending: &mut Pending<'_>,
     writer: &mut W,
@@ -75,7 +80,7 @@ fn write_piece<W: Sink>(writer: &mut W, layout: &Layout, piece: Piece) -> Result
     pending.send(writer)
 }
 
-// The bytes of a piece.
+// The bytes of a piece, in a vector of its own.
 fn bytes_of(memory: &mut Memory, layout: &Layout, piece: Piece) -> Result<Vec<u8>, AllocFailed>
     requires { IsPiece piece }
     ensures bytes { IfOk result (λ v. v.items ≡ piece_bytes layout.now piece.entry) }
@@ -140,7 +145,7 @@ fn lay_parts(block: &mut [u8], layout: &Layout, thumb: &Thumb)
     lay_jpeg(block, layout, thumb.jpeg);
 }
 
-// Writes the thumbnail's bytes.
+// Writes the JPEG and the strips, if the meaning has a thumbnail.
 fn lay_thumb(block: &mut [u8], layout: &Layout)
     requires fits { IsWritable (meaning_of_layout layout.now) }
     requires legal { Legal (meaning_of_layout layout.now) (plan_of_layout layout.now) }
@@ -154,7 +159,8 @@ fn lay_thumb(block: &mut [u8], layout: &Layout)
     }
 }
 
-// Writes the value of an entry if it has a chunk.
+// Writes the value of an entry at its offset. A value of up to four bytes is in the entry, and
+// nothing is written.
 fn lay_value(
     memory: &mut Memory,
     block: &mut [u8],
@@ -182,7 +188,7 @@ fn lay_value(
     Ok(())
 }
 
-// Writes the values of a directory that have chunks, the last first.
+// Writes the values of a directory that are at offsets, the last first.
 fn lay_values(
     memory: &mut Memory,
     block: &mut [u8],
@@ -207,9 +213,7 @@ fn lay_values(
 }
 
 // Writes the table of a directory at its offset: the number of entries, the entries, and the offset
-// of the next directory. `Err`: an allocation failed, and the block is as before. The allocator is
-// asked for up to six bytes for each byte of the table, and for 131,072 more if an allocation
-// fails.
+// of the next directory.
 fn lay_table(
     memory: &mut Memory,
     block: &mut [u8],
@@ -232,7 +236,7 @@ fn lay_table(
     Ok(())
 }
 
-// Writes a directory's table and values.
+// Writes a directory: the values that are at offsets, and then the table.
 fn lay_entries(
     memory: &mut Memory,
     block: &mut [u8],
@@ -259,7 +263,7 @@ fn lay_entries(
     lay_table(memory, block, layout, dir, entries)
 }
 
-// Writes a directory if the meaning has it.
+// Writes a directory. Nothing is written if the meaning lacks it.
 fn lay_dir(
     memory: &mut Memory,
     block: &mut [u8],
@@ -304,7 +308,7 @@ fn lay_dirs(memory: &mut Memory, block: &mut [u8], layout: &Layout) -> Result<()
 }
 
 // Writes the header, the first eight bytes: the byte order, the number 42, and the offset of the
-// main directory. TIFF 6.0 section 2, "Image File Header". `Err`: an allocation failed.
+// main directory. TIFF 6.0 section 2, "Image File Header".
 fn lay_header(memory: &mut Memory, block: &mut [u8], layout: &Layout) -> Result<(), AllocFailed>
     requires { 8 ≤ length block.old }
     ensures memory { CountsAllocFailure result memory.old memory.new }
@@ -318,7 +322,8 @@ fn lay_header(memory: &mut Memory, block: &mut [u8], layout: &Layout) -> Result<
     Ok(())
 }
 
-// Writes the whole block over filler bytes.
+// Writes the whole block over filler bytes, of which `block` consists before: the thumbnail's
+// bytes, the directories, and the header. Bytes that no chunk has stay filler.
 pub(crate) fn lay_all(
     memory: &mut Memory,
     block: &mut [u8],

@@ -1,4 +1,6 @@
 // Offsets by key.
+//
+// A key is the tag of a value or the index of a strip. The list of pairs ascends by key.
 ghost use Rattle.std.specs.Prelude.{◌≡◌, ◌+◌, ◌-◌, ◌*◌, ◌<◌, ◌≤◌, ◌^◌, OnOk, OnErr, IfOk, IfErr, None, Some, if◌then◌else◌, ◌==◌, ℕ};
 ghost use Rattle.px_bytes.specs.Allocations.{CountsAllocFailure};
 ghost use Rattle.px_plans.specs.calls.Keyed.{IsInOrder, IsAt, IsGapFor};
@@ -33,7 +35,7 @@ impl KeyedOffsets {
         *self.list.allocator()
     }
 
-    // How many there are.
+    // The number of keys that have an offset.
     pub(crate) fn size(&self) -> u128
         ensures value { result ≡ keyed_size self.now }
         ensures bound { result < 2 ^ 64 }
@@ -74,7 +76,8 @@ impl KeyedOffsets {
     }
 }
 
-// The index of the key, or the index where it would be inserted.
+// `Ok`: the index of the key. `Err`: the list has no such key, and this is the index where it would
+// be inserted.
 fn position_of(list: &[(u32, u32)], key: u32) -> Result<usize, usize>
     requires { IsInOrder list.now }
     ensures found { IfOk result (IsAt list.now key) }

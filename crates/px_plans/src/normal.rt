@@ -16,7 +16,8 @@ use px_bytes::{Memory, WriteRefusal};
 use px_layout::{Chunk, end_padded};
 use px_tree::Meaning;
 
-// Gives a chunk its offset. Returns the offset of the next one.
+// Gives a chunk of `size` bytes the offset `at`. Returns the next even offset after the chunk.
+// `NormalTooLong`: that is greater than `LIMIT`. `OutOfMemory`: an allocation failed.
 fn place_next(
     memory: &mut Memory,
     plan: &mut Plan,

@@ -1,4 +1,8 @@
 // The offsets of chunks, by directory and by strip.
+//
+// A chunk is a part of the block that has an offset: a table, a value, the JPEG or a strip. A pair
+// of key and offset takes 8 bytes, in a list that doubles: so adding one asks for at most 32 bytes,
+// and the pairs before it have paid for a part of them (`paid_in`).
 ghost use Rattle.std.specs.Prelude.{◌≡◌, ◌+◌, ◌<◌, ◌≤◌, ◌^◌, ℕ, OnOk, OnErr, None, Some, if◌then◌else◌, ◌==◌};
 ghost use Rattle.px_bytes.specs.Allocations.{CountsAllocFailure};
 ghost use Rattle.px_layout.specs.declared.chunks.Chunk.{Chunk as AnyChunk};

@@ -1,4 +1,8 @@
 // The entries of a table, added to the output buffer. TIFF 6.0 section 2, "IFD Entry" and "Value/Offset".
+//
+// `pending` is the output buffer, and `writer` gets its bytes when it is full. `Err` of a function
+// here: a call of the writer failed, which has taken a prefix of the buffered bytes and of those
+// that the function adds.
 ghost use Rattle.std.specs.Prelude.{◌≡◌, ◌≤◌, ◌-◌, ◌*◌, ◌++◌, length, take, map, flat_map};
 ghost use Rattle.std.specs.List.{AllByRecursion, range_with_len};
 ghost use Rattle.px_bytes.specs.Devices.{CanCountFailure};
@@ -40,7 +44,7 @@ pub(crate) fn put_place<W: Sink>(
     put_long(pending, writer, layout.order, place_of(layout.plan, chunk))
 }
 
-// Adds the offsets of the first strips.
+// Adds the offsets of the strips below `count`, each as a LONG.
 fn put_strip_offsets<W: Sink>(
     pending: &mut Pending<'_>,
     writer: &mut W,
@@ -57,7 +61,8 @@ fn put_strip_offsets<W: Sink>(
     Ok(())
 }
 
-// Adds the value of an entry.
+// Adds the value of an entry: the elements of a field, the DataSets of a record, an offset, or the
+// offsets or lengths of strips.
 #[tactic(auto, unfolding(px_layout::specs::Laid::item_bytes))]
 pub(crate) fn put_item<W: Sink>(
     pending: &mut Pending<'_>,

@@ -1,4 +1,8 @@
 // The header and the tables of directories. TIFF 6.0 section 2, "Image File Header" and "Image File Directory".
+//
+// `pending` is the output buffer, and `writer` gets its bytes when it is full. `Err` of a function
+// here: a call of the writer failed, which has taken a prefix of the buffered bytes and of those
+// that the function adds.
 ghost use Rattle.std.specs.Prelude.{◌<◌, ◌^◌, length, flat_map};
 ghost use Rattle.px_bytes.specs.Devices.{CanCountFailure};
 ghost use Rattle.px_bytes.specs.Waiting.{AddsBuffered};
@@ -10,9 +14,7 @@ use px_bytes::{Failed, Pending, Sink};
 use px_layout::{Chunk, Entries, put_filler, put_long, put_short};
 use px_tree::{Dir, magic_of};
 
-// Adds the header to the output buffer `pending`: the byte order, the number 42, and the offset of
-// the main directory. `writer` gets the bytes when the buffer is full. `Err`, here and below: a
-// call of the writer failed.
+// Adds the header: the byte order, the number 42, and the offset of the main directory.
 pub(crate) fn put_header<W: Sink>(
     pending: &mut Pending<'_>,
     writer: &mut W,
@@ -45,7 +47,7 @@ fn put_entries<W: Sink>(
     Ok(())
 }
 
-// Adds the offset of the thumbnail directory, or 0 if there is none.
+// Adds the offset of the thumbnail directory, or 0 if the meaning has no thumbnail.
 fn put_next_of_main<W: Sink>(
     pending: &mut Pending<'_>,
     writer: &mut W,
@@ -60,7 +62,9 @@ fn put_next_of_main<W: Sink>(
     }
 }
 
-// Adds the offset of the next directory.
+// Adds the last four bytes of a table: the offset of the thumbnail directory after the main
+// directory, 0 after the thumbnail directory, and filler after the others, where these bytes are
+// not read.
 fn put_next<W: Sink>(
     pending: &mut Pending<'_>,
     writer: &mut W,
@@ -77,7 +81,8 @@ fn put_next<W: Sink>(
     }
 }
 
-// Adds the table of a directory with fewer than 65,536 entries.
+// Adds the table of a directory: the number of its entries in two bytes, so fewer than 65,536; the
+// entries; and the offset of the next directory in four.
 pub(crate) fn put_table<W: Sink>(
     pending: &mut Pending<'_>,
     writer: &mut W,

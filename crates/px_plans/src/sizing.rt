@@ -1,4 +1,8 @@
 // The chunks of a meaning, each with its size in bytes.
+//
+// `out` is the list so far. A chunk and its size take 16 bytes there, and the list doubles: so a
+// function here asks for at most 64 bytes for each chunk (`chunks_request`), less what earlier
+// chunks have paid for (`asked_and_paid`). `Err`: an allocation failed.
 ghost use Rattle.std.specs.Prelude.{◌≡◌, [], ◌∷◌, ◌++◌, ◌+◌, ◌*◌, ◌<◌, ◌≤◌, ◌^◌, IfOk, OnOk, IfSome, length, filter_map};
 ghost use Rattle.std.specs.Prelude.{option_map};
 ghost use Rattle.std.specs.Option.{option_to_list};
@@ -31,7 +35,7 @@ fn push_chunk(
     memory.push(out, chunk)
 }
 
-// Appends the chunk of an entry's value if it has one.
+// Appends the chunk of an entry's value, if it is longer than four bytes and so not in the entry.
 #[tactic(auto, unfolding(px_layout::specs::Chunks::placed_chunk))]
 fn push_value(
     memory: &mut Memory,
@@ -76,7 +80,7 @@ fn push_values(
     Ok(())
 }
 
-// Appends a directory's table and the values that have chunks.
+// Appends a directory's table, and the values that are longer than four bytes.
 fn push_entries(
     memory: &mut Memory,
     out: &mut Vec<(Chunk, u64)>,

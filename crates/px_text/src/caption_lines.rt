@@ -1,4 +1,8 @@
 // The lines of captions, escaped, group by group.
+//
+// `pending` is the output buffer, and `writer` gets its bytes when it is full. `Err` of a function
+// here: a call of the writer failed, which has taken a prefix of the buffered bytes and of those
+// that the function adds.
 ghost use Rattle.std.specs.Prelude.{◌≡◌, [], ◌∷◌, map, filter_map};
 ghost use Rattle.px_bytes.specs.Devices.{CanCountFailure, device_of};
 ghost use Rattle.px_bytes.specs.Waiting.{Adds};
@@ -17,16 +21,16 @@ use px_bytes::{Failed, Pending, Sink};
 use px_iim::{Iim, Item};
 use px_meaning::{Fields, Meaning};
 
-// Whether a byte is printed as it is.
+// Whether a byte is printed as it is: from 20 to 7E, the printable characters of ASCII, but 5C, the
+// backslash with which escapes begin.
 fn is_plain(byte: u8) -> bool
     ensures { result ≡ is_plain byte }
 {
     0x20 <= byte && byte <= 0x7E && byte != 0x5C
 }
 
-// Adds one byte to the output buffer `pending`: a printable character of ASCII as it is, and any
-// other byte, or a backslash, as a backslash and two hexadecimal digits. `writer` gets the bytes
-// when the buffer is full. `Err`, here and below: a call of the writer failed.
+// Adds one byte: a printable character of ASCII as it is, and any other byte, or a backslash, as a
+// backslash and two hexadecimal digits.
 fn put_byte<W: Sink>(pending: &mut Pending<'_>, writer: &mut W, byte: u8) -> Result<(), Failed>
     requires { CanCountFailure (W.calls writer.old) }
     ensures { Adds result (device_of W.calls W.bytes_taken writer.old writer.new) pending.old pending.new (escaped_byte byte) }
@@ -38,7 +42,7 @@ fn put_byte<W: Sink>(pending: &mut Pending<'_>, writer: &mut W, byte: u8) -> Res
     put_hex(pending, writer, &[byte])
 }
 
-// Adds bytes to the output buffer and escapes all that are not plain.
+// Adds bytes, and escapes all that are not plain.
 fn put_escaped<W: Sink>(
     pending: &mut Pending<'_>,
     writer: &mut W,
@@ -104,7 +108,7 @@ fn put_group<W: Sink>(
     Ok(())
 }
 
-// Adds the lines of a record's captions.
+// Adds the lines of a record's captions: DataSets of record 2, group by group.
 fn put_groups<W: Sink>(pending: &mut Pending<'_>, writer: &mut W, iim: &Iim) -> Result<(), Failed>
     requires { CanCountFailure (W.calls writer.old) }
     ensures { Adds result (device_of W.calls W.bytes_taken writer.old writer.new) pending.old pending.new

@@ -1,4 +1,6 @@
 // Which texts of a file are captions.
+//
+// `list` are the captions so far. `Err` of a function here: an allocation failed.
 ghost use Rattle.std.specs.Prelude.{◌≡◌, ◌≤◌, ◌+◌, ◌*◌, [], ◌∷◌, ◌++◌, length, map, filter_map, option_map, if◌then◌else◌};
 ghost use Rattle.std.specs.Prelude.{Some, None, bytes_eq, is_ok, vec_len, vec_capacity, OnOk, IfOk};
 ghost use Rattle.px_bytes.specs.Allocations.{CountsAllocFailure, AsksAtMost};
@@ -108,7 +110,7 @@ fn push_record<'a>(
     Ok(())
 }
 
-// Whether the data of a DataSet 1:90 select UTF-8.
+// Whether the data of a DataSet 1:90, Coded Character Set, select UTF-8: they are ESC % G.
 fn is_utf8(octets: &[u8]) -> bool
     ensures { result ≡ bytes_eq octets.now utf8_designation }
 {
@@ -126,7 +128,7 @@ pub(crate) fn declares_utf8(iim: &Iim) -> bool
     }
 }
 
-// Whether a value is a text.
+// Whether a value is a text: its type is ASCII or UTF-8.
 fn is_text(kind: Kind) -> bool
     ensures { result ≡ is_text kind }
 {
@@ -136,7 +138,7 @@ fn is_text(kind: Kind) -> bool
     }
 }
 
-// The bytes of a text.
+// The bytes of a text. None: the value is of another type.
 pub(crate) fn text_of<'a>(value: &Value<'a>) -> Option<&'a [u8]>
     ensures { option_map (λ x. x.now) result ≡ (if is_text value.now.kind then Some (encoded Most value.now) else None) }
 {

@@ -1,4 +1,8 @@
 // The lines of DataSets: record number, DataSet number, length and data.
+//
+// `pending` is the output buffer, and `writer` gets its bytes when it is full. `Err` of a function
+// here: a call of the writer failed, which has taken a prefix of the buffered bytes and of those
+// that the function adds.
 ghost use Rattle.std.specs.Prelude.{◌≡◌, map, length, flat_map};
 ghost use Rattle.px_bytes.specs.Devices.{CanCountFailure, device_of};
 ghost use Rattle.px_bytes.specs.Waiting.{Adds};
@@ -10,9 +14,7 @@ use crate::texts::{put_decimal, put_ended, put_sized};
 use px_bytes::{Failed, Pending, Sink};
 use px_iim::{Iim, Item};
 
-// Adds the line of one DataSet to the output buffer `pending`, as `2:120 3: 616263` for the three
-// bytes `abc` in DataSet 2:120. `writer` gets the bytes when the buffer is full. `Err`, here and
-// below: a call of the writer failed.
+// Adds the line of one DataSet, as `2:120 3: 616263` for the three bytes `abc` in DataSet 2:120.
 #[tactic(auto, unfolding(crate::specs::Listing::dataset_line))]
 fn put_dataset<W: Sink>(
     pending: &mut Pending<'_>,

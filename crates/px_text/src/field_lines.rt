@@ -1,4 +1,8 @@
 // The lines of fields: tag, type, count and elements.
+//
+// `pending` is the output buffer, and `writer` gets its bytes when it is full. `Err` of a function
+// here: a call of the writer failed, which has taken a prefix of the buffered bytes and of those
+// that the function adds.
 ghost use Rattle.std.specs.Prelude.{◌≡◌, ◌++◌, codes, decimal, flat_map, length};
 ghost use Rattle.hex.specs.Hex.{encode_lower};
 ghost use Rattle.px_bytes.specs.Devices.{CanCountFailure, device_of};
@@ -35,7 +39,7 @@ fn form_word(form: Form) -> &'static [u8]
     }
 }
 
-// The same for either kind.
+// The same for a kind: a type, or WHOLE at a tag that treats SHORT and LONG as one.
 fn type_word(kind: Kind) -> &'static [u8]
     ensures { result.now ≡ codes " " ++ type_word kind ++ codes " " }
 {
@@ -56,7 +60,7 @@ fn put_digits16<W: Sink>(pending: &mut Pending<'_>, writer: &mut W, n: u16) -> R
     put_hex(pending, writer, &bytes)
 }
 
-// Adds a number of four bytes in the same way.
+// Adds a number of four bytes in hexadecimal, most significant byte first.
 fn put_digits32<W: Sink>(pending: &mut Pending<'_>, writer: &mut W, n: u32) -> Result<(), Failed>
     requires { CanCountFailure (W.calls writer.old) }
     ensures { Adds result (device_of W.calls W.bytes_taken writer.old writer.new) pending.old pending.new
@@ -67,7 +71,7 @@ fn put_digits32<W: Sink>(pending: &mut Pending<'_>, writer: &mut W, n: u32) -> R
     put_hex(pending, writer, &bytes)
 }
 
-// Adds a number of eight bytes in the same way.
+// Adds a number of eight bytes in hexadecimal, most significant byte first.
 fn put_digits64<W: Sink>(pending: &mut Pending<'_>, writer: &mut W, n: u64) -> Result<(), Failed>
     requires { CanCountFailure (W.calls writer.old) }
     ensures { Adds result (device_of W.calls W.bytes_taken writer.old writer.new) pending.old pending.new
@@ -147,7 +151,8 @@ fn put_elements<W: Sink>(
     Ok(())
 }
 
-// Adds a space and the elements, if there are any.
+// Adds a space and the elements of the value: bytes without spaces between them, other elements
+// with one. Nothing without an element.
 fn put_value<W: Sink>(
     pending: &mut Pending<'_>,
     writer: &mut W,
@@ -163,7 +168,8 @@ fn put_value<W: Sink>(
     }
 }
 
-// Adds the part of the line before the elements.
+// Adds the part of the line before the elements: the tag in hexadecimal, the type, the number of
+// elements and a colon.
 fn put_head<W: Sink>(
     pending: &mut Pending<'_>,
     writer: &mut W,

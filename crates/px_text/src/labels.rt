@@ -41,7 +41,7 @@ pub(crate) const TEXTS: [(u16, Label); 3] = [
     (0x8298, Label::Copyright),
 ];
 
-// The label of a DataSet of record 2.
+// The label of a DataSet of record 2, by its number. None: it has no label.
 #[tactic(auto, unfolding(crate::specs::Captions::label_of))]
 pub(crate) fn label_of(number: u8) -> Option<Label>
     ensures { result ≡ label_of number }

@@ -1,4 +1,8 @@
 // Judges one entry of a table. TIFF 6.0 section 2, "IFD Entry", "Sort Order", "Types" and "Value/Offset".
+//
+// `claimed` are the ranges of bytes that parts of the block read before have; to claim a range is
+// to add it, and a byte in two of them is the fault `Overlap`. `Content` of a function here: the
+// cause and the byte offset of the first check that fails. `OutOfMemory`: an allocation failed.
 ghost use Rattle.std.specs.Prelude.{◌≡◌, ◌≤◌, ◌<◌, ◌+◌, ◌*◌, List, ◌++◌, length, option_to_list, IfOk, Some, true};
 ghost use Rattle.px_bytes.specs.Parts.{limit, part};
 ghost use Rattle.px_bytes.specs.Range.{Range, Agrees};
@@ -63,7 +67,9 @@ fn is_formed(role: Role, head: Head) -> bool
     }
 }
 
-// The type and role of the entry at an offset, after an entry with the tag `before`.
+// The type and role of the entry at the offset `at` of the directory `dir`, after an entry with the
+// tag `before`, if there is one. `Content`: `Unsorted`, `Doubled`, `UnknownType`, `MisplacedOffset`
+// or `PointerForm`.
 fn shape_of(dir: Dir, at: u32, before: Option<u16>, head: Head) -> Result<Shape, Refusal>
     ensures judged { Judges result (shape_checks dir at before (bare head))
         (λ s. (s.head ≡ head) × (form_of head.code ≡ Some s.form) × (s.role ≡ role dir head.tag)) }

@@ -1,4 +1,8 @@
 // Reads the fields of a directory from its entries. TIFF 6.0 section 2, "IFD Entry" and "Value/Offset".
+//
+// `claimed` are the ranges of bytes that parts of the block read before have; to claim a range is
+// to add it, and a byte in two of them is the fault `Overlap`. `Content` of a function here: the
+// cause and the byte offset of the first check that fails. `OutOfMemory`: an allocation failed.
 ghost use Rattle.std.specs.Prelude.{◌≡◌, ◌≤◌, ◌<◌, ◌+◌, ◌*◌, ◌++◌, List, length, filter_map, option_map, option_to_list, Some, None, IfOk};
 ghost use Rattle.std.specs.Prelude.{true, [], vec_len, vec_capacity};
 ghost use Rattle.px_bytes.specs.Parts.{limit, part};
@@ -42,7 +46,7 @@ fn widened_at<'a>(block: &'a [u8], order: Order, at: u32, head: Head, form: Form
     value_at(block, order, at, head, form)
 }
 
-// The value of an entry at the record's tag, if its bytes are no record.
+// The value of an entry at the record's tag. None: its bytes are a record.
 fn unless_record_at<'a>(
     block: &'a [u8],
     order: Order,
@@ -97,7 +101,7 @@ fn keep_any_field<'a>(
     list.push_reserved((shape.head.tag, value));
 }
 
-// Keeps the field of an entry, if it is one and fields are kept. Most are plain.
+// Keeps the field of an entry, if the entry is a field and fields are kept. Most are plain.
 fn keep_field<'a>(list: &mut Vec<(u16, Value<'a>)>, source: &BlockReader<'a>, at: u32, shape: Shape)
     requires claimed { IsReadable source.now.block.now source.now.order at shape.head shape.form }
     requires capacity { source.now.keeps_fields ≡ true → vec_len list.old < vec_capacity list.old }

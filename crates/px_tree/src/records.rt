@@ -1,4 +1,7 @@
 // The record in the main directory, at tag 0x83BB (IPTC-NAA).
+//
+// None of a function here: there is no record. `OutOfMemory`: an allocation failed. `Content` never
+// comes: bytes that are no record are a field, and no fault.
 ghost use Rattle.std.specs.Prelude.{◌≡◌, ◌≤◌, length, IfOk, IfErr, option_and_then};
 ghost use Rattle.std.specs.List.{AllByRecursion};
 ghost use Rattle.px_bytes.specs.Checks.{CountsAllocFailureInBlock};
@@ -22,7 +25,7 @@ use px_field::Form;
 use px_iim::{Iim, read_iim_in};
 use px_meaning::Dir;
 
-// The record in some bytes, if they are one.
+// The record that some bytes are.
 fn iim_in<'a>(memory: &mut Memory, raw: &'a [u8]) -> Result<Option<Iim<'a>>, Refusal>
     ensures ok { IfOk result (λ r. r ≡ iim_of raw.now) }
     ensures err { IfErr result (λ e. e ≡ OutOfMemory) }
@@ -36,7 +39,7 @@ fn iim_in<'a>(memory: &mut Memory, raw: &'a [u8]) -> Result<Option<Iim<'a>>, Ref
     }
 }
 
-// The record in bytes of a type, if that type can contain one.
+// The record that the bytes of a value of type `form` are, if that type is BYTE or UNDEFINED.
 fn record_of<'a>(memory: &mut Memory, form: Form, raw: &'a [u8]) -> Result<Option<Iim<'a>>, Refusal>
     ensures ok { IfOk result (λ r. r ≡ record_in form raw.now) }
     ensures err { IfErr result (λ e. e ≡ OutOfMemory) }

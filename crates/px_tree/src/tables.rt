@@ -1,4 +1,10 @@
 // Reads one directory. TIFF 6.0 section 2, "Image File Directory".
+//
+// `claimed` are the ranges of bytes that parts of the block read before have; to claim a range is
+// to add it, and a byte in two of them is the fault `Overlap`. `Content` of a function here: the
+// cause and the byte offset of the first check that fails. `OutOfMemory`: an allocation failed.
+// `source` is the block with its byte order and the directory to read; `earlier` are the pointers
+// to the directories read before, since one that leads to the same offset is the fault `Loop`.
 ghost use Rattle.std.specs.Prelude.{◌≡◌, ◌≤◌, ◌+◌, ◌*◌, ◌++◌, List, ◌∷◌, length, true, IfOk};
 ghost use Rattle.px_bytes.specs.Parts.{limit};
 ghost use Rattle.px_bytes.specs.Range.{Range, range, Agrees};
@@ -30,7 +36,8 @@ pub struct Directory<'a> {
     pub count: u16,
 }
 
-// The number of entries of the table at a pointer. It claims the table.
+// Claims the table that the pointer `link` leads to, and returns the number of its entries.
+// `Content`: `Loop`, `DirectoryOutside`, `EmptyDirectory` or `Overlap`.
 fn open_table(
     memory: &mut Memory,
     source: &BlockReader,

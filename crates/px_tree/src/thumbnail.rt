@@ -1,5 +1,9 @@
 // The thumbnail's bytes: a JPEG, or strips. CIPA DC-008 4.5.5; TIFF 6.0 section 8, "StripOffsets" and
 // "StripByteCounts".
+//
+// `claimed` are the ranges of bytes that parts of the block read before have; to claim a range is
+// to add it, and a byte in two of them is the fault `Overlap`. `Content` of a function here: the
+// cause and the byte offset of the first check that fails. `OutOfMemory`: an allocation failed.
 ghost use Rattle.std.specs.Prelude.{◌≡◌, ◌≤◌, ◌<◌, ◌+◌, ◌++◌, ◌⊎◌, List, [], ◌∷◌, length, map, nat_le, Some, IfOk, IfSome, OnOk};
 ghost use Rattle.std.specs.List.{AllByRecursion};
 ghost use Rattle.std.specs.Prelude.{option_map, option_to_list, ⊤};
@@ -87,7 +91,8 @@ struct Extent {
     len: u32,
 }
 
-// Claims a part of the block for the entry at an offset.
+// Claims the part `extent` of the block for the entry at the offset `place`. `Content`:
+// `ThumbnailOutside` or `Overlap`, at that offset.
 fn claim(
     memory: &mut Memory,
     block: &[u8],
@@ -115,7 +120,7 @@ fn claim(
     claim_range(memory, claimed, place, start, len)
 }
 
-// Claims and returns the JPEG, if both of its entries are present.
+// Claims the JPEG and returns its bytes. None: the thumbnail has no JPEG.
 fn claim_jpeg<'a>(
     memory: &mut Memory,
     block: &'a [u8],
@@ -174,7 +179,7 @@ fn numbers_at<'a>(block: &'a [u8], order: Order, found: Found) -> Value<'a>
     )
 }
 
-// Claims each strip of these lists.
+// Claims each strip of these lists, for the entry of their offsets at `place`.
 #[inline(always)]
 fn claim_each(
     memory: &mut Memory,
@@ -203,8 +208,8 @@ fn claim_each(
     Ok(())
 }
 
-// The same. Nearly all lists have LONGs: for these the compiler makes a loop of its own, which doesn't look at
-// the types of the lists for each strip.
+// The same, but nearly all lists have LONGs: for these the compiler makes a loop of its own, which
+// doesn't look at the types of the lists for each strip.
 fn claim_strips(
     memory: &mut Memory,
     claimed: &mut Ranges,
@@ -256,7 +261,7 @@ fn judge_strips(
     claim_strips(memory, claimed, place, lists)
 }
 
-// The strips, if both of their lists are present. No later check needs their ranges.
+// Judges and returns the strips. None: the thumbnail has none. No later check needs their ranges.
 fn read_strips<'a>(
     memory: &mut Memory,
     block: &'a [u8],

@@ -1,5 +1,11 @@
 // Reads the directories of a block, in the order main, Exif, Interoperability, GPS, thumbnail. CIPA DC-008
 // 4.6.3 and 4.5.5.
+//
+// `claimed` are the ranges of bytes that parts of the block read before have; to claim a range is
+// to add it, and a byte in two of them is the fault `Overlap`. `Content` of a function here: the
+// cause and the byte offset of the first check that fails. `OutOfMemory`: an allocation failed.
+// `source` is the block with its byte order and the directory to read; `earlier` are the pointers
+// to the directories read before, since one that leads to the same offset is the fault `Loop`.
 ghost use Rattle.std.specs.Prelude.{◌≡◌, ◌≤◌, ◌++◌, List, [], ◌∷◌, length, option_map, option_and_then, Some, None, true, IfSome, IfOk};
 ghost use Rattle.px_bytes.specs.Parts.{limit};
 ghost use Rattle.px_bytes.specs.Range.{Range, Agrees};
@@ -42,7 +48,7 @@ pub struct Directories<'a> {
     pub thumb: Option<Directory<'a>>,
 }
 
-// The directory at a pointer, if there is one.
+// The directory that the pointer `link` leads to. None: there is no pointer.
 fn read_linked<'a>(
     memory: &mut Memory,
     source: &BlockReader<'a>,
@@ -75,14 +81,16 @@ fn read_linked<'a>(
     }
 }
 
-// The pointer to the Exif directory.
+// The pointer to the Exif directory, among the kept entries of the main directory. None: it has no
+// such entry.
 fn link_to_exif(main: &Directory) -> Option<Link>
     ensures { result ≡ option_map link_as main.now.uses.exif }
 {
     link_of(main.uses.exif)
 }
 
-// The pointer to the GPS directory.
+// The pointer to the GPS directory, among the kept entries of the main directory. None: it has no
+// such entry.
 fn link_to_gps(main: &Directory) -> Option<Link>
     ensures { result ≡ option_map link_as main.now.uses.gps }
 {
@@ -99,7 +107,7 @@ fn link_to_interop(exif: &Option<Directory>) -> Option<Link>
     }
 }
 
-// The pointer to the next directory.
+// The pointer to the directory after this one. None: its next offset is 0.
 fn link_after(block: &[u8], order: Order, directory: &Directory) -> Option<Link>
     requires bounded { length block.now ≤ limit }
     requires has_table { HasTable block.now order directory.now.at directory.now.count }

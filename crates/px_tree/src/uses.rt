@@ -62,7 +62,7 @@ pub fn keep_use(uses: &mut Uses, shape: Shape, place: u32)
     keep_any(uses, shape.head, place);
 }
 
-// The same for any tag.
+// The same, without the shortcut for tags that have no special use.
 fn keep_any(uses: &mut Uses, head: Head, place: u32)
     ensures { Keeps uses.old uses.new (found_as head place) }
 {

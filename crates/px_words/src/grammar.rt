@@ -1,4 +1,6 @@
 // The command line as clap gets it: the subcommands and their required arguments.
+//
+// clap allocates each part. `Err` of a function here: an allocation failed.
 ghost use Rattle.std.specs.Prelude.{◌≡◌, codes, false, IfOk, IsOkAnd};
 ghost use Rattle.clap.specs.Words.{AddsSubcommand, app_of, shape_of, with_rule, with_subcommand};
 ghost use Rattle.clap.specs.declared.builder.Command.TheViews.{out-Command};

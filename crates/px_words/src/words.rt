@@ -96,7 +96,7 @@ fn word_at(memory: &mut Memory, inner: &ArgMatches<'_>, id: &str) -> Result<Text
     Text::of(memory, word)
 }
 
-// A refusal with this line as its text.
+// A refusal with this line as its text, or `NoMemory` if an allocation failed.
 fn refuse(memory: &mut Memory, line: &str) -> Words
     ensures line { (result ≡ words_of.NoMemory) ⊎ (result ≡ words_of.Refused line.now) }
     ensures memory { CountsAllocFailureInWords result memory.old memory.new }
@@ -203,7 +203,8 @@ fn text_of(memory: &mut Memory, error: &Error) -> Result<Text, AllocFailed>
     Ok(Text { text })
 }
 
-// clap's text if there is no match.
+// clap's text if there is no match: `Help` if it was asked for, or else `Refused`. `NoMemory`: an
+// allocation of `memory` failed. `Unread`: clap ran out of memory, and has no text.
 fn read_error(memory: &mut Memory, error: &Error) -> Words
     ensures asked { IsText result }
     ensures kind { IsTextForKind (kind_of error.now) result }
