@@ -13,7 +13,8 @@ abbrev pub CountsAllocFailureBy : {A E : Type 0} → Result A E → ℕ → ℕ 
 CountsAllocFailureBy (Ok x) old new = new ≡ old
 CountsAllocFailureBy (Err e) old new = new ≡ old + 1
 
--- the same, with the counts of a memory
+-- a failed allocation is counted, as above, by what is counted before and after the call
+-- (`MemoryCounts`)
 abbrev pub CountsAllocFailure : {A E : Type 0} → Result A E → MemoryCounts → MemoryCounts → Type 0
 CountsAllocFailure r old new = CountsAllocFailureBy r old.failed_allocations new.failed_allocations
 

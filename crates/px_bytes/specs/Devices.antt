@@ -86,6 +86,6 @@ device_of calls bytes old new = record { calls = calls old; calls_now = calls ne
 abbrev pub Sends : {A E : Type 0} → Result A E → Device → List ℕ → Type 0
 Sends result d bytes = Writes result d.old d.new bytes × Counts result d.calls d.calls_now
 
--- the same, and one flush at the end
+-- as many bytes were taken as `Writes` states, then one flush was called, and a failure is counted
 abbrev pub SendsFlushed : {A E : Type 0} → Result A E → Device → List ℕ → Type 0
 SendsFlushed result d bytes = Writes result d.old d.new bytes × CountsFlush result d.calls d.calls_now

@@ -22,7 +22,7 @@ abbrev pub Puts : {A E : Type 0} → Result A E → Option (List ℕ) → Option
 Puts (Ok x) old new buffer buffer_now bytes = Owes old new buffer_now (buffer ⊕ bytes)
 Puts (Err e) old new buffer buffer_now bytes = AppendsPrefix old new (buffer.bytes ++ bytes)
 
--- that, and a failure is counted
+-- the bytes are put as `Puts` states, and a failure is counted
 abbrev pub Adds : {A E : Type 0} → Result A E → Device → Buffer → Buffer → List ℕ → Type 0
 Adds result d buffer buffer_now bytes = Puts result d.old d.new buffer buffer_now bytes × Counts result d.calls d.calls_now
 
@@ -40,7 +40,7 @@ abbrev pub PutsBuffered : {A E W : Type 0} → (W → Option (List ℕ)) → Res
 PutsBuffered taken result old new buffer buffer_now bytes =
     Puts result (taken old) (taken new) buffer buffer_now bytes × Waits result old new buffer buffer_now bytes
 
--- that, and a failed call is counted
+-- the bytes are put as `PutsBuffered` states, and a failed call is counted
 abbrev pub AddsBuffered : {A E W : Type 0} → (W → Calls) → (W → Option (List ℕ)) → Result A E → W → W → Buffer → Buffer → List ℕ → Type 0
 AddsBuffered calls taken result old new buffer buffer_now bytes =
     PutsBuffered taken result old new buffer buffer_now bytes × Counts result (calls old) (calls new)

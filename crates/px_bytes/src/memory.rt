@@ -74,7 +74,8 @@ impl Memory {
         self.refused
     }
 
-    /// Memory over the same allocator, with no failed allocation and no byte asked for. Allocates nothing.
+    /// New memory over the same allocator: its counts begin at no failed allocation and no byte
+    /// asked for. Allocates nothing.
     pub fn fresh(&self) -> Memory
         ensures { result ≡ record { failed_allocations = 0; asked = 0 } }
     {

@@ -36,7 +36,7 @@ abbrev pub IsRefusedIn : BlockKind → List ℕ → ℕ → Refusal → Type 0
 IsRefusedIn k b refused (refusal.Content cause place) = IsFaultyIn k b cause place
 IsRefusedIn k b refused refusal.OutOfMemory = 0 < refused
 
--- the same, for the block in a file
+-- the block in a file has this meaning, as above
 abbrev pub HasMeaning : List ℕ → Said → Type 0
 HasMeaning f s = HasMeaningAs (kind_of f) (block_of f) s
 
@@ -48,7 +48,7 @@ IsFaulty f cause place = IsFaultyIn (kind_of f) (block_of f) cause place
 abbrev pub IsRefused : List ℕ → ℕ → Refusal → Type 0
 IsRefused f refused r = IsRefusedIn (kind_of f) (block_of f) refused r
 
--- the same as the fault of a run
+-- a fault of a run that refuses the block in a file, or that an allocation failed
 abbrev pub IsRunFault : List ℕ → ℕ → Fault → Type 0
 IsRunFault f refused (Refused cause place) = IsFaulty f cause place
 IsRunFault f refused OutOfMemory = 0 < refused
@@ -66,21 +66,24 @@ abbrev pub CountsAllocFailureOfFault : Fault → ℕ → ℕ → Type 0
 CountsAllocFailureOfFault OutOfMemory old new = new ≡ old + 1
 CountsAllocFailureOfFault fault old new = new ≡ old
 
--- the same of a result: success counts none
+-- the number of failed allocations rose by one exactly if the result is that fault; success counts
+-- none
 abbrev pub CountsAllocFailureInRunBy : {A : Type 0} → Result A Fault → ℕ → ℕ → Type 0
 CountsAllocFailureInRunBy (Ok x) old new = new ≡ old
 CountsAllocFailureInRunBy (Err fault) old new = CountsAllocFailureOfFault fault old new
 
--- the same of a call for two files
+-- the number of failed allocations rose by one exactly if the result of a call for two files is
+-- that fault
 abbrev pub CountsAllocFailureInPairBy : {A : Type 0} → Result A CompareFault → ℕ → ℕ → Type 0
 CountsAllocFailureInPairBy (Ok x) old new = new ≡ old
 CountsAllocFailureInPairBy (Err e) old new = CountsAllocFailureOfFault e.fault old new
 
--- the same, with the counts of a memory
+-- a failed allocation is counted, as above, by what is counted before and after the call
+-- (`MemoryCounts`)
 abbrev pub CountsAllocFailureInRun : {A : Type 0} → Result A Fault → MemoryCounts → MemoryCounts → Type 0
 CountsAllocFailureInRun r old new = CountsAllocFailureInRunBy r old.failed_allocations new.failed_allocations
 
--- the same of a call for two files, with the counts of a memory
+-- a failed allocation in a call for two files is counted, by `MemoryCounts`
 abbrev pub CountsAllocFailureInPair : {A : Type 0} → Result A CompareFault → MemoryCounts → MemoryCounts → Type 0
 CountsAllocFailureInPair r old new = CountsAllocFailureInPairBy r old.failed_allocations new.failed_allocations
 
@@ -89,7 +92,7 @@ abbrev pub CountsFault : Fault → Calls → Calls → Type 0
 CountsFault ReadFailed calls calls_now = calls_now ≡ one_failed calls
 CountsFault fault calls calls_now = calls_now ≡ calls
 
--- the same of a result: success counts none
+-- a call of the reader failed exactly if the result is that fault; success counts none
 abbrev pub CountsReads : {A : Type 0} → Result A Fault → Calls → Calls → Type 0
 CountsReads (Ok x) calls calls_now = calls_now ≡ calls
 CountsReads (Err fault) calls calls_now = CountsFault fault calls calls_now

@@ -62,7 +62,8 @@ pub(crate) fn write_form<W: Sink>(meaning: &Said, writer: &mut W) -> Result<u64,
 // The size of the output buffer for a form in memory. The buffer is cleared for each form, so it is small.
 const SPACE: usize = 1024;
 
-// Writes the normal form of an Exif block, which is measured already.
+// Writes the normal form of an Exif meaning, without a flush. `Err`: a call of the writer failed,
+// which has taken a prefix of the form.
 fn send_exif<W: Sink>(form: &NormalForm, writer: &mut W) -> Result<(), Failed>
     requires few { CanCountFailure (W.calls writer.old) }
     requires form { IsWritableForm form.now }
@@ -74,7 +75,8 @@ fn send_exif<W: Sink>(form: &NormalForm, writer: &mut W) -> Result<(), Failed>
     pending.send(writer)
 }
 
-// Writes the normal form of a record.
+// Writes the normal form of a record, without a flush. `Err`: a call of the writer failed, which
+// has taken a prefix of the form.
 fn send_record<W: Sink>(iim: &Iim, writer: &mut W) -> Result<(), Failed>
     requires { CanCountFailure (W.calls writer.old) }
     ensures { Sends result (device_of W.calls W.bytes_taken writer.old writer.new) (normal_iim iim.now) }

@@ -91,7 +91,7 @@ count_in f raw = length raw / size f
 abbrev pub value_in : Order → Form → List ℕ → Value
 value_in o f raw = record { kind = kind.Of f; elements = elements o f (count_in f raw) raw }
 
--- the same for a tag that treats SHORT and LONG as one
+-- the value that bytes encode at a tag that treats SHORT and LONG as one: of kind `Whole`
 abbrev pub whole_in : Order → Form → List ℕ → Value
 whole_in o f raw = record { kind = kind.Whole; elements = map widened (elements o f (count_in f raw) raw) }
 

@@ -227,7 +227,7 @@ impl<'a> Value<'a> {
         self.encode_few(order)
     }
 
-    // The same for any value of at most four bytes, without a special case.
+    // The encoding of any value of at most four bytes, then zeros, without a special case.
     fn encode_few(&self, order: Order) -> [u8; 4]
         requires { length (encoded order self.now) ≤ 4 }
         ensures { result ≡ encoded order self.now ++ replicate (4 - length (encoded order self.now)) 0 }

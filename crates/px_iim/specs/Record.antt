@@ -54,7 +54,7 @@ has_form x = nat_lt (form x) top_bit || (nat_le 1 (extra x) && nat_le (extra x) 
 unfoldable pub is_dataset : List ℕ → Bool
 is_dataset x = is_marked x && nat_le 5 (length x) && has_form x && nat_le (5 + extra x) (length x) && nat_le (size x) (length x)
 
--- that DataSet
+-- the DataSet that x begins with
 unfoldable pub dataset : List ℕ → DataSet
 dataset x = record { rec = slice_index x 1; number = slice_index x 2; octets = part x (5 + extra x) (count x) }
 

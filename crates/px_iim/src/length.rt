@@ -37,7 +37,8 @@ fn with_item(total: u32, item: &Item) -> Option<u32>
     Some(longer)
 }
 
-// The same from a length that may be above MOST already, which is None.
+// The length `len` of a normal form, and that of one more DataSet. None: `len` is None, above MOST,
+// or the sum is.
 pub(crate) fn longer(len: Option<u32>, item: &Item) -> Option<u32>
     requires counted { IfSome len (λ total. total ≤ 2 * limit) }
     requires short { length item.now.octets.now ≤ limit }

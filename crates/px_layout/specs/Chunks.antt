@@ -28,7 +28,7 @@ placed_chunk d i = if nat_lt 4 (item_size i.1) then Some (Placed d i.0, item_siz
 abbrev pub dir_chunks : Dir → List (ℕ × Item) → List (Chunk × ℕ)
 dir_chunks d xs = (Table d, table_size (length xs)) ∷ filter_map (placed_chunk d) xs
 
--- the same of a directory that the meaning may lack
+-- the chunks of a directory; none if the meaning lacks it
 abbrev pub chunks_of_dir : Dir → Option (List (ℕ × Item)) → List (Chunk × ℕ)
 chunks_of_dir d None = []
 chunks_of_dir d (Some xs) = dir_chunks d xs

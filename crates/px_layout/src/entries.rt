@@ -252,8 +252,8 @@ fn first_extra<'m, 'a>(
     }
 }
 
-// The same for the second further entry, with its index among the fields and `first`, if there is
-// that.
+// The further entry with this tag and item, with its index among the fields and the entry `first`,
+// if there is that. None: the directory has no such item.
 fn second_extra<'m, 'a>(
     fields: &Fields,
     first: &Option<Extra>,
@@ -276,8 +276,8 @@ fn second_extra<'m, 'a>(
     }
 }
 
-// The same for the third further entry, with its index among the fields, `first` and `second`, if
-// there are these.
+// The further entry with this tag and item, with its index among the fields and the entries `first`
+// and `second`, if there are these. None: the directory has no such item.
 fn third_extra<'m, 'a>(
     fields: &Fields,
     first: &Option<Extra>,
@@ -301,7 +301,8 @@ fn third_extra<'m, 'a>(
     }
 }
 
-// The entry of the JPEG's offset, if there is a JPEG.
+// The entry of the JPEG's offset (0201), with its index among the fields and the other three
+// further entries. None: there is no JPEG.
 fn jpeg_extra<'m, 'a>(
     fields: &Fields,
     first: &Option<Extra>,

@@ -107,8 +107,8 @@ fn put_any_placed<W: Sink>(
     Ok(())
 }
 
-// The same for an entry of any kind: fields, which most entries are, are put without a check for
-// the other kinds.
+// Puts the placed value of an entry of any kind, padded, or nothing if the value is in the entry.
+// Fields, which most entries are, are put without a check for the other kinds.
 fn put_placed<W: Sink>(
     pending: &mut Pending<'_>,
     writer: &mut W,
@@ -192,8 +192,8 @@ fn put_any_dir<W: Sink>(
     put_entries(pending, writer, form, dir)
 }
 
-// The same, with a look at its entries. Space for these is cleared first, which a directory that isn't there
-// needn't pay for.
+// Puts a directory, if the meaning has it, with a look at its entries. Space for these is cleared
+// first, which a directory that isn't there needn't pay for.
 #[inline(never)]
 fn put_entries<W: Sink>(
     pending: &mut Pending<'_>,

@@ -122,7 +122,8 @@ fn put_strip_offsets<W: Sink>(
     Ok(())
 }
 
-// The same for strips that may be missing: then it puts nothing.
+// Puts the byte offsets of strips, the first of which is at `at`, or nothing if the thumbnail has
+// none.
 fn put_any_offsets<W: Sink>(
     pending: &mut Pending<'_>,
     writer: &mut W,
@@ -233,7 +234,8 @@ fn put_field_entry<W: Sink>(
     pending.put(writer, &field_with(tag, value))
 }
 
-// Puts an entry whose value is in it, then the padding.
+// Puts an entry whose value is in it: tag, type and count, and four bytes with the value and then
+// zeros.
 fn put_near_entry<W: Sink>(
     pending: &mut Pending<'_>,
     writer: &mut W,
@@ -275,8 +277,8 @@ fn put_any_entry<W: Sink>(
     put_near_entry(pending, writer, form, &entry)
 }
 
-// The same for an entry of any kind: fields, which most entries are, are put without a check for
-// the other kinds.
+// Puts an entry of any kind; `at` is the byte offset of its value, if that is placed. Fields, which
+// most entries are, are put without a check for the other kinds.
 fn put_given_entry<W: Sink>(
     pending: &mut Pending<'_>,
     writer: &mut W,
@@ -333,7 +335,8 @@ fn put_running_entries<W: Sink>(
     Ok(())
 }
 
-// Puts the next offset of a directory: after the main directory comes the thumbnail directory.
+// Puts the four bytes after the entries of a directory: the offset of the thumbnail directory after
+// the main directory, and 0 after any other.
 fn put_running_next<W: Sink>(
     pending: &mut Pending<'_>,
     writer: &mut W,

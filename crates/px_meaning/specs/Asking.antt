@@ -13,6 +13,6 @@ strip_bytes = 16
 abbrev pub field_request : ℕ → ℕ
 field_request n = max 4 (2 * n) * field_bytes
 
--- the same for n strips
+-- the bytes asked for, as above, for n strips
 abbrev pub strip_request : ℕ → ℕ
 strip_request n = max 4 (2 * n) * strip_bytes

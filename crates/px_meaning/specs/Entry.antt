@@ -49,7 +49,7 @@ table_size n = 2 + 12 * n + 4
 unfoldable pub has_table : List ℕ → Order → ℕ → Bool
 has_table b o a = let n = short o (part b a 2) in nat_le 1 n && nat_le (a + table_size n) (length b)
 
--- its bytes, none if the block doesn't contain it
+-- the bytes of the table at a; none if the block doesn't contain it
 unfoldable pub table : List ℕ → Order → ℕ → List ℕ
 table b o a = if has_table b o a then part b a (table_size (short o (part b a 2))) else []
 
@@ -123,7 +123,7 @@ pub record IsEntry (b : List ℕ) (o : Order) (d : Dir) (e : Entry) : Type 0 whe
   pub formed : has_form (role d e.tag) e ≡ true
   pub inside : has_raw b o e ≡ true
 
--- each is less than each later one
+-- each number of the list is less than each later one
 abbrev pub Rising : List ℕ → Type 0
 Rising [] = ⊤
 Rising (t ∷ ts) = AllByRecursion (λ u. t < u) ts × Rising ts

@@ -18,7 +18,7 @@ abbrev pub both : {X Y Z : Type 0} → (X → Y → Z) → Option X → Option Y
 both f (Some x) (Some y) = Some (f x y)
 both f _ _ = None
 
--- both are present, or neither
+-- both entries of a pair are present, or neither
 abbrev pub are_paired : {X Y : Type 0} → Option X → Option Y → Bool
 are_paired (Some x) (Some y) = true
 are_paired None None = true

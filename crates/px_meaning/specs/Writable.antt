@@ -57,7 +57,7 @@ abbrev pub put : {X : Type 0} → ℕ → X → List (ℕ × X) → List (ℕ ×
 put t x [] = (t, x) ∷ []
 put t x (y ∷ ys) = if nat_lt t y.0 then (t, x) ∷ y ∷ ys else y ∷ put t x ys
 
--- the same, if there is an item
+-- inserts a tag and its item, if there is an item
 abbrev pub put_some : {X : Type 0} → ℕ → Option X → List (ℕ × X) → List (ℕ × X)
 put_some t None xs = xs
 put_some t (Some x) xs = put t x xs

@@ -167,7 +167,8 @@ fn fits_strips(strips: &Strips) -> bool
     true
 }
 
-// The same for a thumbnail that may have no strips: then it is true.
+// Whether neither the number of strips nor the length of one is above `LIMIT`. True if the
+// thumbnail has no strips.
 fn fits_optional_strips(strips: &Option<Strips>) -> bool
     ensures { IsTrue result ↔ IfSome strips.now (λ s. (length s ≤ limit) × AllByRecursion IsBytes s) }
 {

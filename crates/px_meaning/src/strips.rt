@@ -126,9 +126,10 @@ impl<'a> Strips<'a> {
         }
     }
 
-    /// The strip at `i`, and perhaps some after it that can be written together with it: `count` strips, at least one
-    /// and no more than are left. Padding `bytes` once to an even length gives the same as padding each of these
-    /// strips, one after another. How many they are is not stated: strips of an even length that follow one another
+    /// The strip at `i`, and perhaps some after it that can be written together with it: `count`
+    /// strips, at least one and no more than are left, and their bytes, one after another. Padding
+    /// `bytes` once to an even length gives the same as padding each of these strips. How many
+    /// strips a call returns is not stated: those of an even length that follow one another
     /// directly in the block. `i` is less than `len`. Allocates nothing.
     pub fn run_at(&self, i: usize) -> StripRun<'a>
         requires { i < length self.now }

@@ -48,7 +48,8 @@ fn claim(
     claimed.add_in(memory, offset, size as u32)
 }
 
-// The same for all chunks.
+// Claims the range of each chunk. False: one of them has no offset, passes the plan's length, or
+// shares a byte with a claimed range.
 fn claim_all(
     memory: &mut Memory,
     plan: &Plan,

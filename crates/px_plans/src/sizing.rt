@@ -164,7 +164,7 @@ fn push_strips(
     Ok(())
 }
 
-// The same for strips that may be missing.
+// Appends a chunk for each strip, or nothing if the thumbnail has no strips.
 fn push_optional_strips(
     memory: &mut Memory,
     out: &mut Vec<(Chunk, u64)>,

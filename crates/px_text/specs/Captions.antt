@@ -45,7 +45,7 @@ labelled x = option_map (λ l. (l, x.1)) (label_of x.0)
 abbrev pub caption_groups : List ℕ
 caption_groups = 5 ∷ 120 ∷ 105 ∷ 110 ∷ 115 ∷ 116 ∷ 80 ∷ 25 ∷ 103 ∷ []
 
--- those of one group, in list order
+-- the captions of one group of record 2, in list order
 abbrev pub group_captions : Record → ℕ → List Labelled
 group_captions i n = filter_map labelled (items_at 2 (named 2 n) i)
 
@@ -83,11 +83,11 @@ text_captions l (Some v) = if is_text v.kind then (l, encoded Most v) ∷ [] els
 abbrev pub caption_texts : List (ℕ × Label)
 caption_texts = (0x010E, Description) ∷ (0x013B, Artist) ∷ (0x8298, Copyright) ∷ []
 
--- that of one tag
+-- the caption of one tag, if the field is there and is a text
 abbrev pub tag_captions : Fields → ℕ × Label → List Labelled
 tag_captions fs t = text_captions t.1 (at_tag t.0 fs)
 
--- those of all three tags
+-- the captions of all three tags
 unfoldable pub exif_captions : Fields → List Labelled
 exif_captions fs = flat_map (tag_captions fs) caption_texts
 
@@ -103,7 +103,7 @@ abbrev pub record_captions : Option Record → List Labelled
 record_captions None = []
 record_captions (Some i) = iim_captions i
 
--- of an Exif block: those of its fields, and those of the record inside it
+-- of an Exif block: the captions of its fields, and of the record inside it
 abbrev pub captions_of_exif : Meaning → Bool × List Labelled
 captions_of_exif m = (record_declares m.iptc, exif_captions m.main ++ record_captions m.iptc)
 
@@ -161,15 +161,15 @@ charset_line declared = if declared then codes "charset: UTF-8\n" else codes "ch
 abbrev pub iim_lines : Record → List ℕ
 iim_lines i = charset_line (declares_utf8 i) ++ caption_lines (iim_captions i)
 
--- those of the record inside an Exif block, if there is one
+-- the lines of the record inside an Exif block, if there is one
 abbrev pub record_lines : Option Record → List ℕ
 record_lines None = []
 record_lines (Some i) = iim_lines i
 
--- the whole text, of both
+-- the whole text of an Exif block's captions
 abbrev pub exif_text : Meaning → List ℕ
 exif_text m = codes "exif\n" ++ caption_lines (exif_captions m.main) ++ record_lines m.iptc
 
--- that of a record
+-- the whole text of a record's captions
 abbrev pub iim_text : Record → List ℕ
 iim_text i = codes "iim\n" ++ iim_lines i

@@ -196,7 +196,7 @@ unfoldable pub thumb_checks : List ℕ → Order → List Range → ℕ → List
 thumb_checks b o claimed a =
     pair_checks (a + 2) (entries_at b o a) ++ end_checks b o a ++ part_checks b o claimed (a + 2) (entries_at b o a)
 
--- the same, if there is a thumbnail directory
+-- the checks of the thumbnail directory after its entries; none if the block lacks it
 abbrev pub thumb_checks_at : List ℕ → Order → List Range → Option ℕ → List Check
 thumb_checks_at b o claimed None = []
 thumb_checks_at b o claimed (Some a) = thumb_checks b o claimed a
@@ -209,7 +209,7 @@ unfoldable pub tree_checks : List ℕ → Order → List Check
 tree_checks b o =
     dirs_checks b o [] (range 0 8 ∷ []) dirs ++ thumb_checks_at b o (dirs_claimed b o (range 0 8 ∷ []) dirs) (dir_at b o Thumb)
 
--- the same in the byte order of the header, if it has one
+-- the checks after those of the header, in its byte order; none if it has no byte order
 abbrev pub checks_in : List ℕ → Option Order → List Check
 checks_in b None = []
 checks_in b (Some o) = tree_checks b o

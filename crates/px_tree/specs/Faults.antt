@@ -51,7 +51,7 @@ value_owners o p (e ∷ es) = cons_option (option_map (λ r. (p, r)) (placed_ran
 unfoldable pub dir_owners : List ℕ → Order → Dir → ℕ → List (ℕ × Range)
 dir_owners b o d a = (named_at b o d, table_range b o a) ∷ value_owners o (a + 2) (entries_at b o a)
 
--- the same of a directory, or none if the block lacks it
+-- the table and the values of the directory d, each with its owner; none if the block lacks it
 abbrev pub owners_at : List ℕ → Order → Dir → List (ℕ × Range)
 owners_at b o d = listed (option_map (dir_owners b o d) (dir_at b o d))
 
@@ -99,13 +99,13 @@ PartAt b o p r =
 abbrev pub ExifFault : List ℕ → Cause → ℕ → Type 0
 -- the block is longer than the limit
 ExifFault b TooLong p = (p ≡ limit) × (limit < length b)
--- its first bytes, up to four, begin no header
+-- the first bytes of the block, up to four, begin no header
 ExifFault b UnknownKind p = (p ≡ 0) × ((length b ≡ 0) ⊎ ((o : Order) → take 4 b ≡ take (length b) (magic o) → ⊥))
 ExifFault b HeaderCut p = (p ≡ length b) × (length b < 8)
 -- an earlier directory is at the same offset
 ExifFault b Loop p =
     (o : Order) × (d e : Dir) × (a : ℕ) × Reached b o d a × Reached b o e a × (dir_number e < dir_number d) × (p ≡ named_at b o d)
--- its table, the number of entries among it, passes the end
+-- the table of a directory, with its number of entries, passes the end of the block
 ExifFault b DirectoryOutside p =
     (o : Order) × (d : Dir) × (a : ℕ) × Reached b o d a × (p ≡ named_at b o d) × (length b < a + table_size (short o (part b a 2)))
 ExifFault b EmptyDirectory p = (o : Order) × (d : Dir) × Reached b o d p × (p + 2 ≤ length b) × (short o (part b p 2) ≡ 0)

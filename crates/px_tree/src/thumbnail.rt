@@ -208,8 +208,8 @@ fn claim_each(
     Ok(())
 }
 
-// The same, but nearly all lists have LONGs: for these the compiler makes a loop of its own, which
-// doesn't look at the types of the lists for each strip.
+// Claims each strip of these lists as `claim_each` does. Nearly all lists have LONGs: for these the
+// compiler makes a loop of its own, which doesn't look at the types of the lists for each strip.
 fn claim_strips(
     memory: &mut Memory,
     claimed: &mut Ranges,

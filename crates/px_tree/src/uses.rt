@@ -62,7 +62,8 @@ pub fn keep_use(uses: &mut Uses, shape: Shape, place: u32)
     keep_any(uses, shape.head, place);
 }
 
-// The same, without the shortcut for tags that have no special use.
+// Keeps the entry for the special use of its tag as `keep_use` does, without its shortcut for tags
+// that have none.
 fn keep_any(uses: &mut Uses, head: Head, place: u32)
     ensures { Keeps uses.old uses.new (found_as head place) }
 {

@@ -154,6 +154,7 @@ abbrev pub CountsAllocFailureInWordsBy : Words → ℕ → ℕ → Type 0
 CountsAllocFailureInWordsBy words.NoMemory old new = new ≡ old + 1
 CountsAllocFailureInWordsBy _ old new = new ≡ old
 
--- the same of memory
+-- a failed allocation is counted, as above, by what is counted before and after the call
+-- (`MemoryCounts`)
 abbrev pub CountsAllocFailureInWords : Words → MemoryCounts → MemoryCounts → Type 0
 CountsAllocFailureInWords r old new = CountsAllocFailureInWordsBy r old.failed_allocations new.failed_allocations

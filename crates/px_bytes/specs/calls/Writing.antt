@@ -11,6 +11,7 @@ CountsAllocFailureInWriteBy (Err NormalTooLong) old new = new ≡ old
 CountsAllocFailureInWriteBy (Err OutOfMemory) old new = new ≡ old + 1
 CountsAllocFailureInWriteBy (Err WriteFailed) old new = new ≡ old
 
--- the same of memory
+-- a failed allocation is counted, as above, by what is counted before and after the call
+-- (`MemoryCounts`)
 abbrev pub CountsAllocFailureInWrite : {X : Type 0} → Result X WriteRefusal → MemoryCounts → MemoryCounts → Type 0
 CountsAllocFailureInWrite r old new = CountsAllocFailureInWriteBy r old.failed_allocations new.failed_allocations

@@ -10,7 +10,7 @@ use Rattle.px_iim.specs.Group.{Group}
 abbrev pub item_view : Item → ℕ × List ℕ
 item_view x = (x.number, x.octets.now)
 
--- the same with the record number
+-- an item of a group, with its record number, as a DataSet
 abbrev pub dataset_view : Item → DataSet
 dataset_view x = record { rec = x.rec; number = x.number; octets = x.octets.now }
 

@@ -30,11 +30,11 @@ IsEntryAt p e xs i = FindsEntryAt p (with_extra e xs) xs i
 abbrev pub under_second : Inside → List (ℕ × Item)
 under_second e = with_extra e.first (field_items e.fields.now)
 
--- the same before the third
+-- the entries before the third further one is inserted
 abbrev pub under_third : Inside → List (ℕ × Item)
 under_third e = with_extra e.second (under_second e)
 
--- the same before the fourth
+-- the entries before the fourth further one is inserted
 abbrev pub under_fourth : Inside → List (ℕ × Item)
 under_fourth e = with_extra e.third (under_third e)
 

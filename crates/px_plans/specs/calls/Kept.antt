@@ -30,15 +30,15 @@ offset_in o (Strip i) = key_in o.strips i
 
 -- ---- how many chunks have an offset
 
--- those in a list by key
+-- the number of offsets in a list by key
 abbrev pub keyed_size : KeyedOffsets → ℕ
 keyed_size o = vec_len o.list
 
--- those of a directory: its table, and its values
+-- the number of chunks of a directory that have an offset: its table, and its values
 abbrev pub dir_size : DirOffsets → ℕ
 dir_size d = (if is_some d.table then 1 else 0) + keyed_size d.values
 
--- those of all directories, of the JPEG and of the strips
+-- the number of all chunks that have an offset: those of directories, the JPEG and the strips
 abbrev pub size_in : Offsets → ℕ
 size_in o =
     dir_size o.main + dir_size o.exif + dir_size o.interop + dir_size o.gps + dir_size

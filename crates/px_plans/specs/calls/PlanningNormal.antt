@@ -32,7 +32,7 @@ NextResult (Err NormalTooLong) old new x c = limit < x + even c.1
 NextResult (Err OutOfMemory) old new x c = Unit {0}
 NextResult (Err WriteFailed) old new x c = ⊥
 
--- all chunks have their offsets, or they are too long
+-- all chunks have their offsets, one after another; or together they are longer than the limit
 abbrev pub AllResult : Result ℕ WriteRefusal → Plan → List (Chunk × ℕ) → Type 0
 AllResult (Ok end) plan cs = Placed plan end cs
 AllResult (Err NormalTooLong) plan cs = limit < 8 + padded_size cs

@@ -26,18 +26,18 @@ Finds b o a t x = Sees b o (entries_at b o a) (a + 2) (has_tag t) x
 abbrev pub entry_here : List ℕ → Order → Found → Entry
 entry_here b o f = entry o (part b f.place 12)
 
--- its offset
+-- the offset of an entry that was found; 0 without one
 abbrev pub place_in : Option Found → ℕ
 place_in x = unwrap_or (option_map (λ f. f.place) x) 0
 
--- its value lies inside the block
+-- the entry that was found has its value inside the block
 pub record HasValue (b : List ℕ) (o : Order) (f : Found) : Type 0 where
   pub bounded : length b ≤ limit
   pub inside : f.place + 12 ≤ length b
   pub shown : Shows o f.head (entry_here b o f)
   pub whole : has_raw b o (entry_here b o f) ≡ true
 
--- it is a list of numbers inside the block
+-- the entry that was found has a list of SHORT or LONG inside the block
 pub record HasNumbers (b : List ℕ) (o : Order) (f : Found) : Type 0 where
   pub bounded : length b ≤ limit
   pub inside : f.place + 12 ≤ length b
@@ -45,7 +45,7 @@ pub record HasNumbers (b : List ℕ) (o : Order) (f : Found) : Type 0 where
   pub formed : is_short_or_long (bare f.head) ≡ true
   pub whole : has_raw b o (entry_here b o f) ≡ true
 
--- the same of an entry that may be missing
+-- an entry, if one was found, has a list of SHORT or LONG inside the block
 abbrev pub HaveNumbers : List ℕ → Order → Option Found → Type 0
 HaveNumbers b o x = IfSome x (HasNumbers b o)
 

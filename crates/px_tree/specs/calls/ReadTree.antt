@@ -18,15 +18,16 @@ use Rattle.px_tree.specs.calls.Linked.{AreUsesAt, IsRead}
 
 -- ---- the main directory, whose pointer is at 4
 
--- its checks, if the header is claimed
+-- the checks of the main directory, if the header is claimed
 abbrev pub main_checks : List ℕ → Order → List Check
 main_checks b o = dir_checks b o [] (range 0 8 ∷ []) 4 Main (main_at b o)
 
--- the ranges that are claimed after it
+-- the ranges that are claimed after the main directory
 abbrev pub main_claimed : List ℕ → Order → List Range
 main_claimed b o = dir_ranges b o (main_at b o) ++ range 0 8 ∷ []
 
--- it was read: it has a table, its entries with a special use were kept, and so were its fields, if fields are kept
+-- the main directory was read: it has a table, its entries with a special use were kept, and so
+-- were its fields, if fields are kept
 pub record IsReadMain (b : List ℕ) (o : Order) (keeps : Bool) (t : Directory) : Type 0 where
   pub offset_at : t.at ≡ main_at b o
   pub table : HasTable b o t.at t.count
