@@ -41,6 +41,7 @@ part_of q (Some p) = record {
   size = p.size;
 }
 
+-- a part of a head and its piece as the caller of C sees them
 abbrev pub seen_part : HeadPart → ExifnormJpegPart
 seen_part h = part_of h.part h.piece
 
@@ -48,6 +49,7 @@ seen_part h = part_of h.part h.piece
 abbrev pub seen_parts : List ℕ → List Part → List ExifnormJpegPart
 seen_parts b parts = map seen_part (with_pieces b None parts)
 
+-- one of Photoshop's image resources as the caller of C sees it
 abbrev pub seen_resource : Resource → ExifnormPhotoshopResource
 seen_resource r = record { number = r.number; start = r.start; size = r.size }
 

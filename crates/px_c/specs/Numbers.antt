@@ -60,6 +60,7 @@ cause_name n =
 
 -- ---- kinds
 
+-- EXIFNORM_EXIF is 1, and EXIFNORM_IIM, which is IPTC's IIM, is 2
 abbrev pub kind_number : BlockKind → ℕ
 kind_number kind.Exif = 1
 kind_number kind.Iim = 2

@@ -12,6 +12,7 @@ pub record JoinedBlock : Type 0 where
   pub kind : SegmentKind
   pub octets : List ℕ
 
+-- the bytes of a piece p of the picture b
 abbrev pub piece_octets : List ℕ → Piece → List ℕ
 piece_octets b p = range b p.start p.size
 
@@ -23,9 +24,11 @@ joined b (p ∷ ps) =
     then ([], record { kind = p.kind; octets = piece_octets b p ++ (joined b ps).0 } ∷ (joined b ps).1)
     else (piece_octets b p ++ (joined b ps).0, (joined b ps).1)
 
+-- all blocks of the picture b with these parts, in order: the pieces of each are joined
 abbrev pub blocks : List ℕ → List Part → List JoinedBlock
 blocks b parts = (joined b (pieces b None parts)).1
 
+-- the bytes of a block that is Exif; None: it is of another kind
 abbrev pub exif_in : JoinedBlock → Option (List ℕ)
 exif_in k = exif_of k.kind
   where

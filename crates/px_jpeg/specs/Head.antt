@@ -44,6 +44,8 @@ pub record IsSegment (p : ℕ) (q : Part) (x : List ℕ) : Type 0 where
   pub start : q.start ≡ p + length fill + 4
   pub size : q.size ≡ length octets
 
+-- the bytes x at offset p are this part: a marker that stands alone, or a marker segment (B.1.1.3,
+-- B.1.1.4)
 abbrev pub IsPart : ℕ → Part → List ℕ → Type 0
 IsPart p q x = IsAlone p q x ⊎ IsSegment p q x
 

@@ -33,16 +33,19 @@ extended_mark = codes "http://ns.adobe.com/xmp/extension/" ++ 0 ∷ []
 abbrev pub is_marked : ℕ → List ℕ → ℕ → List ℕ → Bool
 is_marked marker mark code octets = (code == marker) && starts_with nat_eq octets mark
 
--- APP1 is E1, APP13 is ED
+-- APP1, E1, whose data begin with Exif's mark
 unfoldable pub is_exif : ℕ → List ℕ → Bool
 is_exif = is_marked 225 exif_mark
 
+-- APP13, ED, whose data begin with Photoshop's mark
 unfoldable pub is_photoshop : ℕ → List ℕ → Bool
 is_photoshop = is_marked 237 photoshop_mark
 
+-- APP1, E1, whose data begin with the mark of a packet of XMP
 unfoldable pub is_xmp : ℕ → List ℕ → Bool
 is_xmp = is_marked 225 xmp_mark
 
+-- APP1, E1, whose data begin with the mark of a piece of extended XMP
 unfoldable pub is_extended : ℕ → List ℕ → Bool
 is_extended = is_marked 225 extended_mark
 
@@ -55,6 +58,7 @@ segment_kind code octets =
     else if is_extended code octets then Some ExtendedXmp
     else None
 
+-- how many bytes each mark has, its zeros included: a piece begins after them
 abbrev pub mark_len : SegmentKind → ℕ
 mark_len Exif = 6
 mark_len Photoshop = 14
@@ -71,9 +75,12 @@ begins Exif (Some Exif) octets = is_header octets
 begins Photoshop (Some Photoshop) octets = false
 begins kind last octets = true
 
+-- `size` bytes of b from the offset `start` on
 abbrev pub range : List ℕ → ℕ → ℕ → List ℕ
 range b start size = take size (drop start b)
 
+-- the piece in part q, which has the kind k, after a part of the kind `last`: all data of the part
+-- after its mark
 abbrev pub piece_of : List ℕ → Part → SegmentKind → Option SegmentKind → Piece
 piece_of b q k last = record {
   kind = k;

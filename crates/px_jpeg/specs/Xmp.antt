@@ -8,6 +8,7 @@ use Rattle.px_jpeg.specs.declared.pieces.SegmentKind.TheVariants.{Xmp, ExtendedX
 use Rattle.px_jpeg.specs.declared.pieces.Piece.{Piece}
 use Rattle.px_jpeg.specs.Pieces.{pieces}
 
+-- a packet, and no piece of extended XMP
 abbrev pub is_packet : SegmentKind → Bool
 is_packet Xmp = true
 is_packet other = false

@@ -89,6 +89,7 @@ impl<'a> Iterator for WithPieces<'a> {
 
     ghost remaining = { item_count (λ left. left) };
 
+    // The next part with its piece; the kind is kept for the part after it. None: no part is left.
     fn next(&mut self) -> Option<HeadPart> {
         let Some(part) = self.parts.next() else {
             return None;

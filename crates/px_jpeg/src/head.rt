@@ -157,6 +157,8 @@ impl<'a> Iterator for Parts<'a> {
 
     ghost remaining = { item_count (λ left. left) };
 
+    // Reads the part at the offset `at`. None: the last one, SOS or EOI, was returned, or no part
+    // begins here.
     fn next(&mut self) -> Option<Part> {
         if self.is_over {
             return None;

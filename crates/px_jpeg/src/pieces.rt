@@ -11,6 +11,7 @@ use std::marker::Model;
 // The markers of the segments that contain something.
 pub(crate) const APP1: u8 = 0xE1;
 
+// The marker code of the segments that contain Photoshop's image resources.
 const APP13: u8 = 0xED;
 
 /// What a segment contains.
@@ -220,6 +221,8 @@ impl<'a> Iterator for Pieces<'a> {
 
     ghost remaining = { item_count (λ left. left) };
 
+    // The next part that contains a piece, without those that contain none. None: no such part is
+    // left.
     fn next(&mut self) -> Option<Piece> {
         match next_piece(self.bytes, &mut self.parts, self.last) {
             Some(piece) => {

@@ -119,6 +119,8 @@ impl<'a> Iterator for Resources<'a> {
 
     ghost remaining = { item_count (λ left. left) };
 
+    // Reads the resource at the offset `at`, and passes its padding. None: no whole resource begins
+    // here.
     fn next(&mut self) -> Option<Resource> {
         let bytes = self.bytes;
         let at = self.at;

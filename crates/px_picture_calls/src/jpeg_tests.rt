@@ -20,6 +20,7 @@ fn piece(kind: SegmentKind, begins: bool, start: usize, size: usize) -> Piece {
     }
 }
 
+// The second segment of Photoshop's resources continues the block of the first, and so begins none.
 #[test]
 fn the_pieces_of_a_head_are_returned(rt: HostRuntime) -> Result<(), Fail> {
     let segments = [
@@ -42,6 +43,7 @@ fn the_pieces_of_a_head_are_returned(rt: HostRuntime) -> Result<(), Fail> {
     Ok(())
 }
 
+// The bytes of a head are those up to the end of its last part; here the parts are Exif and EOI.
 #[test]
 fn a_head_has_its_bytes_and_its_parts(rt: HostRuntime) -> Result<(), Fail> {
     let file = picture(rt.alloc(), &[APP1, EXIF])?;
@@ -64,6 +66,7 @@ fn a_head_has_its_bytes_and_its_parts(rt: HostRuntime) -> Result<(), Fail> {
     Ok(())
 }
 
+// After an identifier of 32 bytes come two numbers of four; 39 bytes are too few for them.
 #[test]
 fn extended_xmp_has_a_length_and_an_offset(rt: HostRuntime) {
     let belongs = Extended {

@@ -41,6 +41,7 @@ const CAPTION_IN_TWO: &[u8] = b"\xff\xed\x00\x2bPhotoshop 3.0\x00\
       \xff\xed\x00\x15Photoshop 3.0\x00\
       \x00\x03abc";
 
+// Two segments of Exif with a header of TIFF each are two blocks; None follows the last.
 #[test]
 fn blocks_are_listed_in_order(rt: HostRuntime) -> Result<(), Fail> {
     let segments = [APP1, EXIF, APP13, RESOURCE, CAPTION, APP1, EXIF_LEAST];
@@ -56,6 +57,7 @@ fn blocks_are_listed_in_order(rt: HostRuntime) -> Result<(), Fail> {
     Ok(())
 }
 
+// Exif and IPTC that are cut over two segments each are one block each.
 #[test]
 fn blocks_are_joined_from_their_pieces(rt: HostRuntime) -> Result<(), Fail> {
     let file = picture(rt.alloc(), &[EXIF_IN_TWO, CAPTION_IN_TWO])?;
@@ -80,6 +82,7 @@ fn compared(
     Ok(same_metadata(alloc, &first, &second))
 }
 
+// The same tags, once least significant byte first, and segments in another order mean the same.
 #[test]
 fn the_byte_order_makes_no_difference(rt: HostRuntime) -> Result<(), Fail> {
     let first = [APP1, EXIF, APP13, RESOURCE, CAPTION];
@@ -88,6 +91,7 @@ fn the_byte_order_makes_no_difference(rt: HostRuntime) -> Result<(), Fail> {
     Ok(())
 }
 
+// One value that differs is found, in Exif as in IPTC.
 #[test]
 fn another_value_makes_a_difference(rt: HostRuntime) -> Result<(), Fail> {
     let exif = compared(rt.alloc(), &[APP1, EXIF], &[APP1, EXIF_TURNED])?;
@@ -118,6 +122,7 @@ fn check_fault(
     Ok(())
 }
 
+// A segment whose length is less than 2 is no part of a head, in either picture.
 #[test]
 fn a_segment_has_a_length(rt: HostRuntime) -> Result<(), Fail> {
     let fault = MetadataFault::Head(HeadFault {
@@ -128,6 +133,7 @@ fn a_segment_has_a_length(rt: HostRuntime) -> Result<(), Fail> {
     check_fault(&rt, rt.alloc(), &segments, fault)
 }
 
+// The fault names the block by its number, which begins at 0, and an offset in the block.
 #[test]
 fn the_second_exif_block_is_refused(rt: HostRuntime) -> Result<(), Fail> {
     let fault = MetadataFault::Block {
@@ -140,6 +146,7 @@ fn the_second_exif_block_is_refused(rt: HostRuntime) -> Result<(), Fail> {
     check_fault(&rt, rt.alloc(), &segments, fault)
 }
 
+// Blocks of IPTC are counted apart from those of Exif.
 #[test]
 fn the_second_iptc_block_is_refused(rt: HostRuntime) -> Result<(), Fail> {
     let fault = MetadataFault::Block {

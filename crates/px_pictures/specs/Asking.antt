@@ -20,6 +20,7 @@ abbrev pub exif_requests : List (List ℕ) → ℕ
 exif_requests [] = 0
 exif_requests (b ∷ bs) = exif_request (length b) + exif_requests bs
 
+-- to read each of these IPTC blocks once
 abbrev pub iptc_requests : List (List ℕ) → ℕ
 iptc_requests [] = 0
 iptc_requests (b ∷ bs) = iim_request (length b) + iptc_requests bs

@@ -27,13 +27,15 @@ pub record IsFaultyIptc (x : List ℕ) (cause : Cause) (place : ℕ) : Type 0 wh
   pub bounded : place ≤ limit
   pub no_meaning : (i : Record) → SaysIim x i → ⊥
 
--- each of the blocks has a meaning
+-- each of the Exif blocks has a meaning
 abbrev pub AllExif : List (List ℕ) → Type 0
 AllExif bs = (ms : List Meaning) × MeanAll SaysExif bs ms
 
+-- each of the IPTC blocks has a meaning, a record of DataSets
 abbrev pub AllIptc : List (List ℕ) → Type 0
 AllIptc bs = (is : List Record) × MeanAll SaysIim bs is
 
+-- each block of a picture, of both kinds, has a meaning
 abbrev pub AllRead : Blocks → Type 0
 AllRead x = AllExif x.exif × AllIptc x.iptc
 
@@ -84,10 +86,12 @@ abbrev pub CountsAllocFailureOfFault : MetadataFault → ℕ → ℕ → Type 0
 CountsAllocFailureOfFault OutOfMemory old new = new ≡ old + 1
 CountsAllocFailureOfFault fault old new = new ≡ old
 
+-- the same of a call's result: one that is no fault leaves the number as it was
 abbrev pub CountsAllocFailureInMetadataBy : {A : Type 0} → Result A MetadataFault → ℕ → ℕ → Type 0
 CountsAllocFailureInMetadataBy (Ok x) old new = new ≡ old
 CountsAllocFailureInMetadataBy (Err e) old new = CountsAllocFailureOfFault e old new
 
+-- the same of a fault of one of two pictures
 abbrev pub CountsAllocFailureInPictureBy : {A : Type 0} → Result A PictureFault → ℕ → ℕ → Type 0
 CountsAllocFailureInPictureBy (Ok x) old new = new ≡ old
 CountsAllocFailureInPictureBy (Err e) old new = CountsAllocFailureOfFault e.fault old new
@@ -96,5 +100,6 @@ CountsAllocFailureInPictureBy (Err e) old new = CountsAllocFailureOfFault e.faul
 abbrev pub CountsAllocFailureInMetadata : {A : Type 0} → Result A MetadataFault → MemoryCounts → MemoryCounts → Type 0
 CountsAllocFailureInMetadata r old new = CountsAllocFailureInMetadataBy r old.failed_allocations new.failed_allocations
 
+-- the same for two pictures, with the counts of a memory
 abbrev pub CountsAllocFailureInPicture : {A : Type 0} → Result A PictureFault → MemoryCounts → MemoryCounts → Type 0
 CountsAllocFailureInPicture r old new = CountsAllocFailureInPictureBy r old.failed_allocations new.failed_allocations

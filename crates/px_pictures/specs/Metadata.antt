@@ -26,6 +26,7 @@ has_octets x = nat_lt 0 (length x)
 abbrev pub blocks_in : List ℕ → List Part → Blocks
 blocks_in b parts = record { exif = exif_blocks b parts; iptc = filter has_octets (iptc_blocks b parts) }
 
+-- the blocks of a picture of which the bytes and the parts are known
 abbrev pub blocks_of : Picture → Blocks
 blocks_of p = blocks_in p.octets p.parts
 

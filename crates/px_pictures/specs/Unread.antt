@@ -62,6 +62,7 @@ is_adobe s = starts_with nat_eq s (56 ∷ 66 ∷ 73 ∷ 77 ∷ [])
 unfoldable pub is_doubtful : List ℕ → Resource → Bool
 is_doubtful s r = ((r.number == 1058) || ((r.number == 1028) && (if is_adobe s then false else true))) && nat_lt 0 r.size
 
+-- each byte is zero
 abbrev pub are_zeros : List ℕ → Bool
 are_zeros [] = true
 are_zeros (o ∷ x) = (o == 0) && are_zeros x
@@ -86,14 +87,19 @@ unread_resources x = unread_from x 0 (resources_of 0 x)
 abbrev pub octets_at : List ℕ → List ℕ → BlockPlace → List ℕ
 octets_at b all p = range (if p.joined then all else b) p.start p.size
 
+-- the place at an offset from `start` on, in the joined bytes or in the picture;
+-- None: there is no offset
 abbrev pub unread_at : Bool → ℕ → Option ℕ → Option Unread
 unread_at joined start None = None
 unread_at joined start (Some at) = Some (record { joined = joined; start = start + at })
 
+-- the place in a block p with the bytes x from which on something isn't read: only in Photoshop's
+-- resources
 abbrev pub unread_in_block : SegmentKind → List ℕ → BlockPlace → Option Unread
 unread_in_block Photoshop x p = unread_at p.joined p.start (unread_resources x)
 unread_in_block other x p = None
 
+-- the first place, or the other if there is none
 abbrev pub or_else : Option Unread → Option Unread → Option Unread
 or_else (Some u) other = Some u
 or_else None other = other

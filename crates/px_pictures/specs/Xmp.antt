@@ -58,6 +58,7 @@ abbrev pub xmp_resource : List Resource → Option ℕ
 xmp_resource [] = None
 xmp_resource (r ∷ rs) = if has_xmp r then Some r.start else xmp_resource rs
 
+-- the place in a block p with the bytes x at which such a resource has its data; None: it has none
 abbrev pub xmp_in_block : SegmentKind → List ℕ → BlockPlace → Option Unread
 xmp_in_block Photoshop x p = unread_at p.joined p.start (xmp_resource (resources_of 0 x))
 xmp_in_block other x p = None

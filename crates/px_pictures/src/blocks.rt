@@ -77,6 +77,7 @@ impl<'b, 'a> Iterator for ExifBlocks<'b, 'a> {
 
     ghost remaining = { item_count (λ left. left) };
 
+    // The next block of Exif, without those of other kinds. None: no block is left.
     fn next(&mut self) -> Option<&'b [u8]> {
         loop {
             let Some(run) = self.runs.next_run() else {
@@ -117,6 +118,8 @@ impl<'b, 'a> Iterator for IptcBlocks<'b, 'a> {
 
     ghost remaining = { item_count (λ left. left) };
 
+    // The next resource with IPTC, of this block of Photoshop or of those after it. None: no block
+    // is left.
     fn next(&mut self) -> Option<&'b [u8]> {
         loop {
             if let Some(block) = next_record(self.octets, &mut self.resources) {

@@ -90,6 +90,8 @@ impl<'a> Iterator for Places<'a> {
 
     ghost remaining = { item_count (λ left. left) };
 
+    // Where the next block is: a single piece is at its place in the picture, and several, which
+    // are copied, at one in the joined bytes. None: no block is left.
     fn next(&mut self) -> Option<BlockPlace> {
         let Some(piece) = self.left.next_piece() else {
             return None;

@@ -18,6 +18,7 @@ use px_jpeg::{Front, Resource, SegmentKind, find_resources, with_pieces};
 // The number of the image resource with IPTC's DataSets, and that of the one with Exif.
 const IPTC: usize = 0x0404;
 
+// The number of the image resource in which Photoshop may repeat the Exif.
 const EXIF: usize = 0x0422;
 
 /// A place in a picture from which on something is not read.

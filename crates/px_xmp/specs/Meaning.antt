@@ -52,6 +52,8 @@ Joins Bag es fs = Sorts es fs
 Joins Seq es fs = fs ≡ es
 Joins Alt es fs = fs ≡ es
 
+-- what a structure or an array s with the entries es contains: they are joined by its rules, in a
+-- row
 abbrev pub IsRow : Compound → List Entry → Content → Type 0
 IsRow s es c = (fs : List Entry) × Joins s es fs × (c ≡ row fs)
 
@@ -96,6 +98,9 @@ IsDescribed l place fields inner v =
     (fields ≢ []) × AreWhite inner × (es : List Entry) × (c : Content) × AreAttributes l place fields es × IsRow Structure es c
     × (v ≡ Inside Structure c)
 
+-- the value of an element with the language l and these attributes: a text, a node, properties, a
+-- URI, or attributes that are properties. IsInside says what the nodes in it are as one node, and
+-- AreInside what they are as properties.
 abbrev pub IsValue : List ℕ → ℕ → List Field → Nodes → (Compound → Content → Type 0) → (List Entry → Type 0) → Value → Type 0
 IsValue l place fields inner IsInside AreInside v =
     IsLiteral l fields inner v ⊎ IsResource fields IsInside v ⊎ IsParsed fields AreInside v ⊎ IsUri fields inner v

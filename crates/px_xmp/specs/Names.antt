@@ -12,6 +12,7 @@ pub record Name : Type 0 where
   pub space : List ℕ
   pub local : List ℕ
 
+-- a namespace, or the empty one for none
 abbrev pub or_none : Option (List ℕ) → List ℕ
 or_none None = []
 or_none (Some u) = u
@@ -20,12 +21,15 @@ or_none (Some u) = u
 abbrev pub element_name : List Item → Named → Name
 element_name scope n = record { space = or_none (space_of n.prefix scope); local = n.local }
 
+-- the name of an attribute: without a prefix it is in no namespace
 abbrev pub attribute_name : List Item → Named → Name
 attribute_name scope n = record { space = or_none (attribute_space scope n); local = n.local }
 
+-- the namespace of RDF (RDF/XML, 5.1)
 abbrev pub rdf_space : List ℕ
 rdf_space = codes "http://www.w3.org/1999/02/22-rdf-syntax-ns#"
 
+-- the namespace of x:xmpmeta (XMP part 1, 7.3.3)
 abbrev pub meta_space : List ℕ
 meta_space = codes "adobe:ns:meta/"
 

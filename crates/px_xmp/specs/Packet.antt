@@ -28,10 +28,11 @@ abbrev pub AreAround : List (List ℕ) → List ℕ → Type 0
 AreAround [] x = x ≡ []
 AreAround (m ∷ more) x = IsAround m × (rest : List ℕ) × (x ≡ m ++ rest) × AreAround more rest
 
--- none is at the start, and no padding at the end
+-- no padding and no byte order mark is at the start
 abbrev pub BeginsBare : List ℕ → Type 0
 BeginsBare x = (m y : List ℕ) → IsAround m → x ≢ m ++ y
 
+-- no padding is at the end
 abbrev pub EndsBare : List ℕ → Type 0
 EndsBare x = (o : ℕ) (y : List ℕ) → is_padding o ≡ true → x ≢ y ++ o ∷ []
 

@@ -66,6 +66,8 @@ abbrev pub attribute_cause : AttributeCause → Cause
 attribute_cause attributes.NoMark = BadMarkup
 attribute_cause attributes.AttributeTwice = AttributeTwice
 
+-- the cause of a refusal that a fault of prefixes or namespaces is, or a limit that px_xmp_spaces
+-- has
 abbrev pub space_cause : SpaceCause → Cause
 space_cause spaces.NoMark = BadMarkup
 space_cause spaces.Undeclared = BadPrefix
@@ -75,6 +77,7 @@ space_cause spaces.TooMany = RareCount
 space_cause spaces.ManyAttributes = RareCount
 space_cause spaces.SameName = AttributeTwice
 
+-- a fault of the document x, which px_xmp_document finds, is refused with this cause
 abbrev pub IsDocumentCause : DocumentCause → List ℕ → Cause → Type 0
 IsDocumentCause documents.NoCharacter x cause = cause ≡ BadCharacter
 IsDocumentCause documents.OtherEncoding x cause = cause ≡ RareEncoding
@@ -169,6 +172,8 @@ pub record IsRefusedByFault (x : List ℕ) (start : ℕ) (cause : Cause) (place 
 abbrev pub IsRefusedByRdf : List ℕ → ℕ → Cause → Type 0
 IsRefusedByRdf x start cause = IsFile x × (nodes : Nodes) × HasNodes x start nodes × IsCauseOfRdf cause nodes
 
+-- the document x at the offset `start` of its packet is refused with this cause at this place: by a
+-- count, by a fault of XML, or by RDF
 abbrev pub IsRefusedDocument : List ℕ → ℕ → Cause → ℕ → Type 0
 IsRefusedDocument x start cause place =
     IsRefusedByCount x start cause place ⊎ IsRefusedByFault x start cause place ⊎ IsRefusedByRdf x start cause

@@ -6,11 +6,13 @@ use Rattle.px_xmp_spaces.specs.Bindings.{declared_prefix}
 use Rattle.px_xmp_forms.specs.Languages.{IsLanguage}
 use Rattle.px_xmp.specs.Names.{Name, element_name, attribute_name}
 
--- what is in scope after attributes (Namespaces, 6.1)
+-- what is in scope after an attribute with the value u that declares this prefix, or declares none
+-- (Namespaces, 6.1)
 abbrev pub with_prefix : Option (List ℕ) → List ℕ → List Item → List Item
 with_prefix None u scope = scope
 with_prefix (Some p) u scope = Declaration p u ∷ scope
 
+-- what is in scope after some attributes, the last declaration first
 abbrev pub declared : List Attr → List Item → List Item
 declared [] scope = scope
 declared (a ∷ more) scope = declared more (with_prefix (declared_prefix a.name) a.value scope)
@@ -38,6 +40,7 @@ inherited outer (Some l) = l
 abbrev pub is_plain : Named → Bool
 is_plain n = is_none (declared_prefix n) && not (names_language n)
 
+-- those of some attributes that declare neither a prefix nor the language
 abbrev pub plain : List Attr → List Attr
 plain [] = []
 plain (a ∷ more) = if is_plain a.name then a ∷ plain more else plain more
@@ -47,6 +50,7 @@ pub record Field : Type 0 where
   pub name : Name
   pub value : List ℕ
 
+-- an attribute with its namespace, by what is in scope
 abbrev pub field_of : List Item → Attr → Field
 field_of scope a = record { name = attribute_name scope a.name; value = a.value }
 
@@ -60,6 +64,7 @@ pub record Tag : Type 0 where
 abbrev pub inside : List Item → List Attr → List Item
 inside outer attributes = declared attributes (Element ∷ outer)
 
+-- the attributes of a tag that declare nothing, with their namespaces
 abbrev pub fields_in : List Item → List Attr → List Field
 fields_in scope attributes = map (field_of scope) (plain attributes)
 

@@ -9,10 +9,14 @@ ghost use Rattle.px_xmp.specs.calls.Fits.{LanguageFits};
 use px_xmp_forms::is_language;
 use px_xmp_marks::{Name, NextAttribute, next_attribute};
 
+// The prefix, or the whole name, of an attribute that declares a namespace. Namespaces in XML 1.0,
+// 3.
 const XMLNS: &[u8] = b"xmlns";
 
+// The prefix of xml:lang.
 const XML: &[u8] = b"xml";
 
+// The local name of xml:lang, which declares the language of an element. XML 1.0, 2.12.
 const LANG: &[u8] = b"lang";
 
 // The prefix of a declaration, after `xmlns`, or None if an attribute with this name declares none.

@@ -18,10 +18,13 @@ pub(crate) const XMLNS: &[u8] = b"http://www.w3.org/2000/xmlns/";
 // The name of the root, and that of the root of old packets.
 const ROOT: &[u8] = b"xmpmeta";
 
+// The local name that the root has in old packets.
 const OLD_ROOT: &[u8] = b"xapmeta";
 
+// The local name of rdf:about, which names the subject of a node. RDF/XML, 7.2.24.
 const ABOUT: &[u8] = b"about";
 
+// The local name of rdf:value, the only name of RDF that is a property. XMP part 1, 7.5.
 const VALUE: &[u8] = b"value";
 
 // Whether a namespace has properties of any name.

@@ -21,6 +21,7 @@ use crate::source::{ENDED, Source};
 use px_bytes::Memory;
 use px_xmp_forms::{BagOrder, Cause, Output, Refusal};
 
+// What is left of a document's octets, with the prefixes in scope, and what was written of it.
 #[derive(Drop)]
 pub(crate) struct Reader<'a> {
     pub(crate) source: Source<'a>,
@@ -49,6 +50,8 @@ fn put_words(
 }
 
 impl<'a> Reader<'a> {
+    // A reader of these octets, which are at the offset `at` of their packet: nothing is in scope,
+    // and nothing written.
     pub(crate) fn new(memory: &Memory, octets: &'a [u8], at: usize, order: BagOrder) -> Reader<'a>
         ensures rest { result.source.rest.now ≡ octets.now }
         ensures at { result.source.at ≡ at }

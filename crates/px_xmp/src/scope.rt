@@ -22,6 +22,7 @@ use std::marker::Model;
 // The prefixes that are bound without a declaration. No declaration binds the second one, and no name has it.
 const XML_PREFIX: &[u8] = b"xml";
 
+// The prefix that no declaration may bind, as it declares others. Namespaces in XML 1.0, 3.
 const XMLNS_PREFIX: &[u8] = b"xmlns";
 
 // An open element, or what it declares: a prefix and a namespace. Its declarations follow it.
@@ -134,6 +135,7 @@ impl<'a> Model for Scope<'a> {
 }
 
 impl<'a> Scope<'a> {
+    // A scope with no element open, whose entries will be allocated in this memory.
     pub(crate) fn new(memory: &Memory) -> Scope<'a>
         ensures { result ≡ [] }
     {

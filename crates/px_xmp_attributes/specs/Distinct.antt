@@ -10,11 +10,12 @@ abbrev pub IsAmong : Named → List Attr → Type 0
 IsAmong n [] = ⊥
 IsAmong n (a ∷ more) = (a.name ≡ n) ⊎ IsAmong n more
 
--- no name is there twice, and a name is there twice
+-- no two of these attributes have one name
 abbrev pub AreDistinct : List Attr → Type 0
 AreDistinct [] = ⊤
 AreDistinct (a ∷ more) = (IsAmong a.name more → ⊥) × AreDistinct more
 
+-- two of these attributes have one name
 abbrev pub AreRepeated : List Attr → Type 0
 AreRepeated [] = ⊥
 AreRepeated (a ∷ more) = IsAmong a.name more ⊎ AreRepeated more

@@ -15,11 +15,12 @@ most = 33554432
 abbrev pub TextFits : TextKind → List ℕ → ℕ → Type 0
 TextFits kind x n = (t : List ℕ) × (text_of kind x ≡ Some t) × (length x ≤ limit) × (n + length (normal_text t) ≤ most)
 
--- the language of each text is within the limit of this reader
+-- the language of a simple value is within the limit of this reader; a URI has none
 abbrev pub HasShortLanguage : Simple → Type 0
 HasShortLanguage (Literal language text) = length language ≤ language_limit
 HasShortLanguage (Uri uri) = ⊤
 
+-- the language of each text in these properties or items, also inside others, is within that limit
 abbrev pub HaveShortLanguages : Content → Type 0
 HaveShortLanguages End = ⊤
 HaveShortLanguages (Flat l p rest) = HasShortLanguage p × HaveShortLanguages rest
@@ -47,6 +48,7 @@ abbrev pub language_octets : List ℕ → List ℕ
 language_octets [] = 62 ∷ []
 language_octets (o ∷ y) = 32 ∷ 120 ∷ (codes "ml:lang=\"" ++ (o ∷ (y ++ 34 ∷ 62 ∷ [])))
 
+-- white space (XML 1.0, 2.3)
 abbrev pub is_space : ℕ → Bool
 is_space o = (o == 32) || (o == 9) || (o == 10) || (o == 13)
 

@@ -6,9 +6,11 @@ use Rattle.std.specs.List.{list_all}
 abbrev pub language_limit : ℕ
 language_limit = 100
 
+-- [A-Za-z]
 abbrev pub is_letter : ℕ → Bool
 is_letter o = (nat_le 97 o && nat_le o 122) || (nat_le 65 o && nat_le o 90)
 
+-- [0-9]
 abbrev pub is_digit : ℕ → Bool
 is_digit o = nat_le 48 o && nat_le o 57
 
@@ -30,5 +32,6 @@ AreParts first (p ∷ q ∷ ps) x = IsPart first p × (rest : List ℕ) × (x �
 abbrev pub EndsPart : List ℕ → Type 0
 EndsPart x = (x ≡ []) ⊎ ((rest : List ℕ) × (x ≡ 45 ∷ rest))
 
+-- a language: such parts, of which the first has letters alone
 abbrev pub IsLanguage : List ℕ → Type 0
 IsLanguage x = (ps : List (List ℕ)) × AreParts true ps x

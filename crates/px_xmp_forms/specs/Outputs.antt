@@ -38,16 +38,20 @@ pub record IsElement (x : Element) (l : values.Label) (v : Value) : Type 0 where
   pub can : IsContent (before l v End)
   pub short : HaveShortLanguages (before l v End)
 
+-- a stored item has the octets of an entry, and the offset in the packet at which the entry begins
 pub record IsItem (x : Item) (e : Entry) : Type 0 where
   pub element : IsElement x.element e.label e.value
   pub place : x.place ≡ e.place
 
+-- stored items have these entries, one each, in order
 abbrev pub AreItems : List Item → List Entry → Type 0
 AreItems [] [] = ⊤
 AreItems (x ∷ xs) (e ∷ es) = IsItem x e × AreItems xs es
 AreItems [] (e ∷ es) = ⊥
 AreItems (x ∷ xs) [] = ⊥
 
+-- what is stored of an open element is what was read of it, with the texts and values in their
+-- normal form
 pub record IsLevel (x : Level) (o : Open) : Type 0 where
   pub text : x.text ≡ normal_text o.text
   pub inner : x.inner ≡ written o.inner []
@@ -55,6 +59,7 @@ pub record IsLevel (x : Level) (o : Open) : Type 0 where
   pub short : HaveShortLanguages o.inner
   pub entries : AreItems x.items.items o.entries
 
+-- what is stored of open elements is what was read of them, one each, in order
 abbrev pub AreLevels : List Level → List Open → Type 0
 AreLevels [] [] = ⊤
 AreLevels (x ∷ xs) (o ∷ os) = IsLevel x o × AreLevels xs os
@@ -75,12 +80,15 @@ pub record Has (x : Output) (s : State) : Type 0 where
 abbrev pub nothing : Open
 nothing = record { text = []; inner = End; entries = [] }
 
+-- an open element after its text or URI became t
 abbrev pub with_text : List ℕ → Open → Open
 with_text t o = record { text = t; inner = o.inner; entries = o.entries }
 
+-- an open element after what is inside became c
 abbrev pub with_inner : Row → Open → Open
 with_inner c o = record { text = o.text; inner = c; entries = o.entries }
 
+-- an open element after one entry was added to those that are not joined yet
 abbrev pub with_entry : Entry → Open → Open
 with_entry e o = record { text = o.text; inner = o.inner; entries = o.entries ++ e ∷ [] }
 
@@ -88,6 +96,7 @@ with_entry e o = record { text = o.text; inner = o.inner; entries = o.entries ++
 abbrev pub with_joined : List Entry → Open → Open
 with_joined es o = record { text = o.text; inner = row es; entries = [] }
 
+-- open elements after a change f of the innermost, if there is one
 abbrev pub first_changed : (Open → Open) → List Open → List Open
 first_changed f [] = []
 first_changed f (o ∷ os) = f o ∷ os
@@ -96,6 +105,7 @@ first_changed f (o ∷ os) = f o ∷ os
 abbrev pub changed : (Open → Open) → State → State
 changed f s = record { opened = first_changed f s.opened; properties = s.properties }
 
+-- an element was opened, of which o was read
 abbrev pub begun : Open → State → State
 begun o s = record { opened = o ∷ s.opened; properties = s.properties }
 
@@ -117,6 +127,7 @@ first_ended l content place [] = []
 first_ended l content place (o ∷ os) =
     first_changed (with_entry (record { label = label_view l; value = value_of content o.text o.inner; place = place })) os
 
+-- the innermost element ended: with its label and this content it is an entry of the one around it
 abbrev pub element_ended : Label → Content → ℕ → State → State
 element_ended l content place s = record { opened = first_ended l content place s.opened; properties = s.properties }
 
@@ -125,6 +136,7 @@ abbrev pub first_closed : List Open → List Open
 first_closed [] = []
 first_closed (o ∷ os) = first_changed (with_inner o.inner) os
 
+-- a node ended: what is inside the innermost element is now inside the one around it
 abbrev pub node_ended : State → State
 node_ended s = record { opened = first_closed s.opened; properties = s.properties }
 
@@ -133,10 +145,12 @@ abbrev pub properties_of : List Open → Row → Row
 properties_of [] c = c
 properties_of (o ∷ os) c = o.inner
 
+-- the open elements without the innermost
 abbrev pub rest_of : List Open → List Open
 rest_of [] = []
 rest_of (o ∷ os) = os
 
+-- the innermost element ended, and what is inside it are the properties of the packet
 abbrev pub properties_ended : State → State
 properties_ended s = record { opened = rest_of s.opened; properties = properties_of s.opened s.properties }
 
@@ -150,9 +164,11 @@ abbrev pub JoinsFirst : Bool → List Open → List Open → Type 0
 JoinsFirst is_bag [] after = after ≡ []
 JoinsFirst is_bag (o ∷ os) after = (fs : List Entry) × SortsIf is_bag o.entries fs × (after ≡ with_joined fs o ∷ os)
 
+-- the same in a state, whose properties stay as they are
 abbrev pub JoinsMembers : Bool → State → State → Type 0
 JoinsMembers is_bag s after = JoinsFirst is_bag s.opened after.opened × (after.properties ≡ s.properties)
 
+-- the entries of the innermost element that are not joined yet
 abbrev pub first_entries : List Open → List Entry
 first_entries [] = []
 first_entries (o ∷ os) = o.entries
@@ -167,5 +183,6 @@ PutsFirst kind x [] more after = (more ≡ false) × (after ≡ [])
 PutsFirst kind x (o ∷ os) more after =
     (t : List ℕ) × (text_of kind x ≡ Some t) × (more ≡ not (is_white t)) × (after ≡ with_text (o.text ++ t) o ∷ os)
 
+-- the same in a state, whose properties stay as they are
 abbrev pub PutsText : TextKind → List ℕ → State → Bool → State → Type 0
 PutsText kind x s more after = PutsFirst kind x s.opened more after.opened × (after.properties ≡ s.properties)

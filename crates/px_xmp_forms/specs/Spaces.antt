@@ -8,12 +8,15 @@ use Rattle.px_xmp_forms.specs.Uris.{is_uri_octet}
 abbrev pub rdf_space : List ℕ
 rdf_space = codes "http://www.w3.org/1999/02/22-rdf-syntax-ns#"
 
+-- the namespace of x:xmpmeta (XMP part 1, 7.3.3)
 abbrev pub meta_space : List ℕ
 meta_space = codes "adobe:ns:meta/"
 
+-- the namespace of the prefix xml (Namespaces in XML 1.0, 3)
 abbrev pub xml_space : List ℕ
 xml_space = codes "http://www.w3.org/XML/1998/namespace"
 
+-- the namespace of the prefix xmlns (Namespaces in XML 1.0, 3)
 abbrev pub xmlns_space : List ℕ
 xmlns_space = codes "http://www.w3.org/2000/xmlns/"
 

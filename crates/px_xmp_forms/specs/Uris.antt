@@ -17,10 +17,11 @@ abbrev pub are_uri_octets : List ℕ → Bool
 are_uri_octets [] = true
 are_uri_octets (o ∷ x) = is_uri_octet o && ((not (o == 38) || starts_with nat_eq (o ∷ x) (codes "&amp;")) && are_uri_octets x)
 
--- a letter, and then letters, digits and three signs (3.1)
+-- an octet of a scheme after its first: a letter, a digit, or one of +.- (3.1)
 abbrev pub is_scheme_octet : ℕ → Bool
 is_scheme_octet o = is_letter o || is_digit o || (o == 43) || (o == 46) || (o == 45)
 
+-- a scheme: a letter, and then any of those octets (3.1)
 abbrev pub is_scheme : List ℕ → Bool
 is_scheme [] = false
 is_scheme (o ∷ x) = is_letter o && list_all is_scheme_octet x

@@ -108,6 +108,7 @@ impl From<AllocFailed> for Refusal {
 
     ghost from_gives = { λ _ e. e ≡ OutOfMemory };
 
+    // An allocation that failed is no fault of the packet: the same call may succeed later.
     fn from(_: AllocFailed) -> Refusal {
         Refusal::OutOfMemory
     }

@@ -46,6 +46,7 @@ fn order(a: &[u8], b: &[u8]) -> Ordering
 }
 
 impl Item {
+    // The octets that the normal form has of the item, with its tags.
     fn octets(&self) -> &[u8]
         ensures { result.now ≡ self.now.element.piece }
     {
@@ -67,6 +68,7 @@ impl PartialEq for Item {
 
     ghost laws = { on_per (λ i. i.element.piece) (partial_equiv_from_equiv nat_list_eq_equiv) };
 
+    // Two items are equal if they are written alike.
     fn eq(&self, other: &Item) -> bool {
         self.octets() == other.octets()
     }
@@ -81,6 +83,7 @@ impl PartialOrd for Item {
 
     ghost laws = { on_po (λ i. i.element.piece) texts_po };
 
+    // Any two items have an order, so this is never None.
     fn partial_cmp(&self, other: &Item) -> Option<Ordering> {
         Some(self.cmp(other))
     }
@@ -95,6 +98,7 @@ impl Ord for Item {
 
     ghost matches_eq = { λ a b. texts_ties a.element.piece b.element.piece };
 
+    // The order of items is that of their octets, as numbers.
     fn cmp(&self, other: &Item) -> Ordering {
         order(self.octets(), other.octets())
     }

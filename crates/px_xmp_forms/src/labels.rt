@@ -24,6 +24,7 @@ pub enum Container {
 }
 
 impl Container {
+    // The name of the element of an array, and the end of its tag. XMP part 1, 7.7.
     fn name(self) -> &'static [u8]
         ensures { result.now ≡ container_octets self }
     {

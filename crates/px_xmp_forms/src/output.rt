@@ -25,11 +25,15 @@ use crate::pieces::{Piece, TextForm};
 use px_bytes::Memory;
 use px_xmp_text::TextKind;
 
+// The elements of a normal form around its node. XMP part 1, 7.3.3 and RDF/XML, 7.2.9.
 const HEAD: &[u8] =
     b"<x:xmpmeta xmlns:x=\"adobe:ns:meta/\"><rdf:RDF xmlns:rdf=\"http://www.w3.org/1999/02/22-rdf-syntax-ns#\">";
 
+// The start tag of the only node, whose subject is not named: `rdf:about` is empty. XMP part 1,
+// 7.4.
 const DESCRIPTION: &[u8] = b"<rdf:Description rdf:about=\"\">";
 
+// The end tags of the node and of the two elements around it.
 const TAIL: &[u8] = b"</rdf:Description></rdf:RDF></x:xmpmeta>";
 
 // The most octets of space that is kept for the next text.

@@ -13,16 +13,20 @@ pub const RDF: &[u8] = b"http://www.w3.org/1999/02/22-rdf-syntax-ns#";
 /// The namespace of `x:xmpmeta`.
 pub const META: &[u8] = b"adobe:ns:meta/";
 
+// The namespace of the prefix `xml`. Namespaces in XML 1.0, 3.
 const XML: &[u8] = b"http://www.w3.org/XML/1998/namespace";
 
+// The namespace of the prefix `xmlns`. Namespaces in XML 1.0, 3.
 const XMLNS: &[u8] = b"http://www.w3.org/2000/xmlns/";
 
+// Whether an octet is a letter of ASCII.
 pub(crate) fn is_letter(octet: u8) -> bool
     ensures { result ≡ is_letter octet }
 {
     (b'a' <= octet && octet <= b'z') || (b'A' <= octet && octet <= b'Z')
 }
 
+// Whether an octet is one of 0 to 9.
 pub(crate) fn is_digit(octet: u8) -> bool
     ensures { result ≡ is_digit octet }
 {

@@ -7,8 +7,10 @@ use crate::parts::{Kind, Part, advance, depth_after, is_outer, read_part};
 use px_bytes::{AllocFailed, Memory};
 use px_xmp_forms::RDF;
 
+// The namespace of Dublin Core. XMP part 1, 8.3.
 const DC: &[u8] = b"http://purl.org/dc/elements/1.1/";
 
+// The namespace of Photoshop's properties. XMP part 2, 3.2.
 const PHOTOSHOP: &[u8] = b"http://ns.adobe.com/photoshop/1.0/";
 
 // A property with a label.

@@ -16,9 +16,10 @@ use crate::parts::skip;
 use px_bytes::{AllocFailed, Memory};
 use px_xmp::{Refusal, normal_form_in};
 
-// The octets of a form before its properties and after them.
+// The number of octets of a normal form before its properties.
 const HEAD_LEN: usize = 131;
 
+// The number of octets of a normal form after its properties, which are three end tags.
 const TAIL_LEN: usize = 40;
 
 // Whether an octet may precede a packet's document.

@@ -7,13 +7,16 @@ use Rattle.px_xmp_marks.specs.Grammar.{AreSpaces, IsEq}
 use Rattle.px_xmp_marks.specs.declared.declarations.Info.{Info}
 use Rattle.px_xmp_marks.specs.declared.declarations.Declaration.{Declaration}
 
+-- each of these octets passes the test f
 abbrev pub every : (ℕ → Bool) → List ℕ → Bool
 every f [] = true
 every f (o ∷ x) = f o && every f x
 
+-- [0-9]
 abbrev pub is_digit : ℕ → Bool
 is_digit o = nat_le 48 o && nat_le o 57
 
+-- [A-Za-z]
 abbrev pub is_letter : ℕ → Bool
 is_letter o = (nat_le 97 o && nat_le o 122) || (nat_le 65 o && nat_le o 90)
 
@@ -48,6 +51,7 @@ pub record Part : Type 0 where
   pub value : List ℕ
   pub size : ℕ
 
+-- a stored part as it is read
 abbrev pub part_view : Info → Part
 part_view i = record { value = i.value.now; size = i.size }
 
@@ -55,6 +59,8 @@ part_view i = record { value = i.value.now; size = i.size }
 abbrev pub from_equals : ℕ → List ℕ → ℕ → Option Part
 from_equals n y e = option_map (λ v. record { value = v; size = n + e + (length v + 2) }) (att_value (drop e y))
 
+-- the part whose name is before y, at the start of which an equals sign is expected; n octets are
+-- before y
 abbrev pub after_name : ℕ → List ℕ → Option Part
 after_name n y = option_and_then (from_equals n y) (eq_len y)
 
@@ -65,27 +71,32 @@ part w x =
     else if starts_with nat_eq (drop (space_len x) x) w then after_name (space_len x + length w) (drop (length w) (drop (space_len x) x))
     else None
 
--- the same, if its value passes a test
+-- a part, if its value passes the test f
 abbrev pub if_passes : (List ℕ → Bool) → Part → Option Part
 if_passes f p = if f p.value then Some p else None
 
+-- the part with the name w at the start, if its value passes the test f
 unfoldable pub checked : List ℕ → (List ℕ → Bool) → List ℕ → Option Part
 checked w f x = option_and_then (if_passes f) (part w x)
 
--- the length and the value of a part that may be missing
+-- the length of a part, 0 if it is missing
 abbrev pub size_of : Option Part → ℕ
 size_of None = 0
 size_of (Some p) = p.size
 
+-- the value of a part that may be missing
 abbrev pub value_of : Option Part → Option (List ℕ)
 value_of p = option_map (λ q. q.value) p
 
+-- SDDecl (production 32) at the start; None: there is none
 abbrev pub standalone_part : List ℕ → Option Part
 standalone_part x = checked (codes "standalone") is_standalone x
 
+-- EncodingDecl (production 80) at the start; None: there is none
 abbrev pub encoding_part : List ℕ → Option Part
 encoding_part x = checked (codes "encoding") is_encoding x
 
+-- VersionInfo (production 24) at the start; None: there is none
 abbrev pub version_part : List ℕ → Option Part
 version_part x = checked (codes "version") is_version x
 
@@ -102,6 +113,7 @@ pub record Declared : Type 0 where
   pub encoding : Option (List ℕ)
   pub size : ℕ
 
+-- a stored declaration as it is read; an encoding of None: it names no encoding
 abbrev pub declaration_view : Declaration → Declared
 declaration_view d = record { encoding = option_map (λ e. e.now) d.encoding; size = d.size }
 

@@ -14,6 +14,7 @@ is_reserved (x ∷ m ∷ []) = false
 is_reserved (x ∷ m ∷ l ∷ []) = ((x == 120) || (x == 88)) && ((m == 109) || (m == 77)) && ((l == 108) || (l == 76))
 is_reserved (x ∷ m ∷ l ∷ o ∷ more) = false
 
+-- white space is at the start
 abbrev pub begins_space : List ℕ → Bool
 begins_space [] = false
 begins_space (o ∷ x) = is_space o

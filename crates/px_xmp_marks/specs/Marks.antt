@@ -24,14 +24,17 @@ text_len x =
     then Some (data_len x)
     else None
 
+-- the first length, or the second if there is none
 abbrev pub or_else : Option ℕ → Option ℕ → Option ℕ
 or_else None y = y
 or_else (Some n) y = Some n
 
--- the length of the tag at the start, and that of a comment, a section or an instruction
+-- the length of the tag at the start
 unfoldable pub tag_len : List ℕ → Option ℕ
 tag_len x = or_else (option_map (λ t. t.size) (start_tag x)) (option_map (λ t. t.size) (end_tag x))
 
+-- the length of the comment (with 7 octets around its text), the CDATA section (with 12) or the
+-- instruction at the start
 unfoldable pub other_len : List ℕ → Option ℕ
 other_len x =
     or_else (option_map (λ y. length y + 7) (comment x)) (or_else (option_map (λ y. length y + 12) (section x)) (instruction x))

@@ -14,10 +14,11 @@ use Rattle.px_xmp_marks.specs.declared.tags.EndTag.{EndTag}
 abbrev pub is_space : ℕ → Bool
 is_space o = (o == 32) || (o == 9) || (o == 10) || (o == 13)
 
--- the characters with which a name can begin, and those that it can contain, of ASCII and without the colon (2.3)
+-- the characters of ASCII with which a name can begin, without the colon (2.3): [A-Za-z_]
 abbrev pub is_name_start : ℕ → Bool
 is_name_start o = (nat_le 97 o && nat_le o 122) || (nat_le 65 o && nat_le o 90) || (o == 95)
 
+-- the characters of ASCII that a name can contain, without the colon (2.3): [A-Za-z_0-9.-]
 abbrev pub is_name_char : ℕ → Bool
 is_name_char o = is_name_start o || (nat_le 48 o && nat_le o 57) || (o == 45) || (o == 46)
 
@@ -26,10 +27,11 @@ abbrev pub run : (ℕ → Bool) → List ℕ → ℕ
 run f [] = 0
 run f (o ∷ x) = if f o then suc (run f x) else 0
 
--- how many octets at the start are white space, and how many a name can contain
+-- how many octets at the start are white space
 abbrev pub space_len : List ℕ → ℕ
 space_len x = run is_space x
 
+-- how many octets at the start a name can contain
 abbrev pub name_len : List ℕ → ℕ
 name_len x = run is_name_char x
 
@@ -38,6 +40,7 @@ unfoldable pub ncname : List ℕ → Option ℕ
 ncname [] = None
 ncname (o ∷ x) = if is_name_start o then Some (name_len (o ∷ x)) else None
 
+-- the octet c is at the start
 abbrev pub begins_with : ℕ → List ℕ → Bool
 begins_with c [] = false
 begins_with c (o ∷ x) = o == c
@@ -48,6 +51,7 @@ pub record Named : Type 0 where
   pub local : List ℕ
   pub size : ℕ
 
+-- a stored name as it is read
 abbrev pub name_view : Name → Named
 name_view n = record { prefix = n.prefix.now; local = n.local.now; size = n.size }
 
@@ -92,6 +96,7 @@ pub record Attr : Type 0 where
   pub value : List ℕ
   pub size : ℕ
 
+-- a stored attribute as it is read
 abbrev pub attribute_view : Attribute → Attr
 attribute_view a = record { name = name_view a.name; value = a.value.now; size = a.size }
 
@@ -107,6 +112,7 @@ attribute x = option_and_then (from_name x) (name x)
 
 -- ---- tags
 
+-- a `>` is at the start, 62, or the `/` of an empty element's tag, 47
 abbrev pub ends_tag : List ℕ → Bool
 ends_tag x = begins_with 62 x || begins_with 47 x
 
@@ -119,6 +125,8 @@ attributes_in (suc n) x =
     else option_and_then (λ a. option_map (λ r. (a ∷ r.0, space_len x + a.size + r.1)) (attributes_in n
     (drop a.size (drop (space_len x) x)))) (attribute (drop (space_len x) x))
 
+-- the attributes of a tag, and how many octets precede its end; they are fewer than the octets, so
+-- n is enough. None: what precedes the end is no attributes
 abbrev pub attributes_of : List ℕ → Option (List Attr × ℕ)
 attributes_of x = attributes_in (suc (length x)) x
 
@@ -131,6 +139,7 @@ pub record Next : Type 0 where
   pub attribute : Attr
   pub rest : List ℕ
 
+-- a stored attribute, with the octets that follow it
 abbrev pub next_view : NextAttribute → Next
 next_view n = record { attribute = attribute_view n.attribute; rest = n.rest.now }
 
@@ -154,6 +163,7 @@ pub record Start : Type 0 where
   pub is_empty : Bool
   pub size : ℕ
 
+-- a stored start tag as it is read
 abbrev pub start_tag_view : StartTag → Start
 start_tag_view t = record { name = name_view t.name; rest = t.rest.now; is_empty = t.is_empty; size = t.size }
 
@@ -173,6 +183,7 @@ pub record End : Type 0 where
   pub name : Named
   pub size : ℕ
 
+-- a stored end tag as it is read
 abbrev pub end_tag_view : EndTag → End
 end_tag_view t = record { name = name_view t.name; size = t.size }
 

@@ -23,18 +23,21 @@ struct Info<'a> {
     size: usize,
 }
 
+// Whether an octet is one of 0 to 9.
 fn is_digit(octet: u8) -> bool
     ensures { result ≡ is_digit octet }
 {
     b'0' <= octet && octet <= b'9'
 }
 
+// Whether an octet is a letter of ASCII.
 fn is_letter(octet: u8) -> bool
     ensures { result ≡ is_letter octet }
 {
     (b'a' <= octet && octet <= b'z') || (b'A' <= octet && octet <= b'Z')
 }
 
+// Whether the name of an encoding may contain an octet after its first. Production 81.
 fn is_encoding_char(octet: u8) -> bool
     ensures { result ≡ is_encoding_char octet }
 {

@@ -22,6 +22,7 @@ abbrev pub CountsAllocFailureOfXmp : Unjoined → ℕ → ℕ → Type 0
 CountsAllocFailureOfXmp NotRead old new = new ≡ old
 CountsAllocFailureOfXmp OutOfMemory old new = new ≡ old + 1
 
+-- the same of a call's result: success leaves the number as it was
 abbrev pub CountsAllocFailureInXmpBy : {X : Type 0} → Result X Unjoined → ℕ → ℕ → Type 0
 CountsAllocFailureInXmpBy (Ok x) old new = new ≡ old
 CountsAllocFailureInXmpBy (Err e) old new = CountsAllocFailureOfXmp e old new

@@ -15,6 +15,7 @@ use Rattle.px_xmp_pictures.specs.declared.portions.Portion.{Portion}
 
 -- ---- the pieces of a picture
 
+-- a piece of this kind is one of extended XMP
 abbrev pub is_of_extension : SegmentKind → Bool
 is_of_extension ExtendedXmp = true
 is_of_extension other = false

@@ -22,10 +22,11 @@ packet_start =
 abbrev pub label : List ℕ
 label = codes "<p:HasExtendedXMP xmlns:p=\"http://ns.adobe.com/xmp/note/\""
 
--- how it begins one that is a text without a language, and ends it
+-- how a normal packet begins a HasExtendedXMP that is a text without a language
 abbrev pub name_start : List ℕ
 name_start = codes "<p:HasExtendedXMP xmlns:p=\"http://ns.adobe.com/xmp/note/\">"
 
+-- how a normal packet ends HasExtendedXMP
 abbrev pub name_end : List ℕ
 name_end = codes "</p:HasExtendedXMP>"
 
@@ -97,5 +98,6 @@ pub record CanBeJoined (p : Picture) : Type 0 where
   pub whole : PacketFits is.whole
   pub none : NamesNone joint
 
+-- the XMP of a picture isn't joined within these limits
 abbrev pub IsNotJoined : Picture → Type 0
 IsNotJoined p = CanBeJoined p → ⊥

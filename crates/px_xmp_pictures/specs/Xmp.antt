@@ -68,5 +68,6 @@ IsXmpAnswer (Form form) (NotRead v) c = c ≡ answer.NotRead Second v
 IsXmpAnswer (Form form) (Absent v) c = c ≡ absent_answer Second v
 IsXmpAnswer (Form form) (Form other) c = IsFormAnswer form.items other.items c
 
+-- c is the answer for the XMP of the pictures f and g
 abbrev pub IsXmpComparison : List ℕ → List ℕ → Comparison → Type 0
 IsXmpComparison f g c = (x y : ReadXmp) × HasXmp f x × HasXmp g y × IsXmpAnswer x y c

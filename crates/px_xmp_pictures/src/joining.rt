@@ -23,17 +23,20 @@ use px_bytes::{AllocFailed, Memory};
 use px_jpeg::Front;
 use px_xmp::{check_in, normal_form_in};
 
-// The octets of a form before its properties and after them.
+// The octets of a normal form before its properties.
 const PACKET_START: &[u8] = b"<x:xmpmeta xmlns:x=\"adobe:ns:meta/\">\
     <rdf:RDF xmlns:rdf=\"http://www.w3.org/1999/02/22-rdf-syntax-ns#\"><rdf:Description rdf:about=\"\">";
 
+// The octets of a normal form after its properties.
 const PACKET_END: &[u8] = b"</rdf:Description></rdf:RDF></x:xmpmeta>";
 
-// How a form begins xmpNote:HasExtendedXMP with any value, begins one that is a text, and ends it.
+// How a normal form begins xmpNote:HasExtendedXMP, whatever its value is.
 const LABEL: &[u8] = b"<p:HasExtendedXMP xmlns:p=\"http://ns.adobe.com/xmp/note/\"";
 
+// How a normal form begins xmpNote:HasExtendedXMP if its value is a text without a language.
 const POINTER_START: &[u8] = b"<p:HasExtendedXMP xmlns:p=\"http://ns.adobe.com/xmp/note/\">";
 
+// How a normal form ends xmpNote:HasExtendedXMP.
 const POINTER_END: &[u8] = b"</p:HasExtendedXMP>";
 
 // The name of extended XMP in a form, and the octets of the form around the element that has it.

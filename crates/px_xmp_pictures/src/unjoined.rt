@@ -17,6 +17,7 @@ impl From<AllocFailed> for Unjoined {
 
     ghost from_gives = { λ _ e. e ≡ OutOfMemory };
 
+    // An allocation that failed says nothing of the XMP.
     fn from(_: AllocFailed) -> Unjoined {
         Unjoined::OutOfMemory
     }
@@ -28,6 +29,7 @@ impl From<Refusal> for Unjoined {
 
     ghost from_gives = { λ refusal e. e ≡ unjoined refusal };
 
+    // XMP whose packet is refused isn't read, whatever the cause is.
     fn from(refusal: Refusal) -> Unjoined {
         match refusal {
             Refusal::Content { .. } => Unjoined::NotRead,

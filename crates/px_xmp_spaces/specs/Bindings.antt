@@ -27,6 +27,7 @@ space_limit = 256
 abbrev pub is_usual_space : List ℕ → Bool
 is_usual_space u = nat_le (length u) space_limit && every is_plain u
 
+-- one of the two is true, and the other isn't
 abbrev pub differ : Bool → Bool → Bool
 differ a b = if a then not b else b
 
@@ -50,18 +51,21 @@ with_declaration p u scope =
     else if nat_le limit (length scope) then Err TooMany
     else Ok (Declaration p u ∷ scope)
 
+-- what is in scope after a declaration of a prefix, by f; without one, what was
 abbrev pub or_same : (List ℕ → Result (List Item) Cause) → List Item → Option (List ℕ) → Result (List Item) Cause
 or_same f scope None = Ok scope
 or_same f scope (Some p) = f p
 
--- what is in scope after an attribute, and after attributes
+-- what is in scope after an attribute, or what is wrong with it
 abbrev pub with_attribute : Attr → List Item → Result (List Item) Cause
 with_attribute a scope = or_same (λ p. with_declaration p a.value scope) scope (declared_prefix a.name)
 
+-- the result of f of what is in scope, unless something is wrong already
 abbrev pub and_then : Result (List Item) Cause → (List Item → Result (List Item) Cause) → Result (List Item) Cause
 and_then (Err c) f = Err c
 and_then (Ok scope) f = f scope
 
+-- what is in scope after attributes, in order, or what is wrong with the first that is wrong
 abbrev pub with_attributes : List Attr → List Item → Result (List Item) Cause
 with_attributes [] scope = Ok scope
 with_attributes (a ∷ more) scope = and_then (with_attribute a scope) (λ inner. with_attributes more inner)

@@ -12,12 +12,15 @@ pub data Item : Type 0 where
 abbrev pub limit : ℕ
 limit = 356
 
+-- two texts have the same octets
 abbrev pub is_same : List ℕ → List ℕ → Bool
 is_same x y = pointwise nat_eq x y
 
+-- the namespace of the prefix xml (3)
 abbrev pub xml_space : List ℕ
 xml_space = codes "http://www.w3.org/XML/1998/namespace"
 
+-- the namespace of the prefix xmlns (3)
 abbrev pub xmlns_space : List ℕ
 xmlns_space = codes "http://www.w3.org/2000/xmlns/"
 

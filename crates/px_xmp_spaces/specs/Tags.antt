@@ -12,11 +12,12 @@ use Rattle.px_xmp_spaces.specs.Bindings.{and_then, with_attributes}
 abbrev pub is_attribute_bound : List Item → Named → Bool
 is_attribute_bound scope n = is_same n.prefix [] || is_some (space_of n.prefix scope)
 
+-- each of these attributes has no prefix, or one that is bound
 abbrev pub are_bound : List Item → List Attr → Bool
 are_bound scope [] = true
 are_bound scope (a ∷ more) = is_attribute_bound scope a.name && are_bound scope more
 
--- so does an element, whose prefix is not xmlns (3)
+-- an element has no prefix, or one that is bound, and its prefix is not xmlns (3)
 abbrev pub is_element_bound : List Item → Named → Bool
 is_element_bound scope n = not (is_same n.prefix (codes "xmlns")) && is_attribute_bound scope n
 
@@ -28,6 +29,8 @@ attribute_limit = 256
 abbrev pub attribute_space : List Item → Named → Option (List ℕ)
 attribute_space scope n = if is_same n.prefix [] then None else space_of n.prefix scope
 
+-- two attributes are in one namespace; None is none, and two without a namespace are in no common
+-- one
 abbrev pub are_same_spaces : Option (List ℕ) → Option (List ℕ) → Bool
 are_same_spaces None v = false
 are_same_spaces (Some u) None = false
@@ -37,15 +40,18 @@ are_same_spaces (Some u) (Some v) = is_same u v
 abbrev pub clash : List Item → Named → Named → Bool
 clash scope n m = is_same n.local m.local && are_same_spaces (attribute_space scope n) (attribute_space scope m)
 
--- an attribute with the name n has so with one of these
+-- an attribute with the name n clashes with one of these
 abbrev pub is_among : List Item → Named → List Attr → Bool
 is_among scope n [] = false
 is_among scope n (a ∷ more) = clash scope n a.name || is_among scope n more
 
+-- no two of these attributes clash
 abbrev pub are_unique : List Item → List Attr → Bool
 are_unique scope [] = true
 are_unique scope (a ∷ more) = not (is_among scope a.name more) && are_unique scope more
 
+-- what is in scope after a tag with the name n and these attributes, whose declarations are in
+-- scope already, or what is wrong with its prefixes and names
 abbrev pub judged : Named → List Attr → List Item → Result (List Item) Cause
 judged n attributes scope =
     if not (is_element_bound scope n && are_bound scope attributes) then Err Undeclared

@@ -11,10 +11,13 @@ const LIMIT: usize = 356;
 // The prefixes that are bound without a declaration, and their namespaces.
 pub(crate) const XML: &[u8] = b"xml";
 
+// The namespace to which the prefix `xml` is bound without a declaration. Namespaces in XML 1.0, 3.
 pub(crate) const XML_SPACE: &[u8] = b"http://www.w3.org/XML/1998/namespace";
 
+// The prefix of declarations, which is itself never declared. Namespaces in XML 1.0, 3.
 pub(crate) const XMLNS: &[u8] = b"xmlns";
 
+// The namespace to which only the prefix `xmlns` is bound. Namespaces in XML 1.0, 3.
 pub(crate) const XMLNS_SPACE: &[u8] = b"http://www.w3.org/2000/xmlns/";
 
 // An open element, or what it declares. Its declarations follow it.
@@ -91,6 +94,7 @@ impl<'a> Scope<'a> {
         self.len == LIMIT
     }
 
+    // Adds an entry as the innermost. There is room for it: fewer than 356 are in scope.
     pub(crate) fn put(&mut self, entry: Entry<'a>)
         requires { length self.old < limit }
         ensures { self.new ≡ entry_view entry.entry ∷ self.old }
@@ -99,6 +103,7 @@ impl<'a> Scope<'a> {
         self.len += 1;
     }
 
+    // Takes the innermost entry away, and returns it. None: nothing is in scope.
     fn pop(&mut self) -> Option<Entry<'a>>
         ensures { MatchOption result ((self.old ≡ []) × (self.new ≡ [])) (λ e. self.old ≡ entry_view e ∷ self.new) }
     {

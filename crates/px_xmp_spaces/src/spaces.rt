@@ -12,6 +12,8 @@ use crate::tags::{STORED, no_name};
 use px_xmp_marks::{Name, StartTag, read_end_tag, read_mark};
 
 impl<'a> Scope<'a> {
+    // Passes a start tag or the tag of an empty element, or returns what is wrong with it. `names`
+    // is space that the call overwrites: the names of the tag's attributes.
     fn pass_start(&mut self, tag: StartTag<'a>, names: &mut [Name<'a>; STORED]) -> Option<Cause>
         ensures { (attributes : List Attr) → AreListed tag.entry.rest.now attributes
             → Gives result self.new (passed (start_piece tag.entry.is_empty (name_view tag.entry.name) attributes) self.old) }
@@ -25,6 +27,8 @@ impl<'a> Scope<'a> {
         None
     }
 
+    // Passes a mark that is no start tag: after an end tag the declarations of its element are no
+    // longer in scope.
     fn pass_other(&mut self, octets: &[u8])
         ensures { self.new ≡ passed_other (end_tag octets.now) self.old }
     {

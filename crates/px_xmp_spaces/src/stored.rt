@@ -19,6 +19,7 @@ struct Key<'a> {
     space: Option<&'a [u8]>,
 }
 
+// What fills the array of keys before they are stored.
 const NO_KEY: Key<'static> = Key {
     local: b"",
     space: None,

@@ -23,9 +23,11 @@ digit_value c =
 abbrev pub Counted : Type 0
 Counted = ℕ × ℕ
 
+-- a stored number, and how many digits it has
 abbrev pub digits_view : Digits → Counted
 digits_view n = (n.number, n.size)
 
+-- the character of a stored reference, and how many octets the reference has
 abbrev pub reference_view : Reference → Counted
 reference_view r = (r.character, r.size)
 
@@ -37,6 +39,8 @@ digits base v n (c ∷ x) =
     else option_and_then (λ d. if nat_le base d then None else if nat_lt 1114111 (v * base + d) then None else digits base
     (v * base + d) (suc n) x) (digit_value c)
 
+-- the character with this number, if XML allows it, and the length of its reference: `head` octets,
+-- the digits and a semicolon
 abbrev pub if_char : ℕ → Counted → Option Counted
 if_char head f = if is_char f.0 then Some (f.0, head + f.1 + 1) else None
 
@@ -54,6 +58,7 @@ entity_reference x =
     else if starts_with nat_eq x (codes "&apos;") then Some (39, 6)
     else None
 
+-- the first reference, or the second if there is none
 abbrev pub or_else : Option Counted → Option Counted → Option Counted
 or_else None y = y
 or_else (Some c) y = Some c

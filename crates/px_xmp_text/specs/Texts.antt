@@ -19,6 +19,7 @@ white_space CharacterData o = o
 white_space CdataSection o = o
 white_space AttributeValue o = 32
 
+-- a line feed, LF, is at the start
 abbrev pub begins_with_feed : List ℕ → Bool
 begins_with_feed [] = false
 begins_with_feed (o ∷ x) = o == 10
@@ -44,6 +45,7 @@ text_of k x = text_in (length x) k x
 
 -- ---- the first fault
 
+-- the offset `at` of a piece that means nothing, or else what f finds after the piece
 abbrev pub or_at : ℕ → (List ℕ × ℕ → Option ℕ) → Option (List ℕ × ℕ) → Option ℕ
 or_at at f None = Some at
 or_at at f (Some p) = f p
@@ -54,11 +56,14 @@ fault_in n at k [] = None
 fault_in zero at k (o ∷ x) = Some at
 fault_in (suc n) at k (o ∷ x) = or_at at (λ p. fault_in n (at + p.1) k (drop p.1 (o ∷ x))) (piece k (o ∷ x))
 
+-- the offset of the first piece of x that means nothing; None: all of x has a text
 abbrev pub first_fault : TextKind → List ℕ → Option ℕ
 first_fault k x = fault_in (length x) 0 k x
 
 -- ---- the normal form of a text: four octets as references, all others as they are
 
+-- an octet of a text in its normal form: `&`, `<`, `>` and CR are references (XML 1.0, 2.4 and
+-- 2.11)
 abbrev pub normal_octet : ℕ → List ℕ
 normal_octet o =
     if o == 38 then codes "&amp;"
@@ -67,5 +72,6 @@ normal_octet o =
     else if o == 13 then codes "&#13;"
     else o ∷ []
 
+-- a text in its normal form
 abbrev pub normal_text : List ℕ → List ℕ
 normal_text t = flat_map normal_octet t

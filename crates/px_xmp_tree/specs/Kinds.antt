@@ -21,6 +21,7 @@ pub data Kind : Type 0 where
   Misc : Kind
   Data : Kind
 
+-- a stored kind of a mark
 abbrev pub kind_view : MarkKind → Kind
 kind_view (kinds.Opening n) = Opening (name_view n)
 kind_view (kinds.Closing n) = Closing (name_view n)
@@ -35,15 +36,19 @@ pub record Marked : Type 0 where
   pub kind : Kind
   pub size : ℕ
 
+-- a stored mark as it is read: its kind, and its length
 abbrev pub mark_view : Mark → Marked
 mark_view m = record { kind = kind_view m.kind; size = m.size }
 
+-- the kind of a start tag with the name n, or of an empty element's tag
 abbrev pub start_kind : Bool → Named → Kind
 start_kind empty n = if empty then Alone n else Opening n
 
+-- a start tag, or an empty element's tag, as a mark
 abbrev pub from_start : Start → Marked
 from_start t = record { kind = start_kind t.is_empty t.name; size = t.size }
 
+-- an end tag as a mark
 abbrev pub from_end : End → Marked
 from_end t = record { kind = Closing t.name; size = t.size }
 
@@ -55,9 +60,11 @@ other_kind x n =
     else if every is_space (take n x) then Misc
     else Data
 
+-- the first n octets, which are no tag, as a mark
 abbrev pub from_other : List ℕ → ℕ → Marked
 from_other x n = record { kind = other_kind x n; size = n }
 
+-- the first mark, or the second if there is none
 abbrev pub or_mark : Option Marked → Option Marked → Option Marked
 or_mark None m = m
 or_mark (Some k) m = Some k

@@ -35,6 +35,7 @@ impl<'a> Model for Stack<'a> {
 }
 
 impl<'a> Stack<'a> {
+    // An empty stack. The octets fill the array of names: they are any that live as long.
     fn new(octets: &'a [u8]) -> Self
         ensures { result ≡ [] }
     {
@@ -50,6 +51,7 @@ impl<'a> Stack<'a> {
         }
     }
 
+    // How many names are in the stack, at most 100.
     fn len(&self) -> usize
         ensures value { result ≡ length self.now }
         ensures within { result ≤ limit }
@@ -57,6 +59,8 @@ impl<'a> Stack<'a> {
         self.len
     }
 
+    // Adds the name of an element that begins. There is room for it: fewer than 100 elements are
+    // open.
     fn put(&mut self, name: Name<'a>)
         requires { length self.old < limit }
         ensures { self.new ≡ name_view name.entry ∷ self.old }
@@ -65,6 +69,7 @@ impl<'a> Stack<'a> {
         self.len += 1;
     }
 
+    // Takes the name of the innermost open element away, and returns it. None: no element is open.
     fn pop(&mut self) -> Option<Name<'a>>
         ensures { MatchOption result ((self.old ≡ []) × (self.new ≡ [])) (λ n. self.old ≡ name_view n ∷ self.new) }
     {
@@ -110,6 +115,8 @@ impl<'a> Nesting<'a> {
         }
     }
 
+    // Passes the start tag of an element, or returns what is wrong: the root has ended, or 100
+    // elements are open.
     fn open(&mut self, name: Name<'a>) -> Option<Cause>
         ensures { MatchOption result (Step (Opening (name_view name.entry)) self.old self.new) (λ c. IsWrongStart self.old c) }
     {
@@ -123,6 +130,8 @@ impl<'a> Nesting<'a> {
         None
     }
 
+    // Passes the tag of an empty element, or returns what is wrong, as `open` does. Outside of all
+    // others the element is the root.
     fn stand_alone(&mut self, name: Name<'a>) -> Option<Cause>
         ensures { MatchOption result (Step (Alone (name_view name.entry)) self.old self.new) (λ c. IsWrongStart self.old c) }
     {
@@ -139,6 +148,8 @@ impl<'a> Nesting<'a> {
         None
     }
 
+    // Passes an end tag, or returns OtherEnd: no element is open, or the innermost has another
+    // name.
     fn close(&mut self, name: Name<'a>) -> Option<Cause>
         ensures { MatchOption result (Step (Closing (name_view name.entry)) self.old self.new)
             (λ c. IsWrongEnd (name_view name.entry) self.old c) }
@@ -158,6 +169,7 @@ impl<'a> Nesting<'a> {
         None
     }
 
+    // Passes text or a CDATA section, or returns OutsideRoot: no element is open.
     fn pass_data(&self) -> Option<Cause>
         ensures { MatchOption result (Step Data self.now self.now) (λ c. IsWrongData self.now c) }
     {

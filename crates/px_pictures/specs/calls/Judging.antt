@@ -20,6 +20,8 @@ use Rattle.px_pictures.specs.Metadata.{Blocks, blocks_of, HasBlocks, MeanAll}
 use Rattle.px_pictures.specs.Faults.{AllExif, AllIptc, AllRead, FaultAt, IsFaultyIptc, IsHeadFault, IsBlockFault}
 use Rattle.px_pictures.specs.Unread.{IsUnread}
 
+-- a refusal of the block of kind k with n of its kind before it, as a fault of the picture; an
+-- allocation that failed is no block's
 abbrev pub fault_of : MetadataKind → ℕ → Refusal → MetadataFault
 fault_of k n (refusal.Content cause place) = Block k n cause place
 fault_of k n refusal.OutOfMemory = OutOfMemory
@@ -44,6 +46,7 @@ IptcFails bs TooLong = ⊥
 abbrev pub AreFew : List (List ℕ) → Type 0
 AreFew bs = length bs < 2 ^ 63
 
+-- both kinds of blocks are so few
 abbrev pub IsFew : Blocks → Type 0
 IsFew x = AreFew x.exif × AreFew x.iptc
 
@@ -67,6 +70,8 @@ abbrev pub AreAlikeBlocks : Blocks → Blocks → Bool → Type 0
 AreAlikeBlocks x y alike =
     AllRead x × AllRead y × (IsTrue alike ↔ (PairsMeanSame SaysExif x.exif y.exif × PairsMeanSame SaysIim x.iptc y.iptc))
 
+-- the picture g has blocks, and `same` says whether they mean what the blocks x of the first
+-- picture do
 abbrev pub AreSameAsFirst : Blocks → List ℕ → Bool → Type 0
 AreSameAsFirst x g same = (y : Blocks) × HasBlocks g y × AreSameBlocks x y same
 
@@ -79,6 +84,7 @@ AreCompared p q (NotRead First u) = AreAlikeBlocks (blocks_of p) (blocks_of q) t
 AreCompared p q (NotRead Second u) =
     AreAlikeBlocks (blocks_of p) (blocks_of q) true × IsUnread p.octets None × IsUnread q.octets (Some u)
 
+-- the picture g has a head, and c is the answer for the picture p and g
 abbrev pub IsComparedWith : Picture → List ℕ → Comparison → Type 0
 IsComparedWith p g c = (q : Picture) × (q.octets ≡ g) × HasBlocks g (blocks_of q) × AreCompared p q c
 
@@ -92,6 +98,8 @@ abbrev pub SecondFails : PictureSide → Blocks → List ℕ → ℕ → Metadat
 SecondFails First x g refused e = (y : Blocks) × HasBlocks g y × IsBlockFault x refused e
 SecondFails Second x g refused e = IsHeadFault g refused e ⊎ ((y : Blocks) × HasBlocks g y × AllRead x × IsBlockFault y refused e)
 
+-- what the comparison requests after the first picture's head: `first` bytes for its blocks, and
+-- for the second picture g what joining its pieces and reading its blocks need
 abbrev pub AsksForSecond : ℕ → List ℕ → MemoryCounts → MemoryCounts → Type 0
 AsksForSecond first g old new = (other : ℕ) → ((y : Blocks) → HasBlocks g y → blocks_request y ≤ other)
     → AsksAtMost (join_request (length g) + first + other) old new

@@ -9,6 +9,7 @@ use Rattle.px_jpeg.specs.Pieces.{range}
 use Rattle.px_pictures.specs.declared.runs.Run.{Run}
 use Rattle.px_pictures.specs.Metadata.{has_octets, next_begins, joined_pieces}
 
+-- the pieces that are left, of which the first may be read already
 abbrev pub with_next : Option Piece → List Piece → List Piece
 with_next None ps = []
 with_next (Some p) ps = p ∷ ps
@@ -35,6 +36,7 @@ AreSized b ps = AllByRecursion (λ p. length (piece_octets b p) ≡ p.size) ps
 abbrev pub CanCut : List ℕ → List ℕ → List Piece → Type 0
 CanCut b x ps = (next_begins ps ≡ true) × AreSized b ps × (x ≡ joined_octets b ps)
 
+-- a block that was cut, as px_jpeg defines blocks: its kind, and its bytes
 abbrev pub block_of : Run → JoinedBlock
 block_of r = record { kind = r.kind; octets = r.octets.now }
 
@@ -42,6 +44,7 @@ block_of r = record { kind = r.kind; octets = r.octets.now }
 abbrev pub iptc_at : List ℕ → Resource → Option (List ℕ)
 iptc_at x r = if r.number == 1028 then Some (range x r.start r.size) else None
 
+-- the IPTC in these resources of the bytes x, without what is empty
 abbrev pub records : List ℕ → List Resource → List (List ℕ)
 records x rs = filter has_octets (filter_map (iptc_at x) rs)
 

@@ -41,6 +41,7 @@ abbrev pub content_of : Node → Content
 content_of nodes.Description = content.Structure
 content_of (nodes.Container c) = content.Members c
 
+-- an open element after entries were added to those that it has
 abbrev pub with_entries : List Entry → Open → Open
 with_entries es o = record { text = o.text; inner = o.inner; entries = o.entries ++ es }
 
@@ -55,6 +56,7 @@ abbrev pub IsShallowInside : ℕ → Compound → values.Content → Type 0
 IsShallowInside depth Structure c = IsShallow depth c
 IsShallowInside depth array c = (suc depth ≤ limit) × IsShallow (suc depth) c
 
+-- a value is not too deep inside so many elements: a text or a URI never is
 abbrev pub IsShallowValue : ℕ → Value → Type 0
 IsShallowValue depth (Plain p) = ⊤
 IsShallowValue depth (Inside s c) = IsShallowInside depth s c
@@ -66,6 +68,8 @@ IsNodeDepth (nodes.Container c) outer depth = (depth ≡ suc outer) × (depth �
 
 -- ---- attributes
 
+-- a property that is an attribute: its label, the text t in the language l, and the offset of its
+-- tag
 abbrev pub attribute : Label → ℕ → List ℕ → List ℕ → Entry
 attribute label place l t = record { label = label; value = literal l t; place = place }
 
@@ -134,6 +138,7 @@ pub record NodeBegun (node : Node) (t : Tag) (outer : List ℕ) (depth : ℕ) (p
   pub shallow : AreShallow a.depth entries
   pub has : Has output (begun (with_entries entries nothing) s)
 
+-- a bag, whose items have no order (XMP part 1, 6.3.3)
 abbrev pub is_bag : Container → Bool
 is_bag containers.Bag = true
 is_bag containers.Seq = false

@@ -23,6 +23,7 @@ HasMany (Some t) many = (attributes : List Attr) → AreListed t.rest.now attrib
 abbrev pub has : ℕ → List ℕ → Bool
 has c x = list_any (λ o. o == c) x
 
+-- how many octets are `=`, 61: a tag has no more attributes than that
 abbrev pub equals_signs : List ℕ → ℕ
 equals_signs [] = 0
 equals_signs (o ∷ x) = if o == 61 then suc (equals_signs x) else equals_signs x

@@ -4,6 +4,7 @@ use Rattle.px_xmp.specs.declared.scope.Entry.{Entry}
 use Rattle.px_xmp.specs.declared.scope.Entry.TheVariants as entries
 use Rattle.px_xmp_spaces.specs.Scopes.{Item, Element, Declaration}
 
+-- a stored entry as an item of what is in scope: an open element, or a declaration
 abbrev pub entry_view : Entry → Item
 entry_view entries.Element = Element
 entry_view (entries.Declaration p u) = Declaration p.now u.now

@@ -32,12 +32,15 @@ use Rattle.px_xmp.specs.calls.Contents.{IsShallowInside, HasValue}
 abbrev pub FieldFits : Field → Type 0
 FieldFits f = length f.value ≤ limit
 
+-- no value of these attributes is longer than a packet
 abbrev pub FieldsFit : List Field → Type 0
 FieldsFit fields = AllByRecursion FieldFits fields
 
+-- the language of a tag is short, and no value of its attributes is longer than a packet
 abbrev pub TagFits : Tag → Type 0
 TagFits t = IsShortLanguage t.language × FieldsFit t.fields
 
+-- each tag in these nodes fits, also inside other elements
 abbrev pub NodesFit : Nodes → Type 0
 NodesFit Nothing = ⊤
 NodesFit (Words t more) = NodesFit more
@@ -97,6 +100,7 @@ InsideFits depth s c = IsContent c × IsShallowInside depth s c × (length (writ
 abbrev pub EntryFits : ℕ → Label → Value → Type 0
 EntryFits depth l v = ContentFits depth (before l v values.End)
 
+-- the output has room for each of these properties or items, inside so many elements
 abbrev pub AreFit : ℕ → List Entry → Type 0
 AreFit depth es = AllByRecursion (λ e. EntryFits depth e.label e.value) es
 

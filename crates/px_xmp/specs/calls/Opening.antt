@@ -13,6 +13,7 @@ use Rattle.px_xmp.specs.Names.{Name}
 use Rattle.px_xmp.specs.Tags.{Tag, language_after, fields_in}
 use Rattle.px_xmp.specs.calls.Listed.{AreListed, ArePlain}
 
+-- a stored name with its namespace
 abbrev pub name_of : Named → Name
 name_of n = record { space = n.space.now; local = n.local.now }
 

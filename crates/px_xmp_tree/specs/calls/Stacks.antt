@@ -8,6 +8,7 @@ use Rattle.px_xmp_tree.specs.Nesting.{Place, Among, After}
 abbrev pub stack_of : ℕ → List Name → List Named
 stack_of n names = reverse (map name_view (take n names))
 
+-- the place after the end of the root, or among the open elements with these names
 abbrev pub place_of : Bool → List Named → Place
 place_of true names = After
 place_of false names = Among names
