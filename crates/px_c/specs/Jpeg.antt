@@ -45,7 +45,7 @@ part_of q (Some p) = record {
 abbrev pub seen_part : HeadPart → ExifnormJpegPart
 seen_part h = part_of h.part h.piece
 
--- these parts of the picture b in C
+-- these parts of the picture b as the caller of C sees them
 abbrev pub seen_parts : List ℕ → List Part → List ExifnormJpegPart
 seen_parts b parts = map seen_part (with_pieces b None parts)
 

@@ -17,7 +17,8 @@ pub struct HeadPart {
     pub piece: Option<Piece>,
 }
 
-// A part of this kind, after one of the kind `last`, with its piece.
+// A part of this kind, after a part of the kind `last`, with its piece. None: a part of no kind
+// that px_jpeg knows.
 fn head_part(
     bytes: &[u8],
     part: Part,

@@ -44,7 +44,9 @@ pub(crate) fn front_in<'a>(bytes: &'a [u8], known: &'a [u8]) -> Front<'a>
     Front { bytes, known }
 }
 
-// Whether a segment of APP1 with `size` bytes of data, of which these are the first, may be Exif that continues a block.
+// Whether a segment of APP1 with `size` bytes of data, of which `octets` are the first, may be Exif
+// without a header of TIFF, which continues a block. 6 is the length of Exif's mark, and 10 that
+// with the header's four bytes.
 fn may_be_later(size: usize, octets: &[u8]) -> bool
     requires { length octets.now ≤ size }
     ensures { IsTrue result ↔ MayBeLater size octets.now }

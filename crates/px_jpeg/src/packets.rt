@@ -34,7 +34,7 @@ fn is_packet(kind: SegmentKind) -> bool
     }
 }
 
-// The next packet or piece of extended XMP.
+// The next packet or piece of extended XMP. None: no other is left.
 fn next_of_xmp<'a>(left: &mut Pieces<'a>) -> Option<Piece>
     ensures { MatchOption result (xmp_pieces left.old ≡ []) (λ p. xmp_pieces left.old ≡ p ∷ xmp_pieces left.new) }
 {

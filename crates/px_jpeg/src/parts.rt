@@ -45,7 +45,8 @@ pub(crate) fn marks(octets: &[u8]) -> usize
     octets.len()
 }
 
-// The part at the start of some bytes, which are at offset `at`; or its fault.
+// The part at the start of some bytes, which are at offset `at` of the picture; or the cause for
+// which no part is there.
 pub(crate) fn read_part(octets: &[u8], at: usize) -> Result<Part, HeadCause>
     requires { at + length octets.now < 2 ^ 63 }
     ensures { MatchResult result (λ q. (is_part octets.now ≡ true) × (q ≡ part at octets.now)) (λ cause. FaultAt cause octets.now) }

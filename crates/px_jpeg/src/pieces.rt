@@ -51,7 +51,7 @@ pub(crate) fn is_exif(code: u8, octets: &[u8]) -> bool
     code == APP1 && octets.starts_with(b"Exif\0\0")
 }
 
-// Whether it contains Photoshop's image resources.
+// Whether a segment with this marker and these data contains Photoshop's image resources.
 #[tactic(auto, unfolding(crate::specs::Pieces::is_photoshop))]
 fn is_photoshop(code: u8, octets: &[u8]) -> bool
     ensures value { result ≡ is_photoshop code octets.now }
@@ -60,7 +60,7 @@ fn is_photoshop(code: u8, octets: &[u8]) -> bool
     code == APP13 && octets.starts_with(b"Photoshop 3.0\0")
 }
 
-// Whether it contains a packet of XMP.
+// Whether a segment with this marker and these data contains a packet of XMP.
 #[tactic(auto, unfolding(crate::specs::Pieces::is_xmp))]
 fn is_xmp(code: u8, octets: &[u8]) -> bool
     ensures value { result ≡ is_xmp code octets.now }
@@ -69,7 +69,7 @@ fn is_xmp(code: u8, octets: &[u8]) -> bool
     code == APP1 && octets.starts_with(b"http://ns.adobe.com/xap/1.0/\0")
 }
 
-// Whether it contains a piece of extended XMP.
+// Whether a segment with this marker and these data contains a piece of extended XMP.
 #[tactic(auto, unfolding(crate::specs::Pieces::is_extended))]
 fn is_extended(code: u8, octets: &[u8]) -> bool
     ensures value { result ≡ is_extended code octets.now }
@@ -78,7 +78,8 @@ fn is_extended(code: u8, octets: &[u8]) -> bool
     code == APP1 && octets.starts_with(b"http://ns.adobe.com/xmp/extension/\0")
 }
 
-// What a segment of APP1 or APP13 with this marker and these data contains.
+// What a segment of APP1 or APP13 with this marker and these data contains. None: none of these
+// kinds.
 #[tactic(auto, unfolding(crate::specs::Pieces::segment_kind))]
 fn kind_in(code: u8, octets: &[u8]) -> Option<SegmentKind>
     ensures value { result ≡ segment_kind code octets.now }
@@ -99,7 +100,8 @@ fn kind_in(code: u8, octets: &[u8]) -> Option<SegmentKind>
     None
 }
 
-// What a segment with this marker and these data contains. Most have another marker.
+// What a segment with this marker and these data contains. None: none of these kinds. Most segments
+// have another marker, and so their data are not looked at.
 #[inline(always)]
 pub(crate) fn segment_kind(code: u8, octets: &[u8]) -> Option<SegmentKind>
     ensures value { result ≡ segment_kind code octets.now }
@@ -119,7 +121,8 @@ pub(crate) fn is_header(octets: &[u8]) -> bool
     octets.starts_with(b"II*\0") || octets.starts_with(b"MM\0*")
 }
 
-// Whether a block begins with these bytes, after a segment of the kind `last`.
+// Whether a block begins with these bytes, which follow a segment's mark, after a part of the kind
+// `last`.
 fn begins(kind: SegmentKind, last: Option<SegmentKind>, octets: &[u8]) -> bool
     ensures { result ≡ begins kind last octets.now }
 {
@@ -136,7 +139,7 @@ fn begins(kind: SegmentKind, last: Option<SegmentKind>, octets: &[u8]) -> bool
     }
 }
 
-// The number of bytes that name the kind.
+// The number of bytes of the mark with which the data of this kind begin, its zeros included.
 fn mark_len(kind: SegmentKind) -> usize
     ensures value { result ≡ mark_len kind }
     ensures few { result ≤ 35 }
@@ -171,7 +174,7 @@ pub(crate) fn piece_of(
     }
 }
 
-// The next piece of the parts that are left.
+// The next piece of the parts that are left. None: no part that is left contains one.
 fn next_piece<'a>(bytes: &[u8], parts: &mut Parts<'a>, last: Option<SegmentKind>) -> Option<Piece>
     requires { AllInside bytes.now parts.old }
     ensures inside { AllInside bytes.now parts.new }

@@ -29,7 +29,7 @@ fn is_signature(octets: &[u8]) -> bool
         || octets.starts_with(b"MeSa")
 }
 
-// The resource at the start of some bytes, which are at offset `at`, if one is there.
+// The resource at the start of some bytes, which are at offset `at`. None: no whole one is there.
 fn read_resource(octets: &[u8], at: usize) -> Option<Resource>
     requires { at + length octets.now < 2 ^ 63 }
     ensures { MatchOption result (is_resource octets.now ≡ false)

@@ -104,7 +104,7 @@ abbrev pub or_else : Option Unread → Option Unread → Option Unread
 or_else (Some u) other = Some u
 or_else None other = other
 
--- that of the first block that has one
+-- the first place in these blocks of the picture b that isn't read; `all` are the joined bytes
 abbrev pub unread_in_blocks : List ℕ → List ℕ → List BlockPlace → Option Unread
 unread_in_blocks b all [] = None
 unread_in_blocks b all (p ∷ ps) = or_else (unread_in_block p.kind (octets_at b all p) p) (unread_in_blocks b all ps)

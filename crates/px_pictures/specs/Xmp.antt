@@ -63,7 +63,8 @@ abbrev pub xmp_in_block : SegmentKind → List ℕ → BlockPlace → Option Unr
 xmp_in_block Photoshop x p = unread_at p.joined p.start (xmp_resource (resources_of 0 x))
 xmp_in_block other x p = None
 
--- that of the first block that has one
+-- the first place in these blocks of the picture b at which a resource 0x0424 has its data; `all`
+-- are the joined bytes
 abbrev pub xmp_in_blocks : List ℕ → List ℕ → List BlockPlace → Option Unread
 xmp_in_blocks b all [] = None
 xmp_in_blocks b all (p ∷ ps) = or_else (xmp_in_block p.kind (octets_at b all p) p) (xmp_in_blocks b all ps)

@@ -12,7 +12,7 @@ use std::marker::Model;
 // The number of the image resource with IPTC's DataSets.
 const IPTC: usize = 0x0404;
 
-// The bytes of an Exif block.
+// The bytes of an Exif block. None: the block is of another kind.
 fn exif_of<'b>(run: &Run<'b>) -> Option<&'b [u8]>
     ensures { option_map (λ x. x.now) result ≡ exif_in (block_of run.now) }
 {
@@ -36,7 +36,7 @@ fn resources_in<'b>(run: &Run<'b>) -> &'b [u8]
     }
 }
 
-// The next IPTC block in resources of these bytes.
+// The data of the next resource 0x0404 of `left` that has a byte. None: no such resource is left.
 fn next_record<'b>(octets: &'b [u8], left: &mut Resources<'b>) -> Option<&'b [u8]>
     ensures { MatchOption result ((records octets.now left.old ≡ []) × (records octets.now left.new ≡ []))
         (λ x. records octets.now left.old ≡ x.now ∷ records octets.now left.new) }

@@ -30,7 +30,7 @@ pub(crate) struct Likeness {
     pub(crate) alike: bool,
 }
 
-// That of two kinds of blocks.
+// How both kinds of blocks compare, Exif and IPTC.
 fn of_both(first: Likeness, second: Likeness) -> Likeness
     ensures same { IsTrue result.same ↔ (IsTrue first.same × IsTrue second.same) }
     ensures alike { IsTrue result.alike ↔ (IsTrue first.alike × IsTrue second.alike) }

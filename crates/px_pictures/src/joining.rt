@@ -13,7 +13,7 @@ use px_jpeg::{Front, Piece};
 // The greatest number of bytes that are joined.
 const MOST_JOINED: usize = 16 * LIMIT as usize;
 
-// The next piece of a block that has more than one.
+// The next piece of a block that has more than one. None: no such piece is left.
 pub(crate) fn next_joined(left: &mut Left) -> Option<Piece>
     ensures { MatchOption result ((joined_pieces left.old ≡ []) × (joined_pieces left.new ≡ []))
         (λ p. joined_pieces left.old ≡ p ∷ joined_pieces left.new) }

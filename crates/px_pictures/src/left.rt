@@ -33,7 +33,7 @@ pub(crate) fn pieces_left<'a>(front: &Front<'a>) -> Left<'a>
 }
 
 impl<'a> Left<'a> {
-    // The next piece.
+    // Takes the next piece, and returns it. None: no piece is left.
     pub(crate) fn next_piece(&mut self) -> Option<Piece>
         ensures { MatchOption result ((self.old ≡ []) × (self.new ≡ [])) (λ p. self.old ≡ p ∷ self.new) }
     {

@@ -72,7 +72,8 @@ pub(crate) fn same_found(
     }
 }
 
-// Finds and judges the blocks of the second picture too, and returns whether they mean the same.
+// Finds and judges the blocks of the second picture too, and returns whether the blocks of both
+// mean the same.
 fn same_second(memory: &mut Memory, first: &Metadata, second: &[u8]) -> Result<bool, PictureFault>
     requires { IsFew (blocks_of first.now) }
     ensures same { IfOk result (AreSameAsFirst (blocks_of first.now) second.now) }

@@ -15,7 +15,7 @@ use crate::ranges::range;
 use px_bytes::Memory;
 use px_jpeg::{Front, Resource, SegmentKind, find_resources, with_pieces};
 
-// The number of the image resource with IPTC's DataSets, and that of the one with Exif.
+// The number of the image resource that contains IPTC's DataSets.
 const IPTC: usize = 0x0404;
 
 // The number of the image resource in which Photoshop may repeat the Exif.
@@ -81,6 +81,7 @@ fn may_have_metadata(code: u8, octets: &[u8]) -> bool
 }
 
 // The offset of the data of the first segment without a piece of a block that may have metadata.
+// None: there is no such segment.
 fn unread_segment(front: &Front) -> Option<usize>
     ensures { result ≡ unread_segment front.now.octets (with_pieces front.now.octets None front.now.parts) }
 {
@@ -129,7 +130,8 @@ fn is_doubtful(signature: &[u8], resource: &Resource) -> bool
         && resource.size > 0
 }
 
-// What follows the last resource, unless it is zeros.
+// The offset `at` after the last resource, if anything but zeros follows. None: only zeros follow,
+// or nothing.
 fn unread_rest(octets: &[u8], at: usize) -> Option<usize>
     ensures value { result ≡ unread_rest octets.now at }
     ensures within { IfSome result (λ at. at < length octets.now) }
@@ -140,7 +142,7 @@ fn unread_rest(octets: &[u8], at: usize) -> Option<usize>
     Some(at)
 }
 
-// The offset in Photoshop's resources at which something is that isn't read.
+// The offset in Photoshop's resources at which something is that isn't read. None: all is read.
 fn unread_resources(octets: &[u8]) -> Option<usize>
     ensures value { result ≡ unread_resources octets.now }
     ensures within { IfSome result (λ at. at < length octets.now) }
@@ -158,7 +160,7 @@ fn unread_resources(octets: &[u8]) -> Option<usize>
     }
 }
 
-// The bytes of which a block is a range.
+// The bytes of which a block is a range: the joined bytes `all`, or the picture.
 pub(crate) fn whole_of<'b>(picture: &'b [u8], all: &'b [u8], joined: bool) -> &'b [u8]
     ensures { result.now ≡ (if joined then all.now else picture.now) }
 {
@@ -168,7 +170,8 @@ pub(crate) fn whole_of<'b>(picture: &'b [u8], all: &'b [u8], joined: bool) -> &'
     picture
 }
 
-// The place in a block at which something is that isn't read.
+// The place in a block at which something is that isn't read. `whole` is what the block is a range
+// of. None: all of the block is read.
 fn unread_in_block(whole: &[u8], place: &BlockPlace) -> Option<Unread>
     ensures { result ≡ unread_in_block place.now.kind (range whole.now place.now.start place.now.size) place.now }
 {
@@ -184,7 +187,7 @@ fn unread_in_block(whole: &[u8], place: &BlockPlace) -> Option<Unread>
     }
 }
 
-// That of the first block that has one.
+// The first place that isn't read in these blocks. `all` are the joined bytes. None: there is none.
 fn unread_in_blocks(picture: &[u8], all: &[u8], places: Places) -> Option<Unread>
     ensures { result ≡ unread_in_blocks picture.now all.now places.entry }
 {

@@ -37,7 +37,7 @@ fn begins_as_xmp(octets: &[u8]) -> bool
     octets.starts_with(b"http") || octets.starts_with(b"XMP\0")
 }
 
-// Whether they have what ExifTool takes for a sign of XMP.
+// Whether the data of a segment have `<?xpacket` or `<exif:`, by which ExifTool finds XMP.
 #[tactic(auto, unfolding(crate::specs::Xmp::has_mark_of_xmp))]
 fn has_mark_of_xmp(octets: &[u8]) -> bool
     ensures { result ≡ has_mark_of_xmp octets.now }
@@ -52,7 +52,8 @@ fn may_have_xmp(code: u8, octets: &[u8]) -> bool
     code == 0xE1 && (begins_as_xmp(octets) || has_mark_of_xmp(octets))
 }
 
-// The offset of the data of the first segment without a piece of a block that may have XMP.
+// The offset of the data of the first segment without a piece of a block that may have XMP. None:
+// there is no such segment.
 fn xmp_segment(front: &Front) -> Option<usize>
     ensures { result ≡ xmp_segment front.now.octets (with_pieces front.now.octets None front.now.parts) }
 {
@@ -69,14 +70,14 @@ fn xmp_segment(front: &Front) -> Option<usize>
     }
 }
 
-// Whether a resource has XMP.
+// Whether a resource has XMP: its number is 0x0424, and it has a byte.
 fn has_xmp(resource: &Resource) -> bool
     ensures { result ≡ has_xmp resource.now }
 {
     resource.number == XMP && resource.size > 0
 }
 
-// The offset in Photoshop's resources of the first XMP.
+// The offset in Photoshop's resources of the first XMP. None: they have none.
 fn xmp_resource(octets: &[u8]) -> Option<usize>
     ensures value { result ≡ xmp_resource (resources_of 0 octets.now) }
     ensures within { IfSome result (λ at. at < length octets.now) }
@@ -92,7 +93,8 @@ fn xmp_resource(octets: &[u8]) -> Option<usize>
     }
 }
 
-// The place in a block of the first XMP.
+// The place of the first XMP in Photoshop's resources. `whole` is what the block is a range of.
+// None: the block has no XMP there.
 fn xmp_in_block(whole: &[u8], place: &BlockPlace) -> Option<Unread>
     ensures { result ≡ xmp_in_block place.now.kind (range whole.now place.now.start place.now.size) place.now }
 {
@@ -108,7 +110,8 @@ fn xmp_in_block(whole: &[u8], place: &BlockPlace) -> Option<Unread>
     }
 }
 
-// That of the first block that has one.
+// The place of the first XMP in resources of these blocks. `all` are the joined bytes. None: there
+// is none.
 fn xmp_in_blocks(picture: &[u8], all: &[u8], places: Places) -> Option<Unread>
     ensures { result ≡ xmp_in_blocks picture.now all.now places.entry }
 {

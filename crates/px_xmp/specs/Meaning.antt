@@ -65,7 +65,7 @@ AreAttributes l place (f ∷ fields) es =
     × (text_of AttributeValue f.value ≡ Some t) × (es ≡ record { label = label; value = literal l t; place = place } ∷ more)
     × AreAttributes l place fields more
 
--- the same of a node: an array has none
+-- the attributes of a node that are properties: an array has none
 abbrev pub HasAttributes : Compound → List ℕ → ℕ → List Field → List Entry → Type 0
 HasAttributes Structure l place fields es = AreAttributes l place fields es
 HasAttributes array l place fields es = (fields ≡ []) × (es ≡ [])
@@ -181,7 +181,7 @@ pub record HasNodes (x : List ℕ) (start : ℕ) (nodes : Nodes) : Type 0 where
   pub parts : IsSplit (drop (order_mark_len x) x) declaration encoding tree
   pub row : AreNodes nodes [] (start + (length x - length tree)) tree []
 
--- its nodes mean this
+-- the document x at this offset of its packet has nodes, and they mean c
 pub record HasMeaning (x : List ℕ) (start : ℕ) (c : Content) : Type 0 where
   pub nodes : Nodes
   pub are : HasNodes x start nodes

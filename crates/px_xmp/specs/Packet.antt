@@ -9,7 +9,7 @@ use Rattle.px_xmp_document.specs.Document.{IsFile}
 abbrev pub is_padding : ℕ → Bool
 is_padding o = (o == 0) || (o == 32) || (o == 9) || (o == 10) || (o == 13)
 
--- the same, or an octet of a byte order mark
+-- a zero, white space, or an octet of UTF-8's byte order mark, EF BB BF
 abbrev pub is_around : ℕ → Bool
 is_around o = is_padding o || (o == 239) || (o == 187) || (o == 191)
 
@@ -23,7 +23,7 @@ is_wide x =
     starts_with nat_eq x (255 ∷ 254 ∷ []) || starts_with nat_eq x (254 ∷ 255 ∷ []) || starts_with nat_eq x (0 ∷ 0 ∷ 254 ∷ 255 ∷ [])
     || starts_with nat_eq x (60 ∷ 0 ∷ []) || starts_with nat_eq x (0 ∷ 60 ∷ []) || starts_with nat_eq x (0 ∷ 0 ∷ 0 ∷ 60 ∷ [])
 
--- x is such pieces in a row
+-- x is octets of padding and byte order marks in a row
 abbrev pub AreAround : List (List ℕ) → List ℕ → Type 0
 AreAround [] x = x ≡ []
 AreAround (m ∷ more) x = IsAround m × (rest : List ℕ) × (x ≡ m ++ rest) × AreAround more rest

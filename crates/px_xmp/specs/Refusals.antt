@@ -123,11 +123,12 @@ IsCauseOfRdf cause nodes = is_rare_in_rdf cause ≡ true
 abbrev pub IsRefusedByLength : List ℕ → Cause → ℕ → Type 0
 IsRefusedByLength x cause place = (limit < length x) × (cause ≡ TooLong) × (place ≡ limit)
 
--- it is not, and begins as UTF-16 or UTF-32 does
+-- the packet is not too long, and begins as UTF-16 or UTF-32 does
 abbrev pub IsRefusedByEncoding : List ℕ → Cause → ℕ → Type 0
 IsRefusedByEncoding x cause place = (length x ≤ limit) × (is_wide x ≡ true) × (cause ≡ RareEncoding) × (place ≡ 0)
 
--- it does neither; what is left without all byte order marks and padding at the start and all padding at the end is to be a document
+-- the packet is not too long, and doesn't begin so; what is left without all byte order marks and
+-- padding at the start and all padding at the end is to be a document
 pub record HasDocument (x : List ℕ) : Type 0 where
   pub before : List ℕ
   pub document : List ℕ

@@ -46,7 +46,8 @@ pub(crate) fn is_plain(name: Name) -> bool
     declared_prefix(name).is_none() && !names_language(name)
 }
 
-// The first attribute that is no declaration and no language.
+// The first attribute that is no declaration and no language. None: there is none up to the end of
+// the tag.
 pub(crate) fn next_plain<'a>(octets: &'a [u8]) -> Option<NextAttribute<'a>>
     ensures value { (attributes : List Attr) → AreListed octets.now attributes → IsNextPlain (option_map next_view result) attributes }
     ensures shorter { IfSome result (λ n. length n.rest.now < length octets.now) }
@@ -62,7 +63,8 @@ pub(crate) fn next_plain<'a>(octets: &'a [u8]) -> Option<NextAttribute<'a>>
     None
 }
 
-// The language of the texts in an element that declares one or none, inside another language. None: it is for another reader.
+// The language of the texts in an element that declares a language, or is in the one around it.
+// None: what it declares is neither empty nor a language of RFC 3066, or is too long.
 pub(crate) fn language_of<'a>(declared: Option<&'a [u8]>, outer: &'a [u8]) -> Option<&'a [u8]>
     ensures declares { IfSome result (λ l. DeclaresLanguage (option_map (λ d. d.now) declared.entry)) }
     ensures language { IfSome result (λ l. l.now ≡ inherited outer.now (option_map (λ d. d.now) declared.entry)) }

@@ -23,7 +23,8 @@ use crate::reader::Reader;
 use px_bytes::Memory;
 use px_xmp_forms::{Cause, Container, Content, Label, Output, Refusal};
 
-// The property or the item that an element in a node is.
+// The label of an element in a node: a property, or an item of an array. None: the node can't have
+// it.
 #[inline(never)]
 fn item_label<'a>(node: Node, opened: Opened<'a>) -> Option<Label<'a>>
     ensures { option_map label_view result ≡ label_in (node_view node) (name_of opened.entry.name) }

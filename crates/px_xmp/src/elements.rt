@@ -56,7 +56,8 @@ impl<'a> Around<'a> {
         })
     }
 
-    // The same, if it is one. None: the form has too many elements in one another.
+    // This element, if it is one of the normal form, in which it is one level deeper. None: the
+    // form has too many levels.
     pub(crate) fn deeper(self) -> Option<Around<'a>>
         ensures language { IfSome result (λ a. a.language.now ≡ self.entry.language.now) }
         ensures place { IfSome result (λ a. a.place ≡ self.entry.place) }

@@ -41,7 +41,7 @@ fn begins_markup(octets: &[u8]) -> bool
     !octets.is_empty() && octets[0] == b'<'
 }
 
-// The character data at the start.
+// The character data at the start. None: there are none.
 #[tactic(auto, unfolding(crate::specs::Reading::data_read))]
 fn data<'a>(octets: &'a [u8]) -> Option<Mark<'a>>
     ensures value { option_map mark_view result ≡ data_read octets.now }
@@ -60,7 +60,7 @@ fn data<'a>(octets: &'a [u8]) -> Option<Mark<'a>>
     })
 }
 
-// The section at the start.
+// The CDATA section at the start (XML 1.0, 2.7). None: there is none.
 #[tactic(auto, unfolding(crate::specs::Reading::section_read))]
 fn section<'a>(octets: &'a [u8]) -> Option<Mark<'a>>
     ensures value { option_map mark_view result ≡ section_read octets.now }
@@ -78,7 +78,7 @@ fn section<'a>(octets: &'a [u8]) -> Option<Mark<'a>>
     })
 }
 
-// The comment at the start.
+// The comment at the start (XML 1.0, 2.5). None: there is none.
 #[tactic(auto, unfolding(crate::specs::Reading::comment_read))]
 fn comment<'a>(octets: &'a [u8]) -> Option<Mark<'a>>
     ensures value { option_map mark_view result ≡ comment_read octets.now }
@@ -93,7 +93,7 @@ fn comment<'a>(octets: &'a [u8]) -> Option<Mark<'a>>
     })
 }
 
-// The processing instruction at the start.
+// The processing instruction at the start (XML 1.0, 2.6). None: there is none.
 #[tactic(auto, unfolding(crate::specs::Reading::instruction_read))]
 fn instruction<'a>(octets: &'a [u8]) -> Option<Mark<'a>>
     ensures value { option_map mark_view result ≡ instruction_read octets.now }
@@ -108,7 +108,7 @@ fn instruction<'a>(octets: &'a [u8]) -> Option<Mark<'a>>
     })
 }
 
-// The section, the comment or the processing instruction at the start.
+// The section, the comment or the processing instruction at the start. None: there is none of them.
 #[tactic(auto, unfolding(crate::specs::Reading::other_read))]
 fn other<'a>(octets: &'a [u8]) -> Option<Mark<'a>>
     ensures value { option_map mark_view result ≡ other_read octets.now }
@@ -123,7 +123,7 @@ fn other<'a>(octets: &'a [u8]) -> Option<Mark<'a>>
     }
 }
 
-// The tag at the start.
+// The start tag or the end tag at the start (XML 1.0, 3.1). None: there is none.
 #[tactic(auto, unfolding(crate::specs::Reading::tag_read))]
 fn tag<'a>(octets: &'a [u8]) -> Option<Mark<'a>>
     ensures value { option_map mark_view result ≡ tag_read octets.now }

@@ -82,7 +82,7 @@ impl<'a> Named<'a> {
         is_free(split_space(self.space).0)
     }
 
-    // The property of this name.
+    // The property of this name. None: no property may have it.
     pub(crate) fn property(&self) -> Option<Label<'a>>
         ensures { option_map label_view result ≡ label_in Structure (name_of self.now) }
     {
@@ -92,7 +92,7 @@ impl<'a> Named<'a> {
         Some(Label::Property(Property::new(self.space, self.local)))
     }
 
-    // The container of this name.
+    // The array of this name: rdf:Bag, rdf:Seq or rdf:Alt. None: the name is another one.
     pub(crate) fn container(&self) -> Option<Container>
         ensures { option_map container_view result ≡ container_of (name_of self.now) }
     {
@@ -108,7 +108,7 @@ impl<'a> Named<'a> {
         None
     }
 
-    // The element of this name that has properties or members.
+    // The node of this name: rdf:Description or an array. None: the name is another one.
     pub(crate) fn node(&self) -> Option<Node>
         ensures { option_map node_view result ≡ compound_of (name_of self.now) }
     {

@@ -77,7 +77,8 @@ struct Noted<'a> {
 }
 
 impl<'a> Noted<'a> {
-    // The language after one more attribute.
+    // The language that a tag declares up to this attribute, with it. None: it declares none so
+    // far.
     fn language_after(self, attribute: Attribute<'a>) -> Option<&'a [u8]>
         ensures { option_map (λ l. l.now) result ≡ (if names_language (name_view attribute.entry.name)
             then Some attribute.entry.value.now else option_map (λ l. l.now) self.entry.language) }
@@ -88,7 +89,8 @@ impl<'a> Noted<'a> {
         self.language
     }
 
-    // The octets from the first attribute on that declares nothing, after one more attribute, with which some octets begin.
+    // The octets from the first attribute on that declares nothing, up to the attribute with this
+    // name, with which `octets` begin. None: each declares something so far.
     fn first_after(self, name: Name, octets: &'a [u8]) -> Option<&'a [u8]>
         ensures { option_map (λ l. l.now) result
             ≡ first_after (option_map (λ l. l.now) self.entry.first) (is_plain (name_view name.entry)) octets.now }
@@ -221,7 +223,7 @@ impl<'a> Scope<'a> {
         })
     }
 
-    // Takes the last entry away.
+    // Takes the last entry away, and returns it. None: there is none.
     fn pop(&mut self) -> Option<Entry<'a>>
         ensures { MatchOption result ((self.old ≡ []) × (self.new ≡ [])) (λ e. self.old ≡ entry_view e ∷ self.new) }
     {

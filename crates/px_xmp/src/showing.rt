@@ -81,7 +81,7 @@ fn written_form(memory: &mut Memory, packet: &[u8]) -> Result<Vec<u8>, Refusal>
     reader.output.whole(memory)
 }
 
-// The same, if there is one.
+// The form of a packet, as `written_form` returns it. None: the packet is refused.
 fn written_if_any(memory: &mut Memory, packet: &[u8]) -> Result<Option<Vec<u8>>, Refusal>
     ensures memory { CountsAllocFailureInPacket result memory.old memory.new }
     ensures normal { IfOk result (λ o. IfSome o (λ form. IsNormal form.items)) }

@@ -156,7 +156,8 @@ fn sized_tag_repeats<'a>(tag: StartTag<'a>, names: &mut [Name<'a>]) -> bool
     }
 }
 
-// Whether the mark at the start is a tag that has an attribute twice.
+// Whether the mark at the start is a tag that has an attribute twice. `names` is space that the
+// call overwrites: the names of the attributes.
 fn is_repeated<'a>(octets: &[u8], tag: Option<StartTag<'a>>, names: &mut [Name<'a>]) -> bool
     requires { option_map start_tag_view tag ≡ start_tag octets.now }
     ensures repeated { (m rest : List ℕ) → IsMark m rest → octets.now ≡ m ++ rest → result ≡ true → HasRepeated m }

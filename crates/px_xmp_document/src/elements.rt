@@ -5,7 +5,8 @@ ghost use Rattle.px_xmp_document.specs.Elements.{AreElements, IsElementFault};
 use crate::faults::{Cause, Fault};
 use crate::walk::walk;
 
-// The first fault of the elements, by a walk for the nesting, one for the attributes and one for the prefixes.
+// The first fault of the elements, by a walk for the nesting, one for the attributes and one for
+// the prefixes. None: there is none.
 fn layered_fault(octets: &[u8]) -> Option<Fault>
     ensures { MatchOption result (AreElements octets.now) (λ f. IsElementFault octets.now f.cause f.offset) }
 {

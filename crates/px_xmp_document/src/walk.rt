@@ -62,7 +62,7 @@ fn pass_tag<'a>(
     }
 }
 
-// Passes an end tag, or returns what is wrong with it.
+// Passes an end tag, or returns what is wrong with it. None: nothing is.
 fn pass_end<'a>(tag: EndTag<'a>, nesting: &mut Nesting<'a>, scope: &mut Scope<'a>) -> Option<Cause>
     ensures step { MatchOption result (Step (Closing (name_view tag.entry.name)) nesting.old nesting.new)
         (λ c. IsWrong (Closing (name_view tag.entry.name)) nesting.old c) }
@@ -100,7 +100,8 @@ fn pass_stored<'a>(
     }
 }
 
-// Passes the start tag at the start, with a large space for its attributes.
+// Passes the start tag at the start, with space for 256 attributes, and returns its length. An
+// error of None: the tag isn't passed, for a cause that `layered_fault` then looks for.
 #[inline(never)]
 fn pass_large<'a>(
     octets: &'a [u8],

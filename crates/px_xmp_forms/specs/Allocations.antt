@@ -10,6 +10,6 @@ CountsAllocFailureInPacketBy (Ok x) old new = new ≡ old
 CountsAllocFailureInPacketBy (Err (Content cause place)) old new = new ≡ old
 CountsAllocFailureInPacketBy (Err OutOfMemory) old new = new ≡ old + 1
 
--- the same of memory
+-- the same, with the counts of a memory
 abbrev pub CountsAllocFailureInPacket : {X : Type 0} → Result X Refusal → MemoryCounts → MemoryCounts → Type 0
 CountsAllocFailureInPacket r old new = CountsAllocFailureInPacketBy r old.failed_allocations new.failed_allocations

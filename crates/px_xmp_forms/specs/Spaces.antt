@@ -20,7 +20,7 @@ xml_space = codes "http://www.w3.org/XML/1998/namespace"
 abbrev pub xmlns_space : List ℕ
 xmlns_space = codes "http://www.w3.org/2000/xmlns/"
 
--- one that this reader knows
+-- a namespace that this reader knows
 abbrev pub is_known_space : List ℕ → Bool
 is_known_space u = bytes_eq u rdf_space || bytes_eq u meta_space || bytes_eq u xml_space
 
@@ -28,7 +28,8 @@ is_known_space u = bytes_eq u rdf_space || bytes_eq u meta_space || bytes_eq u x
 abbrev pub is_space_octet : ℕ → Bool
 is_space_octet o = is_uri_octet o && not (o == 38) && not (o == 39)
 
--- another one that has odd octets, could be part of a name, or begins as one of RDF's or XML's own
+-- another namespace, which has odd octets, could be part of a name, or begins as one of RDF's or
+-- XML's own
 abbrev pub is_rare_space : List ℕ → Bool
 is_rare_space u =
     not (is_known_space u)

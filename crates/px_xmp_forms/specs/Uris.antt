@@ -8,7 +8,7 @@ abbrev pub is_excluded : ℕ → Bool
 is_excluded o =
     (o == 60) || (o == 62) || (o == 34) || (o == 123) || (o == 125) || (o == 124) || (o == 92) || (o == 94) || (o == 96)
 
--- one that a URI has: reserved, unreserved, or the sign before an encoded octet (2)
+-- an octet that a URI has: reserved, unreserved, or the sign before an encoded octet (2)
 abbrev pub is_uri_octet : ℕ → Bool
 is_uri_octet o = nat_le 33 o && nat_le o 126 && not (is_excluded o)
 

@@ -134,7 +134,7 @@ pub(crate) fn bag_items(order: BagOrder, items: Vec<Item>) -> Vec<Item>
     }
 }
 
-// The lesser place.
+// The lesser of two offsets in the packet. None is no offset.
 fn earlier(place: Option<usize>, other: usize) -> Option<usize>
     ensures { MatchOption result ⊥ (λ p. (place ≡ Some p) ⊎ (p ≡ other)) }
 {
@@ -144,7 +144,8 @@ fn earlier(place: Option<usize>, other: usize) -> Option<usize>
     }
 }
 
-// The first place where a name stands again, of items in order.
+// The first offset in the packet at which a name is there again; the items are in the order of
+// their octets. None: each name is there once.
 pub(crate) fn first_repeated(items: &[Item]) -> Option<usize>
     ensures { (es : List Entry) → AreItems items.now es → IsSorted (λ a b. slice_cmp nat_cmp (entry_octets a) (entry_octets b)) es →
         MatchOption result (AreDistinct es) (IsRepeated es) }

@@ -54,7 +54,8 @@ struct Level {
     items: Vec<Item>,
 }
 
-// The property that an attribute is.
+// The property that an attribute is. `spare` is a vector that the call overwrites with the text, so
+// that the next call needs no allocation.
 fn attribute_item(
     memory: &mut Memory,
     spare: &mut Vec<u8>,
@@ -104,7 +105,8 @@ impl Output {
         }
     }
 
-    // The innermost element, which is no longer open.
+    // Takes the innermost element away, which is no longer open, and returns it. None: no element
+    // is open.
     fn pop(&mut self) -> Option<Level>
         ensures { (s : State) → Has self.old s → MatchOption result (Has self.new s × (s.opened ≡ []))
             (λ x. (o : Open) × (os : List Open) × (s.opened ≡ o ∷ os) × IsLevel x o

@@ -29,7 +29,7 @@ impl Model for TextForm {
 }
 
 impl TextForm {
-    // That of the empty text.
+    // The normal form of the empty text.
     pub(crate) fn new(memory: &Memory) -> TextForm
         ensures { result ≡ [] }
     {
@@ -38,7 +38,7 @@ impl TextForm {
         }
     }
 
-    // Its octets.
+    // The octets of the form.
     pub(crate) fn octets(&self) -> &[u8]
         ensures form { IsTextForm result.now }
         ensures value { result.now ≡ self.now }
@@ -46,7 +46,7 @@ impl TextForm {
         self.octets.as_slice()
     }
 
-    // That of the text with another one after it.
+    // The normal form of the text with the one of `octets` after it.
     pub(crate) fn followed_by(
         self,
         memory: &mut Memory,

@@ -69,7 +69,7 @@ fn is_excluded(octet: u8) -> bool
         || octet == b'`'
 }
 
-// The offset after the last octet that no name can contain.
+// The offset in a namespace after its last octet that no name can contain.
 fn last_part(space: &[u8]) -> usize
     ensures within { result ≤ length space.now }
     ensures chars { are_name_chars (drop result space.now) ≡ true }
@@ -117,7 +117,7 @@ fn is_space_octet(octet: u8) -> bool
     is_uri_octet(octet) && octet != b'&' && octet != b'\''
 }
 
-// Whether it can have each octet.
+// Whether a namespace that this reader compares can have each of these octets.
 fn are_space_octets(space: &[u8]) -> bool
     ensures { result ≡ list_all is_space_octet space.now }
 {

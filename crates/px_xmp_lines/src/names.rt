@@ -157,7 +157,7 @@ const PREFIXES: [Prefix; 35] = [
     },
 ];
 
-// The usual prefix of a namespace.
+// The usual prefix of a namespace. None: the namespace has none here.
 fn prefix_of(space: &[u8]) -> Option<&'static [u8]> {
     for i in 0..PREFIXES.len() {
         if PREFIXES[i].space == space {

@@ -98,7 +98,7 @@ fn read_label<'a>(octets: &'a [u8]) -> Label<'a> {
     }
 }
 
-// The container whose tag is at the start.
+// The kind of array whose start tag is at the start. None: there is none.
 fn container_at(octets: &[u8]) -> Option<Kind> {
     if octets.starts_with(b"<rdf:Bag>") {
         return Some(Kind::Bag);

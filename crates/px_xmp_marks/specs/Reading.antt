@@ -80,7 +80,8 @@ unfoldable pub quoted_len : ℕ → ℕ → List ℕ → Option ℕ
 quoted_len q n [] = None
 quoted_len q n (o ∷ x) = if o == q then Some n else if o == 60 then None else quoted_len q (suc n) x
 
--- the same, if these octets have a text as the value of an attribute
+-- the number of octets before the first quotation mark q, if they have a text as the value of an
+-- attribute
 unfoldable pub value_len : ℕ → List ℕ → Option ℕ
 value_len q x =
     option_and_then (λ n. if is_none (first_fault AttributeValue (take n x)) then Some n else None) (quoted_len q 0 x)

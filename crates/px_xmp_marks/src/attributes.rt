@@ -31,7 +31,8 @@ fn begins_with_eq(octets: &[u8]) -> bool
     !is_space(octets[1])
 }
 
-// The length of the equals sign at the start, with the white space around it.
+// The length of the equals sign at the start, with the white space around it. None: there is no
+// sign.
 #[tactic(auto, unfolding(crate::specs::Reading::eq_len))]
 pub(crate) fn eq_len(octets: &[u8]) -> Option<usize>
     ensures value { result ≡ eq_len octets.now }
@@ -105,7 +106,8 @@ fn value_len(octets: &[u8], quote: u8) -> Option<usize>
     }
 }
 
-// The quoted value at the start, without its quotation marks.
+// The quoted value at the start, without its quotation marks. None: there is none, or it has no
+// text.
 #[tactic(auto, unfolding(crate::specs::Reading::att_value))]
 pub(crate) fn att_value<'a>(octets: &'a [u8]) -> Option<&'a [u8]>
     ensures value { option_map (λ v. v.now) result ≡ att_value octets.now }

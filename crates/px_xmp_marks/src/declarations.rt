@@ -100,7 +100,7 @@ fn is_standalone(value: &[u8]) -> bool
     value.len() == 3 && value[0] == b'y' && value[1] == b'e' && value[2] == b's'
 }
 
-// The part at the start that has a name.
+// The part of a declaration at the start that has this name, with its value. None: there is none.
 #[tactic(auto, unfolding(crate::specs::Declarations::part))]
 fn read_part<'a>(octets: &'a [u8], name: &[u8]) -> Option<Info<'a>>
     ensures value { option_map part_view result ≡ part name.now octets.now }
@@ -127,7 +127,7 @@ fn read_part<'a>(octets: &'a [u8], name: &[u8]) -> Option<Info<'a>>
     })
 }
 
-// The version at the start.
+// The version at the start. None: there is none.
 #[tactic(auto, unfolding(crate::specs::Declarations::checked))]
 fn read_version<'a>(octets: &'a [u8]) -> Option<Info<'a>>
     ensures value { option_map part_view result ≡ version_part octets.now }
@@ -142,7 +142,7 @@ fn read_version<'a>(octets: &'a [u8]) -> Option<Info<'a>>
     Some(info)
 }
 
-// The encoding at the start.
+// The encoding at the start. None: there is none.
 #[tactic(auto, unfolding(crate::specs::Declarations::checked))]
 fn read_encoding<'a>(octets: &'a [u8]) -> Option<Info<'a>>
     ensures value { option_map part_view result ≡ encoding_part octets.now }
@@ -172,7 +172,7 @@ fn standalone_len(octets: &[u8]) -> usize
     info.size
 }
 
-// The length of the end of a declaration at the start.
+// The length of the end of a declaration at the start. None: it doesn't end here.
 #[tactic(auto, unfolding(crate::specs::Declarations::end_len))]
 fn end_len(octets: &[u8]) -> Option<usize>
     ensures value { result ≡ end_len octets.now }
@@ -185,7 +185,8 @@ fn end_len(octets: &[u8]) -> Option<usize>
     Some(space + 2)
 }
 
-// The length of what follows the encoding.
+// The length of what follows the encoding, to the end of the declaration. None: it has no end
+// there.
 #[tactic(auto, unfolding(crate::specs::Declarations::rest_len))]
 fn rest_len(octets: &[u8]) -> Option<usize>
     ensures value { result ≡ rest_len octets.now }

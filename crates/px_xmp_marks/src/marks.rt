@@ -34,7 +34,8 @@ fn plain_text_len(octets: &[u8]) -> Option<usize>
     Some(len)
 }
 
-// The length of the character data at the start, which may have references.
+// The length of the character data at the start, which may have references. None: there are none,
+// or they are wrong.
 #[tactic(auto, unfolding(crate::specs::Marks::text_len))]
 #[inline(never)]
 fn whole_text_len(octets: &[u8]) -> Option<usize>
@@ -66,7 +67,7 @@ fn text_len(octets: &[u8]) -> Option<usize>
     }
 }
 
-// The length of the tag at the start.
+// The length of the tag at the start. None: there is none.
 #[tactic(auto, unfolding(crate::specs::Marks::tag_len))]
 fn tag_len(octets: &[u8]) -> Option<usize>
     ensures value { result ≡ tag_len octets.now }
@@ -81,7 +82,8 @@ fn tag_len(octets: &[u8]) -> Option<usize>
     }
 }
 
-// The length of the comment, the section or the processing instruction at the start.
+// The length of the comment, the section or the processing instruction at the start. None: there is
+// none of them.
 #[tactic(auto, unfolding(crate::specs::Marks::other_len))]
 fn other_len(octets: &[u8]) -> Option<usize>
     ensures value { result ≡ other_len octets.now }

@@ -177,7 +177,7 @@ fn name_len(octets: &[u8]) -> usize
     at + short_len(octets.split_at(at).1)
 }
 
-// The length of the name without a colon at the start.
+// The length of the name without a colon at the start. None: there is none.
 #[tactic(auto, unfolding(crate::specs::Reading::ncname))]
 pub(crate) fn ncname_len(octets: &[u8]) -> Option<usize>
     ensures value { result ≡ ncname octets.now }

@@ -2,7 +2,7 @@
 ghost use Rattle.std.specs.Prelude.{◌≡◌, ◌≤◌, ◌+◌, length, option_map, IfSome};
 ghost use Rattle.px_xmp_marks.specs.Sections.{find, section};
 
-// The offset of the first place where a mark begins.
+// The offset of the first place where `mark` begins. None: there is no such place.
 #[tactic(auto, unfolding(crate::specs::Sections::find))]
 pub(crate) fn find(octets: &[u8], mark: &[u8]) -> Option<usize>
     ensures value { result ≡ find mark.now 0 octets.now }

@@ -34,7 +34,8 @@ pub(crate) fn ends_tag(octets: &[u8]) -> bool
     begins_with(octets, b'>') || begins_with(octets, b'/')
 }
 
-// The length of the attributes at the start, with the white space around them, up to the end of a tag.
+// The length of the attributes at the start, with the white space around them, up to the end of a
+// tag. None: what is there is no attributes of a tag.
 fn attributes_len(octets: &[u8]) -> Option<usize>
     ensures value { result ≡ attributes_len octets.now }
     ensures within { IfSome result (λ n. n + 1 ≤ length octets.now) }

@@ -27,6 +27,6 @@ abbrev pub CountsAllocFailureInXmpBy : {X : Type 0} → Result X Unjoined → �
 CountsAllocFailureInXmpBy (Ok x) old new = new ≡ old
 CountsAllocFailureInXmpBy (Err e) old new = CountsAllocFailureOfXmp e old new
 
--- the same, with the counts of a memory
+-- the same of a call's result, with the counts of a memory
 abbrev pub CountsAllocFailureInXmp : {X : Type 0} → Result X Unjoined → MemoryCounts → MemoryCounts → Type 0
 CountsAllocFailureInXmp r old new = CountsAllocFailureInXmpBy r old.failed_allocations new.failed_allocations

@@ -40,7 +40,7 @@ IsXmp p (Form form) =
     × (((start size : ℕ) × IsOnlyPacket p form.items start size) ⊎ IsJoined p form.items)
 IsXmp p (NotRead u) = IsOtherXmp p.octets (Some u) ⊎ (IsOtherXmp p.octets None × (u.joined ≡ false) × IsLeft p u.start)
 
--- the same of the picture b, which has a head
+-- what is known of the XMP of the picture b, which has a head
 abbrev pub HasXmp : List ℕ → ReadXmp → Type 0
 HasXmp b x = (p : Picture) × (p.octets ≡ b) × HasHead p.octets p.parts × IsXmp p x
 

@@ -47,7 +47,7 @@ struct Pointer<'a> {
     back: &'a [u8],
 }
 
-// What follows some first octets.
+// What follows `first` in octets that begin with it. None: they don't.
 fn after<'a>(octets: &'a [u8], first: &[u8]) -> Option<&'a [u8]>
     ensures { MatchOption result ((rest : List ℕ) → octets.now ≡ first.now ++ rest → ⊥) (λ rest. octets.now ≡ first.now ++ rest.now) }
 {
@@ -61,7 +61,7 @@ fn after<'a>(octets: &'a [u8], first: &[u8]) -> Option<&'a [u8]>
     Some(rest)
 }
 
-// What precedes some last octets.
+// What precedes `last` in octets that end with it. None: they don't.
 fn before<'a>(octets: &'a [u8], last: &[u8]) -> Option<&'a [u8]>
     ensures { MatchOption result ((rest : List ℕ) → octets.now ≡ rest ++ last.now → ⊥) (λ rest. octets.now ≡ rest.now ++ last.now) }
 {
@@ -121,7 +121,8 @@ fn has_part(wanted: &[u8], octets: &[u8]) -> bool
     false
 }
 
-// The properties of a form.
+// The properties of a normal form, without the elements around them. None: these elements are not
+// around it.
 fn properties_of<'a>(form: &'a [u8]) -> Option<&'a [u8]>
     ensures { MatchOption result ((ps : List ℕ) → form.now ≡ packet_start ++ ps ++ packet_end → ⊥)
         (λ ps. form.now ≡ packet_start ++ ps.now ++ packet_end) }

@@ -57,7 +57,7 @@ fn is_of_extension(kind: SegmentKind) -> bool
     }
 }
 
-// The next packet.
+// The next packet. None: none is left.
 fn next_packet<'a>(left: &mut Pieces<'a>) -> Option<Piece>
     ensures { MatchOption result (packets left.old ≡ []) (λ p. packets left.old ≡ p ∷ packets left.new) }
 {
@@ -71,7 +71,7 @@ fn next_packet<'a>(left: &mut Pieces<'a>) -> Option<Piece>
     }
 }
 
-// The next piece of extended XMP.
+// The next piece of extended XMP. None: none is left.
 fn next_of_extension<'a>(left: &mut Pieces<'a>) -> Option<Piece>
     ensures { MatchOption result (extension_pieces left.old ≡ []) (λ p. extension_pieces left.old ≡ p ∷ extension_pieces left.new) }
 {
@@ -170,7 +170,7 @@ pub(crate) fn in_order(portions: Vec<Portion>) -> Vec<Portion>
     BinaryHeap::from(portions).into_sorted_vec()
 }
 
-// The number of octets of all texts, unless it is greater than the longest packet's.
+// The number of octets of all texts. None: it is greater than that of the longest packet.
 pub(crate) fn total_of(bytes: &[u8], portions: &[Portion]) -> Option<usize>
     ensures { let len = length (flat_map (text_of bytes.now) portions.now) in
         MatchOption result (limit < len) (λ n. (n ≤ limit) × (n ≡ len)) }

@@ -31,7 +31,7 @@ pub(crate) enum ReadXmp {
     NotRead(Unread),
 }
 
-// That XMP at an offset of the picture isn't read.
+// The result for a picture whose XMP at this offset isn't read.
 fn not_read(start: usize) -> ReadXmp
     ensures { result ≡ NotRead (record { joined = false; start = start }) }
 {

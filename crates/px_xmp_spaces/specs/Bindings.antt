@@ -19,7 +19,7 @@ declared_prefix n =
 abbrev pub is_plain : ℕ → Bool
 is_plain o = nat_le 33 o && nat_le o 126 && not (o == 38)
 
--- another one: the octets of a name, which each property of a normal form repeats
+-- another limit: the octets of a namespace's name, which each property of a normal form repeats
 abbrev pub space_limit : ℕ
 space_limit = 256
 

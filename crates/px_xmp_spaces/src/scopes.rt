@@ -27,7 +27,7 @@ pub(crate) enum Entry<'a> {
     Declaration(&'a [u8], &'a [u8]),
 }
 
-// What a prefix is bound to without a declaration.
+// The namespace to which a prefix is bound without a declaration. None: it is bound to none.
 fn built_in<'a>(prefix: &[u8]) -> Option<&'a [u8]>
     ensures { option_map (λ u. u.now) result ≡ built_in prefix.now }
 {
@@ -40,7 +40,8 @@ fn built_in<'a>(prefix: &[u8]) -> Option<&'a [u8]>
     None
 }
 
-// What a prefix is bound to by the last of the first entries that declares it, or without a declaration.
+// The namespace to which a prefix is bound by the last of the first `len` entries that declares it,
+// or without a declaration. None: it is bound to none.
 fn find<'a>(entries: &[Entry<'a>], len: usize, prefix: &[u8]) -> Option<&'a [u8]>
     requires { len ≤ length entries.now }
     ensures { option_map (λ u. u.now) result ≡ space_of prefix.now (entries_of len entries.now) }
@@ -126,7 +127,7 @@ impl<'a> Scope<'a> {
         }
     }
 
-    // What a prefix is bound to.
+    // The namespace to which a prefix is bound. None: it is bound to none.
     pub(crate) fn space_of(&self, prefix: &[u8]) -> Option<&'a [u8]>
         ensures { option_map (λ u. u.now) result ≡ space_of prefix.now self.now }
     {

@@ -38,7 +38,8 @@ impl<'a> Scope<'a> {
         }
     }
 
-    // Passes the mark at the start, which is the tag or no start tag, or returns what is wrong with it here.
+    // Passes the mark at the start, which is the tag or no start tag, or returns what is wrong with
+    // it here; None: nothing is. `names` is space that the call overwrites.
     fn pass(
         &mut self,
         octets: &'a [u8],

@@ -32,7 +32,7 @@ fn is_same_key(a: Key, b: Key) -> bool
     a.local == b.local && are_same_spaces(a.space, b.space)
 }
 
-// Whether an attribute has them in common with one of some attributes.
+// Whether an attribute has its local name and namespace in common with one of some attributes.
 fn is_key_among(keys: &[Key], key: Key) -> bool
     ensures { result ≡ is_key_among (key_view key.entry) (map key_view keys.now) }
 {
@@ -44,7 +44,7 @@ fn is_key_among(keys: &[Key], key: Key) -> bool
     false
 }
 
-// Whether no two of some attributes have them in common.
+// Whether no two of some attributes have one local name in one namespace.
 fn are_keys_unique(keys: &[Key]) -> bool
     ensures { result ≡ are_keys_unique (map key_view keys.now) }
 {
@@ -57,7 +57,8 @@ fn are_keys_unique(keys: &[Key]) -> bool
 }
 
 impl<'a> Scope<'a> {
-    // Binds what attributes declare.
+    // Binds what attributes declare. The cause: what is wrong with the first that is wrong; None:
+    // nothing is.
     fn declare_each(&mut self, attributes: &[Attribute<'a>]) -> Option<Cause>
         ensures { Gives result self.new (with_attributes (map attribute_view attributes.now) self.old) }
     {
@@ -104,7 +105,7 @@ impl<'a> Scope<'a> {
         }
     }
 
-    // Stores those of attributes.
+    // Stores the local names and namespaces of attributes, in order, at the start of `keys`.
     fn store_keys(&self, attributes: &[Attribute<'a>], keys: &mut [Key<'a>; ATTRIBUTE_LIMIT])
         requires { length attributes.now ≤ attribute_limit }
         ensures stored { map key_view (take (length attributes.now) keys.new) ≡ keys_of self.now (map attribute_view attributes.now) }
@@ -137,7 +138,7 @@ impl<'a> Scope<'a> {
         self.is_each_pair_unique(attributes)
     }
 
-    // What is wrong with the names of a tag.
+    // What is wrong with the names of a tag. None: nothing is.
     fn judge_each(&self, name: Name, attributes: &[Attribute<'a>]) -> Option<Cause>
         requires { length attributes.now ≤ attribute_limit }
         ensures { Gives result self.now (judged (name_view name.entry) (map attribute_view attributes.now) self.now) }
@@ -154,7 +155,8 @@ impl<'a> Scope<'a> {
         None
     }
 
-    // Begins an element.
+    // Begins an element with the prefixes that its attributes declare. The cause: what is wrong;
+    // None: nothing is.
     fn open_stored(&mut self, name: Name<'a>, attributes: &[Attribute<'a>]) -> Option<Cause>
         requires { length attributes.now ≤ attribute_limit }
         ensures { Gives result self.new (opened (name_view name.entry) (map attribute_view attributes.now) self.old) }

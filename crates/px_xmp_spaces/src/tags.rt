@@ -84,7 +84,8 @@ fn is_left(space: &[u8]) -> bool
     !space.is_empty() && is_rare_space(space)
 }
 
-// The prefix that an attribute with this name declares. It is empty for the default namespace.
+// The prefix that an attribute with this name declares; it is empty for the default namespace.
+// None: the attribute declares none.
 fn declared_prefix<'a>(name: Name<'a>) -> Option<&'a [u8]>
     ensures { option_map (λ p. p.now) result ≡ declared_prefix (name_view name.entry) }
 {
@@ -111,7 +112,8 @@ pub(crate) fn are_same_spaces(a: Option<&[u8]>, b: Option<&[u8]>) -> bool
 }
 
 impl<'a> Scope<'a> {
-    // Binds a prefix to a namespace.
+    // Binds a prefix to a namespace. The cause: what is wrong with the declaration; None: nothing
+    // is.
     fn declare(&mut self, prefix: &'a [u8], space: &'a [u8]) -> Option<Cause>
         ensures { Gives result self.new (with_declaration prefix.now space.now self.old) }
     {
@@ -131,7 +133,7 @@ impl<'a> Scope<'a> {
         None
     }
 
-    // Binds what an attribute declares.
+    // Binds what an attribute declares. The cause: what is wrong with it; None: nothing is.
     pub(crate) fn declare_by(&mut self, attribute: Attribute<'a>) -> Option<Cause>
         ensures { Gives result self.new (with_attribute (attribute_view attribute.entry) self.old) }
     {
@@ -141,7 +143,8 @@ impl<'a> Scope<'a> {
         }
     }
 
-    // Binds what the attributes at the start declare.
+    // Binds what the attributes at the start declare. The cause: what is wrong with the first that
+    // is wrong; None: nothing is.
     fn declare_all(&mut self, octets: &'a [u8]) -> Option<Cause>
         ensures { (attributes : List Attr) → AreListed octets.now attributes → Gives result self.new (with_attributes attributes self.old) }
     {
@@ -185,7 +188,7 @@ impl<'a> Scope<'a> {
         true
     }
 
-    // The namespace of an attribute.
+    // The namespace of an attribute. None: it has no prefix, or one that isn't bound.
     pub(crate) fn attribute_space(&self, name: Name) -> Option<&'a [u8]>
         ensures { option_map (λ u. u.now) result ≡ attribute_space self.now (name_view name.entry) }
     {
@@ -238,7 +241,8 @@ impl<'a> Scope<'a> {
         true
     }
 
-    // What is wrong with the names of a tag's attributes, which are no more than the limit.
+    // What is wrong with the names of a tag's attributes, which are no more than the limit. None:
+    // nothing is.
     fn judge_names(&self, names: &[Name]) -> Option<Cause>
         ensures { Gives result self.now (names_judged (map name_view names.now) self.now) }
     {
@@ -251,7 +255,8 @@ impl<'a> Scope<'a> {
         None
     }
 
-    // What is wrong with the names of a tag. Those of its attributes are stored in the space for them.
+    // What is wrong with the names of a tag; None: nothing is. `names` is space that the call
+    // overwrites: the names of its attributes.
     fn judge<'b>(&self, tag: StartTag<'b>, names: &mut [Name<'b>; ATTRIBUTE_LIMIT]) -> Option<Cause>
         ensures { (attributes : List Attr) → AreListed tag.entry.rest.now attributes
             → Gives result self.now (judged (name_view tag.entry.name) attributes self.now) }
@@ -265,7 +270,7 @@ impl<'a> Scope<'a> {
         }
     }
 
-    // As `judge`, with a space for the names.
+    // As `judge`, with space of its own for 256 names.
     #[inline(never)]
     fn judge_large(&self, tag: StartTag) -> Option<Cause>
         ensures { (attributes : List Attr) → AreListed tag.entry.rest.now attributes
@@ -289,7 +294,8 @@ impl<'a> Scope<'a> {
         }
     }
 
-    // What is wrong with the names of a tag that has too many attributes.
+    // What is wrong with a tag that has too many attributes: a prefix that isn't declared, or their
+    // number. It is always Some.
     fn judge_many(&self, tag: StartTag) -> Option<Cause>
         ensures { (attributes : List Attr) → AreListed tag.entry.rest.now attributes
             → result ≡ Some (if are_bound self.now attributes then ManyAttributes else Undeclared) }
@@ -300,7 +306,8 @@ impl<'a> Scope<'a> {
         Some(Cause::ManyAttributes)
     }
 
-    // Begins an element.
+    // Begins an element with the prefixes that its tag declares. The cause: what is wrong; None:
+    // nothing is. `names` is space that the call overwrites.
     pub(crate) fn open(
         &mut self,
         tag: StartTag<'a>,

@@ -94,7 +94,7 @@ abbrev pub IsSimple : Simple → Type 0
 IsSimple (Literal language text) = Without 34 language
 IsSimple (Uri uri) = Without 34 uri
 
--- this is so of each label and each value, also inside others
+-- each label and each simple value can be written, also inside others
 abbrev pub IsContent : Content → Type 0
 IsContent End = ⊤
 IsContent (Flat l p rest) = IsLabel l × IsSimple p × IsContent rest

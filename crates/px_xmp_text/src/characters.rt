@@ -55,7 +55,8 @@ fn are_usual(octets: &[u8]) -> bool
     all
 }
 
-// The offset of the first character that XML does not allow, by a look at each character.
+// The offset of the first character that XML does not allow, by a look at each character. None: all
+// are allowed.
 fn search_forbidden(text: &str) -> Option<usize>
     ensures { MatchOption result (AreCharacters text.now) (IsForbidden text.now) }
 {

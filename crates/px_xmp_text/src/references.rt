@@ -24,7 +24,7 @@ pub struct Reference {
     pub size: usize,
 }
 
-// The value of a hexadecimal digit.
+// The value of a hexadecimal digit. None: the octet is no such digit.
 fn digit_value(octet: u8) -> Option<u32>
     ensures value { result ≡ digit_value octet }
     ensures bound { IfSome result (λ d. d < 16) }
@@ -37,7 +37,8 @@ fn digit_value(octet: u8) -> Option<u32>
     }
 }
 
-// The number in the digits before the first semicolon.
+// The number in the digits before the first semicolon. None: there are none, or no character has
+// the number.
 #[tactic(auto, unfolding(crate::specs::References::digits))]
 fn read_digits(octets: &[u8], base: u32) -> Option<Digits>
     requires { base ≤ 16 }
@@ -66,7 +67,8 @@ fn read_digits(octets: &[u8], base: u32) -> Option<Digits>
     None
 }
 
-// The character reference at the start, whose first `head` octets precede its digits.
+// The character reference at the start, whose first `head` octets precede its digits. None: there
+// is none.
 #[tactic(auto, unfolding(crate::specs::References::character_reference))]
 fn character_reference(octets: &[u8], head: usize, base: u32) -> Option<Reference>
     requires base { base ≤ 16 }
@@ -90,14 +92,15 @@ fn character_reference(octets: &[u8], head: usize, base: u32) -> Option<Referenc
     }
 }
 
-// A reference of `size` octets.
+// A reference to this character of `size` octets, always Some.
 fn reference_to(character: char, size: usize) -> Option<Reference>
     ensures { result ≡ Some (record { character = character; size = size }) }
 {
     Some(Reference { character, size })
 }
 
-// The reference at the start to one of the five entities that XML defines.
+// The reference at the start to one of the five entities that XML defines (4.6). None: there is
+// none.
 #[tactic(auto, unfolding(crate::specs::References::entity_reference))]
 fn entity_reference(octets: &[u8]) -> Option<Reference>
     ensures value { option_map reference_view result ≡ entity_reference octets.now }

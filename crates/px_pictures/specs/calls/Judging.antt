@@ -54,7 +54,7 @@ IsFew x = AreFew x.exif × AreFew x.iptc
 abbrev pub MeanSame : {M : Type 0} → (List ℕ → M → Type 0) → List (List ℕ) → List (List ℕ) → Type 0
 MeanSame {M} Says xs ys = (ms : List M) × MeanAll Says xs ms × MeanAll Says ys ms
 
--- those that both have do, pair by pair
+-- as many blocks as both lists have mean the same, pair by pair
 abbrev pub PairsMeanSame : {M : Type 0} → (List ℕ → M → Type 0) → List (List ℕ) → List (List ℕ) → Type 0
 PairsMeanSame Says [] ys = ⊤
 PairsMeanSame Says (x ∷ xs) [] = ⊤
@@ -65,7 +65,7 @@ abbrev pub AreSameBlocks : Blocks → Blocks → Bool → Type 0
 AreSameBlocks x y same =
     AllRead x × AllRead y × (IsTrue same ↔ (MeanSame SaysExif x.exif y.exif × MeanSame SaysIim x.iptc y.iptc))
 
--- and those of the blocks that both have
+-- the blocks have meanings, and those of as many blocks as both have are the same or not
 abbrev pub AreAlikeBlocks : Blocks → Blocks → Bool → Type 0
 AreAlikeBlocks x y alike =
     AllRead x × AllRead y × (IsTrue alike ↔ (PairsMeanSame SaysExif x.exif y.exif × PairsMeanSame SaysIim x.iptc y.iptc))
@@ -93,7 +93,7 @@ abbrev pub BlocksFail : PictureSide → Blocks → Blocks → ℕ → MetadataFa
 BlocksFail First x y refused e = IsBlockFault x refused e
 BlocksFail Second x y refused e = AllRead x × IsBlockFault y refused e
 
--- the same, or the second picture has no head
+-- a block of the first picture or of the second, g, is faulty, or g has no head
 abbrev pub SecondFails : PictureSide → Blocks → List ℕ → ℕ → MetadataFault → Type 0
 SecondFails First x g refused e = (y : Blocks) × HasBlocks g y × IsBlockFault x refused e
 SecondFails Second x g refused e = IsHeadFault g refused e ⊎ ((y : Blocks) × HasBlocks g y × AllRead x × IsBlockFault y refused e)

@@ -92,7 +92,7 @@ SubjectFits s = (v : List ℕ) → option_map (λ x. x.now) s.value ≡ Some v �
 abbrev pub ContentFits : ℕ → Content → Type 0
 ContentFits depth c = IsContent c × IsShallow depth c × (length (written c []) ≤ limit) × HaveShortLanguages c
 
--- the same inside an element that is the last one of so many
+-- what is in a structure or an array s, inside an element that is the last one of so many
 abbrev pub InsideFits : ℕ → Compound → Content → Type 0
 InsideFits depth s c = IsContent c × IsShallowInside depth s c × (length (written c []) ≤ limit) × HaveShortLanguages c
 
@@ -104,7 +104,7 @@ EntryFits depth l v = ContentFits depth (before l v values.End)
 abbrev pub AreFit : ℕ → List Entry → Type 0
 AreFit depth es = AllByRecursion (λ e. EntryFits depth e.label e.value) es
 
--- those of a node can be joined
+-- the properties or items of a node can be joined
 abbrev pub JoinFits : Node → List Entry → Type 0
 JoinFits nodes.Description es = AreDistinct es × (length (written (row es) []) ≤ most)
 JoinFits (nodes.Container c) es = length (written (row es) []) ≤ most

@@ -15,7 +15,7 @@ ArePlain x attributes = (more : List Attr) × AreListed x more × (plain more �
 abbrev pub IsNextOf : Next → List Attr → Type 0
 IsNextOf n attributes = (more : List Attr) × AreListed n.rest more × (plain attributes ≡ n.attribute ∷ plain more)
 
--- the same, or none
+-- r is the next of these attributes that declares nothing; None: each declares something
 abbrev pub IsNextPlain : Option Next → List Attr → Type 0
 IsNextPlain r attributes = MatchOption r (plain attributes ≡ []) (λ n. IsNextOf n attributes)
 

@@ -35,7 +35,7 @@ Stays old new P = (u : Option (List ℕ)) → old.other ≡ None → IsSubject o
 abbrev pub NamesOne : Subject → Tag → Nodes → Type 0
 NamesOne s tag inner = IsNamedRdf tag inner × ((u : Option (List ℕ)) → AreAllAbout u inner → s.other ≡ None)
 
--- none was named
+-- no subject was named
 abbrev pub IsNew : Subject → Type 0
 IsNew s = (s.value ≡ None) × (s.other ≡ None)
 

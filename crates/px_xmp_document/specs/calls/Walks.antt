@@ -29,6 +29,6 @@ pub record Goes (y : List ℕ) (n : ℕ) (p q : Place) (s u : List Item) : Type 
   pub is_piece : IsPiece piece mark rest
   pub leads : passed piece s ≡ Ok u
 
--- it has an octet at least, and no more than there are
+-- the mark that is passed has an octet at least, and no more than there are
 abbrev pub GoesOn : List ℕ → ℕ → Place → Place → List Item → List Item → Type 0
 GoesOn y n p q s u = (1 ≤ n) × (n ≤ length y) × Goes y n p q s u

@@ -17,7 +17,7 @@ key_view k = (k.local.now, option_map (λ u. u.now) k.space)
 abbrev pub key_of : List Item → Named → Pair
 key_of scope n = (n.local, attribute_space scope n)
 
--- those of some attributes, in order
+-- the local names and namespaces of some attributes, in order
 abbrev pub keys_of : List Item → List Attr → List Pair
 keys_of scope attributes = map (λ a. key_of scope a.name) attributes
 
