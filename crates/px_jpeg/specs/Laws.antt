@@ -39,7 +39,8 @@ abbrev pub OneCut : Type 0
 OneCut = (x : List ℕ) (rs qs : List Resource) (rest more : List ℕ) → HasResources x rs rest → HasResources x qs more
     → (rs ≡ qs) × (rest ≡ more)
 
--- A file's first bytes serve: their head is the file's, and so is a first fault that is NoMarker or LengthForm.
+-- A file's first bytes are enough: their head is the file's, and so is a first fault that is
+-- NoMarker or LengthForm.
 abbrev pub FrontServes : Type 0
 FrontServes = ((b more : List ℕ) (parts : List Part) → HasHead b parts → HasHead (b ++ more) parts)
     × ((b more : List ℕ) (p : ℕ) → HasHeadFault b NoMarker p → HasHeadFault (b ++ more) NoMarker p)

@@ -8,10 +8,11 @@ use crate::head::Parts;
 use crate::parts::Part;
 use std::marker::Model;
 
-// The markers of the segments that contain something.
+// The marker code of the segments that contain Exif or XMP (T.81, table B.1: FF E1).
 pub(crate) const APP1: u8 = 0xE1;
 
-// The marker code of the segments that contain Photoshop's image resources.
+// The marker code of the segments that contain Photoshop's image resources (T.81, table B.1: FF
+// ED).
 const APP13: u8 = 0xED;
 
 /// What a segment contains.

@@ -1,4 +1,6 @@
 // Reads properties and items with their values. Each function reads what one production of RDF/XML, 7.2, has.
+// `Err` of a call is why it reads no further: `Content`, what is wrong or rare and its byte offset
+// in the packet; or `OutOfMemory`, a failed allocation.
 ghost use Rattle.std.specs.Prelude.{◌≡◌, ◌≤◌, ℕ, suc, List, [], length, option_map, OnOk, IfOk};
 ghost use Rattle.px_xmp_text.specs.Values as values;
 ghost use Rattle.px_xmp_forms.specs.Labels.{label_view};

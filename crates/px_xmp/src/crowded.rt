@@ -8,7 +8,7 @@ ghost use Rattle.px_xmp.specs.calls.Crowded.{AreMany, HasMany, IsInRun, equals_s
 
 use px_xmp_marks::{StartTag, len_before, next_attribute};
 
-// No tag has more attributes.
+// The most attributes of a tag that this reader judges, as px_xmp_spaces does.
 const ATTRIBUTE_LIMIT: usize = 256;
 
 // An attribute has five octets or more, with the space before it. So a tag with more of them than this reader judges covers such
@@ -40,7 +40,7 @@ fn has_long_run(octets: &[u8]) -> bool
     false
 }
 
-// A tag with more attributes than this reader judges is no shorter.
+// The fewest octets that have more attributes than this reader judges: 257 of five octets each.
 const CROWDED: usize = 1285;
 
 // Whether octets have as many equals signs as the attributes that this reader judges, and more octets, or more equals signs.
@@ -105,7 +105,7 @@ fn are_many(octets: &[u8]) -> bool
     false
 }
 
-// Whether a mark is a tag with more of them.
+// Whether a mark is a tag with more attributes than this reader judges.
 fn has_many(tag: Option<StartTag>) -> bool
     ensures { HasMany tag.entry result }
 {

@@ -85,7 +85,8 @@ pub(crate) enum Node {
 }
 
 impl Node {
-    // What the normal form writes around it.
+    // What the normal form writes around the contents of a node: the tags of a structure or of an
+    // array.
     pub(crate) fn content<'a>(self) -> Content<'a>
         ensures { result ≡ content_of self }
     {

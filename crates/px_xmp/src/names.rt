@@ -48,28 +48,29 @@ pub(crate) struct Named<'a> {
 }
 
 impl<'a> Named<'a> {
-    // Whether it is a name of RDF.
+    // Whether this is the name of RDF with this local name.
     pub(crate) fn is_rdf(&self, local: &[u8]) -> bool
         ensures { result ≡ is_rdf local.now (name_of self.now) }
     {
         self.local == local && self.space == RDF
     }
 
-    // Whether it is the root around rdf:RDF.
+    // Whether this is the name of the root around rdf:RDF, x:xmpmeta, or its old one.
     pub(crate) fn is_root(&self) -> bool
         ensures { result ≡ is_root (name_of self.now) }
     {
         (self.local == ROOT || self.local == OLD_ROOT) && self.space == META
     }
 
-    // Whether it is the attribute that names the subject, which old packets have without a prefix.
+    // Whether this is rdf:about, the attribute that names the subject, which old packets have
+    // without a prefix.
     pub(crate) fn is_about(&self) -> bool
         ensures { result ≡ is_about (name_of self.now) }
     {
         self.local == ABOUT && (self.space.is_empty() || self.space == RDF)
     }
 
-    // Whether it is the name of a property.
+    // Whether this is the name of a property.
     fn is_property(&self) -> bool
         ensures { result ≡ is_property (name_of self.now) }
     {

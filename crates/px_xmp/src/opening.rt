@@ -1,4 +1,6 @@
 // Reads the attributes of an element of RDF, some of which are properties.
+// `Err` of a call is why it reads no further: `Content`, what is wrong or rare and its byte offset
+// in the packet; or `OutOfMemory`, a failed allocation.
 ghost use Rattle.std.specs.Prelude.{◌≡◌, ◌≤◌, ℕ, List, [], Some, length, OnOk, IfOk};
 ghost use Rattle.px_bytes.specs.Parts.{limit};
 ghost use Rattle.px_xmp_text.specs.Texts.{text_of};

@@ -1,4 +1,6 @@
 // A packet: its document, and what is around it.
+// `Err` of a call is why it reads no further: `Content`, what is wrong or rare and its byte offset
+// in the packet; or `OutOfMemory`, a failed allocation.
 ghost use Rattle.std.specs.Prelude.{◌≡◌, ◌≤◌, ◌+◌, ℕ, Option, List, length, take, drop, true, false, IfOk, OnOk};
 ghost use Rattle.px_bytes.specs.Parts.{limit};
 ghost use Rattle.px_xmp_marks.specs.Declarations.{every};

@@ -1,4 +1,6 @@
 // The reader of a document: what is left of it, and the output.
+// `Err` of a call is why it reads no further: `Content`, what is wrong or rare and its byte offset
+// in the packet; or `OutOfMemory`, a failed allocation.
 ghost use Rattle.std.specs.Prelude.{◌≡◌, ◌≤◌, ◌∷◌, ◌<◌, ℕ, List, [], false, length, OnOk, IfOk};
 ghost use Rattle.px_xmp_text.specs.Values.{End};
 ghost use Rattle.px_xmp_forms.specs.Allocations.{CountsAllocFailureInPacket};

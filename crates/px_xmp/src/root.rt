@@ -1,4 +1,6 @@
 // Reads the root of a document, and rdf:RDF. XMP part 1, 7.
+// `Err` of a call is why it reads no further: `Content`, what is wrong or rare and its byte offset
+// in the packet; or `OutOfMemory`, a failed allocation.
 ghost use Rattle.std.specs.Prelude.{◌≡◌, ◌≤◌, ◌<◌, ◌++◌, ◌∷◌, ℕ, List, [], Option, None, false, codes, length, OnOk};
 ghost use Rattle.px_xmp_text.specs.Values.{Content, End};
 ghost use Rattle.px_xmp_marks.specs.Reading.{Attr, next_view};

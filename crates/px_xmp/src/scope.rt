@@ -1,4 +1,6 @@
 // What prefixes stand for. Namespaces in XML 1.0, 6.
+// `Err` of a call is why it reads no further: `Content`, what is wrong or rare and its byte offset
+// in the packet; or `OutOfMemory`, a failed allocation.
 ghost use Rattle.std.specs.Prelude.{◌≡◌, ◌≤◌, ◌∷◌, [], List, Some, length, option_map, if◌then◌else◌, OnOk, IfOk, MatchOption};
 ghost use Rattle.px_xmp_marks.specs.Reading.{Attr, name_view};
 ghost use Rattle.px_xmp_spaces.specs.Scopes.{built_in, space_of, ended};
@@ -32,7 +34,7 @@ enum Entry<'a> {
     Declaration(&'a [u8], &'a [u8]),
 }
 
-// What a prefix stands for without a declaration. It is empty for no namespace.
+// The namespace to which a prefix is bound without a declaration, or the empty one.
 fn built_in<'a>(prefix: &[u8]) -> &'a [u8]
     ensures { result.now ≡ or_none (built_in prefix.now) }
 {
@@ -45,7 +47,8 @@ fn built_in<'a>(prefix: &[u8]) -> &'a [u8]
     b""
 }
 
-// What a prefix stands for by the first entries, of which the last one counts. It is empty for no namespace.
+// The namespace to which a prefix is bound by the last of the first `len` entries that declares it,
+// or without a declaration. It is empty if the prefix is bound to none.
 fn find<'a>(entries: &[Entry<'a>], len: usize, prefix: &[u8]) -> &'a [u8]
     requires { len ≤ length entries.now }
     ensures { result.now ≡ or_none (space_of prefix.now (entries_of len entries.now)) }
@@ -104,7 +107,8 @@ impl<'a> Noted<'a> {
         None
     }
 
-    // All of them, if these octets follow them.
+    // The language that a tag declares, and its attributes from the first on that declares nothing;
+    // if each declares something, `rest`, which follows them.
     fn whole(self, rest: &'a [u8]) -> Declared<'a>
         ensures language { option_map (λ l. l.now) result.language ≡ option_map (λ l. l.now) self.entry.language }
         ensures attributes { result.attributes.now ≡ or_rest (option_map (λ l. l.now) self.entry.first) rest.now }

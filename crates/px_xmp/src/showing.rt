@@ -1,4 +1,6 @@
 // The form of a packet for showing it, with its bags as they are in the packet.
+// `Err` of a call is why it reads no further: `Content`, what is wrong or rare and its byte offset
+// in the packet; or `OutOfMemory`, a failed allocation.
 ghost use Rattle.std.specs.Prelude.{◌≤◌, length, IfSome, IfOk, OnOk};
 ghost use Rattle.px_bytes.specs.Parts.{limit};
 ghost use Rattle.px_xmp_forms.specs.Forms.{IsNormal};

@@ -1,4 +1,6 @@
 // Reads the marks of a document, one after another.
+// `Err` of a call is why it reads no further: `Content`, what is wrong or rare and its byte offset
+// in the packet; or `OutOfMemory`, a failed allocation.
 ghost use Rattle.std.specs.Prelude.{◌≡◌, ◌≤◌, ◌<◌, ℕ, List, [], true, false, length, is_some, OnOk, IfOk, IfSome};
 ghost use Rattle.px_xmp_marks.specs.Declarations.{every};
 ghost use Rattle.px_xmp_forms.specs.Allocations.{CountsAllocFailureInPacket};
@@ -142,14 +144,15 @@ impl<'a> Source<'a> {
     }
 }
 
-// Whether an octet is white space that stands for itself.
+// Whether an octet is a space, a tab or a line feed, which each mean themselves in a text; CR means
+// LF (XML 1.0, 2.11).
 fn is_plain_space(octet: u8) -> bool
     ensures { result ≡ is_plain_space octet }
 {
     octet == b' ' || octet == b'\t' || octet == b'\n'
 }
 
-// Whether each octet is.
+// Whether each octet is such white space.
 fn are_plain_spaces(octets: &[u8]) -> bool
     ensures { result ≡ every is_plain_space octets.now }
 {

@@ -49,7 +49,7 @@ fn read_start<'a>(octets: &'a [u8]) -> Declaration<'a>
     }
 }
 
-// The first fault of a document.
+// The first fault of a document. None: it has none.
 fn document_fault(octets: &[u8]) -> Option<Fault>
     ensures fault { MatchOption result (IsDocument octets.now) (λ f. IsFault octets.now f.cause f.offset) }
     ensures within { IfSome result (λ f. f.offset ≤ length octets.now) }

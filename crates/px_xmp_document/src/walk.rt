@@ -19,7 +19,8 @@ use px_xmp_tree::{Cause, Fault, MarkKind, Nesting, read_other_mark, start_kind};
 // small documents cost to read.
 const STORED: usize = 64;
 
-// So many are stored in a space for one tag. No tag has more that is right.
+// The most attributes that are stored for one tag, the limit of px_xmp_spaces: a tag with more is
+// refused.
 const MANY: usize = 256;
 
 // An attribute that is not read.

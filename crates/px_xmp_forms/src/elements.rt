@@ -1,4 +1,6 @@
 // The elements of the normal form: a property or a member with its value.
+// `Err` of a call is why it writes nothing more: `Content`, what can't be written, as a form
+// that is too long; or `OutOfMemory`, a failed allocation.
 ghost use Rattle.std.specs.Prelude.{◌≡◌, ◌≤◌, ◌+◌, ◌++◌, [], ℕ, List, length, OnOk, IfOk};
 ghost use Rattle.std.specs.Str.{str_to_ascii_lowercase};
 ghost use Rattle.px_xmp_text.specs.Texts.{normal_text};

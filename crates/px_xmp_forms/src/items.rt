@@ -1,4 +1,6 @@
 // Properties and members, and their order.
+// `Err` of a call is why it writes nothing more: `Content`, what can't be written, as a form
+// that is too long; or `OutOfMemory`, a failed allocation.
 ghost use Rattle.std.specs.Prelude.{◌≡◌, ◌≤◌, ◌⊎◌, [], List, Some, length, refl, bytes_eq, take, IfOk, MatchOption};
 ghost use Rattle.std.specs.Cmp.Lexicographic.{slice_cmp, nat_list_eq_equiv, nat_list_cmp_total, texts_ties, texts_po};
 ghost use Rattle.std.specs.Cmp.{on_equiv, on_total, on_po, on_per, partial_equiv_from_equiv};
@@ -53,7 +55,7 @@ impl Item {
         self.element.piece.octets()
     }
 
-    // The octets that have its name.
+    // The octets of the item that have its name: the start tag up to its attributes.
     fn name(&self) -> &[u8]
         ensures { result.now ≡ take self.now.element.label_len self.now.element.piece }
     {
@@ -122,7 +124,7 @@ pub(crate) fn sort_items(items: Vec<Item>) -> Vec<Item>
     BinaryHeap::from(items).into_sorted_vec()
 }
 
-// The items of a bag in this order.
+// The items of a bag in the order of `order`.
 pub(crate) fn bag_items(order: BagOrder, items: Vec<Item>) -> Vec<Item>
     ensures permutation { IsPermutation items.items result.items }
     ensures sorted { order ≡ Sorted → IsSorted (λ a b. slice_cmp nat_cmp a.element.piece b.element.piece) result.items }

@@ -1,4 +1,6 @@
 // The tags of the normal form.
+// `Err` of a call is why it writes nothing more: `Content`, what can't be written, as a form
+// that is too long; or `OutOfMemory`, a failed allocation.
 ghost use Rattle.std.specs.Prelude.{◌≡◌, ◌≤◌, ◌+◌, ◌++◌, ◌↔◌, [], true, length, OnOk};
 ghost use Rattle.px_xmp_text.specs.Values.{opening_tag, end_tag, compound_start, compound_end, IsLabel};
 ghost use Rattle.px_xmp_forms.specs.Forms.{most, has};
@@ -226,7 +228,8 @@ pub(crate) fn append_start(
     }
 }
 
-// Appends what follows them, before the end tag of the element.
+// Appends what follows members or, without a container, properties, before the end tag of their
+// element.
 pub(crate) fn append_stop(
     memory: &mut Memory,
     out: &mut Vec<u8>,

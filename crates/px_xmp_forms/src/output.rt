@@ -1,4 +1,6 @@
 // The output: of each element that is open what was read of it.
+// `Err` of a call is why it writes nothing more: `Content`, what can't be written, as a form
+// that is too long; or `OutOfMemory`, a failed allocation.
 ghost use Rattle.std.specs.Prelude.{◌≡◌, ◌≤◌, ◌∷◌, [], ℕ, List, Some, length, drop, IfOk, OnOk, MatchOption};
 ghost use Rattle.px_bytes.specs.Parts.{limit};
 ghost use Rattle.px_xmp_text.specs.Texts.{text_of, normal_text};

@@ -1,4 +1,6 @@
 // Octets that are a normal form: of a text, or of properties or members.
+// `Err` of a call is why it writes nothing more: `Content`, what can't be written, as a form
+// that is too long; or `OutOfMemory`, a failed allocation.
 ghost use Rattle.std.specs.Prelude.{◌≡◌, ◌++◌, [], ℕ, List, Some, length, IfOk};
 ghost use Rattle.px_xmp_text.specs.Texts.{text_of, normal_text};
 ghost use Rattle.px_xmp_forms.specs.Forms.{IsForm, IsTextForm, TextFits};
@@ -91,7 +93,7 @@ impl Piece {
         }
     }
 
-    // These octets.
+    // The octets of the piece.
     pub(crate) fn of(octets: Vec<u8>) -> Piece
         requires { IsForm octets.items }
         ensures { result ≡ octets.items }

@@ -150,7 +150,7 @@ pub fn is_rare_space(space: &[u8]) -> bool
     space.starts_with(RDF) || space.starts_with(XML) || space.starts_with(XMLNS)
 }
 
-// The number of octets before the first colon. It is that of all octets if there is none.
+// The number of octets before the first colon, or of all octets if there is none.
 fn scheme_len(uri: &[u8]) -> usize
     ensures within { result ≤ length uri.now }
     ensures first { result ≡ position_or_len (λ o. o == 58) uri.now }

@@ -7,7 +7,7 @@ use crate::names::append_name;
 use crate::parts::{Kind, Part, advance, depth_after, read_part};
 use px_bytes::{AllocFailed, Memory};
 
-// A form has no more elements in one another.
+// The most levels by which a line is indented; a normal form has at most 100.
 const MOST_NESTED: usize = 255;
 
 // The word for the kind of a value.

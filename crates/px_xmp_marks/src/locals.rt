@@ -5,7 +5,7 @@ ghost use Rattle.px_xmp_marks.specs.Locals.{key, HaveKeys, is_local_of, are_loca
 
 use crate::attributes::Attribute;
 
-// So many keys are there.
+// How many keys there are: a key is a number from 0 to 255.
 const KEYS: usize = 256;
 
 // A number that equal names have in common, and few others.

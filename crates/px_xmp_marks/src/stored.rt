@@ -32,7 +32,8 @@ fn store<'a>(space: &mut [Attribute<'a>], at: usize, attribute: Attribute<'a>)
     }
 }
 
-// Reads the attributes at the start, up to the end of a tag, and stores the first of them.
+// Reads the attributes at the start, up to the end of a tag, and stores the first of them in
+// `space`, as many as there is space for. The result counts all. None: no attributes are there.
 fn store_attributes<'a>(octets: &'a [u8], space: &mut [Attribute<'a>]) -> Option<Attributes>
     ensures value { option_map (λ s. s.size) result ≡ attributes_len octets.now }
     ensures stored { IfSome result (λ s. s.len ≤ length space.new

@@ -5,7 +5,7 @@ ghost use Rattle.px_xmp_spaces.specs.calls.Entries.{entry_view, entries_of};
 
 use std::marker::Model;
 
-// No more elements and declarations are in scope.
+// The most open elements and declarations that are in scope together, a limit of this reader.
 const LIMIT: usize = 356;
 
 // The prefixes that are bound without a declaration, and their namespaces.

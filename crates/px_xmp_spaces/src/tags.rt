@@ -15,7 +15,7 @@ use crate::scopes::{Entry, Scope, XML, XML_SPACE, XMLNS, XMLNS_SPACE};
 use px_xmp_forms::is_rare_space;
 use px_xmp_marks::{Attribute, Name, StartTag, next_attribute, read_names};
 
-// No element has more attributes.
+// The most attributes of an element that this reader judges.
 pub(crate) const ATTRIBUTE_LIMIT: usize = 256;
 
 // The names of so many attributes are stored in one space for all tags, which few tags exceed: a larger one costs more to clear

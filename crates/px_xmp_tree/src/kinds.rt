@@ -49,7 +49,7 @@ fn are_few_spaces(octets: &[u8]) -> bool
     true
 }
 
-// So few octets are looked at one after another.
+// Up to this many octets are looked at one after another, which is faster than a search for so few.
 const FEW: usize = 48;
 
 // Whether each octet is white space.

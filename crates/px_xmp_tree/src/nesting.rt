@@ -11,7 +11,7 @@ use crate::kinds::MarkKind;
 use px_xmp_marks::Name;
 use std::marker::Model;
 
-// No element is inside so many others.
+// The most elements that are open at a time, a limit of this reader.
 const LIMIT: usize = 100;
 
 // The names of the open elements.

@@ -1,4 +1,5 @@
--- What a call surely reads: what is left of the octets, and values that the output has room for.
+-- What a call reads unless an allocation fails: what is left of the octets, and values that are
+-- within the limits of the output.
 use Rattle.std.specs.Prelude.{◌≡◌, ◌≤◌, ◌⊎◌, ℕ, suc, Bool, true, codes, Option, Some, List, [], ◌∷◌, option_map, ⊤, length}
 use Rattle.std.specs.List.{AllByRecursion}
 use Rattle.px_xmp_text.specs.declared.pieces.TextKind.TheVariants.{AttributeValue}

@@ -43,7 +43,8 @@ Says reading.End u = ⊥
 Says (reading.Words kind octets) u = text_of kind octets ≡ Some u
 Says reading.Other u = u ≡ []
 
--- white space that stands for itself
+-- white space that means itself in a text: a space, a tab or a line feed; CR means LF (XML 1.0,
+-- 2.11)
 abbrev pub is_plain_space : ℕ → Bool
 is_plain_space o = (o == 32) || (o == 9) || (o == 10)
 
