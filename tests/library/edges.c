@@ -272,6 +272,9 @@ static void try_names(int count, char **names) {
 static void try_version(const char *version) {
     char out[EXIFNORM_NAME_ROOM];
     size_t length = strlen(version) + 1;
+    memset(out, FILLER, sizeof out);
+    REQUIRE(exifnorm_version_string(out) == out && strcmp(out, version) == 0);
+    REQUIRE(is((unsigned char *)out + length, sizeof out - length, FILLER));
     for (size_t room = 0; room <= sizeof out; room++) {
         size_t written = UNSET;
         memset(out, FILLER, sizeof out);

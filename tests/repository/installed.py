@@ -18,7 +18,7 @@ PROGRAM, FILE, FOLDER = 0o755, 0o644, 0o755
 # How make is called over a built tree. It doesn't look whether the proofs are up to date, which takes a second; it links what has to be.
 MAKE = ("make", "--old-file=program", "--old-file=out/proved/libpx_c.a")
 HEADER = text_of("crates", "px_c", "include", "exifnorm.h")
-CALLS = sorted(set(re.findall(r"\b(exifnorm_\w+)\(", HEADER)))
+CALLS = sorted(re.findall(r"^uint32_t (exifnorm_\w+)\(", HEADER, re.MULTILINE))
 
 
 def kind_of(path: Path) -> int | str:

@@ -470,6 +470,18 @@ uint32_t exifnorm_cause_name(uint32_t cause, char *out, size_t out_length, size_
 /* Writes the library's version, as "1.0.0", and a zero byte to the beginning of out. Statuses as for exifnorm_cause_name. */
 uint32_t exifnorm_version(char *out, size_t out_length, size_t *written);
 
+/* Writes the library's version and a zero byte to out, an array of EXIFNORM_NAME_ROOM bytes, and returns out, for use as a string:
+ *
+ *   char version[EXIFNORM_NAME_ROOM];
+ *   puts(exifnorm_version_string(version));
+ */
+static inline char *exifnorm_version_string(char *out) {
+    size_t written;
+    if (exifnorm_version(out, EXIFNORM_NAME_ROOM, &written) != EXIFNORM_DONE)
+        out[0] = 0;
+    return out;
+}
+
 #ifdef __cplusplus
 }
 #endif
