@@ -12,7 +12,7 @@ use Rattle.px_c.specs.declared.blocks.ExifnormJpegSizes.{ExifnormJpegSizes}
 use Rattle.px_c.specs.declared.jpeg.ExifnormJpegFault.{ExifnormJpegFault}
 use Rattle.px_c.specs.Jpeg.{head_cause, piece_kind, IsStored}
 
--- the place of a block in C
+-- the place of a block as the caller of C sees it
 abbrev pub seen_place : BlockPlace → ExifnormJpegBlock
 seen_place p = record { kind = piece_kind p.kind; joined = if p.joined then 1 else 0; start = p.start; size = p.size }
 
@@ -26,7 +26,8 @@ StoresPlaces b parts sizes old new out out_now = (places : List BlockPlace) × A
 abbrev pub StoresBlocks : List ℕ → ExifnormJpegSizes → List ExifnormJpegBlock → List ExifnormJpegBlock → List ℕ → List ℕ → Type 0
 StoresBlocks b sizes old new out out_now = (parts : List Part) × HasHead b parts × StoresPlaces b parts sizes old new out out_now
 
--- the head has this first fault, and the blocks that end before it are stored
+-- the head has this first fault, and the blocks that end before the fault are stored: `old` and
+-- `new` are the caller's array before and after the call, `out` and `out_now` its buffer
 abbrev pub StoresEnded : List ℕ → ExifnormJpegFault → ExifnormJpegSizes → List ExifnormJpegBlock → List ExifnormJpegBlock → List ℕ → List ℕ
     → Type 0
 StoresEnded b fault sizes old new out out_now = (parts : List Part) × (cause : HeadCause) × (fault.cause ≡ head_cause cause)

@@ -30,7 +30,7 @@ piece_kind Photoshop = 2
 piece_kind Xmp = 3
 piece_kind ExtendedXmp = 4
 
--- a part in C: the range is that of its piece, or of all its data
+-- a part as the caller of C sees it: the range is that of its piece, or of all its data
 abbrev pub part_of : Part → Option Piece → ExifnormJpegPart
 part_of q None = record { marker = q.code; kind = 0; begins = 0; start = q.start; size = q.size }
 part_of q (Some p) = record {
@@ -79,7 +79,7 @@ IsTooShort b n old new = (parts : List Part) × (HasHead b parts ⊎ ((cause : H
 abbrev pub StoresResources : List ℕ → ℕ → List ExifnormPhotoshopResource → List ExifnormPhotoshopResource → Type 0
 StoresResources b n old new = (rs : List Resource) × (rest : List ℕ) × HasResources b rs rest × IsStored (map seen_resource rs) n old new
 
--- the array is too short for them
+-- the array is too short for the resources
 abbrev pub IsTooShortForResources : List ℕ → ℕ → List ExifnormPhotoshopResource → List ExifnormPhotoshopResource → Type 0
 IsTooShortForResources b n old new =
     (rs : List Resource) × (rest : List ℕ) × HasResources b rs rest × IsShort (map seen_resource rs) n old new

@@ -12,13 +12,13 @@ use Rattle.px_c.specs.declared.packets.ExifnormJpegPacket.{ExifnormJpegPacket}
 use Rattle.px_c.specs.declared.unread.ExifnormUnreadPart.{ExifnormUnreadPart}
 use Rattle.px_c.specs.Jpeg.{head_cause}
 
--- all XMP of a picture in C: none, or one packet
+-- all XMP of a picture as the caller of C sees it: none, or one packet
 abbrev pub IsSeenPacket : FoundXmp → ExifnormJpegPacket → Type 0
 IsSeenPacket Absent seen = seen ≡ record { found = 0; start = 0; size = 0 }
 IsSeenPacket (Packet start size) seen = seen ≡ record { found = 1; start = start; size = size }
 IsSeenPacket (NotRead start) seen = ⊥
 
--- where XMP is in C that isn't read
+-- where XMP is that isn't read, as the caller of C sees it
 abbrev pub IsSeenRest : FoundXmp → ExifnormUnreadPart → Type 0
 IsSeenRest (NotRead start) seen = seen ≡ record { found = 1; joined = 0; start = start }
 IsSeenRest other seen = ⊥

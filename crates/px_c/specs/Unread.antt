@@ -9,7 +9,7 @@ use Rattle.px_c.specs.declared.jpeg.ExifnormJpegFault.{ExifnormJpegFault}
 use Rattle.px_c.specs.declared.unread.ExifnormUnreadPart.{ExifnormUnreadPart}
 use Rattle.px_c.specs.Jpeg.{head_cause}
 
--- a place in C
+-- a place that isn't read as the caller of C sees it; None: found is 0
 abbrev pub seen_unread : Option Unread → ExifnormUnreadPart
 seen_unread None = record { found = 0; joined = 0; start = 0 }
 seen_unread (Some u) = record { found = 1; joined = if u.joined then 1 else 0; start = u.start }
@@ -18,7 +18,7 @@ seen_unread (Some u) = record { found = 1; joined = if u.joined then 1 else 0; s
 abbrev pub ShowsUnread : List ℕ → ExifnormUnreadPart → Type 0
 ShowsUnread b seen = (u : Option Unread) × IsUnread b u × (seen ≡ seen_unread u)
 
--- a fault of a head in C
+-- a fault of a head as the caller of C sees it
 abbrev pub IsSeenHeadFault : MetadataFault → ExifnormJpegFault → Type 0
 IsSeenHeadFault (Head e) seen = (seen.cause ≡ head_cause e.cause) × (seen.place ≡ e.place)
 IsSeenHeadFault TooLong seen = (seen.cause ≡ 105) × (seen.place ≡ 0)

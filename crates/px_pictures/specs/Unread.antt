@@ -45,7 +45,7 @@ abbrev pub is_unread : Option Piece → ℕ → List ℕ → Bool
 is_unread (Some p) code x = false
 is_unread None code x = may_have_metadata code x
 
--- the offset of the data of the first such segment
+-- the offset of the data of the first segment without a piece of a block that may have metadata
 abbrev pub unread_segment : List ℕ → List HeadPart → Option ℕ
 unread_segment b [] = None
 unread_segment b (h ∷ hs) =

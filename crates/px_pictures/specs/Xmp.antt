@@ -41,7 +41,7 @@ abbrev pub is_unread_xmp : Option Piece → ℕ → List ℕ → Bool
 is_unread_xmp (Some p) code x = false
 is_unread_xmp None code x = may_have_xmp code x
 
--- the offset of the data of the first such segment
+-- the offset of the data of the first segment without a piece of a block that may have XMP
 abbrev pub xmp_segment : List ℕ → List HeadPart → Option ℕ
 xmp_segment b [] = None
 xmp_segment b (h ∷ hs) =
@@ -53,12 +53,13 @@ xmp_segment b (h ∷ hs) =
 abbrev pub has_xmp : Resource → Bool
 has_xmp r = (r.number == 1060) && nat_lt 0 r.size
 
--- the offset of the data of the first such resource
+-- the offset of the data of the first resource 0x0424 with any data
 abbrev pub xmp_resource : List Resource → Option ℕ
 xmp_resource [] = None
 xmp_resource (r ∷ rs) = if has_xmp r then Some r.start else xmp_resource rs
 
--- the place in a block p with the bytes x at which such a resource has its data; None: it has none
+-- the place in a block p with the bytes x at which a resource 0x0424 has its data; None: the block
+-- has none
 abbrev pub xmp_in_block : SegmentKind → List ℕ → BlockPlace → Option Unread
 xmp_in_block Photoshop x p = unread_at p.joined p.start (xmp_resource (resources_of 0 x))
 xmp_in_block other x p = None

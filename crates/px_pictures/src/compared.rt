@@ -1,4 +1,5 @@
-// Compares blocks that have meanings.
+// Compares blocks that have meanings. So `Err` of a call is always `OutOfMemory`: an allocation
+// failed.
 ghost use Rattle.std.specs.Prelude.{◌≡◌, ◌↔◌, ◌+◌, IsTrue, length, IfOk, IfErr};
 ghost use Rattle.px_bytes.specs.Allocations.{AsksAtMost};
 ghost use Rattle.px_iim.specs.Asking.{iim_request};
@@ -58,7 +59,8 @@ fn exif_in<'a>(memory: &mut Memory, bytes: &'a [u8]) -> Result<Meaning<'a>, Meta
     }
 }
 
-// Whether an Exif block that has a meaning has this one. Each owner of a meaning passes it to a call that drops it:
+// Whether the Exif block `bytes`, which has a meaning, has this `meaning`. Each owner of a meaning
+// passes it to a call that drops it:
 // dropping it at the end of a body would mean a proof about each of its fields.
 fn means(memory: &mut Memory, meaning: &Meaning, bytes: &[u8]) -> Result<bool, MetadataFault>
     requires { (m : Tree) × SaysExif bytes.now m }
@@ -73,7 +75,7 @@ fn means(memory: &mut Memory, meaning: &Meaning, bytes: &[u8]) -> Result<bool, M
     Ok(same)
 }
 
-// Whether two Exif blocks that have meanings have the same.
+// Whether two Exif blocks that have meanings have the same meaning.
 fn same_exif(memory: &mut Memory, first: &[u8], second: &[u8]) -> Result<bool, MetadataFault>
     requires first { (m : Tree) × SaysExif first.now m }
     requires second { (m : Tree) × SaysExif second.now m }
@@ -127,7 +129,7 @@ fn same_exif_blocks(
     }
 }
 
-// The record of an IPTC block that has one.
+// The record of an IPTC block that has one: its DataSets (IIM 4.2).
 fn iptc_in<'a>(memory: &mut Memory, bytes: &'a [u8]) -> Result<Iim<'a>, MetadataFault>
     requires { (i : Record) × SaysIim bytes.now i }
     ensures meaning { IfOk result (λ i. SaysIim bytes.now i) }
@@ -141,7 +143,7 @@ fn iptc_in<'a>(memory: &mut Memory, bytes: &'a [u8]) -> Result<Iim<'a>, Metadata
     }
 }
 
-// Whether an IPTC block that has a record has this one.
+// Whether an IPTC block that has a record has the same record as this one.
 fn records(memory: &mut Memory, iim: &Iim, bytes: &[u8]) -> Result<bool, MetadataFault>
     requires { (i : Record) × SaysIim bytes.now i }
     ensures same { IfOk result (λ same. (i : Record) × SaysIim bytes.now i × (IsTrue same ↔ (iim.now ≡ i))) }
@@ -155,7 +157,7 @@ fn records(memory: &mut Memory, iim: &Iim, bytes: &[u8]) -> Result<bool, Metadat
     Ok(same)
 }
 
-// Whether two IPTC blocks that have records have the same.
+// Whether two IPTC blocks that have records have the same record.
 fn same_iptc(memory: &mut Memory, first: &[u8], second: &[u8]) -> Result<bool, MetadataFault>
     requires first { (i : Record) × SaysIim first.now i }
     requires second { (i : Record) × SaysIim second.now i }

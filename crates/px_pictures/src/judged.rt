@@ -1,4 +1,5 @@
-// Judges the blocks of a picture: whether each has a meaning.
+// Judges the blocks of a picture: whether each has a meaning. `Err` of a call is the first fault of
+// the first block that has none, or `OutOfMemory`: an allocation failed.
 ghost use Rattle.std.specs.Prelude.{◌≡◌, length, IfOk, IfErr};
 ghost use Rattle.px_bytes.specs.Checks.{CountsAllocFailureInBlock};
 ghost use Rattle.px_bytes.specs.Allocations.{AsksAtMost};
@@ -18,7 +19,7 @@ use px_bytes::{Block, LIMIT, Memory, Refusal};
 use px_iim::judge_iim;
 use px_tree::judge_block_in;
 
-// The fault of the block with `number` others before it.
+// The refusal of the block with `number` others of its kind before it, as a fault of the picture.
 fn fault_of(kind: MetadataKind, number: usize, refusal: Refusal) -> MetadataFault
     ensures { result ≡ fault_of kind number refusal }
 {

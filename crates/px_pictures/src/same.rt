@@ -14,7 +14,7 @@ use crate::found::{Metadata, metadata_of_in};
 use crate::judged::judge_all;
 use px_bytes::Memory;
 
-// The blocks of one of two pictures.
+// The blocks of one of two pictures, or why there are none: the fault of this picture.
 pub(crate) fn found<'a>(
     memory: &mut Memory,
     bytes: &'a [u8],
@@ -32,7 +32,7 @@ pub(crate) fn found<'a>(
     }
 }
 
-// Judges the blocks of one of two pictures.
+// Judges the blocks of one of two pictures. `Err`: the first fault, of this picture.
 fn judge(memory: &mut Memory, found: &Metadata, side: PictureSide) -> Result<(), PictureFault>
     requires { IsFew (blocks_of found.now) }
     ensures meaning { IfOk result (λ _. AllRead (blocks_of found.now)) }

@@ -33,7 +33,7 @@ IsRare (Ok x) = ⊤
 IsRare (Err (Content cause place)) = is_rare_in_rdf cause ≡ true
 IsRare (Err OutOfMemory) = ⊤
 
--- if a call says that a packet is wrong, this is so
+-- if a call returns a cause by which the packet is wrong, and not rare, P holds
 abbrev pub IfWrong : {X : Type 0} → Result X Refusal → Type 0 → Type 0
 IfWrong (Ok x) P = ⊤
 IfWrong (Err (Content cause place)) P = is_rare cause ≡ false → P

@@ -15,12 +15,13 @@ most = 33554432
 abbrev pub TextFits : TextKind → List ℕ → ℕ → Type 0
 TextFits kind x n = (t : List ℕ) × (text_of kind x ≡ Some t) × (length x ≤ limit) × (n + length (normal_text t) ≤ most)
 
--- the language of a simple value is within the limit of this reader; a URI has none
+-- the language of a simple value has at most 100 octets, a limit of this reader; a URI has none
 abbrev pub HasShortLanguage : Simple → Type 0
 HasShortLanguage (Literal language text) = length language ≤ language_limit
 HasShortLanguage (Uri uri) = ⊤
 
--- the language of each text in these properties or items, also inside others, is within that limit
+-- the language of each text in these properties or items, also inside others, has at most 100
+-- octets
 abbrev pub HaveShortLanguages : Content → Type 0
 HaveShortLanguages End = ⊤
 HaveShortLanguages (Flat l p rest) = HasShortLanguage p × HaveShortLanguages rest

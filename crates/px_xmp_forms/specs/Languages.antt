@@ -32,6 +32,6 @@ AreParts first (p ∷ q ∷ ps) x = IsPart first p × (rest : List ℕ) × (x �
 abbrev pub EndsPart : List ℕ → Type 0
 EndsPart x = (x ≡ []) ⊎ ((rest : List ℕ) × (x ≡ 45 ∷ rest))
 
--- a language: such parts, of which the first has letters alone
+-- a language: parts with hyphens between them, of which the first has letters alone
 abbrev pub IsLanguage : List ℕ → Type 0
 IsLanguage x = (ps : List (List ℕ)) × AreParts true ps x

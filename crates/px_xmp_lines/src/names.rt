@@ -183,7 +183,7 @@ fn append_short(
     append_text(memory, out, name)
 }
 
-// Appends the name of another property: its URI.
+// Appends the name of a property whose namespace has no usual prefix: its URI.
 fn append_long(memory: &mut Memory, out: &mut Vec<u8>, part: Part) -> Result<(), AllocFailed>
     ensures memory { CountsAllocFailure result memory.old memory.new }
     ensures printed { KeepsPrinted out.old.items out.new.items }

@@ -48,7 +48,7 @@ struct Value<'a> {
     rest: &'a [u8],
 }
 
-// The octets after the first ones.
+// The octets after the first `len`, or none if there are fewer.
 pub(crate) fn skip<'a>(octets: &'a [u8], len: usize) -> &'a [u8] {
     octets.split_at(len.min(octets.len())).1
 }

@@ -11,7 +11,7 @@ abbrev pub unjoined : Refusal → Unjoined
 unjoined (refusal.Content cause place) = NotRead
 unjoined refusal.OutOfMemory = OutOfMemory
 
--- if a call leaves XMP unread, this is so
+-- if a call returns that XMP isn't read, P holds
 abbrev pub IfLeft : {X : Type 0} → Result X Unjoined → Type 0 → Type 0
 IfLeft (Ok x) P = ⊤
 IfLeft (Err NotRead) P = P

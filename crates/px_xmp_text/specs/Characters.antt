@@ -9,7 +9,7 @@ use Rattle.px_xmp_text.specs.References.{is_char}
 abbrev pub AreCharacters : List ℕ → Type 0
 AreCharacters x = (cs : List ℕ) × AllByRecursion (λ c. is_char c ≡ true) cs × (x ≡ encode_utf8_all cs)
 
--- no such character is at the start
+-- no character that XML allows is at the start
 abbrev pub BeginsWithNone : List ℕ → Type 0
 BeginsWithNone x = (c : ℕ) (rest : List ℕ) → is_char c ≡ true → x ≢ encode_utf8 c ++ rest
 

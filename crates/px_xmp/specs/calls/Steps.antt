@@ -20,7 +20,7 @@ pub record IsLeft (at : ℕ) (x : List ℕ) : Type 0 where
   pub row : AreRow marks x
   pub few : at + length x ≤ limit
 
--- and so are others, at a later offset
+-- the octets y are marks in a row too, at a later offset of the packet
 pub record Moves (at : ℕ) (x : List ℕ) (to : ℕ) (y : List ℕ) : Type 0 where
   pub left : IsLeft to y
   pub same : at + length x ≡ to + length y
@@ -36,7 +36,7 @@ pub record Next (w : What) (at : ℕ) (x : List ℕ) (to : ℕ) (y : List ℕ) :
   pub first : IsFirst mark x y
   pub moves : Moves at x to y
 
--- what is read is no tag, and says this text
+-- what is read is no tag, and means the text u: a comment or an instruction means none
 abbrev pub Says : What → List ℕ → Type 0
 Says (reading.Tag t) u = ⊥
 Says reading.End u = ⊥
@@ -77,7 +77,7 @@ abbrev pub HasInside : Bool → Nodes → List Item → ℕ → List ℕ → Lis
 HasInside true nodes scope at x y = (nodes ≡ Nothing) × (x ≡ y)
 HasInside false nodes scope at x y = (e : List ℕ) × AreNodes nodes scope at x (e ++ y) × IsKind End e y
 
--- they were read
+-- the nodes in an element were read, and its end tag if it is not empty
 pub record InsideRead (empty : Bool) (nodes : Nodes) (old new : Source) : Type 0 where
   pub row : HasInside empty nodes old.scope old.at old.rest.now new.rest.now
   pub moves : Moves old.at old.rest.now new.at new.rest.now
