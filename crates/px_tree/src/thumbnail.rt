@@ -261,7 +261,8 @@ fn judge_strips(
     claim_strips(memory, claimed, place, lists)
 }
 
-// Judges and returns the strips. None: the thumbnail has none. No later check needs their ranges.
+// Judges and returns the strips, whose two lists are among the kept entries `parts`. None: the
+// thumbnail has no strips. No later check needs their ranges.
 fn read_strips<'a>(
     memory: &mut Memory,
     block: &'a [u8],
