@@ -2,6 +2,7 @@
 /** `npx exifnorm a.jpg b.jpg`: whether two pictures have the same metadata; of one picture, what it has. @module */
 import { closeSync, fstatSync, openSync, readSync } from "node:fs";
 import { compare, read, version } from "./node.js";
+import tables from "./tables.js";
 
 const USAGE = `Usage: exifnorm PICTURE [PICTURE]
 
@@ -10,10 +11,7 @@ picture it prints the fields. JPEG, PNG, WebP, TIFF, DNG, HEIC, AVIF and files o
 
 Status: 0 the same, or read; 1 different; 2 not known, or an error.
 `;
-const ANSWERS = {
-  same: "The same metadata.", different: "Different metadata", partly: "The same metadata, as far as it is read.", refused: "Not known: a block breaks the rules.",
-  unread: "Not known: a file can't be read.",
-};
+const ANSWERS = Object.fromEntries(Object.values(tables.results)), DIFFERENT = "Different metadata"; // of `exifnorm-pictures compare`
 const STATUSES = { same: 0, different: 1 };
 
 /** A text without characters that control a terminal. */
@@ -49,7 +47,7 @@ function ofOne(name) {
 function ofTwo(first, second) {
   const { verdict, differences, refusals, notRead } = withFile(first, (one) => withFile(second, (other) => compare(one, other)));
   const nameOf = ({ side }) => side === 1 ? first : second, shown = (text) => text === null ? "not there" : safe(text);
-  console.log(ANSWERS[verdict] + (verdict === "different" ? differences.length ? `: ${counted(differences.length, "field")}.` : "." : ""));
+  console.log(ANSWERS[verdict] || `${DIFFERENT}${differences.length ? `: ${counted(differences.length, "field")}` : ""}.`);
   for (const { name, before, after } of differences) console.log(`${safe(name)}: ${shown(before)} -> ${shown(after)}`);
   for (const one of refusals) console.log(safe(`${nameOf(one)}: ${refusalLine(one)}`));
   for (const one of notRead) console.log(safe(`${nameOf(one)}: not read: ${one.what}`));

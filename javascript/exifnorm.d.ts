@@ -198,15 +198,15 @@ export interface Difference {
 /** How two pictures compare. */
 export interface Comparison {
   /**
-   * "same"; "different", also if a block of another kind is refused; "partly": the same as far as they are read; "refused": a block has no
-   * meaning, and nothing else differs; "unread": one of the pictures can't be read.
+   * The words of `exifnorm-pictures changed`: "same"; "different", also if a block of another kind is refused; "not wholly read": no field
+   * differs, but not everything was read; "refused": a block has no meaning, and nothing else differs; "not read": one of the pictures wasn't.
    */
-  verdict: "same" | "different" | "partly" | "refused" | "unread";
+  verdict: "same" | "different" | "not wholly read" | "refused" | "not read";
   differences: Difference[];
-  /** Whether the verdict is that of jpegSame alone, which is proved: of two JPEGs without extended XMP. */
+  /** Whether the verdict is that of jpegSame alone, which is proved: of two JPEGs without extended XMP, and if they are the same, without parts beside it. */
   proved: boolean;
   refusals: (Refusal & { side: 1 | 2 })[];
-  /** What wasn't read. Parts with the same bytes in both don't make the verdict "partly". */
+  /** What wasn't read. Parts with the same bytes in both don't make the verdict "not wholly read". */
   notRead: { side: 1 | 2; what: string }[];
 }
 

@@ -2,12 +2,12 @@
 import { Broken, Parts } from "./parts.js";
 import { readHeif } from "./heif.js";
 import { readPng } from "./png.js";
+import tables from "./tables.js";
 import { readTiff } from "./tiff.js";
 import { readWebp } from "./webp.js";
 import { inUtf8 } from "./xmp.js";
 
 const HEAD = 4096, MOST_PACKET = 1 << 24;
-const BRANDS = /^ftyp(?:hei[cxms]|hev[cxms]|mif[123]|msf1|miaf|avi[fs]|avc[is]|jpeg|jpgs|j2k[i]|j2is|vvi[cs]|evb[is])/;
 // by how a file begins: the name of its format, and its reader, if there is one
 const FORMATS = [
   [/^\x89PNG\r\n\x1a\n/, "PNG", readPng], [/^RIFF[^]{4}WEBP/, "WebP", readWebp], [/^(?:II\*\0[^]{4}CR)/, "CR2", null],
@@ -30,7 +30,7 @@ function readSidecar(parts) {
 /** What a file has: its format, its blocks, and what isn't read of it. Without `blocks` it has a format that isn't read; null for none. */
 export function readFormat(engine, source) {
   const parts = new Parts(source), start = String.fromCharCode(...parts.some(0, 16));
-  const [, format, read] = FORMATS.find(([pattern]) => pattern.test(start)) ?? (BRANDS.test(start.slice(4)) ? ["", start.startsWith("avi", 8) ? "AVIF" : "HEIC", readHeif] : [null, "", isSidecar(parts) ? readSidecar : null]);
+  const [, format, read] = FORMATS.find(([pattern]) => pattern.test(start)) ?? (start.startsWith("ftyp", 4) && tables.brands.includes(start.slice(8, 12)) ? ["", start.startsWith("avi", 8) ? "AVIF" : "HEIC", readHeif] : [null, "", isSidecar(parts) ? readSidecar : null]);
   if (!read) return format ? { format } : null;
   try {
     const found = { format, blocks: [], notRead: [], ...read(parts, engine) };

@@ -5,22 +5,22 @@
  */
 import { HeadRefused, NormalTooLong, NotRead, PictureRefused, Refused, TooMany } from "./engine.js";
 import { readFormat } from "./formats.js";
-import { besides } from "./jpeg.js";
+import { besides, resourcesOf, trailerOf, unknownIn } from "./jpeg.js";
 import { md5 } from "./md5.js";
 import { notesOf } from "./notes.js";
 import { Broken, left } from "./parts.js";
 import { sha256 } from "./sha256.js";
+import tables from "./tables.js";
 import { inUtf8, xmpProperties } from "./xmp.js";
 import { inOrder } from "./xmp_values.js";
 
 const MOST_PARTS = 100_000; // of a head
-const FIRST_READ = 1 << 18, MOST_READ = 1 << 26; // bytes
+const FIRST_READ = 1 << 18, MOST_READ = 1 << 26, MOST_TRAILER = 1 << 20; // bytes
 const MOST_FORMS = 1 << 25; // bytes of the forms of all XMP in a head: of a packet and the longest extended XMP there are fewer
 export const KINDS = ["exif", "iptc", "xmp"];
 export const KIND_NAMES = { exif: "Exif", iptc: "IPTC", xmp: "XMP" };
 const ORDINALS = ["first", "second", "third", "fourth", "fifth", "sixth", "seventh", "eighth", "ninth"];
-const APP1 = 0xe1, DATA_SET = 0x1c, XMP_RESOURCE = 0x0424;
-const BEHIND = "bytes behind the Photoshop resources", HIDES = [BEHIND, "APP13 segment of an unknown kind"]; // in which blocks may be
+const DATA_SET = 0x1c;
 const NOTE = "http://ns.adobe.com/xmp/note/HasExtendedXMP", NAME = 32, BEFORE = 40; // bytes of a piece: its packet's name; all before its text
 
 const areEqual = (first, second) => first.length === second.length && first.every((octet, i) => octet === second[i]);
@@ -48,26 +48,6 @@ function judged(engine, { kind, data, part = "", note = null }) {
     if (!(error instanceof Refused)) throw error;
     return { kind, data, part, note, refusal: { cause: error.cause, offset: error.offset, isRare: error.isRare ?? false } };
   }
-}
-
-/** Of Photoshop's resources in a head whether they have XMP, which other programs read, and the bytes behind the last whole one of each run. */
-function resourcesOf(engine, parts, dataOf) {
-  const runs = [], notRead = [];
-  let hasXmp = false;
-  for (const part of parts.filter(({ kind }) => kind === "photoshop")) {
-    if (part.begins) runs.push([]);
-    runs.at(-1).push(dataOf(part));
-  }
-  for (const run of runs) {
-    const whole = new Uint8Array(run.reduce((size, data) => size + data.length, 0));
-    let end = 0;
-    for (const data of run) whole.set(data, (end += data.length) - data.length);
-    const found = engine.photoshopResources(whole, MOST_PARTS), last = found.at(-1);
-    const rest = whole.slice(last ? last.start + last.size + last.size % 2 : 0);
-    hasXmp ||= found.some(({ number, size }) => number === XMP_RESOURCE && size > 0);
-    if (rest.some(Boolean)) notRead.push(left(BEHIND, rest));
-  }
-  return { hasXmp, notRead };
 }
 
 /** Pieces of extended XMP as one text, if they are whole and have the name; otherwise null. */
@@ -154,12 +134,14 @@ function judgedAll(engine, some) {
 
 /** The head of a JPEG. XMP that isn't read is in `further` by its kind, and in `others` segments that may have XMP in another way. */
 function jpegHead(engine, bytes, source) {
+  const trailer = bytes[0] === 0xff && bytes[1] === 0xd8 && trailerOf(source); // asked for before the work that would begin anew
   const parts = engine.jpegParts(bytes, MOST_PARTS), dataOf = ({ start, size }) => bytes.subarray(start, start + size);
   const packets = parts.filter(({ kind }) => kind === "xmp").map((part) => ({ kind: "xmp", data: dataOf(part) }));
   const more = besides(engine, parts, bytes, source), [blocks, judge] = judgedAll(engine, [...engine.jpegBlocks(bytes, MOST_PARTS), ...packets, ...more.blocks]);
+  if (trailer) more.notRead.push(left(`${trailer} trailer`, source.part(Math.max(parts.at(-1).start + parts.at(-1).size, source.size - MOST_TRAILER), source.size)));
   const pieces = parts.filter(({ kind }) => kind === "extended xmp").map(dataOf), inResources = resourcesOf(engine, parts, dataOf);
   const extended = extend(blocks.filter(({ kind }) => kind === "xmp"), pieces, judge) ? [] : [new Uint8Array(0), ...pieces]; // also if it is missing
-  const others = parts.filter(({ kind, marker }) => kind === "" && marker === APP1).map(dataOf);
+  const others = unknownIn(parts, bytes);
   const resources = inResources.hasXmp ? parts.filter(({ kind }) => kind === "photoshop").map(dataOf) : [];
   return { format: "JPEG", bytes, blocks, pieces, further: { extended, resources }, others, unread: engine.jpegUnread(bytes), notRead: [...more.notRead, ...inResources.notRead, ...reached(blocks)] };
 }
@@ -235,16 +217,16 @@ export function haveSameXmpBytes([first, second]) {
 
 const ofKind = ({ blocks }, kind) => blocks.filter((block) => block.kind === kind);
 
-/** Whether a head has a part that isn't read, and that the other one doesn't have, in which a block may be that the other one shows. */
-const hides = (head, other) => head.notRead.some(({ what, key }) => HIDES.includes(what) && !other.notRead.some((one) => one.key === key));
-
-/** Whether a block of a kind that only the other head shows may be in one that shows none. */
-export const mayHide = (kind, head, other) => hides(head, other) || kind === "xmp" && head.others.some((octets) => !other.others.some((one) => areEqual(octets, one)));
+/** Whether a block of a kind that only the other head shows may be in a part that isn't read of one that shows none, and that the other one lacks. */
+export function mayHide(kind, head, other) {
+  const mayHave = ({ what, key }) => tables.mayHave.some(([words, kinds]) => what.includes(words) && kinds.includes(kind)) && !(key && other.notRead.some((one) => one.key === key));
+  return head.notRead.some(mayHave) || kind === "xmp" && head.others.some((octets) => !other.others.some((one) => areEqual(octets, one)));
+}
 
 /** Whether one of two heads has a block of a kind which the other one is known not to have. */
 const doesOneLack = (kind, [first, second]) => [[first, second], [second, first]].some(([head, other]) => {
   const names = byName(ofKind(head, kind));
-  return ofKind(other, kind).some(({ name }) => !names.has(name)) && !hides(head, other);
+  return ofKind(other, kind).some(({ name }) => !names.has(name)) && !mayHide(kind, head, other);
 });
 
 /**

@@ -1,6 +1,7 @@
 /** HEIF, HEIC and AVIF: the Exif and XMP items of the pictures (ISO/IEC 14496-12, 8.11; ISO/IEC 23008-12, Annex A). @module */
-import { Fields, PICTURES, boxes, itemOf, partOf, placesOf, referencesOf } from "./heif_items.js";
+import { Fields, boxes, itemOf, partOf, placesOf, referencesOf } from "./heif_items.js";
 import { bareExif, Broken, left, startsWith } from "./parts.js";
+import tables from "./tables.js";
 
 const MOST_ITEM = 1 << 26;
 const WITHOUT = ["ftyp", "mdat", "free", "skip", "wide"], WITHOUT_IN_META = ["hdlr", "pitm", "iinf", "iloc", "idat", "iref", "iprp", "dinf", "grpl", "free", "skip"];
@@ -41,7 +42,7 @@ export function readHeif(parts) {
   list.number(list.version ? 4 : 2);
   const places = placesOf(parts, of("iloc")), items = [...boxes(parts, list.at, list.end)].map((box) => itemOf(parts, box)), references = referencesOf(parts, of("iref"));
   const main = of("pitm") ? new Fields(parts, of("pitm")) : null, primary = main ? main.number(main.version ? 4 : 2) : null;
-  for (const { number, kind, isProtected, type, encoding } of items.filter((item) => !PICTURES.includes(item.kind))) {
+  for (const { number, kind, isProtected, type, encoding } of items.filter((item) => !tables.items.includes(item.kind))) {
     const part = partOf(number, items, primary, references);
     const data = isProtected ? null : dataOf(parts, places.get(number), of("idat")), exif = kind === "Exif" && data ? exifIn(data) : null;
     if (exif) blocks.push({ kind: "exif", data: exif, part });

@@ -1,8 +1,8 @@
 /** The items of a HEIF file: what its boxes say of each picture and of each block (ISO/IEC 14496-12, 8.11; ISO/IEC 23008-12). @module */
 import { Broken } from "./parts.js";
+import tables from "./tables.js";
 
 const MOST_BOXES = 10_000;
-export const PICTURES = "hvc1 hvt1 lhv1 av01 avc1 svc1 mvc1 jpeg j2k1 vvc1 vvcN evc1 unci mski grid iovl iden tmap tild".split(" ");
 
 /** The boxes from an offset to another. */
 export function* boxes(parts, start, end) {
@@ -83,7 +83,7 @@ export function partOf(number, items, primary, { cdsc, dimg, auxl, thmb }) {
   const described = [...new Set(cdsc.filter(([from]) => from === number).flatMap(([, to]) => to))], names = new Map(), tiles = dimg.flatMap(([, to]) => to);
   if (!described.length || primary === null || described.includes(primary)) return "";
   for (const [word, list] of [["auxiliary picture", auxl], ["thumbnail", thmb]]) [...new Set(list.map(([from]) => from))].forEach((one, i) => names.set(one, `${word} ${i + 1}`));
-  const others = items.filter(({ number: one, kind }) => PICTURES.includes(kind) && !names.has(one) && (one === primary || !tiles.includes(one)));
+  const others = items.filter(({ number: one, kind }) => tables.items.includes(kind) && !names.has(one) && (one === primary || !tiles.includes(one)));
   others.forEach(({ number: one }, i) => names.set(one, `picture ${i + 1}`));
   return described.map((one) => names.get(one) ?? `item ${one}`).join(" and ");
 }

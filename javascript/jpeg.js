@@ -5,13 +5,19 @@
  */
 import { HeadRefused } from "./engine.js";
 import { Broken, Parts, bareExif, latin, left, startsWith } from "./parts.js";
-import { SIZES } from "./tiff_directories.js";
+import tables from "./tables.js";
 
-const MOST_PARTS = 100_000, MOST_HEAD = 1 << 22;
-const APP0 = 0xe0, APP1 = 0xe1, APP2 = 0xe2, APP3 = 0xe3, APP13 = 0xed, APP15 = 0xef;
+const MOST_PARTS = 100_000, MOST_HEAD = 1 << 22, LAST = 64;
+const TRAILERS = tables.trailers.map(([sign, name]) => [new RegExp(sign, "s"), name]);
+const XMP_RESOURCE = 0x0424, APP0 = 0xe0, APP1 = 0xe1, APP2 = 0xe2, APP3 = 0xe3, APP13 = 0xed, APP15 = 0xef;
 const INDEX = [0x4d, 0x50, 0x46, 0], ENTRIES = 0xb002, ENTRY = 16; // of an index: its mark, the tag of its list, and the bytes for each picture
-// segments without Exif, IPTC and XMP, by how they begin: exifnorm_pictures' NOT_COMPARED
-const WITHOUT = { 0xe0: /^JF(?:IF|XX)\0/, 0xe2: /^ICC_PROFILE\0/, 0xeb: /^JP/, 0xed: /^Adobe_CM/, 0xee: /^Adobe/ };
+const { notCompared: WITHOUT, sizes: SIZES } = tables; // segments without Exif, IPTC and XMP: their markers, and how they begin
+
+/** The name of the trailer at the end of a file, by its last bytes; undefined without one. */
+export function trailerOf(source) {
+  const last = latin(source.part(Math.max(0, source.size - LAST), source.size));
+  return TRAILERS.find(([sign]) => sign.test(last))?.[1];
+}
 
 /** The name of a segment of an application. */
 function nameOf(marker, start) {
@@ -26,10 +32,19 @@ function segmentsIn(parts, bytes, of) {
   for (const { marker, kind, start, size } of parts) {
     if (kind || marker < APP0 || marker > APP15 || marker === APP1) continue;
     const data = bytes.subarray(start, start + size), begins = latin(data.subarray(0, 24));
-    if (WITHOUT[marker]?.test(begins) || marker === APP2 && startsWith(data, INDEX)) continue;
+    if (WITHOUT.some(([number, start]) => marker === number && begins.startsWith(start)) || marker === APP2 && startsWith(data, INDEX)) continue;
     notRead.push(left(nameOf(marker, begins) + of, data));
   }
   return notRead;
+}
+
+/** The segments APP1 of an unknown kind, each after the number of packets before it: a program that reads it as XMP has them in this order. */
+export function unknownIn(parts, bytes) {
+  let packets = 0;
+  return parts.flatMap(({ kind, marker, start, size }) => {
+    packets += kind === "xmp";
+    return kind || marker !== APP1 ? [] : [Uint8Array.from([packets, ...bytes.subarray(start, start + size)])];
+  });
 }
 
 /** Where the further pictures of an index begin, whose own offsets count from `base`. */
@@ -61,14 +76,35 @@ function headAt(engine, file, start, end) {
   }
 }
 
+/** Of Photoshop's resources in a head whether they have XMP, which other programs read, and the bytes behind the last whole one of each run. */
+export function resourcesOf(engine, parts, dataOf) {
+  const runs = [], notRead = [];
+  let hasXmp = false;
+  for (const part of parts.filter(({ kind }) => kind === "photoshop")) {
+    if (part.begins) runs.push([]);
+    runs.at(-1).push(dataOf(part));
+  }
+  for (const run of runs) {
+    const whole = new Uint8Array(run.reduce((size, data) => size + data.length, 0));
+    let end = 0;
+    for (const data of run) whole.set(data, (end += data.length) - data.length);
+    const found = engine.photoshopResources(whole, MOST_PARTS), last = found.at(-1);
+    const rest = whole.slice(last ? last.start + last.size + last.size % 2 : 0);
+    hasXmp ||= found.some(({ number, size }) => number === XMP_RESOURCE && size > 0);
+    if (rest.some(Boolean)) notRead.push(left("bytes behind the Photoshop resources", rest));
+  }
+  return { hasXmp, notRead };
+}
+
 /** The blocks of a further picture, and what of it isn't read. */
 function further(engine, file, start, end, part) {
   const [bytes, parts] = headAt(engine, file, start, end), of = ` of ${part}`, dataOf = (one) => bytes.subarray(one.start, one.start + one.size);
   const blocks = engine.jpegBlocks(bytes, MOST_PARTS).map((block) => ({ ...block, data: bareExif(block.data), part }));
   blocks.push(...parts.filter(({ kind }) => kind === "xmp").map((one) => ({ kind: "xmp", data: dataOf(one), part })));
   const pieces = parts.filter(({ kind }) => kind === "extended xmp").map((one) => left(`extended XMP${of}`, dataOf(one)));
-  const unknown = parts.filter(({ kind, marker }) => !kind && marker === APP1).map((one) => left(`APP1 segment of an unknown kind${of}`, dataOf(one)));
-  return { blocks, notRead: [...pieces, ...unknown, ...segmentsIn(parts, bytes, of), ...engine.jpegUnread(bytes) ? [left(`more metadata${of}`)] : []] };
+  const unknown = unknownIn(parts, bytes).map((octets) => left(`APP1 segment of an unknown kind${of}`, octets)), resources = resourcesOf(engine, parts, dataOf);
+  const more = [resources.hasXmp && `XMP in Photoshop's resources${of}`, engine.jpegUnread(bytes) && `more metadata${of}`].filter(Boolean).map((what) => left(what));
+  return { blocks, notRead: [...pieces, ...unknown, ...segmentsIn(parts, bytes, of), ...resources.notRead, ...more] };
 }
 
 /** What is beside the blocks of a head: the blocks of further pictures, and what isn't read. `source` is the file. */

@@ -1,4 +1,5 @@
 /** The fields of a block, from its listing (docs/FORMAT.md, 7). @module */
+import tables from "./tables.js";
 import { fieldOf } from "./values.js";
 
 /** The first fields of a listing, at most so many, in its order. */
@@ -28,6 +29,6 @@ export function orderOf({ where, key }) {
 }
 
 /** The name of a field as ExifTool has it, with its group: `IFD0:Artist`. */
-export function nameOf(tables, { where, key }) {
+export function nameOf({ where, key }) {
   return `${tables.groups[where] ?? where}:${tables.names[where]?.[key] ?? (key.includes(":") || key === "jpeg" || key === "strip" ? key : `0x${key}`)}`;
 }

@@ -4,13 +4,10 @@
  * @module
  */
 import { left } from "./parts.js";
-import { SIZES } from "./tiff_directories.js";
+import tables from "./tables.js";
 
 const HEADER = 8, MAKER_NOTE = 0x927c;
-const PRIVATE = {
-  [MAKER_NOTE]: "the MakerNote", 0x0190: "GlobalParametersIFD", 0x8290: "Kodak's IFD", 0x8606: "Leaf's IFD", 0xfe00: "Kodak's IFD", 0xc634: "Adobe's private data",
-};
-const LINKS = { main: { 0x8769: "exif", 0x8825: "gps" }, exif: { 0xa005: "interop" } };
+const { private: PRIVATE, links: LINKS, sizes: SIZES } = tables;
 const PICTURES = [[0x0201, 0x0202], [0x0111, 0x0117]]; // where a thumbnail's JPEG or its strips are, and their lengths
 
 /** The directories of a block that has a meaning, each with its entries. */

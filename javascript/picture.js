@@ -1,9 +1,10 @@
-/** A picture as one object, and what differs between two. A `kit` has an `engine` and the `tables` of exifnorm_pictures. @module */
+/** A picture as one object, and what differs between two. @module */
 import { headOfFile, noteDoubt, verdict } from "./head.js";
 import { NotRead, Refused } from "./engine.js";
 import { nameOf } from "./listing.js";
 import { Broken } from "./parts.js";
 import { byPlace, cameraOf, captionsOf, firstFields, isValid, pairsOf, plainOf, rowsOf, valuesOf } from "./rows.js";
+import tables from "./tables.js";
 import { valueOf } from "./values.js";
 import { inUtf8, xmpProperties } from "./xmp.js";
 import { plainXmp, shownName } from "./xmp_values.js";
@@ -32,17 +33,17 @@ const MADE = {
 };
 
 /** The value of a property: by the type that its standard gives it, otherwise a text; of alternatives the default one; an array; or an object. */
-function xmpValue({ tables }, key, value) {
-  const { kind, text, language, uri, members, properties } = value, inner = (some) => xmpValue({ tables }, key, some);
+function xmpValue(key, value) {
+  const { kind, text, language, uri, members, properties } = value, inner = (some) => xmpValue(key, some);
   if (kind === "text") return language ? text : (MADE[tables.types?.[key]] ?? String)(text);
   if (kind === "resource") return uri;
-  if (kind === "structure") return Object.fromEntries(properties.map(({ namespace, name, value: member }) => [nameOfMember(tables, namespace, name), xmpValue({ tables }, nameOfMember(tables, namespace, name), member)]));
+  if (kind === "structure") return Object.fromEntries(properties.map(({ namespace, name, value: member }) => [nameOfMember(namespace, name), xmpValue(nameOfMember(namespace, name), member)]));
   if (kind !== "Alt") return members.map(inner);
   const chosen = members.find((member) => member.language === "x-default") ?? members[0];
   return chosen ? inner(chosen) : [];
 }
 
-const nameOfMember = ({ spaces }, namespace, name) => Object.hasOwn(spaces, namespace) ? `${spaces[namespace]}:${name}` : `<${namespace}${name}>`;
+const nameOfMember = (namespace, name) => Object.hasOwn(tables.spaces, namespace) ? `${tables.spaces[namespace]}:${name}` : `<${namespace}${name}>`;
 
 // ---- where and when
 
@@ -89,16 +90,16 @@ export function notReadOf(head) {
 }
 
 /** Why blocks have no meaning. */
-export const refusalsOf = ({ tables }, { blocks }) => blocks.filter(({ refusal }) => refusal && !refusal.isRare).map(({ kind, name, refusal: { cause, offset } }) => {
+export const refusalsOf = ({ blocks }) => blocks.filter(({ refusal }) => refusal && !refusal.isRare).map(({ kind, name, refusal: { cause, offset } }) => {
   const [sentence, , remedy] = tables.causes[cause] ?? tables.packets[cause] ?? ["", "", ""];
   return { block: name, kind, cause, offset, sentence, remedy };
 });
 
 /** The captions of a head by label: each text once, with the names of the fields that have it. */
-function allCaptions(kit, head) {
-  const captions = Object.create(null), camera = cameraOf(kit, head);
+function allCaptions(engine, head) {
+  const captions = Object.create(null), camera = cameraOf(engine, head);
   for (const block of head.blocks) {
-    for (const { label, text, name } of captionsOf(kit, block, camera)) {
+    for (const { label, text, name } of captionsOf(engine, block, camera)) {
       const all = captions[label] ??= [], same = all.find((one) => one.text === text);
       if (!same) all.push({ text, fields: [name] }); else if (!same.fields.includes(name)) same.fields.push(name);
     }
@@ -107,24 +108,24 @@ function allCaptions(kit, head) {
 }
 
 /** The values of a packet by their keys, with the members of each Bag in the order of the packet, if it has them all without extended XMP. */
-function inPacketOrder(kit, block) {
-  const values = valuesOf(kit, block), shown = valuesOf(kit, { ...block, properties: xmpProperties(kit.engine.xmpUnsorted(inUtf8(block.data))) });
+function inPacketOrder(engine, block) {
+  const values = valuesOf(block), shown = valuesOf({ ...block, properties: xmpProperties(engine.xmpUnsorted(inUtf8(block.data))) });
   return [...values].map(([key, value]) => [key, value, shown.get(key) ?? value]);
 }
 
 /** The picture of a head. */
-function ofHead(kit, head) {
+function ofHead(engine, head) {
   const fields = Object.create(null), texts = Object.create(null), set = (name, value, text) => {
     if (name in fields) return; // of an earlier block
     fields[name] = value;
     texts[name] = text;
   };
   for (const block of head.blocks.filter(isValid)) {
-    if (block.kind === "xmp") for (const [key, value, shown] of inPacketOrder(kit, block)) set(shownName(key), xmpValue(kit, key, shown), plainXmp(kit.tables.spaces, value));
-    else for (const group of byPlace(firstFields(kit, block)).values()) set(nameOf(kit.tables, group[0]), group.length > 1 ? group.map(valueOf) : valueOf(group[0]), plainOf(kit, group));
+    if (block.kind === "xmp") for (const [key, value, shown] of inPacketOrder(engine, block)) set(shownName(key), xmpValue(key, shown), plainXmp(value));
+    else for (const group of byPlace(firstFields(engine, block)).values()) set(nameOf(group[0]), group.length > 1 ? group.map(valueOf) : valueOf(group[0]), plainOf(group));
   }
   const blocks = head.blocks.map(({ kind, name, data }) => ({ kind, name, data: data.slice() }));
-  return { format: head.format, fields: { ...fields }, texts: { ...texts }, captions: allCaptions(kit, head), taken: takenOf(fields), position: positionOf(fields), blocks, refusals: refusalsOf(kit, head), notRead: notReadOf(head) };
+  return { format: head.format, fields: { ...fields }, texts: { ...texts }, captions: allCaptions(engine, head), taken: takenOf(fields), position: positionOf(fields), blocks, refusals: refusalsOf(head), notRead: notReadOf(head) };
 }
 
 // ---- where the bytes are
@@ -172,19 +173,20 @@ async function headOfBlob(engine, blob) {
 }
 
 /** What is made of the heads of some pictures: a promise of it if one is a Blob. */
-function withHeads({ engine }, pictures, then) {
+function withHeads(engine, pictures, then) {
   const heads = pictures.map((picture) => isBlob(picture) ? headOfBlob(engine, picture) : headOfFile(engine, sourceOf(picture)));
   return pictures.some(isBlob) ? Promise.all(heads).then(then) : then(heads);
 }
 
 /** A picture of its bytes, or of the first of them. */
-export const pictureOf = (kit, picture) => withHeads(kit, [picture], ([head]) => ofHead(kit, head));
+export const pictureOf = (engine, picture) => withHeads(engine, [picture], ([head]) => ofHead(engine, head));
 
 // ---- two pictures
 
-/** Whether the verdict is that of calls which are proved: of two JPEGs without extended XMP, whose comparison the engine answers by itself. */
-function isProved({ engine }, heads, found) {
-  if (!heads.every(({ bytes, pieces }) => bytes && !pieces.length) || !["same", "different"].includes(found)) return false;
+/** Whether the verdict is that of calls which are proved: of two JPEGs without extended XMP, and if they are the same, with nothing beside it. */
+function isProved(engine, heads, found) {
+  const isAll = ({ blocks, notRead }) => !notRead.length && !blocks.some(({ part }) => part);
+  if (!heads.every((head) => head.bytes && !head.pieces.length && (found === "different" || found === "same" && isAll(head)))) return false;
   try {
     return engine.jpegSame(...heads.map(({ bytes }) => bytes)) === (found === "same");
   } catch (error) {
@@ -194,7 +196,7 @@ function isProved({ engine }, heads, found) {
 }
 
 /** Whether bytes are a block by itself, and no picture: of Exif one without pixels. */
-function isBlock({ engine }, bytes) {
+function isBlock(engine, bytes) {
   if (!(bytes instanceof Uint8Array)) return false;
   try {
     return engine.check(bytes) === "iptc" || !/^(?:0111|0144|014a) /m.test(engine.show(bytes).split(/^\[(?!main)/m)[0]);
@@ -205,14 +207,14 @@ function isBlock({ engine }, bytes) {
 }
 
 /** Whether two pictures have the same metadata, and the fields that differ. */
-export function comparisonOf(kit, first, second) {
-  if (isBlock(kit, first) && isBlock(kit, second)) throw new TypeError("compare takes two pictures; `same` compares two blocks");
-  return withHeads(kit, [first, second], (heads) => comparisonOfHeads(kit, heads));
+export function comparisonOf(engine, first, second) {
+  if (isBlock(engine, first) && isBlock(engine, second)) throw new TypeError("compare takes two pictures; `same` compares two blocks");
+  return withHeads(engine, [first, second], (heads) => comparisonOfHeads(engine, heads));
 }
 
-function comparisonOfHeads(kit, heads) {
-  const found = verdict(kit.engine, ...heads);
-  const rows = pairsOf(heads).flatMap((pair) => rowsOf(kit, ...pair).rows).filter((row) => !row.isEqual && !row.isOpen);
+function comparisonOfHeads(engine, heads) {
+  const found = verdict(engine, ...heads);
+  const rows = pairsOf(heads).flatMap((pair) => rowsOf(engine, ...pair).rows).filter((row) => !row.isEqual && !row.isOpen);
   const differences = found !== "different" ? [] : rows.map(({ name, label, cells }) => {
     const [before, after] = cells.map((cell) => cell && cell.text + (cell.exact ? ` (${cell.exact})` : ""));
     return { name, label: label ?? null, before, after };
@@ -220,7 +222,7 @@ function comparisonOfHeads(kit, heads) {
   const doubt = found === "partly" ? noteDoubt(heads) : "";
   const ofSides = (list) => heads.flatMap((head, i) => list(head).map((one) => ({ side: i + 1, ...one })));
   return {
-    verdict: found, differences, proved: isProved(kit, heads, found),
-    refusals: ofSides((head) => refusalsOf(kit, head)), notRead: [...ofSides((head) => notReadOf(head).map((what) => ({ what }))), ...doubt ? [{ side: 2, what: doubt }] : []],
+    verdict: tables.results[found][0], differences, proved: isProved(engine, heads, found),
+    refusals: ofSides((head) => refusalsOf(head)), notRead: [...ofSides((head) => notReadOf(head).map((what) => ({ what }))), ...doubt ? [{ side: 2, what: doubt }] : []],
   };
 }

@@ -1,17 +1,16 @@
 /**
- * The fields and captions of blocks, and of two blocks side by side: with their names, and with their values in plain words. A `kit` has an
- * `engine` and the `tables` of exifnorm_pictures.
+ * The fields and captions of blocks, and of two blocks side by side: with their names, and with their values in plain words.
  * @module
  */
 import { KINDS, KIND_NAMES, mayHide } from "./head.js";
 import { fieldsOf, nameOf, orderOf } from "./listing.js";
 import { isOwn } from "./own.js";
+import tables from "./tables.js";
 import { guessed, plain, toldApart } from "./values.js";
 import { inOrder, keyOf, plainXmp, shownExactly, shownName, textsIn } from "./xmp_values.js";
 
 export const MOST_FIELDS = 20_000; // of a block, that are listed; so many captions, too
 const LONGEST = 2_000, MOST_MEMBERS = 200; // characters of a value, and members of a list of IPTC
-const LISTS = ["2:12", "2:20", "2:25", "2:26", "2:27", "2:80", "2:85", "2:118", "2:122"]; // DataSets that IPTC-NAA IIM 4.2 allows to be repeated
 const EMPTY = "(empty)", DATE = "date created", CAN_BE_OWN = ["caption", "comment"], GUESS = " (its character set isn't declared)";
 
 /** The start of a text that is too long to be shown. */
@@ -21,7 +20,7 @@ const UNREAD = { isUnread: true }; // in place of a block of a picture that isn'
 export const isValid = (block) => !!block && !block.refusal && !block.isUnread;
 
 /** The first fields of a valid block. */
-export const firstFields = ({ engine }, block) => isValid(block) ? fieldsOf(engine.show(block.data), MOST_FIELDS) : [];
+export const firstFields = (engine, block) => isValid(block) ? fieldsOf(engine.show(block.data), MOST_FIELDS) : [];
 
 /** Fields by their places: a DataSet that is repeated is one field with several values. */
 export function byPlace(fields) {
@@ -36,8 +35,8 @@ export function byPlace(fields) {
 const isSame = (first, second) => first.type === second.type && first.raw === second.raw && first.elements === second.elements;
 
 /** The plain values of a field. */
-export function plainOf({ tables }, group) {
-  const shown = group.slice(0, 200).map((field) => shortened(plain(tables.words, field)) || "(empty)");
+export function plainOf(group) {
+  const shown = group.slice(0, 200).map((field) => shortened(plain(field)) || "(empty)");
   return shortened(shown.join("; ") + (group.length > shown.length ? `; and ${group.length - shown.length} more` : ""));
 }
 
@@ -70,9 +69,9 @@ function absent(block) {
 const isOpen = (blocks) => blocks.some((block) => block && !isValid(block));
 
 /** The properties of a packet by their keys: those that are listed. */
-export function valuesOf({ tables }, block) {
+export function valuesOf(block) {
   const properties = isValid(block) ? block.properties.slice(0, MOST_FIELDS) : [];
-  return new Map(properties.map((property) => [keyOf(tables.spaces, property), property.value]));
+  return new Map(properties.map((property) => [keyOf(property), property.value]));
 }
 
 /** What tells two exact values apart, also where they differ behind what is shown. */
@@ -83,12 +82,12 @@ function exactlyApart(both) {
 }
 
 /** The rows of properties of two packets, or of one and none. A form has one way of writing, so equal values are equal as JSON. */
-function xmpRowsOf(kit, blocks, suffix) {
-  const { tables } = kit, both = blocks.map((block) => valuesOf(kit, block)), keys = [...new Set(both.flatMap((values) => [...values.keys()]))].sort(inOrder);
+function xmpRowsOf(blocks, suffix) {
+  const both = blocks.map((block) => valuesOf(block)), keys = [...new Set(both.flatMap((values) => [...values.keys()]))].sort(inOrder);
   const rows = keys.map((key) => {
     const values = both.map((side) => side.get(key)), isEqual = JSON.stringify(values[0]) === JSON.stringify(values[1]);
-    const cells = values.map((value, i) => value ? { text: shortened(plainXmp(tables.spaces, value)), exact: "" } : absent(blocks[i]));
-    if (values[0] && values[1] && !isEqual) tellApart(cells, () => exactlyApart(values.map((value) => shownExactly(tables.spaces, value))));
+    const cells = values.map((value, i) => value ? { text: shortened(plainXmp(value)), exact: "" } : absent(blocks[i]));
+    if (values[0] && values[1] && !isEqual) tellApart(cells, () => exactlyApart(values.map((value) => shownExactly(value))));
     const isList = values.every((value) => !value || value.kind === "Bag" || value.kind === "Seq"), members = isList ? values.map((value) => value ? textsIn(value) : []) : null;
     return { name: shownName(key) + suffix, label: tables.labels[key], isEqual, isXmp: true, isOpen: isOpen(blocks), cells, members };
   });
@@ -96,45 +95,45 @@ function xmpRowsOf(kit, blocks, suffix) {
 }
 
 /** The rows of fields of two blocks, or of one and none; and whether a block may have more fields than are listed. */
-export function rowsOf(kit, first, second, suffix = "") {
-  if ((first?.kind ?? second?.kind) === "xmp") return xmpRowsOf(kit, [first, second], suffix);
-  const fields = [first, second].map((block) => firstFields(kit, block)), both = fields.map(byPlace), groups = [...new Map([...both[0], ...both[1]])];
+export function rowsOf(engine, first, second, suffix = "") {
+  if ((first?.kind ?? second?.kind) === "xmp") return xmpRowsOf([first, second], suffix);
+  const fields = [first, second].map((block) => firstFields(engine, block)), both = fields.map(byPlace), groups = [...new Map([...both[0], ...both[1]])];
   groups.sort(([, [one]], [, [other]]) => orderOf(one) - orderOf(other));
   const rows = groups.map(([place, [field]]) => {
-    const [one, other] = both.map((places) => places.get(place)), cells = [one, other].map((group, i) => group ? { text: plainOf(kit, group), exact: "" } : absent([first, second][i]));
+    const [one, other] = both.map((places) => places.get(place)), cells = [one, other].map((group, i) => group ? { text: plainOf(group), exact: "" } : absent([first, second][i]));
     const isEqual = !!one && !!other && one.length === other.length && one.every((value, i) => isSame(value, other[i]));
     if (one && other && !isEqual) tellApart(cells, () => apart(one, other));
-    const members = field.where === "iptc" && LISTS.includes(field.key) ? [one, other].map((group = []) => group.slice(0, MOST_MEMBERS).map((some) => plain(kit.tables.words, some))) : null;
-    return { name: nameOf(kit.tables, field) + suffix, label: labelOf(kit.tables, field), isEqual, isOpen: isOpen([first, second]), cells, members };
+    const members = field.where === "iptc" && tables.repeated.includes(field.key) ? [one, other].map((group = []) => group.slice(0, MOST_MEMBERS).map((some) => plain(some))) : null;
+    return { name: nameOf(field) + suffix, label: labelOf(field), isEqual, isOpen: isOpen([first, second]), cells, members };
   });
   return { rows, isCut: fields.some(({ length }) => length === MOST_FIELDS) };
 }
 
 /** The label of a field of Exif or IPTC, such as `caption`; undefined for one without. */
-export const labelOf = ({ labels }, { where, key }) => labels[`${where} ${key}`];
+export const labelOf = ({ where, key }) => tables.labels[`${where} ${key}`];
 
 /** The make and the model in a head. */
-export function cameraOf(kit, { blocks }) {
+export function cameraOf(engine, { blocks }) {
   const texts = blocks.filter(({ kind }) => kind === "exif").map((block) => {
-    const fields = firstFields(kit, block).filter(({ where }) => where === "main");
+    const fields = firstFields(engine, block).filter(({ where }) => where === "main");
     return ["010f", "0110"].map((tag) => fields.find(({ key }) => key === tag)).map((field) => field?.octets ? guessed(field.octets) : "");
   });
   return texts.find(([make, model]) => make || model) ?? ["", ""];
 }
 
 /** The captions of a valid block that a person wrote: each with its label, its text, and the name of its field. */
-export function captionsOf(kit, block, camera) {
-  const isOfCamera = ({ label, text }) => CAN_BE_OWN.includes(label) && isOwn(kit.tables.own, text, ...camera);
-  return allCaptionsOf(kit, block).filter((one) => one.text !== EMPTY && !isOfCamera(one));
+export function captionsOf(engine, block, camera) {
+  const isOfCamera = ({ label, text }) => CAN_BE_OWN.includes(label) && isOwn(tables.own, text, ...camera);
+  return allCaptionsOf(engine, block).filter((one) => one.text !== EMPTY && !isOfCamera(one));
 }
 
 const octetsBeyond = ({ octets }) => !!octets && octets.some((octet) => octet > 127);
 
-function allCaptionsOf(kit, block) {
-  const { tables } = kit, captions = [];
+function allCaptionsOf(engine, block) {
+  const captions = [];
   if (!isValid(block)) return captions;
   if (block.kind === "xmp") {
-    for (const [key, value] of valuesOf(kit, block)) {
+    for (const [key, value] of valuesOf(block)) {
       const label = Object.hasOwn(tables.labels, key) ? tables.labels[key] : "";
       if (!label) continue;
       const texts = textsIn(value).map((text) => text.trim() || EMPTY);
@@ -142,21 +141,21 @@ function allCaptionsOf(kit, block) {
     }
     return captions;
   }
-  const fields = firstFields(kit, block), isDeclared = fields.some(({ where, key, raw }) => where === "iptc" && key === "1:90" && raw === "1b2547");
+  const fields = firstFields(engine, block), isDeclared = fields.some(({ where, key, raw }) => where === "iptc" && key === "1:90" && raw === "1b2547");
   for (const field of fields) {
-    const label = labelOf(tables, field);
+    const label = labelOf(field);
     if (!label) continue;
     const isGuess = field.where === "iptc" && !isDeclared && octetsBeyond(field);
-    captions.push({ label, text: plain(tables.words, field), name: nameOf(tables, field), ...isGuess && { isGuess } });
+    captions.push({ label, text: plain(field), name: nameOf(field), ...isGuess && { isGuess } });
   }
   return captions;
 }
 
 /** The captions of one head: for each label its texts in Exif, IPTC and XMP, beside each other. */
-export function captionTable(kit, head) {
-  const found = new Map([...new Set(Object.values(kit.tables.labels))].map((label) => [label, [null, null, null]])), camera = cameraOf(kit, head);
+export function captionTable(engine, head) {
+  const found = new Map([...new Set(Object.values(tables.labels))].map((label) => [label, [null, null, null]])), camera = cameraOf(engine, head);
   for (const block of head.blocks) {
-    for (const { label, text, isGuess } of captionsOf(kit, block, camera)) {
+    for (const { label, text, isGuess } of captionsOf(engine, block, camera)) {
       const cells = found.get(label), at = KINDS.indexOf(block.kind), shown = text + (isGuess ? GUESS : "");
       cells[at] = { text: shortened(cells[at] ? `${cells[at].text}; ${shown}` : shown) };
     }
@@ -165,13 +164,13 @@ export function captionTable(kit, head) {
 }
 
 /** The captions of two blocks side by side, or of one and none, of pictures of these cameras. */
-export function captionRows(kit, first, second, cameras) {
+export function captionRows(engine, first, second, cameras) {
   const blocks = [first, second], kind = first?.name ?? second?.name, both = blocks.map((block, i) => {
     const labels = new Map();
-    for (const { label, text, isGuess } of captionsOf(kit, block, cameras[i] ?? cameras[0])) labels.set(label, [...labels.get(label) ?? [], text + (isGuess ? GUESS : "")]);
+    for (const { label, text, isGuess } of captionsOf(engine, block, cameras[i] ?? cameras[0])) labels.set(label, [...labels.get(label) ?? [], text + (isGuess ? GUESS : "")]);
     return labels;
   });
-  return [...new Set(Object.values(kit.tables.labels))].filter((label) => both.some((labels) => labels.has(label))).map((label) => {
+  return [...new Set(Object.values(tables.labels))].filter((label) => both.some((labels) => labels.has(label))).map((label) => {
     const cells = both.map((labels, i) => labels.has(label) ? { text: shortened(labels.get(label).join("; ")) } : absent(blocks[i]));
     if (both.every((labels) => labels.has(label))) tellApart(cells, () => []);
     return { label: `${label} (${kind})`, cells };
@@ -198,9 +197,9 @@ function loneGroups({ rows }) {
 }
 
 /** The lists of rows of two heads, or of one. A row of a block or directory that only one of them has says so. */
-export function listsOf(kit, heads) {
+export function listsOf(engine, heads) {
   return pairsOf(heads).map(([one, other, suffix]) => {
-    const list = rowsOf(kit, one, other, suffix), part = heads.length === 2 && !(one && other) ? (one ?? other).name : "";
+    const list = rowsOf(engine, one, other, suffix), part = heads.length === 2 && !(one && other) ? (one ?? other).name : "";
     const lone = heads.length === 2 && !part ? loneGroups(list) : [];
     for (const row of list.rows) Object.assign(row, { part: part || (!row.isXmp && lone.includes(row.name.split(":")[0]) ? row.name.split(":")[0] : ""), suffix });
     return list;

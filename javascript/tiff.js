@@ -5,10 +5,10 @@
  */
 import { gapsOf, placed } from "./notes.js";
 import { inResources, left } from "./parts.js";
+import tables from "./tables.js";
 import { Directories } from "./tiff_directories.js";
 
-const LONG = 4;
-const PIXELS = [0x0111, 0x0117, 0x0120, 0x0121, 0x0144, 0x0145, 0x0201, 0x0202, 0x0207, 0x0208, 0x0209], SUB_IFDS = 0x014a;
+const LONG = 4, PIXELS = tables.pixels, SUB_IFDS = 0x014a;
 const XMP = 0x02bc, IPTC = 0x83bb, PHOTOSHOP = 0x8649, LAYERS = 0x935c, DNG_VERSION = 0xc612, MAKER_NOTE = 0x927c;
 const POINTERS = { 0x8769: { 0xa005: {} }, 0x8825: {} };
 const OTHERS = [0x0190, 0x8290, 0x8606, 0x888a, 0xfe00]; // pointers that aren't followed

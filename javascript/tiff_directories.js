@@ -1,9 +1,9 @@
 /** The directories of a TIFF file, and one of them as an Exif block by itself. @module */
 import { Broken } from "./parts.js";
+import tables from "./tables.js";
 
-export const SIZES = { 1: 1, 2: 1, 3: 2, 4: 4, 5: 8, 6: 1, 7: 1, 8: 2, 9: 4, 10: 8, 11: 4, 12: 8, 13: 4, 129: 1 };
 const LONG = 4, IFD = 13;
-const NUMBERS = { 3: 2, 4: 4, 13: 4 }, PIXELS = [[0x0111, 0x0117], [0x0144, 0x0145], [0x0201, 0x0202]], MOST_STRIPS = 100_000;
+const SIZES = tables.sizes, NUMBERS = { 3: 2, 4: 4, 13: 4 }, PIXELS = [[0x0111, 0x0117], [0x0144, 0x0145], [0x0201, 0x0202]], MOST_STRIPS = 100_000;
 const MOST_DIRECTORIES = 1000, MOST_BLOCK = 1 << 24, NOWHERE = 0xffffffff;
 
 /** The directories of a file, each read once. */

@@ -4,12 +4,12 @@
  * @module
  */
 import { sha256 } from "./sha256.js";
+import tables from "./tables.js";
 
 const EMPTY = "(empty)", UNKNOWN = "unknown";
 const INTEGERS = ["SHORT", "LONG", "WHOLE", "SSHORT", "SLONG"], RATIOS = ["RATIONAL", "SRATIONAL"];
 const OCTETS = ["BYTE", "ASCII", "SBYTE", "UNDEFINED", "UTF8", "octets"];
 const LONGEST_TEXT = 65_536, LONGEST_OTHER_TEXT = 400, LONGEST_BYTES = 32, LONGEST_NUMBERS = 160;
-const WIDE_TEXTS = ["9c9b", "9c9c", "9c9d", "9c9e", "9c9f"], PICTURES = ["2:125", "2:202"];
 
 /** The bytes of hexadecimal digits. */
 export function octetsOf(digits) {
@@ -61,11 +61,11 @@ export function guessed(octets) {
 }
 
 const isComment = ({ where, key }) => key === "9286" || where === "gps" && (key === "001b" || key === "001c");
-const isWideText = ({ where, key }) => where === "main" && WIDE_TEXTS.includes(key);
+const isWideText = ({ where, key }) => where === "main" && tables.wideTexts.includes(key);
 
 /** Whether a field of bytes is a text by its type or its standard. */
 function isText(field) {
-  if (field.where === "iptc") return /^[12]:/.test(field.key) && !PICTURES.includes(field.key);
+  if (field.where === "iptc") return /^[12]:/.test(field.key) && !tables.iptcPictures.includes(field.key);
   return field.type === "ASCII" || field.type === "UTF8" || isComment(field) || isWideText(field);
 }
 
@@ -299,10 +299,7 @@ function lens(field) {
 function flash(field) {
   const bits = integer(field);
   if (bits === null || bits < 0 || bits >= 1_000_000_000) return null;
-  if (bits & 0x20) return "no flash in the camera";
-  const light = { 2: "light returned isn't seen", 3: "light returned is seen" }[(bits >> 1) & 3];
-  const mode = { 1: "always on", 2: "always off", 3: "automatic" }[(bits >> 3) & 3];
-  return [bits & 1 ? "fired" : "did not fire", light, mode, bits & 0x40 ? "red-eye reduction" : ""].filter(Boolean).join(", ");
+  return bits & 0x20 ? tables.noFlash : tables.flash.map(([bit, mask, words]) => words[(bits >> bit) & mask]).filter(Boolean).join(", ");
 }
 
 // ---- dates, and other texts with a form
@@ -346,9 +343,9 @@ const letter = (words) => (field) => {
   const text = textOf(field);
   return text !== null && Object.hasOwn(words, text) ? words[text] : null;
 };
-const direction = (words) => ({ octets }) => {
+const direction = (letters) => ({ octets }) => {
   const first = octets?.length ? String.fromCharCode(octets[0]).toUpperCase() : "";
-  return Object.hasOwn(words, first) ? words[first] : null;
+  return first && letters.includes(first) ? tables.directions[first] : null;
 };
 const byte = (...words) => ({ octets }) => octets?.length === 1 ? words[octets[0]] ?? null : null;
 const characterSet = ({ octets }) => hex(octets) === "1b2547" ? "UTF-8" : null;
@@ -364,21 +361,20 @@ const EXIF = {
 };
 const GPS = {
   ...each(["0002", "0004", "0014", "0016"], angle), ...each(["000f", "0011", "0018"], withUnit("°", 2)),
-  ...each(["001b", "001c"], plainComment), ...each(["0001", "0013"], direction({ N: "north", S: "south" })),
-  ...each(["0003", "0015"], direction({ E: "east", W: "west" })),
-  ...each(["000c", "0019"], letter({ K: "kilometres", M: "miles", N: "nautical miles" })),
-  "0000": dotted, "0005": byte("above sea level", "below sea level"), "0006": withUnit(" m", 1), "0007": clock, "000d": withUnit("", 2),
+  ...each(["001b", "001c"], plainComment), ...each(["0001", "0013"], direction("NS")),
+  ...each(["0003", "0015"], direction("EW")),
+  ...each(["000c", "0019"], letter(tables.units)),
+  "0000": dotted, "0005": byte(...tables.altitudes), "0006": withUnit(" m", 1), "0007": clock, "000d": withUnit("", 2),
   "001d": date, "001f": withUnit(" m", 1),
 };
 const IIM = {
-  ...each(["1:70", "2:30", "2:37", "2:47", "2:55", "2:62"], iptcDate), ...each(["1:80", "2:35", "2:38", "2:60", "2:63"], iptcTime),
-  ...each(["1:0", "1:20", "1:22", "2:0"], iptcNumber), "1:90": characterSet,
+  ...each(tables.iptcDates, iptcDate), ...each(tables.iptcTimes, iptcTime), ...each(tables.iptcNumbers, iptcNumber), "1:90": characterSet,
 };
 const RULES = { main: EXIF, exif: EXIF, thumb: EXIF, gps: GPS, iptc: IIM };
 
 /** The value by the rule of its field; null if there is none. */
-function inWords(words, field) {
-  const table = RULES[field.where] === EXIF ? words[field.key] : undefined;
+function inWords(field) {
+  const table = RULES[field.where] === EXIF ? tables.words[field.key] : undefined;
   if (table) return table[integer(field)] ?? null;
   const rules = RULES[field.where] ?? {};
   return Object.hasOwn(rules, field.key) ? rules[field.key](field) : null;
@@ -412,9 +408,9 @@ export function fieldOf(where, key, type, raw) {
   return { where, key, type, raw, octets, elements: isOctets ? octets.length : raw === "" ? 0 : raw.split(" ").length };
 }
 
-/** The value of a field as a person writes it. `words` has the words for numbers by tag. */
-export function plain(words, field) {
-  return withoutNuls(inWords(words, field) || asText(field) || withoutWords(field));
+/** The value of a field as a person writes it. */
+export function plain(field) {
+  return withoutNuls(inWords(field) || asText(field) || withoutWords(field));
 }
 
 /** A text in which the end of a line stands for NULs: databases and XML refuse them. */
@@ -423,7 +419,7 @@ const withoutNuls = (text) => text.includes("\0") ? text.split("\0").filter(trim
 // ---- values for programs
 
 const float32 = (digits) => new DataView(octetsOf(digits).buffer).getFloat32(0), float64 = (digits) => new DataView(octetsOf(digits).buffer).getFloat64(0);
-const FLOATS = { FLOAT: float32, DOUBLE: float64 }, VERSIONS = ["exif 9000", "exif a000", "interop 0002"], DATES = ["main 0132", "exif 9003", "exif 9004"];
+const FLOATS = { FLOAT: float32, DOUBLE: float64 };
 const oneOrAll = (values) => values.length === 1 ? values[0] : values;
 const withoutNul = (octets) => withoutEnd(octets, (octet) => octet === 0);
 
@@ -451,8 +447,8 @@ export function valueOf(field) {
   const { where, key, type, octets, raw } = field, place = `${where} ${key}`;
   if (!octets) return oneOrAll(raw === "" ? [] : raw.split(" ").map(FLOATS[type] ?? numberOfWord));
   if (where === "iptc") return datasetValue(field);
-  if (type === "ASCII" || type === "UTF8" || type === "UNDEFINED" && VERSIONS.includes(place)) {
-    const moment = DATES.includes(place) ? /^(\d{4}):(\d\d):(\d\d) (\d\d:\d\d:\d\d)$/.exec(guessed(octets)) : null;
+  if (type === "ASCII" || type === "UTF8" || type === "UNDEFINED" && tables.versions.includes(place)) {
+    const moment = tables.dates.includes(place) ? /^(\d{4}):(\d\d):(\d\d) (\d\d:\d\d:\d\d)$/.exec(guessed(octets)) : null;
     return moment ? `${moment[1]}-${moment[2]}-${moment[3]}T${moment[4]}` : guessedWhole(octets);
   }
   if (isComment(field)) return textOfComment(field) ?? guessedWhole(octets);

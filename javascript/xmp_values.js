@@ -4,6 +4,7 @@
  * @module
  */
 import { sha256 } from "./sha256.js";
+import tables from "./tables.js";
 
 const RDF = "http://www.w3.org/1999/02/22-rdf-syntax-ns#";
 const LONGEST_STRUCTURE = 400, BEGINNING = 60; // characters of the exact form of a value
@@ -28,9 +29,9 @@ export function inOrder(first, second) {
 // ---- names
 
 /** What identifies a property: its name with a usual prefix, or its URI in angle brackets if its namespace has none. */
-export function keyOf(spaces, { namespace, name }) {
+export function keyOf({ namespace, name }) {
   const uri = namespace + name, at = Math.max(uri.lastIndexOf("/"), uri.lastIndexOf("#")) + 1, space = uri.slice(0, at);
-  return Object.hasOwn(spaces, space) && at < uri.length ? `${spaces[space]}:${uri.slice(at)}` : `<${uri}>`;
+  return Object.hasOwn(tables.spaces, space) && at < uri.length ? `${tables.spaces[space]}:${uri.slice(at)}` : `<${uri}>`;
 }
 
 /** The name of a property as it is shown: `XMP-dc:title`. */
@@ -52,21 +53,21 @@ const escaped = (text) => text.replace(ODD, escapedCharacter);
 const identity = ({ kind, text, language }, printed) => kind === "text" ? `"${language.length}:${language}0:${text}` : kind === "resource" ? printed : `_${printed}`;
 
 /** The exact forms of the members of a list, with the members; those of a Bag in an order that doesn't depend on how it is written. */
-function printedMembers(spaces, { kind, members }) {
-  const printed = members.map((member) => [exact(spaces, member), member]);
+function printedMembers({ kind, members }) {
+  const printed = members.map((member) => [exact(member), member]);
   if (kind !== "Bag") return printed;
   const keyed = printed.map((pair) => [identity(pair[1], pair[0]), pair]);
   return keyed.sort(([first], [second]) => inOrder(first, second)).map(([, pair]) => pair);
 }
 
 /** A value as it is printed exactly. */
-function exact(spaces, value) {
+function exact(value) {
   const { kind, text, language, uri, properties } = value;
   if (kind === "text") return `"${escaped(text).replaceAll('"', '\\"')}"${language && "@"}${language}`;
   if (kind === "resource") return `<${escaped(uri)}>`;
-  if (kind !== "structure") return `${kind}[${printedMembers(spaces, value).map(([printed]) => printed).join(", ")}]`;
-  const named = properties.map((property) => [keyOf(spaces, property), property.value]).sort(([first], [second]) => inOrder(`${first}=`, `${second}=`));
-  return `{${named.map(([key, inner]) => `${escaped(key)}=${exact(spaces, inner)}`).join(", ")}}`;
+  if (kind !== "structure") return `${kind}[${printedMembers(value).map(([printed]) => printed).join(", ")}]`;
+  const named = properties.map((property) => [keyOf(property), property.value]).sort(([first], [second]) => inOrder(`${first}=`, `${second}=`));
+  return `{${named.map(([key, inner]) => `${escaped(key)}=${exact(inner)}`).join(", ")}}`;
 }
 
 /** A digest of the statements that a list or a structure makes, in any order. */
@@ -85,8 +86,8 @@ function meaningKey(value) {
 }
 
 /** The exact form of a value; of a long one its beginning and a digest. */
-export function shownExactly(spaces, value) {
-  const printed = exact(spaces, value), long = (key) => `${[...printed.slice(0, 2 * BEGINNING)].slice(0, BEGINNING).join("")}.. sha256:${digestOf(key).slice(0, 12)}`;
+export function shownExactly(value) {
+  const printed = exact(value), long = (key) => `${[...printed.slice(0, 2 * BEGINNING)].slice(0, BEGINNING).join("")}.. sha256:${digestOf(key).slice(0, 12)}`;
   const isSimple = value.kind === "text" || value.kind === "resource";
   if (!isSimple && !textsIn(value).length && printed.length > LONGEST_STRUCTURE && [...printed].length > LONGEST_STRUCTURE) return long(meaningKey(value));
   return printed.length > LONGEST_EXACT / 4 && encoder.encode(printed).length > LONGEST_EXACT ? long(identity(value, printed)) : printed;
@@ -106,13 +107,13 @@ export function textsIn({ kind, text, uri, members, properties }) {
 }
 
 /** The texts of a simple value or of a list of such, each with its language; null if there is a structure in it. */
-function simpleTexts(spaces, value) {
+function simpleTexts(value) {
   if (value.kind === "text") return [[value.text, value.language]];
   if (value.kind === "resource") return [[value.uri, ""]];
   if (value.kind === "structure") return null;
   const texts = [];
-  for (const [, member] of printedMembers(spaces, value)) {
-    const some = simpleTexts(spaces, member);
+  for (const [, member] of printedMembers(value)) {
+    const some = simpleTexts(member);
     if (!some) return null;
     texts.push(...some);
   }
@@ -120,9 +121,9 @@ function simpleTexts(spaces, value) {
 }
 
 /** The texts of a property, separated by semicolons, each with its language unless x-default is the only one. */
-export function plainXmp(spaces, value) {
-  const texts = simpleTexts(spaces, value);
-  if (!texts) return shownExactly(spaces, value);
+export function plainXmp(value) {
+  const texts = simpleTexts(value);
+  if (!texts) return shownExactly(value);
   const showsLanguage = texts.some(([, language]) => language && language !== "x-default");
   return texts.map(([text, language]) => showsLanguage && language ? `${text} (${language})` : text).join("; ") || "(empty)";
 }

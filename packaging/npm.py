@@ -34,18 +34,13 @@ def exported() -> str:
     return ", ".join(re.findall(r"(?m)^export \{ (.*?) \} from", text))
 
 
-def tables() -> str:
-    """The tables of exifnorm_pictures as an object of JavaScript, in JSON."""
-    return words_of.json_of({**words_of.tables(), "types": words_of.types()})
-
-
 def required() -> str:
     """The source of exifnorm.cjs, for `require`: the modules as one script, which reads the same exifnorm.wasm."""
-    strict, _, script = joined([*READING, "javascript/picture.js", "javascript/calls.js"]).partition("\n")
+    script = joined(words_of.script(), [*READING, "javascript/picture.js", "javascript/calls.js"])
     wasm = 'require("node:fs").readFileSync(`${__dirname}/exifnorm.wasm`)'
     names = exported()
     last = f"begin(new Engine(new WebAssembly.Module({wasm})));\nmodule.exports = {{ {names}, ready: Promise.resolve() }};\n"
-    return f"{strict}\nconst tables = {tables()};\n{script}\n{last}"
+    return f"{script}\n{last}"
 
 
 def about(text: str, version: str) -> str:
@@ -65,7 +60,7 @@ def files(wasm: bytes, version: str) -> Iterator[tuple[str, bytes]]:
         yield name, (TOP / name).read_bytes()
     yield "exifnorm.wasm", wasm
     yield "exifnorm.d.cts", (FOLDER / "exifnorm.d.ts").read_bytes()
-    yield "tables.js", f"/** The tables of exifnorm_pictures. @module */\nexport default {tables()};\n".encode()
+    yield "tables.js", f"/** The tables of exifnorm_pictures. @module */\n{words_of.script()}\nexport default tables;\n".encode()
     yield "exifnorm.cjs", required().encode()
 
 

@@ -4,8 +4,8 @@
   packaging/page.py WASM TARGET
 
 WASM is exifnorm.wasm, and TARGET the page. The sources are in page/, and the modules that read pictures in javascript/. The names of fields,
-the words for numbers and the causes of refusals are the tables of exifnorm_pictures. The module, the tables and the worker's scripts are in the
-page as gzip in base64. The same sources make the same bytes. A page with a module that was compiled without proofs has the mark by which
+the words for numbers and the causes of refusals are the tables of exifnorm_pictures. The module, and the worker's scripts with the tables, are
+in the page as gzip in base64. The same sources make the same bytes. A page with a module that was compiled without proofs has the mark by which
 build/guard.py refuses it.
 """
 
@@ -75,8 +75,8 @@ def page(wasm: bytes) -> str:
         "POLICY": policy(style, script),
         "STYLE": style,
         "SCRIPT": script,
-        "WORKER": packed(joined(MODULES).encode()),
-        "TABLES": packed(words_of.json_of(words_of.tables()).encode()),
+        "WORKER": packed(joined(words_of.script("types"), MODULES).encode()),
+        "RESULTS": words_of.json_of(words_of.tables()["results"]),
         "MODULE": packed(wasm),
         "SAMPLES": samples(),
         "MARK": guard.MARK if guard.MARK.encode() in wasm else "",

@@ -25,9 +25,9 @@ def text_of(name: str) -> str:
     return COMMENTS.sub("", (TOP / name).read_text(encoding="utf-8"))
 
 
-def joined(names: Sequence[str]) -> str:
-    """The modules as one script."""
-    pieces = ['"use strict";']
+def joined(tables: str, names: Sequence[str]) -> str:
+    """The modules as one script, with the statement of the tables that they import."""
+    pieces = ['"use strict";', tables]
     for name in names:
         text = IMPORT.sub("", text_of(name))
         exported = ", ".join(EXPORT.findall(text))

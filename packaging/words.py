@@ -16,9 +16,21 @@ sys.path[:0] = [str(TOP / "python")]
 
 from exifnorm._causes import OF_HEADS, OF_PACKETS
 from exifnorm_pictures.comparison import edits
-from exifnorm_pictures.fields import labels, names, own_texts, plain_names, plain_values, xmp_types
-from exifnorm_pictures.model import xmp_names
+from exifnorm_pictures.extract import structure
+from exifnorm_pictures.extract.formats import heif, heif_items, jpeg_segments, tiff_entries, trailers
+from exifnorm_pictures.fields import labels, listing, names, own_texts, plain_names, plain_values, typed, xmp_types
+from exifnorm_pictures.model import found, tiff_types, xmp_names
+from exifnorm_pictures.model.results import Result
 from exifnorm_pictures.refusals import causes
+
+RESULTS = {  # by the words of the scripts
+    "same": Result.SAME,
+    "different": Result.DIFFERENT,
+    "refused": Result.REFUSED,
+    "moved": Result.MOVED,
+    "partly": Result.NOT_WHOLLY_READ,
+    "unread": Result.NOT_READ,
+}
 
 
 def names_of(where: str) -> dict[str, str]:
@@ -29,15 +41,17 @@ def names_of(where: str) -> dict[str, str]:
 
 def labels_of() -> dict[str, str]:
     """The labels, by the place of a field of Exif or IPTC, and by the key of a property of XMP; in the order in which they are shown."""
-    found: dict[str, str] = {}
+    by_place: dict[str, str] = {}
     for label in labels.LABELS:
         directory = "exif" if label.exif.startswith("9") else "main"
-        found |= {key: label.word for key, part in ((f"{directory} {label.exif}", label.exif), (f"iptc {label.iptc}", label.iptc)) if part}
-        found |= {f"main {tag}": word for tag, word in labels.WINDOWS.items() if word == label.word}
+        by_place |= {
+            key: label.word for key, part in ((f"{directory} {label.exif}", label.exif), (f"iptc {label.iptc}", label.iptc)) if part
+        }
+        by_place |= {f"main {tag}": word for tag, word in labels.WINDOWS.items() if word == label.word}
         if label.xmp:
-            found[label.xmp] = label.word
+            by_place[label.xmp] = label.word
     windows = {f"main {tag}": word for tag, word in labels.WINDOWS.items() if word == labels.COMMENT}
-    return {**found, "exif 9286": labels.COMMENT, **windows, "exif:UserComment": labels.COMMENT}
+    return {**by_place, "exif 9286": labels.COMMENT, **windows, "exif:UserComment": labels.COMMENT}
 
 
 def own_texts_of() -> dict[str, Any]:
@@ -46,12 +60,49 @@ def own_texts_of() -> dict[str, Any]:
     return {"texts": sorted(own_texts._TEXTS), **rules, "filling": sorted(own_texts._FILLING)}
 
 
+def of_formats() -> dict[str, Any]:
+    """What the readers of files know of their formats."""
+    return {
+        "private": structure.PRIVATE,
+        "links": structure._LINKS,
+        "sizes": {number: it.size for number, it in tiff_types.TIFF.items()},
+        "pixels": [*tiff_entries.PIXELS],
+        "notCompared": [[marker, head.decode("latin-1")] for marker, head, *_ in jpeg_segments.NOT_COMPARED],
+        "trailers": [[sign.decode("latin-1").replace(r"\Z", "$"), it.name] for sign, it in trailers._SIGNS],
+        "mayHave": [*found._MAY_HAVE.items()],
+        "brands": sorted(it.decode() for it in heif.BRANDS),
+        "items": sorted(it.decode() for it in heif_items.PICTURES),
+    }
+
+
+def of_fields() -> dict[str, Any]:
+    """Which fields have a value of some kind."""
+    return {
+        "dates": sorted(map(" ".join, typed._DATES)),
+        "versions": sorted(map(" ".join, typed._VERSIONS)),
+        "iptcDates": listing.DATASET_DATES,
+        "iptcTimes": listing.DATASET_TIMES,
+        "iptcNumbers": listing.DATASET_NUMBERS,
+        "iptcPictures": sorted(listing._OTHER_DATASETS),
+        "wideTexts": sorted(listing.WIDE_TEXTS),
+        "repeated": edits._REPEATED,
+    }
+
+
 def tables() -> dict[str, Any]:
     """What the scripts have of exifnorm_pictures."""
     return {
+        **of_formats(),
+        **of_fields(),
+        "results": {word: [it, it.sentence] for word, it in RESULTS.items()},
         "groups": plain_names._GROUPS,
         "names": {**{where: names_of(where) for where in names.TABLES}, "thumb": {**names_of("thumb"), **plain_names._PICTURES}},
         "words": plain_values.WORDS,
+        "flash": plain_values.FLASH,
+        "noFlash": plain_values.NO_FLASH,
+        "directions": plain_values.DIRECTIONS,
+        "units": plain_values.UNITS,
+        "altitudes": plain_values.ALTITUDES,
         "causes": {cause.name: [cause.sentence, cause.meaning, cause.remedy, cause.cost] for cause in causes._CAUSES},
         "heads": {name: list(texts) for name, texts in OF_HEADS.items()},
         "packets": {name: [sentence, "", remedy, ""] for name, (sentence, remedy) in OF_PACKETS.items()},
@@ -60,12 +111,13 @@ def tables() -> dict[str, Any]:
         "labelled": labels.label_of_fields(),
         "byThemselves": edits.BY_THEMSELVES,
         "own": own_texts_of(),
+        "types": xmp_types.TYPES,
     }
 
 
-def types() -> dict[str, str]:
-    """The types of properties of XMP."""
-    return xmp_types.TYPES
+def script(*left_out: str) -> str:
+    """The tables, but for some, as the first statement of a script."""
+    return f"const tables = {json_of({name: it for name, it in tables().items() if name not in left_out})};"
 
 
 def json_of(value: Any) -> str:
@@ -73,4 +125,4 @@ def json_of(value: Any) -> str:
 
 
 if __name__ == "__main__":
-    print(json_of({**tables(), "types": types()}))
+    print(json_of(tables()))

@@ -3,6 +3,7 @@
  * text is the words that were taken out and put in, as the report of exifnorm_pictures has them; of a list its members.
  * @module
  */
+import tables from "../javascript/tables.js";
 
 // Scripts without blanks between words have a word for each character.
 const WORD = /\s+|[^\P{Alphabetic}\u0e00-\u0eff\u1000-\u109f\u1780-\u17ff\u3040-\u30ff\u3400-\u4dbf\u4e00-\u9fff\uf900-\ufaff\u{20000}-\u{3ffff}]+|[\p{N}_]+|[^]/gu;
@@ -152,12 +153,11 @@ function plainEdit(row, name, whole, byThemselves) {
 }
 
 /**
- * The edits of a picture by the fields that differ, those with a label first. `labelled` has the labels of fields by their names, and `byThemselves`
- * the fields that programs write by themselves. A block that came or went is one edit, but for the texts that came with it. Each edit has a `key`,
+ * The edits of a picture by the fields that differ, those with a label first. A block that came or went is one edit, but for the texts that came with it. Each edit has a `key`,
  * which equal edits share.
  */
-export function editsOf(rows, { labelled, byThemselves }) {
-  const edits = new Map(), bare = ({ name, suffix = "" }) => name.slice(0, name.length - suffix.length), nameOf = (row) => (labelled[bare(row)] ?? bare(row)) + (row.suffix ?? "");
+export function editsOf(rows) {
+  const { labelled, byThemselves } = tables, edits = new Map(), bare = ({ name, suffix = "" }) => name.slice(0, name.length - suffix.length), nameOf = (row) => (labelled[bare(row)] ?? bare(row)) + (row.suffix ?? "");
   const whole = wholeParts(rows, nameOf), isPosition = (row) => nameOf(row) === POSITION && !(whole.has(partOf(row)) && !row.cells[1]), order = new Map([...new Set(Object.values(labelled))].map((label, i) => [label, i]));
   for (const edit of [...positionEdits(rows.filter(isPosition)), ...rows.filter((row) => !isPosition(row)).map((row) => plainEdit(row, nameOf(row), whole, byThemselves))]) {
     const key = JSON.stringify([edit.name, edit.note, edit.note ? [] : coreOf(edit)]), known = edits.get(key);

@@ -4,7 +4,7 @@
 const PATIENCE = 30_000; // milliseconds for one question
 const ROWS = 300; // of a list, that are shown at once
 const MOST_KEPT = 50_000_000; // characters of changed values, for all pictures of folders
-const MOST_FILES = 500_000, MOST_REFUSALS = 20;
+const MOST_FILES = 500_000, AT_ONCE = 100, MOST_REFUSALS = 20;
 const TWO = "Choose one or two, please: pictures or folders.";
 const SIDES = ["first", "second"], KINDS = { exif: "Exif", iptc: "IPTC", xmp: "XMP" };
 const PICTURES = /\.(?:xmp|jpe?g|jpe|png|tiff?|webp|hei[cf]|avif|dng|nef|cr[23]|arw|orf|rw2|raf|psd|gif|jp2|jxl|bmp)$/i;
@@ -68,7 +68,7 @@ const waiting = new Map(); // questions by their numbers
 let worker = null, scripts = null, questions = 0;
 
 function begin() {
-  const given = `self.MODULE = ${JSON.stringify($("module").textContent)}; self.TABLES = ${JSON.stringify($("tables").textContent)};`;
+  const given = `self.MODULE = ${JSON.stringify($("module").textContent)};`;
   const address = URL.createObjectURL(new Blob([`${given}\n${scripts}`], { type: "text/javascript" }));
   worker = new Worker(policy.createScriptURL(address));
   URL.revokeObjectURL(address);
@@ -109,50 +109,64 @@ async function ask(call, ...words) {
 const chosen = [null, null];
 let turn = 0; // each choice ends the work for the one before
 
+/** Work was stopped by its button, or by another choice. */
+class Stopped extends Error {}
+
+/** Begins work, which ends that before it. Its `step` shows how far it is, at most five times a second, and throws once it is stopped. */
+function begun(stop = () => {}) {
+  const mine = ++turn;
+  let isStopped = false, last = 0;
+  $("running").hidden = false;
+  $("progress").removeAttribute("value"); // until it is known how much there is
+  $("stop").onclick = () => {
+    isStopped = true;
+    stop();
+  };
+  const step = (text, done = null, all = null) => {
+    if (isStopped || mine !== turn) throw new Stopped();
+    if (performance.now() - last < 200) return;
+    last = performance.now();
+    say(text());
+    if (all !== null) Object.assign($("progress"), { max: all, value: done });
+  };
+  return { step, isLast: () => mine === turn, ended: () => { if (mine === turn) $("running").hidden = true; } };
+}
+
 /** The files below a folder. `inside` lists a folder, and `fileOf` is the file of an entry; null in place of one that can't be read. */
-async function filesBelow(folder, inside, fileOf) {
-  const files = new Map(), open = [[folder, ""]];
+async function filesBelow(folder, inside, fileOf, { step }) {
+  const files = new Map(), open = [[folder, ""]], waiting = [];
   while (open.length) {
-    const [entry, path] = open.pop();
-    if (entry.isFile || entry.kind === "file") {
-      files.set(path, await fileOf(entry).catch(() => null));
+    const [within, path] = open.pop();
+    for await (const entry of inside(within)) {
+      step(() => `Listing the folder ${safeName(folder.name)}: ${many(files.size, "file")} ..`);
+      const at = path ? `${path}/${entry.name}` : entry.name;
+      if (!entry.name) continue; // Chromium has none for a name that isn't in UTF-8
+      if (entry.isFile || entry.kind === "file") waiting.push(fileOf(entry).catch(() => null).then((file) => files.set(at, file))); else open.push([entry, at]);
+      if (waiting.length === AT_ONCE) await Promise.all(waiting.splice(0));
       if (files.size > MOST_FILES) throw new Error(`It has more than ${counted(MOST_FILES)} files.`);
-      if (files.size % 500 === 0) say(`Reading the folder: ${counted(files.size)} files ..`);
-    } else {
-      const named = (await inside(entry)).filter(({ name }) => name); // Chromium has none for a name that isn't in UTF-8
-      for (const child of named) open.push([child, path ? `${path}/${child.name}` : child.name]);
     }
   }
+  await Promise.all(waiting);
   return files;
 }
 
-async function handlesIn(folder) {
-  const handles = [];
-  for await (const handle of folder.values()) handles.push(handle);
-  return handles;
-}
-
-async function entriesIn(folder) {
-  const entries = [], reader = folder.createReader();
-  for (;;) {
-    const some = await new Promise((done, failed) => reader.readEntries(done, failed));
-    if (!some.length) return entries;
-    entries.push(...some);
-  }
+async function* entriesIn(folder) {
+  const reader = folder.createReader();
+  for (let some; (some = await new Promise((done, failed) => reader.readEntries(done, failed))).length;) yield* some;
 }
 
 /**
  * What was dropped as one item. On a file: address Chromium lists folders by handles alone, and these leave out names that Windows doesn't
  * allow, or with characters that can't be seen; then the folder is `isPartial`.
  */
-async function itemOf({ handle, entry, file }) {
+async function itemOf({ handle, entry, file }, work) {
   const root = await handle?.catch(() => null);
   if (root?.kind !== "directory" && !entry?.isDirectory) return { name: file.name, file };
   try {
-    return { name: entry.name, files: await filesBelow(entry, entriesIn, (one) => new Promise((done, failed) => one.file(done, failed))) };
+    return { name: entry.name, files: await filesBelow(entry, entriesIn, (one) => new Promise((done, failed) => one.file(done, failed)), work) };
   } catch (error) {
-    if (root?.kind !== "directory") throw error;
-    return { name: root.name, files: await filesBelow(root, handlesIn, (one) => one.getFile()), isPartial: true };
+    if (root?.kind !== "directory" || error instanceof Stopped) throw error;
+    return { name: root.name, files: await filesBelow(root, (one) => one.values(), (one) => one.getFile(), work), isPartial: true };
   }
 }
 
@@ -188,10 +202,12 @@ async function drop(event) {
     say(TWO);
     return;
   }
+  const work = begun();
   try {
-    for (const item of given) dropped.push(await itemOf(item));
+    for (const item of given) dropped.push(await itemOf(item, work));
   } catch (error) {
-    say(`The folder can’t be read: ${error.message} Choose it by its button instead.`);
+    work.ended();
+    if (work.isLast()) say(error instanceof Stopped ? "Stopped: the folder was not listed to its end, and nothing is compared." : `The folder can’t be read: ${error.message} Choose it by its button instead.`);
     return;
   }
   put(dropped, slot ? Number(slot.id.slice(-1)) : null);
@@ -266,13 +282,14 @@ const fieldsOf = (look) => `${look.isCut ? "At least " : ""}${many(look.counts[0
 
 function titleOf(look) {
   const { verdict, sides } = look, hasNone = haveNone(look), open = readXmp(look);
+  if (look.isSameFile) return "The same bytes";
   const none = `No Exif, IPTC or XMP${sides.some(({ others }) => others) ? " that is read" : ""}`;
   if (verdict === "same") return hasNone ? none : "Same Exif, IPTC and XMP";
   if (verdict === "valid") return hasNone ? open || none : `${fieldsOf(look)}${open && `, ${open}`}`;
   if (verdict === "partly") {
     const isXmpAlone = open && !sides.some(({ unread, notRead }) => unread || notRead.length);
     if (isXmpAlone && !sides.some(({ blocks }) => blocks.some(({ kind }) => kind !== "xmp"))) return open;
-    return isXmpAlone ? `Same Exif and IPTC, ${open}` : hasNone ? "No Exif, IPTC or XMP that is read" : "Same as far as it is read";
+    return isXmpAlone ? `Same Exif and IPTC, ${open}` : hasNone ? "No Exif, IPTC or XMP that is read" : "No field differs, but not everything was read";
   }
   return { different: "Different", refused: "Refused", unread: "Not read" }[verdict];
 }
@@ -280,6 +297,7 @@ function titleOf(look) {
 /** What the verdict means, in a sentence or two. */
 function meaningOf(look) {
   const [differing, equal] = look.counts, isPair = look.sides.length === 2, hasNone = haveNone(look), isXmpOpen = look.xmp.verdict === "unread";
+  if (look.isSameFile) return "Nothing differs, whatever the bytes mean: both files have the same.";
   const fields = (count, noun = "field") => (look.isCut ? "at least " : "") + many(count, noun);
   const there = [...new Set(look.sides.flatMap(({ blocks }) => blocks.map(({ kind }) => kind)))];
   const isRead = (kind) => kind !== "xmp" || !isXmpOpen || !isPair && readXmp(look) !== "XMP not read";
@@ -436,7 +454,7 @@ const exactText = (value) => value ? value.text + (value.exact ? ` (${value.exac
 /** The rows of a result for a file: of one picture its fields, of two those that differ. */
 function linesOf({ verdict, differing, counts: [count] }, names) {
   if (names.length === 1) return [["picture", "field", "value"], ...differing.map(({ name, cells: [value] }) => [names[0], name, exactText(value)])];
-  const about = [names[0], RESULTS[verdict], names[1] === names[0] ? "" : names[1]], more = count - differing.length;
+  const about = [names[0], resultOf(verdict), names[1] === names[0] ? "" : names[1]], more = count - differing.length;
   const rows = verdict === "different" ? differing.map(({ name, cells }) => [...about, name, ...cells.map(exactText), ""]) : [];
   return [COLUMNS, ...rows, ...more > 0 || !rows.length ? [[...about, "", "", "", more > 0 && rows.length ? `and ${many(more, "other field")}` : ""]] : []];
 }
@@ -467,7 +485,7 @@ function imagesOf(look, names, files) {
 /** Shows the result, which names the pictures if they are of folders, and returns its heading. */
 function show(look, names, files, areOfFolders) {
   const isOne = look.sides.length === 1, alike = !isOne && names[0] === names[1];
-  const called = alike ? SIDES.map((side) => `the ${side}`) : names, heads = isOne ? ["Value"] : alike ? names.map((name, i) => `${name}, ${SIDES[i]}`) : names;
+  const called = alike ? SIDES.map((side) => `the ${side}`) : names, heads = isOne ? ["Value"] : alike ? ["First", "Second"] : names;
   const verdict = haveNone(look) && (look.verdict === "same" || look.verdict === "valid") ? "none" : look.verdict;
   const isUnread = look.sides.every(({ problem }) => problem), main = card(verdict, SIGNS[verdict], titleOf(look), areOfFolders && element("p", "small", [...new Set(names)].join(" and ")), element("p", "", meaningOf(look)),
     !isOne && look.verdict === "partly" && doubts(look, called), ...faultsOf(look, called), !isUnread && element("p", "small", unreadOf(look)));
@@ -548,11 +566,10 @@ document.onkeydown = (event) => {
 // ---- folders
 
 const VERDICTS = ["different", "refused", "moved", "missing", "partly", "unread", "same", "valid"];
-const LABELS = {
-  different: "different", refused: "refused", moved: "moved", missing: "in one folder only", partly: "same as far as read", unread: "not read", same: "the same",
-  valid: "valid",
-};
+const RESULTS = JSON.parse($("results").textContent); // the words of `exifnorm-pictures changed`, and its sentences
+const LABELS = { ...Object.fromEntries(Object.entries(RESULTS).map(([verdict, [word]]) => [verdict, word])), same: "the same", missing: "in one folder only", valid: "valid" };
 
+const resultOf = (verdict) => RESULTS[verdict]?.[0] ?? verdict;
 const wordOf = (row) => row.verdict === "missing" ? `only in the ${SIDES[row.side]}` : LABELS[row.verdict];
 
 function detailOf(row) {
@@ -564,7 +581,7 @@ function detailOf(row) {
   const bytes = row.verdict === "refused" && row.sameBytes ? "both pictures have the same bytes of Exif and IPTC" : "";
   const xmp = row.verdict === "partly" && row.xmp.verdict === "unread" ? `not all XMP is read, ${row.xmp.sameBytes ? "but its bytes are the same" : "and its bytes differ"}` : "";
   const files = row.isSameFile ? "both files have the same bytes" : "";
-  return [row.why, bytes, also, xmp, files].filter(Boolean).join("; ");
+  return [files, row.why, bytes, also, xmp].filter(Boolean).join("; ");
 }
 
 const nameOf = (path) => path.slice(path.lastIndexOf("/") + 1);
@@ -614,39 +631,29 @@ async function rowOf(path, files) {
 }
 
 async function folders(both) {
-  const mine = turn, paths = [...new Set(both.flatMap(({ files }) => [...files.keys()]))].sort();
-  const rows = [];
-  let others = 0, isStopped = false, last = 0, kept = 0;
-  $("running").hidden = false;
-  $("progress").max = paths.length;
-  $("stop").onclick = () => {
-    isStopped = true;
-    end("stopped");
-  };
-  for (const [done, path] of paths.entries()) {
-    if (performance.now() - last > 200) {
-      last = performance.now();
-      $("progress").value = done;
-      say(`${counted(done)} of ${many(paths.length, "file")} ..`);
+  const paths = [...new Set(both.flatMap(({ files }) => [...files.keys()]))].sort(), work = begun(() => end("stopped")), rows = [];
+  let others = 0, kept = 0, isStopped = false;
+  try {
+    for (const [done, path] of paths.entries()) {
+      const row = await rowOf(path, both.map(({ files }) => files.get(path)));
+      work.step(() => `${counted(done + 1)} of ${many(paths.length, "file")} ..`, done + 1, paths.length);
+      if (row) rows.push(row); else others++;
+      kept += row?.changes?.flat().reduce((sum, text) => sum + (text?.length ?? 0), 0) ?? 0;
+      if (row?.changes && kept > MOST_KEPT) Object.assign(row, { changes: [], edits: [], shared: [] });
     }
-    const row = await rowOf(path, both.map(({ files }) => files.get(path)));
-    if (mine !== turn) return;
-    if (isStopped) break;
-    if (row) rows.push(row); else others++;
-    kept += row?.changes?.flat().reduce((sum, text) => sum + (text?.length ?? 0), 0) ?? 0;
-    if (row?.changes && kept > MOST_KEPT) Object.assign(row, { changes: [], edits: [], shared: [] });
+  } catch (error) {
+    if (!(error instanceof Stopped)) throw error;
+    if (!work.isLast()) return;
+    isStopped = true;
   }
-  $("running").hidden = true;
+  work.ended();
   summarise(both.length === 2 && !isStopped ? pairMoved(rows) : rows, others, both.length === 2, isStopped ? paths.length : 0);
   document.body.dataset.state = "done";
 }
 
-// the words of `exifnorm-pictures changed --csv`
-const RESULTS = { different: "different", refused: "refused", moved: "moved", partly: "not wholly read", unread: "not read", same: "same", valid: "valid" };
-
 /** A row for each field that differs, and one for each other picture. */
 function csvRows(row) {
-  const about = [safeName(row.path), row.verdict === "missing" ? `missing ${["after", "before"][row.side]}` : RESULTS[row.verdict], row.to ?? ""];
+  const about = [safeName(row.path), row.verdict === "missing" ? `missing ${["after", "before"][row.side]}` : resultOf(row.verdict), row.to ?? ""];
   if (row.verdict !== "different" || !row.changes.length) return [[...about, "", "", "", detailOf(row)]];
   const more = row.count - row.changes.length;
   return [...row.changes.map(([name, before, after]) => [...about, name, before ?? "", after ?? "", ""]), ...more > 0 ? [[...about, "", "", "", `and ${many(more, "other field")}`]] : []];
@@ -654,26 +661,23 @@ function csvRows(row) {
 
 const saveCsv = (rows) => saveTable("pictures.csv", [COLUMNS, ...rows.flatMap(csvRows)]);
 
-const PARTIAL = "dropped folders come without names that have \" * : < > ? | or characters that can’t be seen. The buttons find all.";
+const PARTIAL = "Of a dropped folder this browser lists no file whose name has \" * : < > ? | or a character that can’t be seen: its button lists these too. ";
 
 /** The card over the list: the counts, and what isn't read. Its title has the worst verdicts, and that pictures are not read. */
 function summaryCard(rows, counts, others, isPair, stoppedOf) {
   const there = VERDICTS.filter((verdict) => counts[verdict]), worst = there[0], isPartial = chosen.some((item) => item?.isPartial);
   const words = there.map((verdict) => `${counted(counts[verdict])} ${LABELS[verdict]}`);
-  const open = rows.filter((row) => row.xmp?.verdict === "unread" && row.verdict !== "unread").length;
+  const open = rows.filter((row) => row.xmp?.verdict === "unread" && row.verdict !== "unread" && !row.isSameFile).length;
   const isWhole = there.length === 1 && ["same", "valid"].includes(worst) && !stoppedOf && !isPartial && !open;
   const look = isWhole ? worst : ["different", "refused"].includes(worst) ? worst : "unread";
   const heads = words.filter((_, i) => there[i] !== "same" || there.length < 3).join(", ");
   const title = !rows.length ? "No pictures" : isWhole ? (isPair ? "All have the same Exif, IPTC and XMP" : "All valid") : heads;
   const notInTitle = title === heads && counts.same && there.length > 2 ? `; ${counted(counts.same)} ${LABELS.same}` : "";
-  const untouched = rows.filter(({ isSameFile }) => isSameFile).length;
-  const unread = untouched ? `; of those that are not read ${counted(untouched)} ${untouched === 1 ? "has" : "have"} the same bytes in both folders` : "";
-  const rest = `${notInTitle}${unread}${others ? `; ${many(others, "other file")} left out` : ""}.`;
+  const rest = `${notInTitle}${others ? `; ${many(others, "other file")} left out` : ""}.`;
   const stopped = stoppedOf ? ` Stopped before the end: there are ${many(stoppedOf, "file")}.` : "";
   return card(look, SIGNS[look], title,
     element("p", "", `${many(rows.length, "picture")}${isPair ? ", paired by path" : ""}${rest}${stopped}`),
-    isPartial && element("p", "small", element("strong", "", "Perhaps not all: "), PARTIAL),
-    element("p", "small", `${counts.moved ? "Moved: the same Exif, IPTC and XMP at another path; pixels are not compared. " : ""}Not read: ${open ? `some XMP (of ${many(open, "picture")}), ` : ""}some formats, what is inside a MakerNote, and what follows the head of a JPEG.`));
+    element("p", "small", `${isPartial ? PARTIAL : ""}${counts.moved ? "Moved: the same Exif, IPTC and XMP at another path; pixels are not compared. " : ""}Not read: ${open ? `some XMP (of ${many(open, "picture")}), ` : ""}some formats, what is inside a MakerNote, and what follows the head of a JPEG.`));
 }
 
 /** The link of a row to the comparison of its pictures. */
@@ -702,7 +706,7 @@ function around(text, isFirst, isLast) {
 
 /** An edit in words: `caption (IPTC, XMP): a bowl, 1820 1280`, of which the old word is struck through. */
 function editLine({ name, fields, note, steps, isList }) {
-  const where = fields[0] === name || !fields.length ? "" : ` (${[...new Set(name === "dates" ? fields.map((field) => field.split(":").at(-1)) : fields.map(standardOf))].join(", ")})`;
+  const where = fields[0] === name || !fields.length || name.endsWith(")") ? "" : ` (${[...new Set(name === "dates" ? fields.map((field) => field.split(":").at(-1)) : fields.map(standardOf))].join(", ")})`;
   const shown = isList ? steps.flatMap((one, i) => i ? [["=", ", "], one] : [one]) : steps.map(([sign, text], i) => [sign, sign === "=" ? around(text, i === 0, i === steps.length - 1) : text]);
   const head = `${name}${where}${note ? `${["removed", "added", "changed"].includes(note) ? "" : ":"} ${note}` : ""}`, line = element("p", "edit", element("span", "label", safe(head) + (shown.length ? ": " : "")), ...stepNodes(shown));
   line.dir = "auto";

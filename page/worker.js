@@ -6,6 +6,7 @@
 import { NormalTooLong, Refused, load } from "../javascript/engine.js";
 import { headOfFile, haveSameBytes, identity, noteDoubt, problem, single, verdict, xmpOf } from "../javascript/head.js";
 import { cameraOf, captionRows, captionTable, listsOf, pairsOf } from "../javascript/rows.js";
+import tables from "../javascript/tables.js";
 import { sha256 } from "../javascript/sha256.js";
 import { editsOf, shared, stepsOf } from "./edits.js";
 
@@ -13,21 +14,21 @@ const MOST_ROWS = 3_000, MOST_NAMES = 6, MOST_CHANGES = 100; // that are sent to
 const MOST_COMPARED = 1 << 26; // bytes of a file that isn't read
 const MARKED = 2_000; // characters of a text of which words are marked
 
-let kit;
+let engine;
 
 /** The head of a file, of which a part is read at a time. */
 function read(file) {
   try {
-    return headOfFile(kit.engine, { size: file.size, part: (start, end) => new Uint8Array(new FileReaderSync().readAsArrayBuffer(file.slice(start, end))) });
+    return headOfFile(engine, { size: file.size, part: (start, end) => new Uint8Array(new FileReaderSync().readAsArrayBuffer(file.slice(start, end))) });
   } catch (error) {
     if (error instanceof DOMException) return problem("unreadable");
     throw error;
   }
 }
 
-/** Whether two files that aren't read have the same bytes. */
-function haveSameOctets(first, second) {
-  if (first.size !== second.size || first.size > MOST_COMPARED) return false;
+/** Whether two files whose comparison has another verdict than `same` and `different` have the same bytes. */
+function haveSameOctets(found, first, second) {
+  if (!["partly", "refused", "unread"].includes(found) || !second || first.size !== second.size || first.size > MOST_COMPARED) return false;
   const [one, other] = [first, second].map((file) => new Uint8Array(new FileReaderSync().readAsArrayBuffer(file)));
   return one.every((octet, i) => octet === other[i]);
 }
@@ -37,7 +38,7 @@ const readAll = (...files) => files.filter(Boolean).map(read);
 const digestOf = (text) => sha256(new TextEncoder().encode(text));
 
 /** The texts about a cause. */
-const aboutOf = (cause) => kit.tables.causes[cause] ?? kit.tables.packets[cause];
+const aboutOf = (cause) => tables.causes[cause] ?? tables.packets[cause];
 
 /** Why a picture of a folder has its verdict, in a few words. */
 function reason({ problem: why, format, blocks, unread, further, others, notRead }) {
@@ -61,20 +62,20 @@ function marked(row) {
 const differs = (found) => (row) => !row.isEqual && !(found === "different" && row.isOpen);
 
 const CALLS = {
-  version: () => kit.engine.version(),
+  version: () => engine.version(),
 
   /** Two pictures, or one and null: the verdict, and the fields and captions of both. */
   look(first, second) {
-    const heads = readAll(first, second), found = heads.length === 2 ? verdict(kit.engine, ...heads) : single(heads[0]), lists = listsOf(kit, heads);
+    const heads = readAll(first, second), known = heads.length === 2 ? verdict(engine, ...heads) : single(heads[0]), isSameFile = haveSameOctets(known, first, second), found = isSameFile ? "same" : known, lists = listsOf(engine, heads);
     const rows = lists.flatMap((list) => list.rows), differing = rows.filter(differs(found)), equal = rows.filter(({ isEqual }) => isEqual);
     const open = rows.filter((row) => !row.isEqual && !differs(found)(row)), doubt = found === "partly" ? noteDoubt(heads) : "";
     return {
-      verdict: found, differing: differing.slice(0, MOST_ROWS).map(marked), equal: equal.slice(0, MOST_ROWS), open: open.slice(0, MOST_ROWS),
+      verdict: found, isSameFile, differing: differing.slice(0, MOST_ROWS).map(marked), equal: equal.slice(0, MOST_ROWS), open: open.slice(0, MOST_ROWS),
       counts: [differing.length, equal.length, open.length], isCut: lists.some(({ isCut }) => isCut),
-      captions: heads.length === 1 ? captionTable(kit, heads[0]) : pairsOf(heads).flatMap(([one, other]) => captionRows(kit, one, other, heads.map((head) => cameraOf(kit, head)))),
+      captions: heads.length === 1 ? captionTable(engine, heads[0]) : pairsOf(heads).flatMap(([one, other]) => captionRows(engine, one, other, heads.map((head) => cameraOf(engine, head)))),
       sameBytes: haveSameBytes(heads), xmp: { ...xmpOf(heads), equal: equal.filter(({ isXmp }) => isXmp).length },
       sides: heads.map(({ problem: why = null, format, blocks, further, others, unread, notRead }, i) => ({
-        problem: why && { ...why, about: kit.tables.heads[why.cause] ?? [] }, format, extended: further.extended.length > 0, resources: further.resources.length > 0, others: others.length > 0, unread, notRead: [...notRead.map(({ what }) => what), ...i && doubt ? [doubt] : []],
+        problem: why && { ...why, about: tables.heads[why.cause] ?? [] }, format, extended: further.extended.length > 0, resources: further.resources.length > 0, others: others.length > 0, unread, notRead: [...notRead.map(({ what }) => what), ...i && doubt ? [doubt] : []],
         blocks: blocks.map(({ kind, name, index, data, refusal }) => ({ kind, name, index, size: data.length, refusal: refusal && { ...refusal, about: aboutOf(refusal.cause) } })),
       })),
     };
@@ -86,15 +87,15 @@ const CALLS = {
    */
   brief(first, second) {
     const heads = readAll(first, second), isPair = heads.length === 2;
-    const found = isPair ? verdict(kit.engine, ...heads) : single(heads[0]), reasons = heads.map(reason), sides = ["first: ", "second: "];
-    const lists = found === "different" ? listsOf(kit, heads) : [], differing = lists.flatMap(({ rows }) => rows).filter(differs(found));
-    const identities = heads.map((head) => identity(kit.engine, head)), edits = editsOf(differing, kit.tables);
+    const known = isPair ? verdict(engine, ...heads) : single(heads[0]), isSameFile = haveSameOctets(known, first, second), found = isSameFile ? "same" : known, reasons = heads.map(reason), sides = ["first: ", "second: "];
+    const lists = found === "different" ? listsOf(engine, heads) : [], differing = lists.flatMap(({ rows }) => rows).filter(differs(found));
+    const identities = heads.map((head) => identity(engine, head)), edits = editsOf(differing);
     return {
       verdict: found, labels: [...new Set(edits.map(({ name }) => name))].slice(0, MOST_CHANGES), names: differing.slice(0, MOST_NAMES).map(({ name }) => name), count: differing.length, isCut: lists.some(({ isCut }) => isCut),
       changes: differing.slice(0, MOST_CHANGES).map(({ name, cells }) => [name, ...cells.map((cell) => cell && cell.text + (cell.exact ? ` (${cell.exact})` : ""))]),
       edits, key: digestOf(edits.map(({ key }) => key).sort().join("\n")), shared: edits.map(shared),
       why: [reasons[0] === reasons[1] ? reasons[0] : reasons.map((text, i) => text && (isPair ? sides[i] : "") + text).filter(Boolean).join("; "), found === "partly" && noteDoubt(heads)].filter(Boolean).join("; "),
-      isSameFile: found === "unread" && isPair && haveSameOctets(first, second), isOther: heads.every(({ problem: why }) => why?.name === "format" || why?.name === "empty"),
+      isSameFile, isOther: heads.every(({ problem: why }) => why?.name === "format" || why?.name === "empty"),
       xmp: xmpOf(heads), sameBytes: haveSameBytes(heads), identity: isPair ? "" : identities[0], identities,
     };
   },
@@ -103,7 +104,7 @@ const CALLS = {
   form(file, kind, index) {
     const head = read(file), block = head.blocks.find((candidate) => candidate.kind === kind && candidate.index === index);
     try {
-      return block ? block.form ?? kit.engine.normalise(block.data) : null;
+      return block ? block.form ?? engine.normalise(block.data) : null;
     } catch (error) {
       if (error instanceof NormalTooLong || error instanceof Refused) return null;
       throw error;
@@ -119,7 +120,7 @@ function unpacked(text) {
 
 self.onmessage = async ({ data: { id, call, words } }) => {
   try {
-    kit ??= { engine: await load(unpacked(self.MODULE)), tables: await unpacked(self.TABLES).json() };
+    engine ??= await load(unpacked(self.MODULE));
     self.postMessage({ id, answer: await CALLS[call](...words) });
   } catch (error) {
     self.postMessage({ id, error: error instanceof Error ? error.message.slice(0, 300) : "an unknown error" });

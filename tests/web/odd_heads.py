@@ -73,3 +73,18 @@ def pair(chance: Random) -> Tuple[bytes, bytes]:
     elif behind:
         behind[chance.randrange(len(behind))] = part(chance)
     return head(parts, further, ">"), head(others, behind, chance.choice("<>"))
+
+
+def pairs_of_xmp() -> List[Tuple[bytes, bytes]]:
+    """Of packets in places that few programs read: which one is the first depends on the order in a head, and one is in resources of a picture
+    behind it."""
+    packet, other = app1_xmp(title("Anna")), segment(0xE1, MARKS[0] + title("Otto"))
+    marked = (app1_xmp(title("Otto")), segment(0xE1, MARKS[0] + title("Anna")))
+    resources = [app13(resource(0x0424, title(name))) for name in NAMES[:2]]
+    behind = [tuple(head([], [b"".join(it)], ">") for it in ((packet, other), (other, packet)))]
+    return [
+        (jpeg(packet, other), jpeg(other, packet)),
+        (jpeg(packet, other), jpeg(*marked)),
+        *behind,
+        tuple(head([], [it], ">") for it in resources),
+    ]

@@ -329,7 +329,7 @@ def test_ten_thousand_hostile_pictures(node, module, folder):
         (folder / "p" / f"<img onerror=alert({number})>.jpg").write_bytes(changed(octets, chance))
     words = ("--input-type=module", "-e", READ_ALL, folder / "p", SOUND)
     verdicts, is_as_before = json.loads(node(*words, folder=module))
-    assert is_as_before and {"different", "refused", "unread"} <= {*verdicts}
+    assert is_as_before and {"different", "refused", "not read"} <= {*verdicts}
 
 
 def test_the_module_imports_nothing_and_is_small(wasm, node):

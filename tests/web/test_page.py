@@ -23,7 +23,6 @@ from browser import PATIENCE
 from changed import changed
 from commands import TOP
 from packets import PACKET
-from pairs import UNDECIDED
 from small_packets import small_packets
 from test_jpeg_same import XMP, exif, iptc, photoshop, picture, resource, segment
 from test_pictures import ODD as HEADS, is_true_of, status_of
@@ -108,8 +107,8 @@ def test_the_same(browser, folder):
     "more, title, words",
     [
         (segment(0xE1, XMP + b"<x/>"), "Same Exif and IPTC, XMP not read", "its bytes differ"),
-        (segment(0xE1, b"Exif\0\1" + ONE), "Same as far as it is read", "other programs may read"),
-        (photoshop(b"8BIM\x04\x22\0\0\0\0\0\2ab"), "Same as far as it is read", "other programs may read"),
+        (segment(0xE1, b"Exif\0\1" + ONE), "No field differs, but not everything was read", "other programs may read"),
+        (photoshop(b"8BIM\x04\x22\0\0\0\0\0\2ab"), "No field differs, but not everything was read", "other programs may read"),
     ],
 )
 def test_what_is_not_read_is_never_the_same(browser, folder, more, title, words):
@@ -150,7 +149,8 @@ def test_pairs_of_samples_are_answered_as_by_exifnorm_pictures(browser, checks):
         browser.ask("document.getElementById('anew').click()")
         title, expected = compare(browser, first, second), [*differences(exifnorm.compare(first, second))]
         if REFUSED.name in (first.name, second.name):
-            checks.check(f"{first} {second}: {title}", title == ("Different" if rows(browser, "What differs") else "Refused"))
+            titles = ["Different"] if rows(browser, "What differs") else ["Refused", "The same bytes"]
+            checks.check(f"{first} {second}: {title}", title in titles)
             checks.check(f"{first} {second}", all(row in expected for row in rows(browser, "What differs")))
             continue
         checks.equal(f"{first} {second}", rows(browser, "What differs"), expected)
@@ -292,7 +292,7 @@ OF_XMP = {
 def test_xmp_of_two_pictures(browser, folder, case):
     """Equal Exif beside it. Where XMP isn't read, nothing is called the same."""
     first, second, title, differing, words = OF_XMP[case]
-    paths = put(folder, *(made.jpeg(made.app1(ONE), xmp) for xmp in (first, second)))
+    paths = put(folder, made.jpeg(made.app1(ONE), first), made.jpeg(made.app1(ONE), second) + b"\0")
     assert compare(browser, *paths) == title
     assert words in text(browser) and "The touch" not in text(browser)
     if title == "Different":
@@ -320,8 +320,8 @@ def xmp_pictures():
         (of_property(""), "Different", "different", "One picture has one more packet of XMP, which has no properties."),
         (
             OTHER,
-            "Same as far as read",
-            "same as far as read",
+            "Not wholly read",
+            "not wholly read",
             "second: a segment APP1 of an unknown kind that isn't read; not all XMP is read, and its bytes differ",
         ),
     ],
@@ -359,22 +359,21 @@ def test_pairs_with_xmp_are_answered_as_by_exifnorm_pictures(browser, folder, ch
             names = {due for due, *_ in differences(comparison) if is_read or not due.startswith("XMP")}
             checks.check(f"{name}; {names}", all(due in details for due in names))
     verdicts = [verdict for verdict, _ in found.values()]
-    assert len(found) == len(pairs) and min(map(verdicts.count, ("the same", "different", "same as far as read"))) >= 2
+    assert len(found) == len(pairs) and min(map(verdicts.count, ("the same", "different", "not wholly read"))) >= 2
 
 
 def test_odd_heads(browser, folder, checks):
     """What is known of the pairs of test_pictures holds of the page's list, too."""
     chance = Random(5)
-    pairs = [odd_heads.pair(chance) for _ in range(HEADS)]
+    pairs = [*odd_heads.pairs_of_xmp(), *(odd_heads.pair(chance) for _ in range(HEADS))][:HEADS]  # so many rows are shown
     named = {f"{number:03}.jpg": pair for number, pair in enumerate(pairs)}
     compare_folders(browser, *two_folders(folder, named))
     browser.ask("document.querySelector('[data-filter=all]').click()")
     found = {row[0]: row[1:] for row in rows(browser, "All pictures")}
-    words = {"the same": "same", "same as far as read": "partly", "not read": "unread"}
     for name, pair in named.items():
         (verdict, details), status = found[name], status_of(*pair)
-        answer = {"verdict": words.get(verdict, verdict), "named": details}
-        is_true = verdict != "the same" if status == UNDECIDED else is_true_of(status, answer)
+        answer = {"verdict": verdict.replace("the ", ""), "named": details}
+        is_true = verdict == "the same" if pair[0] == pair[1] else is_true_of(status, answer)
         checks.check(f"{name}: {status} {answer}", is_true)
 
 
@@ -397,7 +396,7 @@ def test_hostile_packets(browser, folder, checks):
         checks.check(f"{name}: {verdict}, {details}; {comparison.note}", verdict != "the same" or comparison.same is True)
         checks.check(f"{name}: {verdict}, {details}; {comparison.note}", verdict != "different" or comparison.same is False)
     verdicts = [verdict for verdict, _ in found.values()]
-    assert len(found) == PAIRS and min(map(verdicts.count, ("the same", "different", "same as far as read"))) >= 5, verdicts
+    assert len(found) == PAIRS and min(map(verdicts.count, ("the same", "different", "not wholly read"))) >= 5, verdicts
 
 
 def test_words_for_xmp_are_those_of_exifnorm_pictures(browser, folder, checks):
@@ -464,9 +463,12 @@ def test_more_properties_than_are_listed(browser, folder):
     assert one.endswith('a" ..') and other.endswith('b" ..') and "character 9,001: .. x" in one
 
 
-def test_refused_with_its_remedy(browser):
-    assert compare(browser, REFUSED, REFUSED) == "Refused"
-    browser.ask("document.getElementById('anew').click()")
+def test_refused_with_its_remedy(browser, folder):
+    """Of one file twice it is known that nothing differs."""
+    (other,) = put(folder, REFUSED.read_bytes() + b"\0")
+    for second, title in ((REFUSED, "The same bytes"), (other, "Refused")):
+        assert compare(browser, REFUSED, second) == title
+        browser.ask("document.getElementById('anew').click()")
     assert compare(browser, REFUSED, VASE) == "Different", "its IPTC and XMP"
     cause = causes.CAUSES["EmptyDirectory"]
     shown = text(browser)
@@ -590,13 +592,13 @@ def test_folders(browser, is_dropped):
         heading(browser)
         browser.choose("#folder-1", SAMPLES / "after")
         browser.wait("document.querySelector('#summary h2')?.textContent.includes('different')")
-    assert heading(browser) == "2 different, 1 refused, 1 moved"
+    assert heading(browser) == "2 different, 1 moved"
     browser.ask("document.querySelector('[data-filter=all]').click()")
-    refused = next(row for row in rows(browser, "All pictures") if row[1] == "refused")
-    assert causes.CAUSES["EmptyDirectory"].sentence in refused[2] and "the same bytes" in refused[2]
+    refused = next(row for row in rows(browser, "All pictures") if row[0] == "arrivals/IMG_20240502.jpg")
+    assert causes.CAUSES["EmptyDirectory"].sentence in refused[2] and "both files have the same bytes" in refused[2]
     assert [row[:2] for row in rows(browser, "All pictures")] == [
         ["arrivals/DSC_0042.jpg", "moved"],
-        ["arrivals/IMG_20240502.jpg", "refused"],
+        ["arrivals/IMG_20240502.jpg", "the same"],
         ["ceramics/1998-7-vase.jpg", "the same"],
         ["ceramics/2003-12-bowl.jpg", "different"],
         ["paintings/1974-31-portrait.tif", "different"],
@@ -701,16 +703,15 @@ def test_a_picture_and_a_folder(browser):
 
 
 # The page itself sees how far it is, and stops there: it could be at the end before another process has seen it.
-# An earlier test may have left a value, but with another maximum.
-STOP_IN_THE_MIDDLE = f"""new Promise((done) => {{
-    const {{ progress, stop }} = Object.fromEntries(["progress", "stop"].map((id) => [id, document.getElementById(id)]));
-    const look = () => progress.max === {MANY} && progress.value > 5 ? done(stop.click()) : setTimeout(look);
+STOP_ONCE = """new Promise((done) => {
+    const [running, progress, stop, status] = ["running", "progress", "stop", "status"].map((id) => document.getElementById(id));
+    const look = () => !running.hidden && %s ? done(stop.click()) : setTimeout(look);
     look();
-}})"""
+})"""
 
 
 def test_many_pictures(browser, folder, record_property):
-    """Two folders of thousands of pictures in bounded memory; and Stop in the middle of them."""
+    """Two folders of thousands of pictures in bounded memory; and Stop while they are listed, and in the middle of them."""
     for side, pictures in (("first", (VASE, BOWL)), ("second", (VASE, BOWL_AFTER))):
         copies = [shutil.copyfile(path, folder / f"{side}-{path.name}") for path in pictures]
         for number in range(MANY):
@@ -718,7 +719,11 @@ def test_many_pictures(browser, folder, record_property):
             path.parent.mkdir(parents=True, exist_ok=True)
             os.link(copies[number % 50 == 0], path)
     browser.drop("#slot-0", folder / "first", folder / "second")
-    browser.ask(STOP_IN_THE_MIDDLE)
+    browser.ask(STOP_ONCE % "!progress.hasAttribute('value') && status.textContent.startsWith('Listing the folder first: ')")
+    browser.wait("document.getElementById('status').textContent.startsWith('Stopped: the folder was not listed')")
+    assert browser.ask("document.getElementById('running').hidden") and not browser.ask("chosen.some(Boolean)")
+    browser.drop("#slot-0", folder / "first", folder / "second")
+    browser.ask(STOP_ONCE % f"progress.max === {MANY} && progress.value > 5")
     heading(browser)
     assert f"Stopped before the end: there are {MANY:,} files." in text(browser) and "the same" in text(browser)
     assert not browser.ask("document.body.dataset.state = ''") and browser.ask("document.getElementById('running').hidden")
@@ -918,7 +923,7 @@ def test_names_that_the_browser_leaves_out(browser, folder):
     title, shown = compare_folders(browser, folder / "first", folder / "second"), text(browser)
     assert "c.jpg" in [row[0] for row in rows(browser, "The same")]
     if f"{len(names)} pictures" not in shown:
-        assert not title.startswith("All") and "Perhaps not all" in shown
+        assert not title.startswith("All") and "lists no file whose name" in shown
     assert all(row[0] for row in rows(browser, "The same"))
 
 
@@ -934,7 +939,9 @@ def test_values_are_text(browser, folder):
 
 
 def verdict_by_library(first, second):
-    """The verdict as the native library has it."""
+    """The verdict as the native library has it; of one file twice it is known."""
+    if first == second:
+        return "the same"
     try:
         same = exifnorm.jpeg_same(first, second)
     except exifnorm.PictureRefused as why:
@@ -945,7 +952,7 @@ def verdict_by_library(first, second):
     if same is False:
         return "different"
     xmp = xmp_verdict(xmp_of(first), xmp_of(second))
-    return "different" if xmp == "different" else "the same" if same is True and xmp == "same" else "same as far as read"
+    return "different" if xmp == "different" else "the same" if same is True and xmp == "same" else "not wholly read"
 
 
 def do_others_differ(first, second):
@@ -1065,7 +1072,7 @@ def test_a_long_value_is_cut_and_so_marked(browser, folder):
 
 def test_more_files_than_are_listed(browser):
     listing = "Array.from({ length: 600_000 }, (_, i) => ({ name: String(i), isFile: true }))"
-    said = browser.ask(f"filesBelow({{ name: 'f' }}, async () => {listing}, async () => null).then(() => '', (error) => error.message)")
+    said = browser.ask(f"filesBelow({{ name: 'f' }}, () => {listing}, async () => null, begun()).then(() => '', (error) => error.message)")
     assert "more than 500,000 files" in said
 
 

@@ -5,14 +5,13 @@ import json
 import shutil
 from random import Random
 
-import words
 import pytest
 
 import exifnorm
 from commands import TOP
 from exifnorm_pictures import xmp
 from exifnorm_pictures.comparison.wording import told_apart
-from exifnorm_pictures.fields import names
+from exifnorm_pictures.fields import names, plain_values
 from exifnorm_pictures.fields.listing import shortened
 from exifnorm_pictures.fields.normal_form import fields_of_form
 from exifnorm_pictures.fields.xmp_properties import fields_of_statements
@@ -107,7 +106,7 @@ def directory(where, chance):
     """A directory with some of its known tags, and unknown ones, each with a value of any type."""
     known = [int(key, 16) for table in names.TABLES[where] for key in table]
     tags = {*chance.sample(known, min(len(known), 25)), chance.randrange(0xFE00, 0xFFFF)} - NOT_PLAIN - {0x83BB}
-    ruled = {int(key, 16) for rules in (words.plain_values._EXIF, words.plain_values._GPS) for key in rules if ":" not in key}
+    ruled = {int(key, 16) for rules in (plain_values._EXIF, plain_values._GPS) for key in rules if ":" not in key}
     likely = {RATIONAL: 4, ASCII: 3, UNDEFINED: 3}
     found = {}
     for tag in tags | ({*chance.sample(sorted(ruled & {*known}), 5)} if len(ruled & {*known}) > 4 else set()):
@@ -211,19 +210,15 @@ def blocks(library):
     return [block for block in found if is_accepted(exifnorm.kind, block)]
 
 
-def test_names_and_values(blocks, node, folder, checks):
-    for source in (TOP / "javascript").glob("*.js"):
-        shutil.copyfile(source, folder / source.name)
-    shutil.copyfile(HERE / "plain.mjs", folder / "plain.mjs")
-    (folder / "package.json").write_text('{"type": "module"}', encoding="ascii")
-    (folder / "tables").write_text(words.json_of(words.tables()), encoding="utf-8")
+def test_names_and_values(blocks, node, module, folder, checks):
+    shutil.copyfile(HERE / "plain.mjs", module / "plain.mjs")
     (folder / "listings").write_text(json.dumps([exifnorm.show(block) for block in blocks]), encoding="ascii")
     of_xmp = packets()
     (folder / "properties").write_text(json.dumps([properties(packet) for packet in of_xmp]), encoding="ascii")
     pairs = [["".join(chance.choices(LETTERS, k=chance.randrange(5))) for _ in range(2)] for chance in [Random(SEED)] for _ in range(3000)]
     pairs += [["Otto", f"Otto{letter}"] for letter in LETTERS] + [["M\u00fcnchen", "Mu\u0308nchen"]]
     (folder / "pairs").write_text(json.dumps(pairs), encoding="ascii")
-    answer = json.loads(node("plain.mjs", "tables", "listings", "properties", "pairs", folder=folder))
+    answer = json.loads(node("plain.mjs", *(folder / it for it in ("listings", "properties", "pairs")), folder=module))
     for pair, found in zip(pairs, answer["apart"]):
         checks.equal(ascii(pair), found, [*told_apart(*pair)])
     checks.check("there are pairs that look alike", sum(map(list.__ne__, pairs, answer["apart"])) > 500)

@@ -58,17 +58,24 @@ _words("0106", "0 white is zero; 1 black is zero; 2 RGB; 3 palette; 4 mask; 5 CM
 _words("0213", "1 centred; 2 co-sited")
 
 
+# Words for bits of Flash (CIPA DC-008, 4.6.5): the first bit, a mask for the number there, and the words for each number
+FLASH = (
+    (0, 1, ("did not fire", "fired")),
+    (1, 3, ("", "", "light returned isn't seen", "light returned is seen")),
+    (3, 3, ("", "always on", "always off", "automatic")),
+    (6, 1, ("", "red-eye reduction")),
+)
+NO_FLASH = "no flash in the camera"
+DIRECTIONS = {"N": "north", "S": "south", "E": "east", "W": "west"}
+UNITS = {"K": "kilometres", "M": "miles", "N": "nautical miles"}
+ALTITUDES = ("above sea level", "below sea level")
+
+
 def _flash(field: Field) -> Optional[str]:
-    """Flash, bit by bit (CIPA DC-008, 4.6.5)."""
     bits = numbers.integer(field)
     if bits is None or not 0 <= bits < 1_000_000_000:
         return None
-    if bits & 0x20:
-        return "no flash in the camera"
-    words = ["fired" if bits & 1 else "did not fire"]
-    words += {2: ["light returned isn't seen"], 3: ["light returned is seen"]}.get(bits >> 1 & 3, [])
-    words += {1: ["always on"], 2: ["always off"], 3: ["automatic"]}.get(bits >> 3 & 3, [])
-    return ", ".join(words + ["red-eye reduction"] * bool(bits & 0x40))
+    return NO_FLASH if bits & 0x20 else ", ".join(filter(None, (words[bits >> bit & mask] for bit, mask, words in FLASH)))
 
 
 def _table(words: Dict[str, str]) -> Rule:
@@ -77,9 +84,6 @@ def _table(words: Dict[str, str]) -> Rule:
 
 def _letter(words: Dict[str, str]) -> Rule:
     return lambda it: words.get(text_of(it) or "")
-
-
-_DIRECTIONS = {"N": "north", "S": "south", "E": "east", "W": "west"}
 
 
 def _byte(*words: str) -> Rule:
@@ -109,10 +113,10 @@ _GPS: Dict[str, Rule] = {
     **dict.fromkeys(("0002", "0004", "0014", "0016"), numbers.angle),
     **dict.fromkeys(("000f", "0011", "0018"), with_unit("°", 2)),
     **dict.fromkeys(("001b", "001c"), plain_comment),
-    **dict.fromkeys(("0001", "0013", "0003", "0015"), lambda it: _DIRECTIONS.get(direction(it))),
-    **dict.fromkeys(("000c", "0019"), _letter({"K": "kilometres", "M": "miles", "N": "nautical miles"})),
+    **dict.fromkeys(("0001", "0013", "0003", "0015"), lambda it: DIRECTIONS.get(direction(it))),
+    **dict.fromkeys(("000c", "0019"), _letter(UNITS)),
     "0000": numbers.dotted,
-    "0005": _byte("above sea level", "below sea level"),
+    "0005": _byte(*ALTITUDES),
     "0006": with_unit(" m", 1),
     "0007": numbers.clock,
     "000d": with_unit("", 2),
