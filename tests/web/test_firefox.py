@@ -75,7 +75,7 @@ def test_folders(browser):
         target = f"{{ files: {files}, value: '' }}"
         browser.ask(f"document.getElementById('folder-{side}').onchange({{ target: {target} }})")
     browser.wait("document.querySelector('#summary h2')?.textContent.includes('different')")
-    assert heading(browser) == "2 different, 1 refused, 1 moved"
+    assert heading(browser) == "2 different, 1 moved"
     lines = "[...document.querySelectorAll('.list button')]"
     browser.ask(f"{lines}.find((node) => node.textContent.includes('bowl')).click()")
     browser.wait("!document.getElementById('result').hidden")
