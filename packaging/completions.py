@@ -86,10 +86,17 @@ def bash_value(command: Command, option: Option) -> str:
     return "\n        ".join([f"    {names})", *lines, "return", ";;"])
 
 
+def bash_words(command: Command) -> str:
+    """The words that may follow a command."""
+    words = " ".join([*command.words, *names_of(command.options)])
+    return f"    {command.name}:{command.name}) mapfile -t COMPREPLY < <(compgen -W '{words}' -- \"$word\"); return ;;"
+
+
 def bash(program: Program) -> str:
     """The completion for bash."""
     commands = [f"    {it.name}) options='{' '.join(names_of(it.options))}' operands={it.operands} ;;" for it in program.commands]
     values = [bash_value(command, it) for command in program.commands for it in command.options if it.value]
+    values += map(bash_words, filter(lambda it: it.words, program.commands))
     return BASH.format(
         name=program.name,
         function=function_of(program),
@@ -113,7 +120,8 @@ def zsh_option(option: Option) -> str:
 
 def zsh_command(command: Command) -> str:
     """The arguments of a command."""
-    operands = ["'*:file:_files'"] if command.operands == MANY else [f"'{i + 1}:file:_files'" for i in range(command.operands)]
+    operands = [f"'1:command:({' '.join(command.words)})'"] * bool(command.words)
+    operands += ["'*:file:_files'"] if command.operands == MANY else [f"'{i + 1}:file:_files'" for i in range(command.operands)]
     return f"    {command.name}) _arguments {' '.join([*map(zsh_option, command.options), *operands])} ;;"
 
 
@@ -150,6 +158,8 @@ def fish_lines(program: Program) -> Iterator[str]:
         yield f"{begin} -n __fish_use_subcommand -a {command.name} -d {quoted(command.text)}"
         seen = f"{begin} -n '__fish_seen_subcommand_from {command.name}'"
         yield from (fish_option(seen, it) for it in command.options)
+        if command.words:
+            yield f"{seen} -a {quoted(' '.join(command.words))}"
         if command.operands:
             yield f"{seen} -F"
 

@@ -10,7 +10,7 @@ from typing import Iterator
 
 WIDE = "1000"  # columns, so that no help text is wrapped
 MANY = 99  # operands
-COMMANDS = ("Commands:", "positional arguments:")
+COMMAND = re.compile(r"(?m)^ {2,4}([a-z][a-z-]*)  +(\w.*)$")  # in the lists of a help text
 OPERANDS = ("Arguments:", "positional arguments:")
 NO_FILES = ("FIELD", "N", "PATTERN", "SECONDS", "TEXT", "TITLE")  # values that are no file names
 
@@ -35,12 +35,13 @@ class Option:
 
 @dataclass
 class Command:
-    """A command: its name and text, its options, and the number of its operands."""
+    """A command: its name and text, its options, the number of its operands, and the words of which the first one is, if there are such."""
 
     name: str
     text: str
     options: list[Option] = field(default_factory=list)
     operands: int = 0
+    words: list[str] = field(default_factory=list)
 
 
 @dataclass
@@ -94,12 +95,11 @@ def operands_of(text: str) -> int:
 
 
 def commands_of(program: str, text: str) -> Iterator[Command]:
-    """The commands in a program's help, each with its own help."""
-    for line in section(text, COMMANDS):
-        name, _, words = line.strip().partition("  ")
-        if re.fullmatch(r"[a-z][a-z-]*", name):
-            own = help_of(program, name)
-            yield Command(name, words.strip(), list(options_of(own)), operands_of(own))
+    """The commands in a program's help, each with its own help, which may have further commands."""
+    for name, words in COMMAND.findall(text):
+        own = help_of(program, name)
+        further = [it for it, _ in COMMAND.findall(own)]
+        yield Command(name, words.strip(), list(options_of(own)), MANY if further else operands_of(own), further)
 
 
 def program_of(path: str) -> Program:

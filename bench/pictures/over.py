@@ -128,7 +128,7 @@ def rows(trees: Tuple[Tree, Tree], folder: Path, count: int, longest: int) -> It
         what = f"{count} JPEG files with captions of up to {most:,} characters"
         yield (f"instructions of `index`, {what}", *(it.instructions(*words) for it in trees))
         yield (f"bytes of their catalogue, {what}", *((it.folder / "new").stat().st_size for it in trees))
-        words = ["export", "new", "tables", "--no-look", "--quiet"]
+        words = ["catalogue", "export", "new", "tables", "--no-look", "--quiet"]
         yield (f"instructions of `export` of their catalogue, {what}", *(it.instructions(*words, makes="tables") for it in trees))
 
 

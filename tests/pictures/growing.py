@@ -432,7 +432,7 @@ OF_TEXTS = (
     "conflicts P --all",
     "list C --count keywords",
     "check rules C --json",
-    "export C written.sqlite --quiet",
+    "catalogue export C written.sqlite --quiet",
 )
 OTHERS = {
     "texts as long as they are many": ("tif", Growth(texts_as_long_as_many, 90_000, 1_000_000, (), OF_TEXTS)),

@@ -58,6 +58,16 @@ def modules_of(python):
     )
 
 
+def name_of(line):
+    """The command of a line.
+
+    >>> name_of("catalogue merge a b --catalogue c"), name_of("list c")
+    ('catalogue merge', 'list')
+    """
+    words = line.split()
+    return " ".join(words[: 1 + (words[0] == "catalogue")])
+
+
 def interpreter_with(module):
     """A Python that has a module: this one, or Debian's."""
     return next((it for it in (sys.executable, "/usr/bin/python3") if module in modules_of(it)), None)

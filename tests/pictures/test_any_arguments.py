@@ -39,9 +39,9 @@ COMMANDS = parsers()[1]
 # What each command is given: the folder p has the picture a.jpg, c is its catalogue, q another folder, and rules a file of rules
 GIVEN = {
     "index": ["p", "--catalogue", "c", "--quiet"],
-    "merge": ["c", "--catalogue", "new"],
-    "forget": ["nothing", "--catalogue", "c"],
-    "relocate": ["c", "p", "q"],
+    "catalogue merge": ["c", "--catalogue", "new"],
+    "catalogue forget": ["nothing", "--catalogue", "c"],
+    "catalogue relocate": ["c", "p", "q"],
     "verify": ["p", "--catalogue", "c", "--quiet", "--jobs", "1"],
     "same": ["--catalogue", "c"],
     "changed": ["c", "c"],
@@ -55,7 +55,7 @@ GIVEN = {
     "conflicts": ["p/a.jpg"],
     "explain": ["p/a.jpg"],
     "report": ["--catalogue", "c", "--html", "r"],
-    "export": ["c", "t"],
+    "catalogue export": ["c", "t"],
     "mend": ["p/a.jpg", "copy.jpg"],
 }
 
@@ -113,9 +113,9 @@ def test_any_value_of_any_argument(command, end, folder, checks):
     shutil.copy(folder / "c", folder / "kept")
     statuses = set()
     for words in calls(command, COMMANDS[command]):
-        status, messages = end([command, *words])
+        status, messages = end([*command.split(), *words])
         statuses.add(status)
-        shown = " ".join(map(ascii, [command, *words]))[:200]
+        shown = " ".join(map(ascii, [*command.split(), *words]))[:200]
         is_told = "internal error" not in messages and "Traceback" not in messages
         checks.check(shown, status in STATUSES and is_told, (status, messages[-300:]))
         checks.check(shown, not re.search("[\0-\x09\x0b-\x1f\x7f-\x9f]", messages), ascii(messages[-300:]))

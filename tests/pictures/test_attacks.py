@@ -270,7 +270,14 @@ def journal_that_names(path, catalogue):
 @pytest.mark.parametrize("is_link", (False, True))
 @pytest.mark.parametrize(
     "words",
-    ("index p --catalogue c", "merge k --catalogue c", "forget p --catalogue c", "relocate c p q", "nightly c p", "list c --with title"),
+    (
+        "index p --catalogue c",
+        "catalogue merge k --catalogue c",
+        "catalogue forget p --catalogue c",
+        "catalogue relocate c p q",
+        "nightly c p",
+        "list c --with title",
+    ),
 )
 def test_a_journal_that_names_a_file(words, is_link, folder, called):
     """The file stays, and so does the catalogue."""
@@ -296,11 +303,11 @@ COMMANDS = (
     ["changed", "good", "c"],
     ["report", "--catalogue", "c", "--html", "page"],
     ["report", "--catalogue", "c", "--json"],
-    ["export", "c", "tables"],
-    ["merge", "c", "--catalogue", "into"],
+    ["catalogue", "export", "c", "tables"],
+    ["catalogue", "merge", "c", "--catalogue", "into"],
     ["index", "p", "--catalogue", "c", "--quiet"],
-    ["forget", "p", "--catalogue", "c"],
-    ["relocate", "c", "p", "."],
+    ["catalogue", "forget", "p", "--catalogue", "c"],
+    ["catalogue", "relocate", "c", "p", "."],
     ["verify", "--catalogue", "c", "--quiet"],
     ["history", "p/a.jpg", "good", "c"],
     ["list", "c", "--with", "title"],
@@ -548,7 +555,7 @@ def test_texts_of_a_catalogue(archive):
         ["report", "--html", "page"],
         ["report", "--html", "changes", "--since", "good"],
         ["index", "p"],
-        ["forget", "p"],
+        ["catalogue", "forget", "p"],
     ]
     for ended in run_each(archive, [it if it[0] == "changed" else [*it, "--catalogue", "c"] for it in commands]):
         no_control(ended.check(0, 1, 2, 4))
@@ -570,10 +577,10 @@ def test_names_in_messages(archive):
             ["report", "--catalogue", "c", "--html", name + "/x"],
             ["same", "--catalogue", "c", "--files-from", name],
             ["show", name],
-            ["merge", name, "--catalogue", "c"],
+            ["catalogue", "merge", name, "--catalogue", "c"],
             ["index", name, "--catalogue", "c"],
             ["mend", name, name],
-            ["forget", name, "--catalogue", "c"],
+            ["catalogue", "forget", name, "--catalogue", "c"],
             ["index", "p", "--catalogue", "c", "--keep-old", name + "/x"],
             [name],
             ["same", f"--{name}"],

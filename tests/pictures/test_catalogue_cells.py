@@ -34,12 +34,12 @@ COMMANDS = (
     ["changed", "c", "good"],
     ["report", "--catalogue", "c", "--json"],
     ["captions", "c", "--csv"],
-    ["export", "c", "tables"],
-    ["merge", "c", "--catalogue", "into"],
+    ["catalogue", "export", "c", "tables"],
+    ["catalogue", "merge", "c", "--catalogue", "into"],
     ["mend", "--catalogue", "c", "out"],
     ["index", "p", "--catalogue", "c", "--quiet", "--jobs", "1"],
-    ["forget", "p", "--catalogue", "c"],
-    ["relocate", "c", "p", "q"],
+    ["catalogue", "forget", "p", "--catalogue", "c"],
+    ["catalogue", "relocate", "c", "p", "q"],
     ["verify", "--catalogue", "c", "--quiet", "--jobs", "1"],
     ["history", "p/a.jpg", "good", "c"],
     ["list", "c", "--where", "title = one or creator like 'A*' or date created < 1950", "--columns", "title,position"],
@@ -132,7 +132,7 @@ def catalogue(archive, tmp_path, monkeypatch):
 LONG = packing.packed([Field("main", "010e", "ASCII", 5, b"abcd\0")] * 20_000).octets  # 0.7 MB as JSON
 
 
-@pytest.mark.parametrize("words", [["export", "c", "tables"], ["captions", "c"], ["report", "--catalogue", "c", "--json"]])
+@pytest.mark.parametrize("words", [["catalogue", "export", "c", "tables"], ["captions", "c"], ["report", "--catalogue", "c", "--json"]])
 def test_fields_of_many_blocks(words, catalogue, capsys, monkeypatch):
     """Together they are bounded, before any is unpacked."""
     with sqlite3.connect(catalogue, isolation_level=None) as base:

@@ -47,12 +47,12 @@ READS = {
     "mend": "mend P/{} copy",
 }
 OTHERS_READ = {
-    "merge": "merge c --catalogue other",
-    "forget": "forget P/{} --catalogue c",
-    "relocate": "relocate c P Q",
+    "catalogue merge": "catalogue merge c --catalogue other",
+    "catalogue forget": "catalogue forget P/{} --catalogue c",
+    "catalogue relocate": "catalogue relocate c P Q",
     "same": "same --catalogue c",
     "history": "history P/{} c c",
-    "export": "export c tables --quiet",
+    "catalogue export": "catalogue export c tables --quiet",
 }
 
 

@@ -504,6 +504,6 @@ def test_same_beside_what_was_indexed_without(folder, called_lines):
     put(folder, {"p/a.jpg": jpeg(app1(A)), "q/b.jpg": jpeg(app1(A))})
     called_lines("index", "p", "--catalogue", "with", "--pixels", "--quiet")
     called_lines("index", "q", "--catalogue", "without", "--quiet")
-    called_lines("merge", "with", "without", "--catalogue", "c")
+    called_lines("catalogue", "merge", "with", "without", "--catalogue", "c")
     status, _, errors = called_lines("same", "--catalogue", "c", "--kind", "pixels")
     assert status == 3 and "1 picture has no digest" in errors

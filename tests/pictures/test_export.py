@@ -49,7 +49,7 @@ def exported(run, folder):
 
     def call(*names, words=()):
         run("index", *names, "--catalogue", "c", "--quiet", *words)
-        run("export", "c", "t")
+        run("catalogue", "export", "c", "t")
         return sqlite3.connect("t")
 
     return call
@@ -215,7 +215,7 @@ def test_captions_are_those_of_the_files(run, folder):
     }
     assert {name for name, *_ in expected} == {f"{it}.jpg" for it in (*WRITTEN, "order")}
     run("index", "p", "--catalogue", "c", "--quiet")
-    run("export", "c", "t", "--no-look")
+    run("catalogue", "export", "c", "t", "--no-look")
     query = "SELECT replace(path, ? || '/p/', ''), label, field, text, guess FROM captions JOIN pictures ON id = picture"
     assert set(asked(sqlite3.connect("t"), query, str(folder))) == expected
 
@@ -226,11 +226,11 @@ def test_values_of_maker_notes(run, folder):
     """As ExifTool prints them, where `index --maker-notes` has asked it; of the others it is said that they weren't read."""
     put(folder / "p", {"a.jpg": noted(b"Annette"), "b.jpg": jpeg(app1(exif(b"Nik")))})
     run("index", "p", "--catalogue", "c", "--quiet")
-    assert "MakerNotes were not read: 1 picture" in run("export", "c", "t")
+    assert "MakerNotes were not read: 1 picture" in run("catalogue", "export", "c", "t")
     assert asked(sqlite3.connect("t"), "SELECT count(*) FROM maker_notes") == [(0,)]
     run("index", "p", "--catalogue", "c", "--quiet", "--again", "--maker-notes")
-    assert "MakerNote" not in run("export", "c", "t")
-    assert json.loads(run("export", "c", "t", "--json"))["maker_notes_not_read"] == 0
+    assert "MakerNote" not in run("catalogue", "export", "c", "t")
+    assert json.loads(run("catalogue", "export", "c", "t", "--json"))["maker_notes_not_read"] == 0
     read = json.loads(tool(folder, "exiftool", "-j", "-G1", "-n", "-MakerNotes:all", "p/a.jpg"))[0]
     names = {f"{group.partition(':')[0]}:{group.partition(':')[2]}": str(value) for group, value in read.items() if group != "SourceFile"}
     rows = asked(sqlite3.connect("t"), "SELECT name, value FROM maker_notes JOIN pictures ON id = picture WHERE path LIKE '%a.jpg'")
@@ -302,7 +302,7 @@ def test_long_texts_are_kept(afterwards, run):
         Path("a.jpg").unlink()
     if afterwards == "changed":
         Path("a.jpg").write_bytes(jpeg(with_record(data_set(120, b"Vase"))))
-    assert "NULL" not in run("export", "c", "t")
+    assert "NULL" not in run("catalogue", "export", "c", "t")
     base = sqlite3.connect("t")
     assert asked(base, "SELECT standard, text FROM captions WHERE label = 'caption'") == [("IPTC", LONG.strip()), ("XMP", LONG.strip())]
     assert asked(base, "SELECT value FROM fields WHERE name = 'IPTC:Caption-Abstract'") == [(LONG.strip(),)]
@@ -315,7 +315,7 @@ def test_enormous_texts_are_null(run):
         xmp("<dc:description><rdf:Alt><rdf:li xml:lang='x-default'>" + "a" * 70_000 + "</rdf:li></rdf:Alt></dc:description>")
     )
     run("index", ".", "--catalogue", "c", "--quiet")
-    assert "1 picture has a text that is NULL: it is too long for the catalogue" in run("export", "c", "t")
+    assert "1 picture has a text that is NULL: it is too long for the catalogue" in run("catalogue", "export", "c", "t")
     base = sqlite3.connect("t")
     assert sorted(asked(base, "SELECT standard, length(text) FROM captions WHERE label = 'caption'"), key=str) == [
         ("IPTC", 2000),
@@ -331,11 +331,11 @@ def test_groups_whose_files_are_gone_are_counted(run, left, rows, said):
     run("index", ".", "--catalogue", "c", "--quiet")
     if left == 1:
         Path("b.jpg").unlink()
-    printed = run("export", "c", "t")
+    printed = run("catalogue", "export", "c", "t")
     assert asked(sqlite3.connect("t"), "SELECT count(*) FROM groups") == [(rows,)]
     assert said in printed and ("left out" in printed) == (said != "")
-    assert json.loads(run("export", "c", "t", "--json"))["absent_groups"] == 2 - left
-    assert "left out" not in run("export", "c", "t", "--no-look"), "nobody has looked at the files"
+    assert json.loads(run("catalogue", "export", "c", "t", "--json"))["absent_groups"] == 2 - left
+    assert "left out" not in run("catalogue", "export", "c", "t", "--no-look"), "nobody has looked at the files"
 
 
 def test_blank_comments_are_no_texts(run, folder):
@@ -346,7 +346,7 @@ def test_blank_comments_are_no_texts(run, folder):
         inside = table([entry(0x9286, UNDEFINED, len(octets), 8 + 2 + 12 + 4 + 2 + 12 + 4)]) + octets
         (folder / f"{number}.jpg").write_bytes(jpeg(app1(block([entry(0x8769, 4, 1, 26)]) + inside)))
     run("index", ".", "--catalogue", "c", "--quiet")
-    run("export", "c", "t", "--no-look")
+    run("catalogue", "export", "c", "t", "--no-look")
     assert asked(sqlite3.connect("t"), "SELECT * FROM captions") == []
 
 
@@ -367,7 +367,7 @@ def test_paths(exported, folder):
 def test_an_earlier_export_is_replaced_and_no_other_file(exported, run, folder):
     Path("a.jpg").write_bytes(jpeg(app1(exif(b"abc"))))
     exported("a.jpg")
-    run("export", "c", "t")
+    run("catalogue", "export", "c", "t")
     before = Path("c").read_bytes()
     Path("other").write_bytes(b"a text")
     with sqlite3.connect("database") as base:
@@ -376,9 +376,9 @@ def test_an_earlier_export_is_replaced_and_no_other_file(exported, run, folder):
     os.link("c", "another name of c")
     for name in ("other", "database", "c", "another name of c", ".", "nowhere/t"):
         kept = Path(name).read_bytes() if Path(name).is_file() else None
-        assert f"exifnorm-pictures: {name} " in run("export", "c", name, status=4), name
+        assert f"exifnorm-pictures: {name} " in run("catalogue", "export", "c", name, status=4), name
         assert kept is None or Path(name).read_bytes() == kept
-    run("export", "t", "u", status=4)
+    run("catalogue", "export", "t", "u", status=4)
     assert Path("c").read_bytes() == before and not Path("u").exists()
 
 
@@ -389,7 +389,7 @@ def test_a_failure_leaves_the_earlier_export(exported, run, folder, monkeypatch)
     with sqlite3.connect("c") as base:
         base.execute("UPDATE blocks SET fields = 1")
     base.close()
-    assert "damaged" in run("export", "c", "t", status=4)
+    assert "damaged" in run("catalogue", "export", "c", "t", status=4)
     assert Path("t").read_bytes() == before
     assert sorted(it.name for it in folder.iterdir()) == ["a.jpg", "c", "t"]
 
@@ -399,7 +399,7 @@ def test_some_pictures(exported, run, folder):
         Path(f"{name}.jpg").write_bytes(TWINS["a1"])
     exported(".")
     Path("list").write_text("a.jpg\nb.jpg\n", encoding="utf-8")
-    run("export", "c", "t", "--files-from", "list")
+    run("catalogue", "export", "c", "t", "--files-from", "list")
     base = sqlite3.connect("t")
     assert asked(base, "SELECT replace(path, ?, '') FROM groups JOIN pictures ON id = picture", f"{folder}/") == [("a.jpg",), ("b.jpg",)]
     assert asked(base, "SELECT count(*), count(DISTINCT picture) FROM fields") == [(2, 2)]
@@ -412,7 +412,7 @@ def test_texts_of_a_damaged_catalogue(exported, run):
     with sqlite3.connect("c") as base:
         base.execute("UPDATE blocks SET fields = CAST(? AS BLOB)", (r'[["xmp","dc:source","text",1,["\ud800"]]]',))
     base.close()
-    run("export", "c", "t")
+    run("catalogue", "export", "c", "t")
     assert asked(sqlite3.connect("t"), "SELECT value FROM fields") == [(r"\ud800",)]
 
 
@@ -529,12 +529,12 @@ def test_a_temporary_file_that_is_not_read(called, folder, monkeypatch):
     """As where the disk of TMPDIR fails: a line with the cause, and the earlier export stays."""
     put(folder / "p", {"a.jpg": jpeg(app1(exif(b"Abc")))})
     assert called("index", "p", "--catalogue", "c", "--quiet")[0] == 0
-    assert called("export", "c", "t")[0] == 0
+    assert called("catalogue", "export", "c", "t")[0] == 0
     before = (folder / "t").read_bytes()
     fails = lambda *_: (_ for _ in ()).throw(sqlite3.DatabaseError("database disk image is malformed"))
     for call in ("_write", "finish"):
         with monkeypatch.context() as patched:
             patched.setattr(Tables, call, fails)
-            status, printed, messages = called("export", "c", "t")
+            status, printed, messages = called("catalogue", "export", "c", "t")
         assert status == 4 and "temporary file" in messages and "internal error" not in messages, messages
         assert (folder / "t").read_bytes() == before

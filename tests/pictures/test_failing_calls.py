@@ -25,14 +25,14 @@ COMMANDS = {
     "index": ["index", "p", "--catalogue", "c", "--quiet", "--jobs", "1"],
     "same": ["same", "--catalogue", "c"],
     "changed": ["changed", "other", "c"],
-    "merge": ["merge", "other", "--catalogue", "c"],
-    "relocate": ["relocate", "c", "p", "q"],
-    "forget": ["forget", "p/0.jpg", "--catalogue", "c"],
+    "catalogue merge": ["catalogue", "merge", "other", "--catalogue", "c"],
+    "catalogue relocate": ["catalogue", "relocate", "c", "p", "q"],
+    "catalogue forget": ["catalogue", "forget", "p/0.jpg", "--catalogue", "c"],
     "list": ["list", "c", "--with", "title", "--columns", "title"],
     "check": ["check", "rules", "c"],
     "history": ["history", "p/0.jpg", "other", "c"],
     "verify": ["verify", "p/0.jpg", "--catalogue", "c", "--quiet", "--jobs", "1"],
-    "export": ["export", "c", "tables", "--quiet"],
+    "catalogue export": ["catalogue", "export", "c", "tables", "--quiet"],
     "report": ["report", "--catalogue", "c", "--json"],
 }
 
@@ -117,6 +117,6 @@ def test_each_call(name, archive):
                 assert done.stdout == whole.stdout, where
             left = rows(archive / "c")
             assert left in (before, expected) if name != "index" else {it[0] for it in before} <= {it[0] for it in left}, where
-            if left != expected or name not in ("relocate", "forget"):  # which find nothing to do the second time
+            if left != expected or name not in ("catalogue relocate", "catalogue forget"):  # which find nothing to do the second time
                 again = command(archive, words)
                 assert (again.returncode, rows(archive / "c")) == (whole.returncode, expected), (where, again)

@@ -271,7 +271,7 @@ class Catalogues(InFolder):
             ["same", "--catalogue", name],
             ["changed", name, name],
             ["report", "--catalogue", name, "--json"],
-            ["merge", name, "--catalogue", name],
+            ["catalogue", "merge", name, "--catalogue", name],
         ):
             with self.subTest(name, call=call[0]):
                 self.asked(*call, status=4)
@@ -293,7 +293,11 @@ class Catalogues(InFolder):
         self.database("bare", "CREATE TABLE x (y)", "DROP TABLE x", "VACUUM")
         for name in ("foreign", "empty", "bare"):
             self.refused(name, name)
-        for call in (["index", "p", "--catalogue", "text"], ["same", "--catalogue", "text"], ["merge", "text", "--catalogue", "text"]):
+        for call in (
+            ["index", "p", "--catalogue", "text"],
+            ["same", "--catalogue", "text"],
+            ["catalogue", "merge", "text", "--catalogue", "text"],
+        ):
             self.asked(*call, status=4)
             self.assertIn("text", self.complaint)
         self.assertEqual(read(self.path("text")), b"a text\n")

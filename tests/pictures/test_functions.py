@@ -11,6 +11,7 @@ from unittest import mock
 import pytest
 from exact_fields import field
 from made_files import xmp as packet_of
+from studio import name_of
 
 from exifnorm_pictures import xmp
 from exifnorm_pictures.cli import names, page_file, parser, report
@@ -267,13 +268,13 @@ def refused_words(*words):
 
 def given(text, *wanted):
     found = vars(parser.parsed(text.split()))
-    assert found["command"] == text.split()[0]
+    assert found["command"] == name_of(text)
     return [found[it] for it in wanted]
 
 
 def names_given(text):
     found = vars(parser.parsed(text.split()))
-    assert found["command"] == text.split()[0]
+    assert found["command"] == name_of(text)
     return [found[it] for it in ("picture", "out", "source") if found.get(it) is not None] + found.get("names", [])
 
 
@@ -290,14 +291,14 @@ ARGUMENTS = [
     (refused_words, ("changed", "", "b"), f"argument BEFORE: {EMPTY}"),
     (refused_words, ("changed", "a", "b\0"), f"argument AFTER: {EMPTY}"),
     (refused_words, ("show", ""), f"argument PICTURE: {EMPTY}"),
-    (refused_words, ("merge", "", "--catalogue", "c"), f"argument CATALOGUE: {EMPTY}"),
+    (refused_words, ("catalogue", "merge", "", "--catalogue", "c"), f"argument CATALOGUE: {EMPTY}"),
     (refused_words, ("index", "", "--catalogue", "c"), f"argument CATALOGUE or FOLDER: {EMPTY}"),
     (refused_words, ("nightly", ""), f"argument CATALOGUE or FOLDER: {EMPTY}"),
     (refused_words, ("verify", "c", ""), f"argument FOLDER: {EMPTY}"),
     *((refused_words, ("index", f"--{it}", ""), f"argument --{it}: {EMPTY}") for it in ("catalogue", "keep-old", "shards")),
     *((refused_words, ("report", f"--{it}", ""), f"argument --{it}: {EMPTY}") for it in ("catalogue", "since", "html")),
     (refused_words, ("same", "--catalogue", ""), f"argument --catalogue: {EMPTY}"),
-    (refused_words, ("merge", "a", "--catalogue", ""), f"argument --catalogue: {EMPTY}"),
+    (refused_words, ("catalogue", "merge", "a", "--catalogue", ""), f"argument --catalogue: {EMPTY}"),
     *(
         (refused_words, tuple(words.split()), message)
         for words, message in (
@@ -386,7 +387,7 @@ def test_what_it_returns(call, arguments, expected):
         ("s", None),
         ("list c --wihtout credit", "--without"),
         ("list c --where=x --collumns=title", "--columns"),
-        ("export --quite", "--quiet"),
+        ("catalogue export --quite", "--quiet"),
         ("list c --recursive", None),
         ("--vershion", "--version"),
     ],
@@ -433,3 +434,11 @@ def test_names_from_standard_input(octets, by_nul, expected):
 def test_standard_input_that_is_closed():
     with mock.patch("sys.stdin", None):
         assert failed(list, walk.names_in_list("-", False)) == ("BadList", "standard input is closed")
+
+
+@pytest.mark.parametrize("name, line", parser.WENT.items())
+def test_a_command_that_went_names_the_one_to_use(name, line):
+    """Which is a line that is accepted, with a name in place of each word in capitals."""
+    for words in ([name, "a", "b"], [name, "--help"], ["help", name]):
+        assert f"exifnorm-pictures {line}\n" in refused(lambda: parser.parsed(words)), words
+    assert vars(parser.parsed(line.replace(" ..", "").split()))["command"] == name_of(line)

@@ -274,12 +274,12 @@ def test_forget(asked, folder):
         (folder / name).write_bytes(FILES["a1"])
     indexed(asked, "p")
     shutil.rmtree(folder / "p/sub")
-    assert [it["forgotten"] for it in asked("forget", "p/sub", "p/nothing", "--catalogue", "c")] == [1, 0]
+    assert [it["forgotten"] for it in asked("catalogue", "forget", "p/sub", "p/nothing", "--catalogue", "c")] == [1, 0]
     (group, _) = asked("same", "--catalogue", "c")
     assert names_of(group["pictures"]) == ["c.jpg", "b.jpg"]
-    assert [it["forgotten"] for it in asked("forget", "p/c.jpg", "--catalogue", "c")] == [1]
+    assert [it["forgotten"] for it in asked("catalogue", "forget", "p/c.jpg", "--catalogue", "c")] == [1]
     assert (folder / "p/c.jpg").exists()
-    asked("forget", "p", "--catalogue", "nothing", status=4)
+    asked("catalogue", "forget", "p", "--catalogue", "nothing", status=4)
     assert not (folder / "nothing").exists()
 
 

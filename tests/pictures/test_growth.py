@@ -39,9 +39,9 @@ OF_A_PICTURE = 50_000  # bytes by which memory may grow for each further picture
 # What each command is given: P and Q are folders with the same names, A and B a picture of each, C and D their catalogues
 COMMANDS = {
     "index": ["P --catalogue C --quiet --jobs 1 --pixels --sidecars"],
-    "merge": ["C D --catalogue merged"],
-    "forget": ["P --catalogue kept"],
-    "relocate": ["moving P Q"],
+    "catalogue merge": ["C D --catalogue merged"],
+    "catalogue forget": ["P --catalogue kept"],
+    "catalogue relocate": ["moving P Q"],
     "verify": ["--catalogue C --quiet --jobs 1"],
     "same": ["--catalogue C", "--catalogue C --json --ignore dc:none"],
     "history": ["A C D"],
@@ -59,7 +59,7 @@ COMMANDS = {
     "conflicts": ["P --all", "C --json"],
     "explain": ["A"],
     "report": ["--catalogue D --since C --html written/"],
-    "export": ["C written.sqlite --quiet"],
+    "catalogue export": ["C written.sqlite --quiet"],
     "mend": ["A mended"],
 }
 EACH = [f"{command} {words}" for command, calls in COMMANDS.items() for words in calls]
@@ -71,7 +71,13 @@ READING = [
     "show A --json",
     "mend A mended",
 ]
-OF_FORMS = [*READING, "compare A B --json --exact --no-exiftool", "captions P", "conflicts P --all", "export C written.sqlite --quiet"]
+OF_FORMS = [
+    *READING,
+    "compare A B --json --exact --no-exiftool",
+    "captions P",
+    "conflicts P --all",
+    "catalogue export C written.sqlite --quiet",
+]
 
 
 def test_all_commands_and_formats_are_counted():
@@ -123,7 +129,7 @@ class Archive:
         if any({"B", "D", "nights"} & set(words.split()) for words in commands):
             self.run(INDEX.replace(" P ", " Q ").replace(" C ", " D "))
             shutil.copy(self.folder / "D", self.folder / "nights")
-            self.run("relocate nights Q P")  # all of P is changed since
+            self.run("catalogue relocate nights Q P")  # all of P is changed since
         works.update((words, self.run(words)) for words in commands if words != INDEX)
         return works
 

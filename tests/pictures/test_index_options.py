@@ -69,8 +69,8 @@ def test_excluded_pictures_of_an_earlier_run_stay(archive, called):
     out = called("index", "p", "--catalogue", "c", "--exclude", "raw")[1]
     found = known(archive)
     assert {path for path, problem in found.items() if problem} == {b"raw/b.jpg"} and found[b"raw/b.jpg"] == "Vanished"
-    assert "2 excluded, and in the catalogue from an earlier run: exifnorm-pictures forget c FOLDER" in out
-    called("forget", "p/raw", "p/sub/raw", "--catalogue", "c")
+    assert "2 excluded, and in the catalogue from an earlier run: exifnorm-pictures catalogue forget c FOLDER" in out
+    called("catalogue", "forget", "p/raw", "p/sub/raw", "--catalogue", "c")
     assert "in the catalogue from an earlier run" not in called("index", "p", "--catalogue", "c", "--exclude", "raw")[1]
     assert set(known(archive)) == {it for it in ALL if b"raw" not in it}
     called("index", "p", "--catalogue", "c", "--quiet")
@@ -181,7 +181,7 @@ def test_a_program_that_was_missing_is_asked_again(folder, called, monkeypatch):
 def test_a_merged_catalogue_knows_what_was_whole(option, folder, called):
     put(folder, {"p/b.jpg": ONE})
     called(*INDEX, "--catalogue", "c", *option)
-    called("merge", "c", "--catalogue", "d")
+    called("catalogue", "merge", "c", "--catalogue", "d")
     called(*INDEX, "--catalogue", "d")
     assert ("by --whole" in called(*INDEX, "--catalogue", "d", "--whole")[2]) == (not option)
 

@@ -80,7 +80,7 @@ def test_a_folder_that_is_gone_forgets_nothing(archive, called_lines):
     assert rows(archive) == before
     status, lines, _ = called_lines("index", "p", "--shards", "shards", "--json")
     assert status == 2 and '"problem": "Unreadable"' in lines[0]
-    assert called_lines("forget", "p/b", "--catalogue", "shards")[1][0].endswith(": 2 pictures forgotten")
+    assert called_lines("catalogue", "forget", "p/b", "--catalogue", "shards")[1][0].endswith(": 2 pictures forgotten")
     assert called_lines("index", "p", "--shards", "shards")[0] == 0
     (archive / "unmounted").rename(archive / "p" / "b")
     assert called_lines("index", "p", "--shards", "shards")[1][0] == "3 unchanged, 2 accepted"

@@ -61,7 +61,7 @@ def test_which_one_stays(name, pixels, folder, called):
     assert found == list(expected[pixels])
     objects = json.loads(called("same", "--catalogue", "c", "--json")[1].splitlines()[0])["pictures"]
     assert [it["keep_note"] if it["keep"] is None else it["keep"] for it in objects] == found
-    called("export", "c", "t")
+    called("catalogue", "export", "c", "t")
     with sqlite3.connect("t") as base:
         exported = base.execute("SELECT keep, keep_note FROM groups JOIN pictures ON id = picture ORDER BY path").fetchall()
     assert [note if keep is None else bool(keep) for keep, note in exported] == found

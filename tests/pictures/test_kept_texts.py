@@ -56,13 +56,13 @@ class World:
     def merge(self):
         (self.folder / "d").unlink(missing_ok=True)
         more = self.indexed({}, self.rng.choice("ab"), "d")
-        assert self.called("merge", "d", "--catalogue", "c")[0] == 0
+        assert self.called("catalogue", "merge", "d", "--catalogue", "c")[0] == 0
         self.known = {**self.known, **more}
 
     def forget(self):
         name = self.rng.choice([*FILES, "a", "b"])
         if (self.folder / "c").exists():
-            self.called("forget", name, "--catalogue", "c")
+            self.called("catalogue", "forget", name, "--catalogue", "c")
             self.known = {other: texts for other, texts in self.known.items() if not other.startswith(name)}
 
     def relocate(self):
@@ -73,7 +73,7 @@ class World:
         for name in [name for name in self.disk if name.startswith(old)]:
             os.replace(self.folder / name, self.folder / (new + name[1:]))
             self.disk[new + name[1:]] = self.disk.pop(name)
-        self.called("relocate", "c", old, new)
+        self.called("catalogue", "relocate", "c", old, new)
         for name in [name for name in self.known if name.startswith(old)]:
             self.known[new + name[1:]] = self.known.pop(name)
 
@@ -179,7 +179,7 @@ def test_no_picture_gets_the_number_of_another(folder, called):
         assert asked(called, "--with", "title")[1] == 2
         with closing(sqlite3.connect(folder / "c")) as base:
             (last,) = base.execute("SELECT path FROM pictures ORDER BY id DESC LIMIT 1").fetchone()
-        called("forget", os.fsdecode(last), "--catalogue", "c")
+        called("catalogue", "forget", os.fsdecode(last), "--catalogue", "c")
         os.remove(last)
         put(folder / "p", {f"c{number}.jpg": picture([("title", f"C{number}")])})
         called("index", "p", "--catalogue", "c", "--quiet")

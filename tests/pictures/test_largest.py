@@ -16,6 +16,7 @@ from made_blocks import SHORT
 from made_files import iim, page, resource, tiff, xmp
 from made_more_files import psd
 from largest import FILLINGS, SIZES, made, of_name
+from studio import name_of
 from test_attacks import NO_CLOCK, run_each
 from test_captions import data_set
 
@@ -36,9 +37,9 @@ INDEX = "index {} --catalogue {} --quiet --jobs 1 --pixels"
 # What each command is given: P and Q are folders with the picture and with another one of the same name
 COMMANDS = {
     "index": INDEX.format("P", "new"),
-    "merge": "merge c d --catalogue e",
-    "forget": "forget P --catalogue kept",
-    "relocate": "relocate moving P Q",
+    "catalogue merge": "catalogue merge c d --catalogue e",
+    "catalogue forget": "catalogue forget P --catalogue kept",
+    "catalogue relocate": "catalogue relocate moving P Q",
     "verify": "verify P --catalogue c --quiet --jobs 1",
     "same": "same --catalogue c --json --ignore dc:none",
     "changed": "changed d c --exact --no-exiftool --quiet --jobs 1",
@@ -52,12 +53,12 @@ COMMANDS = {
     "conflicts": "conflicts P --all",
     "explain": "explain P/{}",
     "report": "report --catalogue c --since d --html page",
-    "export": "export c tables --quiet",
+    "catalogue export": "catalogue export c tables --quiet",
     "mend": "mend P/{} copy",
 }
 # The catalogues, and what makes each: the last one is of Q, as if that were P
 CATALOGUES = {it: [INDEX.format("P", it)] for it in ("c", "kept", "moving")}
-CATALOGUES["d"] = [INDEX.format("Q", "d"), "relocate d Q P"]
+CATALOGUES["d"] = [INDEX.format("Q", "d"), "catalogue relocate d Q P"]
 
 
 def test_all_commands_and_formats_are_tried():
@@ -97,7 +98,7 @@ def start(tmp_path_factory):
     """The memory of each command for hardly anything."""
     folder = tmp_path_factory.mktemp("start")
     put(folder, "JPEG", "one field")
-    return {it.words[0]: it.memory for it in run_all(folder, COMMANDS, "JPEG")}
+    return {name_of(" ".join(it.words)): it.memory for it in run_all(folder, COMMANDS, "JPEG")}
 
 
 @pytest.mark.parametrize("name, filling, commands", choice(), ids=lambda it: it if isinstance(it, str) else " ".join(it))
@@ -109,7 +110,7 @@ def test_memory(name, filling, commands, start, tmp_path):
         for ended in run_all(tmp_path / attempt, commands, name):
             about = (ended.words, ended.status, ended.out[-500:], ended.err)
             assert ended.status in (0, 1, 2) and not re.search("internal|TooMuch|over a limit", ended.out + ended.err), about
-            words, more = " ".join(ended.words), ended.memory - start[ended.words[0]]
+            words, more = " ".join(ended.words), ended.memory - start[name_of(" ".join(ended.words))]
             taken[words] = min(taken.get(words, more), more)
         if all(memory * SCALE <= MEMORY for memory in taken.values()):
             return
@@ -167,7 +168,10 @@ def test_over_the_limits(name, start, tmp_path):
         tmp_path, [["show", name, "--json"], ["captions", name], ["index", name, "--catalogue", "c"]], SMALL, PATH="/nowhere"
     ):
         assert ended.status in (0, 2) and re.search("TooMuch|over a limit", ended.out), (ended.words, ended.out[-500:], ended.err)
-        assert (ended.memory - start[ended.words[0]]) * SCALE <= MEMORY, (ended.words, ended.memory - start[ended.words[0]])
+        assert (ended.memory - start[name_of(" ".join(ended.words))]) * SCALE <= MEMORY, (
+            ended.words,
+            ended.memory - start[name_of(" ".join(ended.words))],
+        )
 
 
 def test_texts_behind_the_fields_that_are_read(folder, called):
@@ -194,7 +198,7 @@ def test_texts_behind_the_fields_that_are_read(folder, called):
             status, text, _ = called("conflicts", given, *more)
             assert (status, text.count(where)) == (2, 1), (given, more, text[-300:])
     assert called("list", "c", "--without", "title")[0] == 2
-    called("export", "c", "tables", "--quiet")
+    called("catalogue", "export", "c", "tables", "--quiet")
     with sqlite3.connect(folder / "tables") as base:
         assert base.execute("SELECT count(*) FROM captions WHERE label = 'caption' AND text IS NULL").fetchone() == (1,)
         assert not base.execute("SELECT * FROM conflicts").fetchall()

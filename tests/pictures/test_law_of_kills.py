@@ -21,9 +21,9 @@ pytestmark = pytest.mark.skipif(not shutil.which("strace"), reason="not installe
 MORE = {
     "index, shards": ["index", "p", "q", "--shards", "shards", "--quiet", "--jobs", "1"],
     "index, several processes": ["index", "p", "--catalogue", "c", "--quiet", "--jobs", "2"],
-    "forget, shards": ["forget", "p/a.jpg", "--catalogue", "s"],
+    "forget, shards": ["catalogue", "forget", "p/a.jpg", "--catalogue", "s"],
     "list, shards": ["list", "s", "--with", "title"],
-    "merge, shards": ["merge", "s", "--catalogue", "out"],
+    "merge, shards": ["catalogue", "merge", "s", "--catalogue", "out"],
 }
 WRITING = {name: words for name, words in {**COMMANDS, **MORE}.items() if name not in ("history", "explain")}  # which write nothing
 # so that few pictures are several transactions
@@ -127,7 +127,7 @@ def state(folder):
 def left(archive, here):
     """What is in TMPDIR. A run that makes a folder there removes those of killed ones."""
     if os.listdir(here / "tmp"):
-        archive.run(here, ["export", "c", "swept", "--quiet"])
+        archive.run(here, ["catalogue", "export", "c", "swept", "--quiet"])
     return [it for it in os.listdir(here / "tmp") if not PYTHONS.fullmatch(it)]
 
 

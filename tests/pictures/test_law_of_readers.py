@@ -9,7 +9,7 @@ from contextlib import closing
 import pytest
 from made_blocks import BLOCKS, with_exif
 from made_files import app1, app1_xmp, exif, jpeg, title
-from studio import SMALL_JPEG, errors, put
+from studio import SMALL_JPEG, errors, name_of, put
 from test_outputs import Runner
 
 from exifnorm_pictures.cli import parser
@@ -26,12 +26,12 @@ COMMANDS = [
     "captions cat",
     "conflicts cat",
     "report cat --html tmp/page",
-    "export cat tmp/tables",
-    "merge cat d --catalogue tmp/all",
+    "catalogue export cat tmp/tables",
+    "catalogue merge cat d --catalogue tmp/all",
     "mend --catalogue cat tmp/copies",
 ]
 OF_PICTURES = {"compare", "show", "explain"}  # which read no catalogue
-WRITE_TO_IT = {"index", "nightly", "forget", "relocate"}
+WRITE_TO_IT = {"index", "nightly", "catalogue forget", "catalogue relocate"}
 MENDS = ("index", "Remove", "is no catalogue")  # one of these is in each message
 RAW = ("readonly", "unable to open", "disk I/O")  # what SQLite says
 OTHER = 65534
@@ -146,8 +146,8 @@ def asked(archive, here, words, setup):
 
 
 def test_each_command_that_reads_is_there():
-    tried = {words.split()[0] for words in COMMANDS}
-    assert tried == {name for name, *_ in parser._COMMANDS} - OF_PICTURES - WRITE_TO_IT
+    tried = {name_of(words) for words in COMMANDS}
+    assert tried == {name for name, *_ in parser.COMMANDS} - OF_PICTURES - WRITE_TO_IT
 
 
 @pytest.mark.parametrize("left", CRASHES, ids=lambda it: it.__name__)

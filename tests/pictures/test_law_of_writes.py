@@ -16,7 +16,7 @@ from pathlib import Path
 import pytest
 from made_blocks import BLOCKS, with_exif
 from made_files import app1_xmp, jpeg, title
-from studio import SMALL_JPEG, Studio, put
+from studio import SMALL_JPEG, Studio, name_of, put
 from test_attacks import journal_that_names
 from test_law_of_kills import ATTACH
 from test_outputs import Runner
@@ -93,7 +93,7 @@ def archive(top):
         "index q --catalogue ../home/mine --quiet",
         "index p --shards d --quiet",
         "report c --html r/",
-        "export c tables",
+        "catalogue export c tables",
         "nightly p --catalogue n",
     ):
         done = run(top, words.split())
@@ -186,11 +186,11 @@ COMMANDS = {
     "index p --catalogue new": catalogue("new"),
     "index p --catalogue c --keep-old kept": [*catalogue("c", "kept"), FILE],
     "index p --shards d --jobs 1": SHARDS,
-    "merge c old --catalogue new": catalogue("new"),
-    "merge d --catalogue c": catalogue("c"),
-    "forget p --catalogue c": catalogue("c"),
-    "forget p q --catalogue d": SHARDS,
-    "relocate c p q": catalogue("c"),
+    "catalogue merge c old --catalogue new": catalogue("new"),
+    "catalogue merge d --catalogue c": catalogue("c"),
+    "catalogue forget p --catalogue c": catalogue("c"),
+    "catalogue forget p q --catalogue d": SHARDS,
+    "catalogue relocate c p q": catalogue("c"),
     "verify c": [],
     "verify --bag bag": [],
     "verify c --evidence sums --state state": ["sums", FILE, "state", *catalogue("state/verified.catalogue")],
@@ -214,7 +214,7 @@ COMMANDS = {
     "report c --since old --html r/": [*folder_of_report("r"), *ASKED],
     "report c --html page.html --rules rules": ["page.html", FILE, *ASKED],
     "report d --html r/": [*folder_of_report("r"), *SHARDS],
-    "export c tables": ["tables", FILE, *ASKED],
+    "catalogue export c tables": ["tables", FILE, *ASKED],
     "mend p/refused.jpg copy.jpg": ["copy.jpg", FILE],
     "mend p out": ["out", "out/*"],
     "mend --catalogue c p out": ["out", "out/*"],
@@ -245,7 +245,7 @@ def tree(top):
 
 
 def test_each_command_is_there():
-    assert {words.split()[0] for words in COMMANDS} == {name for name, *_ in parser._COMMANDS}
+    assert {name_of(words) for words in COMMANDS} == {name for name, *_ in parser.COMMANDS}
 
 
 @pytest.mark.parametrize("stranger", STRANGERS, ids=lambda it: it.__name__)

@@ -47,7 +47,7 @@ def test_a_caption_of_2000_octets(name, folder, called):
     assert (row["before"]["value"], row["after"]["value"]) == (before, after)
     assert after in called("captions", "after.c")[1]
     assert next(csv.DictReader(io.StringIO(called("captions", "--csv", "after.c")[1].lstrip("\ufeff"))))["caption"] == after
-    called("export", "after.c", "tables")
+    called("catalogue", "export", "after.c", "tables")
     with sqlite3.connect(folder / "tables") as base:
         assert base.execute("SELECT value FROM fields WHERE name = 'IPTC:Caption-Abstract'").fetchall() == [(after,)]
         assert base.execute("SELECT text FROM captions WHERE label = 'caption'").fetchall() == [(after,)]

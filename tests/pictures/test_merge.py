@@ -46,7 +46,7 @@ class Merge(InFolder):
         return sorted(map(repr, found))
 
     def test_all_that_stood_in_each(self):
-        self.assertEqual(self.asked("merge", "one.c", "two.c", "--catalogue", "all"), ["8 pictures"])
+        self.assertEqual(self.asked("catalogue", "merge", "one.c", "two.c", "--catalogue", "all"), ["8 pictures"])
         self.assertEqual(self.contents("all"), self.contents("one.c", "two.c"))
         self.asked("index", "one", "two", "--catalogue", "at once", "--quiet")
         self.assertEqual(self.contents("all"), self.contents("at once"))
@@ -59,7 +59,7 @@ class Merge(InFolder):
             base.execute("UPDATE runs SET started = ?", (name,))
             base.commit()
             base.close()
-        self.asked("merge", "one.c", "two.c", "--catalogue", "all")
+        self.asked("catalogue", "merge", "one.c", "two.c", "--catalogue", "all")
         query = "SELECT DISTINCT started, root FROM pictures JOIN runs ON runs.id = run"
         found = sqlite3.connect(self.path("all")).execute(query).fetchall()
         self.assertEqual(sorted(found), [(it, os.fsencode(self.path(it))) for it in ("one", "two")])
@@ -68,10 +68,10 @@ class Merge(InFolder):
         write(self.path("one", "a.jpg"), OTHER)
         self.asked("index", "one", "--catalogue", "newer.c", "--quiet")
         for names, expected in ((("one.c", "newer.c"), "newer.c"), (("newer.c", "one.c"), "one.c"), (("one.c", "one.c"), "one.c")):
-            self.asked("merge", *names, "--catalogue", "all")
+            self.asked("catalogue", "merge", *names, "--catalogue", "all")
             self.assertEqual(self.contents("all"), self.contents(expected), names)
             os.remove(self.path("all"))
-        self.asked("merge", "one.c", "--catalogue", "two.c")
+        self.asked("catalogue", "merge", "one.c", "--catalogue", "two.c")
         self.assertEqual(sqlite3.connect(self.path("two.c")).execute("SELECT count(*) FROM pictures").fetchone(), (8,))
 
     def test_what_is_no_catalogue(self):
@@ -80,20 +80,23 @@ class Merge(InFolder):
         sqlite3.connect(self.path("v99")).execute("PRAGMA user_version = 99")
         for name in ("text", "missing", "v99", "one", "all"):
             with self.subTest(name):
-                self.asked("merge", "one.c", "--catalogue", "all")
+                self.asked("catalogue", "merge", "one.c", "--catalogue", "all")
                 before = self.contents("all")
-                self.asked("merge", "two.c", name, "--catalogue", "all", status=4)
+                self.asked("catalogue", "merge", "two.c", name, "--catalogue", "all", status=4)
                 self.assertEqual(len(self.complaint.splitlines()), 1)
                 self.assertEqual(self.contents("all"), before, "nothing was added")
 
     def test_a_mistyped_name_makes_no_catalogue(self):
-        self.asked("merge", "one.c", "missing", "--catalogue", "all", status=4)
+        self.asked("catalogue", "merge", "one.c", "missing", "--catalogue", "all", status=4)
         self.assertFalse(os.path.exists(self.path("all")), "it would seem to be a catalogue of no pictures")
 
     def test_a_full_disk(self):
-        self.asked("merge", "one.c", "--catalogue", "all")
+        self.asked("catalogue", "merge", "one.c", "--catalogue", "all")
         before = self.contents("all")
         line = 'ulimit -f 0; exec "$0" "$@"'
-        done = run(["bash", "-c", line, sys.executable, "-m", "exifnorm_pictures", "merge", "two.c", "--catalogue", "all"], self.folder)
+        done = run(
+            ["bash", "-c", line, sys.executable, "-m", "exifnorm_pictures", "catalogue", "merge", "two.c", "--catalogue", "all"],
+            self.folder,
+        )
         self.assertEqual((done.returncode, len(done.stderr.splitlines())), (4, 1), done)
         self.assertEqual(self.contents("all"), before)

@@ -47,27 +47,27 @@ CALLS = {
             same parts --kind iptc
             changed parts parts
     """,
-    "merge": """
-        merge few plain --catalogue all
-            merge few plain --catalogue all2 --json --debug
+    "catalogue merge": """
+        catalogue merge few plain --catalogue all
+            catalogue merge few plain --catalogue all2 --json --debug
             same --catalogue all --no-look --kind iptc
-        merge few full --catalogue all3
+        catalogue merge few full --catalogue all3
         index one/notes --catalogue other --sidecars --pixels --maker-notes --jobs 1 --quiet
             index archive/notes --catalogue another --sidecars --pixels --maker-notes --jobs 1 --quiet
-            merge other another --catalogue all4
+            catalogue merge other another --catalogue all4
     """,
-    "forget": """
-        forget archive/desk archive/refused --catalogue plain
-            forget plain archive/work --json --debug
-        forget --files-from some --catalogue full
-            forget --files-from some0 -0 --catalogue full --json
-        forget nowhere --catalogue full
+    "catalogue forget": """
+        catalogue forget archive/desk archive/refused --catalogue plain
+            catalogue forget plain archive/work --json --debug
+        catalogue forget --files-from some --catalogue full
+            catalogue forget --files-from some0 -0 --catalogue full --json
+        catalogue forget nowhere --catalogue full
     """,
-    "relocate": """
-        relocate few one/desk moved
-            relocate --catalogue few moved one/desk --json --debug
-        relocate few nowhere one
-        relocate few one/desk nowhere
+    "catalogue relocate": """
+        catalogue relocate few one/desk moved
+            catalogue relocate --catalogue few moved one/desk --json --debug
+        catalogue relocate few nowhere one
+        catalogue relocate few one/desk nowhere
     """,
     "verify": """
         verify full --quiet
@@ -232,12 +232,12 @@ CALLS = {
         report full --only-file fields --equal-numbers --since full.before --json --files-from some
         report full --files-from some0 -0 --json
     """,
-    "export": """
-        export full tables.sqlite --quiet
-        export --catalogue few few.sqlite --quiet
-        export plain plain.sqlite --json --no-look --limit 50 --debug --quiet
-        export full some.sqlite --files-from some --quiet
-        export full some0.sqlite --files-from some0 -0 --quiet
+    "catalogue export": """
+        catalogue export full tables.sqlite --quiet
+        catalogue export --catalogue few few.sqlite --quiet
+        catalogue export plain plain.sqlite --json --no-look --limit 50 --debug --quiet
+        catalogue export full some.sqlite --files-from some --quiet
+        catalogue export full some0.sqlite --files-from some0 -0 --quiet
     """,
     "mend": """
         mend archive/states/two-blocks.jpg mended.jpg
@@ -287,7 +287,7 @@ def test_what_a_command_prints(command, chain, museum, golden):
     os.makedirs("mended", exist_ok=True)
     heads = [f"$ exifnorm-pictures {line}\n" for line in lines_of(command)]
     for line in chain:
-        golden.part(f"museum/{command}.txt", transcript(line, museum), heads)
+        golden.part(f"museum/{command.replace(' ', '-')}.txt", transcript(line, museum), heads)
 
 
 def cell(column, value):
@@ -298,7 +298,7 @@ def cell(column, value):
 @needs("exiftool", "exiv2")
 def test_all_rows_of_pictures_and_blocks(museum, golden):
     """What is known of each picture and block: its state, cause, place, repair and what was not read."""
-    run("export full rows --quiet --no-look", museum)
+    run("catalogue export full rows --quiet --no-look", museum)
     with contextlib.closing(sqlite3.connect("rows")) as base:
         lines = []
         for table in ("pictures", "blocks"):

@@ -161,7 +161,7 @@ def test_two_merged_are_one(museum):
     for name, folders in zip(("first", "second"), halves):
         done(f"index {' '.join(f'archive/{it}' for it in folders.split())} --jobs 1 --catalogue {name} --quiet", museum)
     done(f"index {' '.join(f'archive/{it}' for it in ' '.join(halves).split())} --jobs 1 --catalogue whole --quiet", museum)
-    done("merge first second --catalogue merged", museum)
+    done("catalogue merge first second --catalogue merged", museum)
     for line in ("same", "list", "conflicts", "report --json", "list --count creator"):
         command, *more = line.split()
         found = [run(f"{command} --catalogue {name} {' '.join(more)}", museum) for name in ("whole", "merged")]

@@ -234,7 +234,7 @@ def test_mutated_files(archive):
         if number % 10 == 0:
             calls += [
                 ["report", "--catalogue", name, "--json"],
-                ["merge", name, "--catalogue", f"m{number}"],
+                ["catalogue", "merge", name, "--catalogue", f"m{number}"],
                 ["index", "p", "--catalogue", name, "--quiet", "--jobs", "1"],
             ]
     found = outcomes(archive, calls)

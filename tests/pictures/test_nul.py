@@ -88,7 +88,7 @@ def test_rules(archive, called):
 @needs("sqlite3")
 def test_tables_and_pages(archive, called):
     """The shell of SQLite prints all of a text, and a page has no NUL."""
-    assert called("export", "c", "tables", "--quiet")[0] == 0
+    assert called("catalogue", "export", "c", "tables", "--quiet")[0] == 0
     query = "SELECT text FROM captions WHERE label = 'caption' ORDER BY text"
     shown = subprocess.run(["sqlite3", "tables", query], capture_output=True, text=True, check=True).stdout
     assert shown.count("after") == 4

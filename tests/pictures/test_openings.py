@@ -28,9 +28,9 @@ PICTURES = {
 EACH = tuple(f"p/{it}" for it in PICTURES)
 CALLS = {
     "index": [("p", "--catalogue", "new", "--pixels"), ("p", "--shards", "new", "--whole")],
-    "merge": [("c", "--catalogue", "new")],
-    "forget": [("c", "p")],
-    "relocate": [("c", "p", "q")],
+    "catalogue merge": [("c", "--catalogue", "new")],
+    "catalogue forget": [("c", "p")],
+    "catalogue relocate": [("c", "p", "q")],
     "verify": [("c",)],
     "same": [("c",), ("c", "--kind", "pixels")],
     "changed": [("p", "q", "--pixels"), ("c", "q")],
@@ -44,7 +44,7 @@ CALLS = {
     "conflicts": [("p/a.jpg",), ("p",)],
     "explain": [EACH],
     "report": [("c", "--html", "page"), ("c", "--html", "pages/")],
-    "export": [("c", "tables")],
+    "catalogue export": [("c", "tables")],
     "mend": [(it, "copy.jpg") for it in EACH[:2]] + [("c", "copies"), ("--files-from", "names", "copies")],
 }
 OPENS = re.compile(rb'^(\d+) +open(?:at)?\(.*"(?:[^"]*/)?([pq]/[^"/]*)"')
@@ -76,11 +76,11 @@ def openings(log):
 
 
 def test_each_command_has_a_call():
-    assert set(CALLS) == {name for name, *_ in parser._COMMANDS}
+    assert set(CALLS) == {name for name, *_ in parser.COMMANDS}
 
 
 @pytest.mark.skipif(not shutil.which("strace"), reason="not installed: strace")
-@pytest.mark.parametrize("words", [(name, *words) for name, calls in CALLS.items() for words in calls], ids=" ".join)
+@pytest.mark.parametrize("words", [(*name.split(), *words) for name, calls in CALLS.items() for words in calls], ids=" ".join)
 def test_a_picture_is_opened_once(words, archive):
     traced = ("strace", "-f", "-qq", "-o", "log", "-e", "trace=open,openat,execve", sys.executable, "-m", "exifnorm_pictures")
     done = run([*traced, *words], archive)

@@ -25,9 +25,9 @@ BOWL, PHONE = f"{TOP}/samples/before/ceramics/2003-12-bowl.jpg", f"{TOP}/samples
 LISTED = ("--files-from", "list", "-0")
 COMMANDS = {
     "index": (*LISTED, "--catalogue", "other"),
-    "merge": ("--catalogue", "other", "c"),
-    "forget": (*LISTED, "--catalogue", "c"),
-    "relocate": ("c", "p", "q"),
+    "catalogue merge": ("--catalogue", "other", "c"),
+    "catalogue forget": (*LISTED, "--catalogue", "c"),
+    "catalogue relocate": ("c", "p", "q"),
     "verify": (*LISTED, "--catalogue", "c"),
     "same": (*LISTED, "--catalogue", "c"),
     "changed": (*LISTED, "p", "p"),
@@ -41,7 +41,7 @@ COMMANDS = {
     "conflicts": LISTED,
     "explain": LISTED,
     "report": (*LISTED, "--catalogue", "c", "--html", "page"),
-    "export": (*LISTED, "c", "tables"),
+    "catalogue export": (*LISTED, "c", "tables"),
     "mend": (*LISTED, "p"),
 }
 
@@ -68,7 +68,7 @@ def archive(folder, called):
     return folder
 
 
-@pytest.mark.parametrize("command", [name for name, *_ in parser._COMMANDS])
+@pytest.mark.parametrize("command", [name for name, *_ in parser.COMMANDS])
 def test_each_option_is_looked_at(command, archive, capsys, monkeypatch):
     """An option that no statement looks at would be accepted and have no effect. `main` itself looks at --debug, --limit and --xlsx. A record of
     options is made of all that a command has, so what counts is what is read of the record."""
@@ -79,7 +79,7 @@ def test_each_option_is_looked_at(command, archive, capsys, monkeypatch):
     arguments = type("Recorded", (argparse.Namespace,), {})(**given, session=Session(), least=Least())
     for kind in (type(arguments), Files, Fields, Output, Run):
         recorded(kind, read, monkeypatch)
-    importlib.import_module(f"exifnorm_pictures.cli.{command}").run(arguments)
+    importlib.import_module(f"exifnorm_pictures.cli.{command.split()[-1]}").run(arguments)
     assert accepted <= read, "an option of this command is never looked at"
 
 
@@ -101,8 +101,8 @@ WHOLE, HOWS = of_each_command("--whole"), of_each_command("--jobs", "--sidecars"
 CHOICES = [it for it in of_each_command("--ignore", "--only", "--ignore-file", "--only-file", "--equal-numbers") if it[0] != "conflicts"]
 NAMED = {  # whose catalogue can be given in two ways, which comes first or last among the names
     "index": ("c", "p"),
-    "forget": ("c", "p"),
-    "relocate": ("c", "p", "q"),
+    "catalogue forget": ("c", "p"),
+    "catalogue relocate": ("c", "p", "q"),
     "verify": ("c", "p"),
     "same": ("c",),
     "history": ("p/a.jpg", "c"),
@@ -112,7 +112,7 @@ NAMED = {  # whose catalogue can be given in two ways, which comes first or last
     "nightly": ("c", "p"),
     "conflicts": ("c",),
     "report": ("c", "--json"),
-    "export": ("c", "tables"),
+    "catalogue export": ("c", "tables"),
     "mend": ("c", "q"),
 }
 
@@ -126,15 +126,15 @@ def manual():
     """Of the manual page: the part of each command, and the options of several commands with the commands that each names; all, if it names none."""
     page = (Path(TOP) / "docs/exifnorm-pictures.1").read_text(encoding="utf-8").partition(".SH EXAMPLES")[0].replace("\\-", "-")
     commands_, fields, several = re.split(r"\n\.SH (?:FIELDS THAT COUNT|OPTIONS OF SEVERAL COMMANDS)\n", page)
-    parts = re.split(r'(?m)^\.TP\n\.BI "(\w+) ', commands_)
-    every = set(parser.parsers()[1])
+    parts = re.split(r'(?m)^\.TP\n\.BI "((?:catalogue )?\w+) ', commands_)
+    every = {name.split()[-1]: name for name in parser.parsers()[1]}
     before, *entries = re.split(r"(?m)^\.TP\n", fields)
     entries = [before + it for it in entries] + re.split(r"(?m)^\.TP\n", several)[1:]
     shared = []
     for part in entries:
         lines = [set(re.findall(r"[\w-]+", line)) - {"and"} for line in in_fonts(part.partition("\n.PP\n")[0])]
-        named = {word for words in lines if words <= every for word in words}
-        shared.append((part.partition("\n.PP\n")[0], named or every))
+        named = {every[word] for words in lines if words <= every.keys() for word in words}
+        shared.append((part.partition("\n.PP\n")[0], named or set(every.values())))
     return {name: f".BI {text}" for name, text in zip(parts[1::2], parts[2::2])}, shared
 
 
@@ -153,9 +153,9 @@ def test_a_traceback_of_each_command(command, option, archive, called, monkeypat
         raise RuntimeError("broken here")
 
     monkeypatch.delenv("EXIFNORM_DEBUG", raising=False)
-    monkeypatch.setattr(importlib.import_module(f"exifnorm_pictures.cli.{command}"), "run", fail)
+    monkeypatch.setattr(importlib.import_module(f"exifnorm_pictures.cli.{command.split()[-1]}"), "run", fail)
     for words, has_traceback in (((), False), ((option,), True)):
-        status, printed, messages = called(command, *COMMANDS[command], *words)
+        status, printed, messages = called(*command.split(), *COMMANDS[command], *words)
         assert (status, printed) == (4, "") and "broken here" in messages
         assert ("in fail" in messages) is has_traceback, words
 
@@ -165,9 +165,11 @@ def test_the_time_limit_of_each_command(command, option, archive, called, monkey
     """It is that of the session, in which the programs run."""
     limits = []
     monkeypatch.setattr(
-        importlib.import_module(f"exifnorm_pictures.cli.{command}"), "run", lambda arguments: limits.append(arguments.session.seconds) or 0
+        importlib.import_module(f"exifnorm_pictures.cli.{command.split()[-1]}"),
+        "run",
+        lambda arguments: limits.append(arguments.session.seconds) or 0,
     )
-    assert called(command, *COMMANDS[command], option, "7.5")[0] == 0
+    assert called(*command.split(), *COMMANDS[command], option, "7.5")[0] == 0
     assert limits == [7.5]
 
 
@@ -176,8 +178,8 @@ def test_a_spreadsheet_of_each_command_has_its_table(command, option, archive, c
     (archive / "p" / "b.jpg").write_bytes(jpeg(app1(exif(b"Otto"))))
     called("index", "p", "--catalogue", "d", "--quiet")
     words = {**COMMANDS, "same": ("--catalogue", "d"), "changed": ("c", "d")}[command]
-    table = list(csv.reader(io.StringIO(called(command, *words, "--csv")[1].lstrip("\ufeff"), newline="")))
-    status, printed, messages = called(command, *words, option, "t.xlsx")
+    table = list(csv.reader(io.StringIO(called(*command.split(), *words, "--csv")[1].lstrip("\ufeff"), newline="")))
+    status, printed, messages = called(*command.split(), *words, option, "t.xlsx")
     assert status in (0, 1, 2), messages
     rows = [[str("" if cell.value is None else cell.value) for cell in row] for row in openpyxl.load_workbook("t.xlsx").active.iter_rows()]
     assert rows == table and rows
@@ -193,7 +195,7 @@ def test_names_that_end_with_nul_of_each_command(command, option, archive, calle
         (archive / "c").write_bytes(catalogue)
         (archive / "made").mkdir()
         (archive / "names").write_bytes(names)
-        found = called(command, *words, option, "names", *given)[:2]
+        found = called(*command.split(), *words, option, "names", *given)[:2]
         shutil.rmtree(archive / "made")
         for path in ("other", "page", "tables"):
             (archive / path).unlink(missing_ok=True)
@@ -223,7 +225,7 @@ def test_fields_that_count_of_each_command(command, option, archive, called):
     }[command]
 
     def answer(*given):
-        return called(command, *words, *given)[:2]
+        return called(*command.split(), *words, *given)[:2]
 
     found = answer(option, *([] if option == "--equal-numbers" else ["names" if option.endswith("-file") else name]))
     assert found != answer()
@@ -238,12 +240,12 @@ def test_each_byte_is_read_by_each_command(command, option, archive, called, mon
     monkeypatch.setattr(budgets.Budget, "__init__", lambda self, whole=False: read.append(whole) or budget(self, whole))
     words = {"compare": ("p/a.jpg", "p/a.jpg"), "index": ("p", "--catalogue", "other")}.get(command, COMMANDS[command])
     words = [*(it for it in words if it not in LISTED), *(["p/a.jpg"] * (words == LISTED))]
-    called(command, *words)
+    called(*command.split(), *words)
     assert not any(read), "without the option"
     for path in ("other", "nights", "page"):
         (archive / path).unlink(missing_ok=True)
     read.clear()
-    called(command, *words, option)
+    called(*command.split(), *words, option)
     assert any(read)
 
 
@@ -252,13 +254,13 @@ def test_how_each_command_looks_at_pictures(command, option, archive, called, mo
     hows, how = [], batches.How.__new__
     monkeypatch.setattr(batches.How, "__new__", lambda *given, **more: hows.append(how(*given, **more)) or hows[-1])
     words = [it for it in {"index": ("p", "--catalogue", "other")}.get(command, COMMANDS[command]) if it not in LISTED]
-    called(command, *words, option, *(["3"] * (option == "--jobs")))
+    called(*command.split(), *words, option, *(["3"] * (option == "--jobs")))
     assert {getattr(it, option[2:]) for it in hows} >= {3 if option == "--jobs" else True}
 
 
 def test_each_command_with_a_catalogue_takes_it_as_a_name():
-    """`merge` makes the one of its option from those that are its names, and `changed` compares two."""
-    assert set(NAMED) == {name for name, spellings in options() if "--catalogue" in spellings} - {"merge"}
+    """`catalogue merge` makes the one of its option from those that are its names, and `changed` compares two."""
+    assert set(NAMED) == {name for name, spellings in options() if "--catalogue" in spellings} - {"catalogue merge"}
 
 
 @pytest.mark.parametrize("command", NAMED)
@@ -272,7 +274,7 @@ def test_the_catalogue_as_a_name_and_as_an_option(command, archive, called):
     words, before = NAMED[command], folder_of(archive)
 
     def answer(*given):
-        status, printed, _ = called(command, *given)
+        status, printed, _ = called(*command.split(), *given)
         written = folder_of(archive)
         for name in set(written) - set(before):
             (archive / name).unlink()
@@ -300,8 +302,8 @@ def folder_of(top):
     [
         (("verify", "p"), "verify CATALOGUE p"),
         (("verify", "p", "c"), "verify c p"),
-        (("forget", "p/no", "p/other"), "forget CATALOGUE p/no p/other"),
-        (("forget", "p", "c"), "forget c p"),
+        (("catalogue", "forget", "p/no", "p/other"), "catalogue forget CATALOGUE p/no p/other"),
+        (("catalogue", "forget", "p", "c"), "catalogue forget c p"),
         (("index", "p"), "index p --catalogue CATALOGUE"),
         (("index", "p", "c"), "index c p"),
         (("nightly", "p", "new"), "nightly p --catalogue new"),
@@ -321,12 +323,13 @@ def test_a_first_name_that_is_no_catalogue(words, proposed, archive, called):
 
 
 @pytest.mark.parametrize(
-    "words", [("same",), ("report", "--json"), ("export", "tables"), ("relocate", "p", "q"), ("list",), ("check", "rules")]
+    "words",
+    [("same",), ("report", "--json"), ("catalogue export", "tables"), ("catalogue relocate", "p", "q"), ("list",), ("check", "rules")],
 )
 def test_a_catalogue_that_is_missing_or_given_twice(words, archive, called, capsys):
     for more in ((), ("c", "--catalogue", "c")):
         with pytest.raises(SystemExit) as ended:
-            called(words[0], *more[:1], *words[1:], *more[1:])
+            called(*words[0].split(), *more[:1], *words[1:], *more[1:])
         assert ended.value.code == 3 and "CATALOGUE" in capsys.readouterr().err.splitlines()[-1]
 
 

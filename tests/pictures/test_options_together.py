@@ -18,7 +18,7 @@ import made_museum
 import pytest
 from exifnorm_pictures.cli import parser
 from museum import WHOLE, done, made, put_bag, run, standing_clock
-from studio import needs
+from studio import name_of, needs
 from test_museum import ELSEWHERE, RULES
 from test_status_table import CELLS as STATUSES
 
@@ -27,9 +27,9 @@ FORMS = {"": "", "--csv": "--csv", "--json": "--json", "--xlsx": "--xlsx sheet.x
 # The beginning of the line of each command, with each kind of arguments
 LINES = {
     "index": ("index p --catalogue n --jobs 1", "index p --catalogue c --jobs 1", "index p --shards parts --jobs 1"),
-    "merge": ("merge old c --catalogue n",),
-    "forget": ("forget p/desk p/work --catalogue c",),
-    "relocate": ("relocate --catalogue c p q",),
+    "catalogue merge": ("catalogue merge old c --catalogue n",),
+    "catalogue forget": ("catalogue forget p/desk p/work --catalogue c",),
+    "catalogue relocate": ("catalogue relocate --catalogue c p q",),
     "verify": ("verify --catalogue c --jobs 1", "verify --bag bag --jobs 1"),
     "same": ("same --catalogue c",),
     "changed": ("changed old c", "changed q p --jobs 1"),
@@ -43,7 +43,7 @@ LINES = {
     "conflicts": ("conflicts p c", "conflicts p/work", "conflicts --catalogue c"),
     "explain": ("explain p/refused/Unsorted.jpg", "explain block --block"),
     "report": ("report --catalogue c --json",),
-    "export": ("export --catalogue c tables",),
+    "catalogue export": ("catalogue export --catalogue c tables",),
     "mend": ("mend --catalogue c copies", "mend p/refused/Unsorted.jpg copies/a.jpg"),
 }
 # What stands after an option, with what it needs to have an effect
@@ -223,7 +223,7 @@ def outcome(line, folder):
     status, lines, messages = run(line, folder)
     text = "\n".join(messages)
     assert "Traceback" not in text and "internal error" not in text, (line, text)
-    assert (line.split()[0], status) in STATUSES or status in (3, 4), (line, status, text)
+    assert (name_of(line), status) in STATUSES or status in (3, 4), (line, status, text)
     return Outcome(status, lines, messages, written(folder))
 
 
@@ -261,7 +261,7 @@ class Forms:
     """One line in each form of output, and what these have to have in common."""
 
     def __init__(self, line, options, folder):
-        self.command, self.line, self.folder = line.split()[0], line, folder
+        self.command, self.line, self.folder = name_of(line), line, folder
         self.words = " ".join([line, *(words_of(it, self.command) for it in options)])
         self.plain = outcome(self.words, folder)
         taken = {*options, *line.split()}
@@ -278,7 +278,7 @@ class Forms:
                 assert (found.status, found.written) == (self.plain.status, self.plain.written), (self.words, form, found.messages)
         if "--json" in self.forms:
             objects = objects_of(self.forms["--json"].lines)
-            assert all(it["schema"].startswith(f"exifnorm-pictures/{self.command}/") and it["record"] for it in objects)
+            assert all(it["schema"].startswith(f"exifnorm-pictures/{self.command.split()[-1]}/") and it["record"] for it in objects)
             if "--csv" in self.forms:
                 named = {
                     row["picture"] for row in rows_of(self.forms["--csv"].lines) if row.get("picture")
@@ -298,7 +298,7 @@ class Forms:
 @functools.lru_cache(maxsize=None)  # two tests ask
 def able_options(line, archive):
     """The options that a command takes after this line. `--whole` is for folders, and not for catalogues."""
-    command = line.split()[0]
+    command = name_of(line)
     others = [it for it in options_of(command) if value_of(command, it) is not None and it not in line.split()]
     return [it for it in others if outcome(f"{line} {words_of(it, command)}", archive).status not in (3, 4)]
 
@@ -308,7 +308,7 @@ def able_options(line, archive):
 def test_each_form_says_the_same_whatever_the_options(line, archive):
     """With each set of options that may stand together, all forms of output have one status, name the same pictures, and write the same files; and
     the options that are about how a command works change nothing of what it prints."""
-    for row in [[], *rows(able_options(line, archive), groups_of(line.split()[0]))]:
+    for row in [[], *rows(able_options(line, archive), groups_of(name_of(line)))]:
         forms = Forms(line, row, archive)
         forms.check()
         quiet = [it for it in row if it not in NO_EFFECT or it == "--quiet" and line.startswith("index")]
@@ -367,7 +367,7 @@ SHOWING = ("--all", "--by-picture", "--columns", "--count", "--differ", "--each"
 
 def effects(line, form, archive):
     """The options that a line takes in a form of output, each with whether it makes any difference."""
-    command, groups = line.split()[0], groups_of(line.split()[0])
+    command, groups = name_of(line), groups_of(name_of(line))
     taken = {*line.split(), "--null" if form == "-0" else form}
     plain = {}
     for option in able_options(line, archive):

@@ -19,7 +19,7 @@ import zipfile
 import pytest
 from made_blocks import BLOCKS, with_exif
 from made_files import app1, app1_xmp, exif, jpeg, title
-from studio import SMALL_JPEG, Studio, errors, put
+from studio import SMALL_JPEG, Studio, errors, name_of, put
 
 from exifnorm_pictures.cli import parser
 
@@ -27,9 +27,9 @@ XLSX = ["--xlsx", "out.xlsx"]
 COMMANDS = {
     "index": ["index", "p", "--catalogue", "c", "--keep-old", "old", "--quiet", "--jobs", "1"],
     "index, new": ["index", "p", "--catalogue", "out", "--quiet", "--jobs", "1", "--pixels"],
-    "merge": ["merge", "c", "d", "--catalogue", "out"],
-    "forget": ["forget", "p/a.jpg", "--catalogue", "c"],
-    "relocate": ["relocate", "c", "p", "q"],
+    "catalogue merge": ["catalogue", "merge", "c", "d", "--catalogue", "out"],
+    "catalogue forget": ["catalogue", "forget", "p/a.jpg", "--catalogue", "c"],
+    "catalogue relocate": ["catalogue", "relocate", "c", "p", "q"],
     "verify": ["verify", "--catalogue", "c", "--evidence", "out", "--state", "state", "--quiet", "--jobs", "1"],
     "same": ["same", "--catalogue", "c", *XLSX],
     "changed": ["changed", "c", "d", *XLSX],
@@ -45,7 +45,7 @@ COMMANDS = {
     "explain": ["explain", "p/refused.jpg"],
     "report": ["report", "c", "--html", "page"],
     "report, folder": ["report", "c", "--since", "d", "--rules", "rules", "--html", "pages/"],
-    "export": ["export", "c", "tables", "--quiet"],
+    "catalogue export": ["catalogue", "export", "c", "tables", "--quiet"],
     "mend": ["mend", "p/refused.jpg", "out.jpg"],
     "mend, many": ["mend", "--catalogue", "c", "copies"],
 }
@@ -64,7 +64,15 @@ READ = {
     "--rules",
 }
 READ |= {"--exclude", "--bag", "old", "new"}
-KEEPS = ("index", "index, new", "merge", "nightly", "verify", "list", "check")  # what they have done when they are ended, they keep
+KEEPS = (
+    "index",
+    "index, new",
+    "catalogue merge",
+    "nightly",
+    "verify",
+    "list",
+    "check",
+)  # what they have done when they are ended, they keep
 NO_PRINT = [name for name, words in COMMANDS.items() if "--xlsx" not in words and name not in ("report", "report, folder")]
 
 # Runs a command after a step of Python, in a process that a first one forks. The k-th of its events, of files and of SQLite, does something.
@@ -74,7 +82,7 @@ from exifnorm_pictures.cli.main import main
 import exifnorm_pictures.catalogue.store, exifnorm_pictures.scan.looking
 for line in sys.stdin:
     folder, words, setup = json.loads(line)
-    importlib.import_module("exifnorm_pictures.cli." + words[0])
+    importlib.import_module("exifnorm_pictures.cli." + words[words[0] == "catalogue"])
     pipes = [os.pipe() for _ in "oe"]  # no command prints more than a pipe has room for
     process = os.fork()
     if not process:
@@ -115,11 +123,11 @@ os._exit(status)
 
 def test_all_commands_and_what_they_write_are_tried():
     commands = parser.parsers()[1]
-    assert {words[0] for words in COMMANDS.values()} == set(commands)
+    assert {name_of(" ".join(words)) for words in COMMANDS.values()} == set(commands)
     for name, one in commands.items():
-        tried = {word for words in COMMANDS.values() if words[0] == name for word in words}
+        tried = {word for words in COMMANDS.values() if name_of(" ".join(words)) == name for word in words}
         files = {(it.option_strings or [it.dest])[-1] for it in one._actions if it.type is parser._name}
-        elsewhere = {"export": {"file"}, "mend": {"out"}, "index": {"--shards"}}  # the last in test_index_shards.py
+        elsewhere = {"catalogue export": {"file"}, "mend": {"out"}, "index": {"--shards"}}  # the last in test_index_shards.py
         assert files - tried - READ <= elsewhere.get(name, set()), name
 
 
@@ -170,7 +178,11 @@ def runner(tmp_path_factory):
     (archive / "rules").write_text("every picture needs credit\n")
     it.run(archive, ["index", "p", "--catalogue", "c", "--quiet", "--pixels"])
     it.run(archive, ["index", "q", "--catalogue", "d", "--quiet", "--pixels"])
-    for words in (["report", "c", "--html", "page"], ["report", "c", "--html", "pages/"], ["export", "c", "tables", "--quiet"]):
+    for words in (
+        ["report", "c", "--html", "page"],
+        ["report", "c", "--html", "pages/"],
+        ["catalogue", "export", "c", "tables", "--quiet"],
+    ):
         assert it.run(archive, words)[0] == 0
     (archive / "p" / "new.jpg").write_bytes(jpeg(app1(exif(b"New"))))
     shutil.copytree(archive, it.archive)
@@ -259,7 +271,7 @@ def test_no_standard_output(name, runner, whole):
         here = runner.fresh()
         status, said = runner.run(here, COMMANDS[name], setup)
         about = (COMMANDS[name], setup, status, said)
-        assert status == 4 and len(errors(said)) == 1 or name == "export" and status == 0, about
+        assert status == 4 and len(errors(said)) == 1 or name == "catalogue export" and status == 0, about
         check(runner, whole, name, here, about)
 
 
@@ -280,7 +292,7 @@ def test_signals(name, runner, whole):
         check(runner, whole, name, here, about)
 
 
-WITH_CATALOGUE = ("index", "index, new", "merge", "forget", "relocate", "nightly")
+WITH_CATALOGUE = ("index", "index, new", "catalogue merge", "catalogue forget", "catalogue relocate", "nightly")
 
 
 @pytest.mark.parametrize("how", ("os.unlink({})", "os.rename({}, 'elsewhere')", "os.truncate({}, 5000)"))

@@ -86,7 +86,7 @@ def test_which_caption_wins(name, folder, called):
     assert [it["own"] for it in found] == [it["texts"] == [own] for it in found]
     assert ("own text" in called("captions", "a.jpg")[1]) == bool(own)
     called("index", "a.jpg", "--catalogue", "c", "--quiet")
-    called("export", "c", "t")
+    called("catalogue", "export", "c", "t")
     with sqlite3.connect("t") as base:
         assert [bool(it) for it, in base.execute("SELECT own FROM captions")] == [it["own"] for it in found]
 
@@ -97,6 +97,6 @@ def test_the_camera_of_the_file(folder, called):
     (row,) = csv.DictReader(called("captions", "--csv", "a.jpg")[1].splitlines())
     assert (row["caption"], row["camera's text"]) == ("", "ABC camera")
     called("index", "a.jpg", "--catalogue", "c", "--quiet")
-    called("export", "c", "t")
+    called("catalogue", "export", "c", "t")
     with sqlite3.connect("t") as base:
         assert base.execute("SELECT text, own FROM captions").fetchall() == [("ABC camera", 1)]

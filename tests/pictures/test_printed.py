@@ -135,7 +135,7 @@ class Commands(InProcess):
             ("index", "@/p/e.jpg", "--catalogue", "@/d", "--quiet"),
             ("changed", "@/p", "@/c"),
             ("report", "--catalogue", "@/c", "--html", "@/page.html"),
-            ("export", "@/c", "@/tables"),
+            ("catalogue", "export", "@/c", "@/tables"),
         ):
             begun, begin = [], session.Session.__enter__
             with mock.patch.object(session.Session, "__enter__", lambda it: begun.append(it) or begin(it)):

@@ -11,6 +11,7 @@ import tracemalloc
 from contextlib import closing
 
 import pytest
+from studio import name_of
 from test_scale import many_rows
 
 from exifnorm_pictures.catalogue import store
@@ -52,7 +53,7 @@ COMMANDS = (
     "changed C D --no-exiftool --ignore Artist",
     "changed C D --no-exiftool --only creator --json",
     "report --no-look --catalogue D --since C --html page",
-    "export --no-look C tables",
+    "catalogue export --no-look C tables",
     "list C --where creator=anna --columns creator",
     "list C --without credit -0",
     "list C --count creator",
@@ -64,11 +65,11 @@ COMMANDS = (
     "history /archive/one/00000017.jpg C D",
     "captions C --json",
     "conflicts C --json",
-    "merge C D --catalogue E",
+    "catalogue merge C D --catalogue E",
     "list E --with creator -0",
-    "relocate E /archive new",
+    "catalogue relocate E /archive new",
     "verify --catalogue E --jobs 1 --quiet",
-    "forget new --catalogue E",
+    "catalogue forget new --catalogue E",
     "mend C new",
     "nightly /archive --catalogue D --json",
 )
@@ -115,7 +116,7 @@ def works(counting, tmp_path_factory):
 
 
 def test_each_command_that_reads_a_catalogue_is_counted():
-    assert {words.split()[0] for words in COMMANDS} | OF_FILES == set(parsers()[1])
+    assert {name_of(words) for words in COMMANDS} | OF_FILES == set(parsers()[1])
 
 
 @pytest.mark.parametrize("words", COMMANDS)

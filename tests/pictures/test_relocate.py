@@ -30,7 +30,7 @@ def archive(folder, called):
 @pytest.fixture
 def summary(called):
     def of(*words):
-        status, printed, _ = called("relocate", *words, "--json")
+        status, printed, _ = called("catalogue", "relocate", *words, "--json")
         found = json.loads(printed)
         return status, (found["as_before"], found["changed"], found["absent"])
 
@@ -125,5 +125,5 @@ def test_pictures_that_were_indexed_there_before_are_one(archive, folder, called
 def test_wrong_names(archive, folder, called, words):
     (folder / "q").mkdir()
     before = (folder / "c").read_bytes()
-    status, printed, messages = called("relocate", *words)
+    status, printed, messages = called("catalogue", "relocate", *words)
     assert status in (3, 4) and printed == "" and messages and (folder / "c").read_bytes() == before

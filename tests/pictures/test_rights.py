@@ -62,10 +62,10 @@ def test_a_copy_of_another_group_allows_its_members_no_more_than_all(folder, mod
 
 
 WRITING = {
-    "export": ("export", "c", "out"),
+    "catalogue export": ("catalogue", "export", "c", "out"),
     "report": ("report", "--catalogue", "c", "--html", "out"),
     "index --keep-old": ("index", "p", "--catalogue", "c", "--keep-old", "out", "--quiet"),
-    "merge": ("merge", "--catalogue", "out", "c"),
+    "catalogue merge": ("catalogue", "merge", "--catalogue", "out", "c"),
 }
 
 

@@ -146,7 +146,7 @@ class Scale(WithPictures):
         self.assertEqual([json.loads(it)["count"] for it in self.said.splitlines()[:-1]], [120000])
 
     def test_memory_of_export(self):
-        costs = [self.counted("export", "--no-look", self.catalogue(f"of{count}", count), "tables") for count in (2000, 20000)]
+        costs = [self.counted("catalogue", "export", "--no-look", self.catalogue(f"of{count}", count), "tables") for count in (2000, 20000)]
         self.grows_little(*costs, MORE_GROWTH)
 
     def test_memory_of_changed_where_all_moved(self):
@@ -278,7 +278,7 @@ class Scale(WithPictures):
             (["same", "--catalogue", "c"], {*fields, "exifnorm_pictures.comparison.groups"}),
             (["index", "p", "--catalogue", "c", "--quiet"], set()),
             (["index", "p", "--catalogue", "e", "--quiet"], {"exifnorm", "xml", *reading}),
-            (["merge", "c", "--catalogue", "d"], set()),
+            (["catalogue", "merge", "c", "--catalogue", "d"], set()),
             (["changed", "c", "c"], {*fields, "exifnorm_pictures.comparison.changed"}),
             (["show", "p/0000.jpg"], {"exifnorm", "xml", reading[0], "exifnorm_pictures.judge.repairs"}),
         ):

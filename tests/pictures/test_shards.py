@@ -197,9 +197,9 @@ def test_a_missing_catalogue_is_said(archive, called_lines):
         ("list", "shards"),
         ("changed", "shards", "shards"),
         ("report", "shards", "--json"),
-        ("export", "shards", "tables"),
+        ("catalogue", "export", "shards", "tables"),
         ("captions", "shards", "--json"),
-        ("merge", "shards", "--catalogue", "all"),
+        ("catalogue", "merge", "shards", "--catalogue", "all"),
     ):
         status, lines, messages = called_lines(*words)
         assert status == 2 and lines, (words, lines)
@@ -243,7 +243,11 @@ def test_a_catalogue_that_lies_elsewhere_is_read_alone(archive, called_lines, wa
         (archive / "shards" / "catalogues").rename(archive / "list")
         (archive / "shards" / "catalogues").symlink_to(archive / "list")
     before = other.read_bytes(), (archive / "shards" / "two.catalogue").read_bytes()
-    for words, due in (("forget one two --catalogue shards", 4), ("index one --shards shards", 3), ("list shards --with title", 0)):
+    for words, due in (
+        ("catalogue forget one two --catalogue shards", 4),
+        ("index one --shards shards", 3),
+        ("list shards --with title", 0),
+    ):
         status, _, messages = called_lines(*words.split())
         assert status == due and ("lies elsewhere" in messages or not due), (words, messages)
         assert (other.read_bytes(), (archive / "shards" / "two.catalogue").read_bytes()) == before, words
@@ -274,8 +278,11 @@ def test_a_folder_is_one_of_pictures_unless_its_list_says_otherwise(archive, cal
 @pytest.mark.parametrize(
     "words, instead",
     [
-        (("relocate", "shards", "one", "two"), "merge FOLDER --catalogue NEW"),
-        (("relocate", "shards/one.catalogue", "one", "two"), "merge FOLDER --catalogue NEW"),  # whose name index wouldn't find again
+        (("catalogue", "relocate", "shards", "one", "two"), "catalogue merge FOLDER --catalogue NEW"),
+        (
+            ("catalogue", "relocate", "shards/one.catalogue", "one", "two"),
+            "catalogue merge FOLDER --catalogue NEW",
+        ),  # whose name index wouldn't find again
         (("nightly", "one", "--catalogue", "shards"), "changed BEFORE shards"),
     ],
 )
@@ -291,7 +298,7 @@ def test_history_is_that_of_the_merged_catalogues(archive, called_lines):
     (archive / "one" / "one.jpg").write_bytes(titled("new"))
     assert called_lines("index", "one", "--catalogue", "shards/one.catalogue", "--quiet")[0] == 0
     for name in ("before", "shards"):
-        assert called_lines("merge", name, "--catalogue", f"{name}-as-one")[0] == 0
+        assert called_lines("catalogue", "merge", name, "--catalogue", f"{name}-as-one")[0] == 0
     status, lines, messages = called_lines("history", "one/one.jpg", "before", "shards")
     assert (status, messages) == (1, "") and any("new" in line for line in lines), lines
     merged_lines = called_lines("history", "one/one.jpg", "before-as-one", "shards-as-one")[1]
@@ -368,7 +375,7 @@ def test_as_many_as_sqlite_attaches_and_more(folder, called_lines, count):
         "list {} --json",
         "report {} --json",
         "verify {} --quiet --json",
-        "export {} tables --json",
+        "catalogue export {} tables --json",
     ):
         both = [called_lines(*words.format(name).split()) for name in ("shards", "all")]
         assert both[0][0] == both[1][0], words
@@ -388,7 +395,7 @@ OVER_SHARDS = (
     "list {} --where title=x",
     "check rules {}",
     "report {} --no-look --html page",
-    "export --no-look {} tables",
+    "catalogue export --no-look {} tables",
 )
 
 

@@ -235,19 +235,21 @@ class TestCatalogue:
             (("changed", "plain", "c"), 4),
             (("changed", "c", "plain"), 4),
             (("report", "--catalogue", "c", "--since", "plain", "--json"), 4),
-            (("merge", "plain", "--catalogue", "c"), 4),
-            (("merge", "c", "--catalogue", "plain"), 4),
-            (("merge", "plain", "c", "--catalogue", "both"), 4),
-            (("merge", "c", "plain", "--catalogue", "both"), 4),
+            (("catalogue", "merge", "plain", "--catalogue", "c"), 4),
+            (("catalogue", "merge", "c", "--catalogue", "plain"), 4),
+            (("catalogue", "merge", "plain", "c", "--catalogue", "both"), 4),
+            (("catalogue", "merge", "c", "plain", "--catalogue", "both"), 4),
         ):
             found = called_lines(*words)
             assert found[0] == status and "sidecars" in found[2] and "Traceback" not in found[2], (words, found)
         assert not (self.folder / "both").exists()
-        assert called_lines("merge", "c", "--catalogue", "both")[0] == 0
+        assert called_lines("catalogue", "merge", "c", "--catalogue", "both")[0] == 0
         assert called_lines("changed", "both", "c")[0] == 0
         assert called_lines("changed", "p", "c")[0] == 0, "a folder is read as the catalogue was"
-        assert called_lines("forget", "p", "--catalogue", "plain")[0] == 0
-        assert called_lines("merge", "c", "--catalogue", "plain")[0] == 0, "a catalogue without pictures takes those of either kind"
+        assert called_lines("catalogue", "forget", "p", "--catalogue", "plain")[0] == 0
+        assert (
+            called_lines("catalogue", "merge", "c", "--catalogue", "plain")[0] == 0
+        ), "a catalogue without pictures takes those of either kind"
 
 
 def test_the_bytes_of_all_sidecars_are_limited(tmp_path):
@@ -313,7 +315,7 @@ def test_a_sidecar_counts_in_each_answer(folder, called):
     (folder / "p" / "a.xmp").write_bytes(xmp("<dc:creator><rdf:Seq><rdf:li>Ben</rdf:li></rdf:Seq></dc:creator>"))
     (folder / "rules").write_text("creator is Anna")
     called("index", "p", "--sidecars", "--catalogue", "c", "--quiet")
-    called("export", "c", "c.sqlite")
+    called("catalogue", "export", "c", "c.sqlite")
     called("report", "c", "--html", "page.html")
     rows = contextlib.closing(sqlite3.connect("c.sqlite"))
     with rows as base:

@@ -43,10 +43,10 @@ ARCHIVES = {
 CASES = {
     ("index", 0): ("refused", INDEX),
     ("index", 2): ("not readable", INDEX),
-    ("merge", 0): ("refused", INDEX, "merge c --catalogue d"),
-    ("forget", 0): ("good", INDEX, "forget p --catalogue c"),
-    ("relocate", 0): ("good", INDEX, "relocate c p copy"),
-    ("relocate", 1): ("gone", INDEX, "relocate c p copy"),
+    ("catalogue merge", 0): ("refused", INDEX, "catalogue merge c --catalogue d"),
+    ("catalogue forget", 0): ("good", INDEX, "catalogue forget p --catalogue c"),
+    ("catalogue relocate", 0): ("good", INDEX, "catalogue relocate c p copy"),
+    ("catalogue relocate", 1): ("gone", INDEX, "catalogue relocate c p copy"),
     ("verify", 0): ("good", INDEX, "verify --catalogue c"),
     ("verify", 1): ("gone", INDEX, "verify --catalogue c"),
     ("verify", 2): ("good", "index p --catalogue c --quiet", "verify --catalogue c"),
@@ -79,7 +79,7 @@ CASES = {
     ("explain", 0): ("good", "explain p/a.jpg"),
     ("explain", 2): ("refused", "explain p/a.jpg"),
     ("report", 0): ("refused", INDEX, "report c --html page"),
-    ("export", 0): ("refused", INDEX, "export c tables"),
+    ("catalogue export", 0): ("refused", INDEX, "catalogue export c tables"),
     ("mend", 0): ("lossless", "mend p/a.jpg copy.jpg"),
     ("mend", 1): ("lossy", "mend p/a.jpg copy.jpg"),
     ("mend", 2): ("not mended", "mend p/a.jpg copy.jpg"),
@@ -129,7 +129,7 @@ def test_bad_arguments_and_a_file_that_is_no_catalogue(command, folder, called):
     """3 for an option that there isn't, and 4 for a text in place of a catalogue, if the command reads one."""
     put(folder, {"c": b"text", "p/a.jpg": GOOD, "rules": b"every picture needs title\n"})
     with pytest.raises(SystemExit) as refused:
-        called(command, "--no-such-option")
+        called(*command.split(), "--no-such-option")
     assert refused.value.code == 3
     lines = {case[-1] for (name, _), case in CASES.items() if name == command}
     for line in lines:

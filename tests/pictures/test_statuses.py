@@ -73,7 +73,7 @@ def test_a_copy_of_a_damaged_file_is_not_mended(asked, folder):
         ("changed", "p", "p"),
         ("changed", "c", "c"),
         ("report", "--catalogue", "c", "--json"),
-        ("export", "c", "t"),
+        ("catalogue", "export", "c", "t"),
     ],
     ids=" ".join,
 )
@@ -187,11 +187,11 @@ def test_a_catalogue_that_is_gone_before_the_end(asked, folder, harm, monkeypatc
         ("captions", "c"),
         ("conflicts", "c"),
         ("report", "--catalogue", "c", "--json"),
-        ("export", "c", "tables"),
+        ("catalogue", "export", "c", "tables"),
         ("verify", "--catalogue", "c"),
         ("index", "p", "--catalogue", "c", "--quiet"),
-        ("merge", "c", "--catalogue", "d"),
-        ("forget", "p", "--catalogue", "c"),
+        ("catalogue", "merge", "c", "--catalogue", "d"),
+        ("catalogue", "forget", "p", "--catalogue", "c"),
     ],
     ids=lambda words: " ".join(words),
 )

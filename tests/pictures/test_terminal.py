@@ -34,7 +34,7 @@ COMMANDS = (
     "conflicts p --ignore title",
     "explain p",
     "explain p/arrivals/IMG_20240502.jpg",
-    "export c c.sqlite",
+    "catalogue export c c.sqlite",
     "verify --catalogue c",
     "mend p/arrivals/IMG_20240502.jpg mended.jpg",
 )

@@ -284,7 +284,7 @@ def test_a_picture_that_was_damaged_before(archive, called):
     status, printed, _ = called("verify", "c")
     assert status == 0 and re.search(r"2 of these were already damaged before.*\n +\S*/a.jpg \(the file ends", printed), printed
     (archive / "new.jpg").unlink()
-    called("forget", "c", "p/moved.jpg")
+    called("catalogue", "forget", "c", "p/moved.jpg")
     (archive / "b.jpg").write_bytes((PICTURE + b"trailer")[: len(PICTURE) // 2])
     status, printed, _ = called("verify", "--catalogue", "c", "--list", "damaged")
     names = [line.partition(":")[0] for line in printed.splitlines() if line.startswith("/")]

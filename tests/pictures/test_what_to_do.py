@@ -28,9 +28,9 @@ def test_export_to_a_table(pictures, called, name):
     """A database under the name of a table would be opened by a program for spreadsheets."""
     os.mkdir("x.y")
     called("index", "p q", "--catalogue", "c", "--quiet")
-    status, _, messages = called("export", "c", name)
+    status, _, messages = called("catalogue", "export", "c", name)
     assert status == 3 and "--csv" in messages and not os.path.exists(name)
-    assert called("export", "c", "a.csv.sqlite")[0] == 0
+    assert called("catalogue", "export", "c", "a.csv.sqlite")[0] == 0
 
 
 def test_help(called, capsys):

@@ -98,15 +98,15 @@ def test_what_a_maker_note_may_have(with_a_maker_note, called):
             assert json.loads(called(*words, "--only", name, "--json")[1].splitlines()[-1])["maker_notes_not_read"] == 1
         assert "MakerNotes were not read" not in called(*words, "--only", "creator")[1]
         assert "MakerNotes were not read" not in called(*words)[1]
-    assert SAID in called("export", "c", "c.sqlite")[1]
+    assert SAID in called("catalogue", "export", "c", "c.sqlite")[1]
     os.remove("c.sqlite")
-    assert json.loads(called("export", "c", "c.sqlite", "--json")[1])["maker_notes_not_read"] == 1
+    assert json.loads(called("catalogue", "export", "c", "c.sqlite", "--json")[1])["maker_notes_not_read"] == 1
     called("report", "--catalogue", "c", "--html", "page.html")
     assert SAID in (with_a_maker_note / "page.html").read_text(encoding="utf-8")
 
 
 def test_without_maker_notes(folders, called):
     assert "MakerNotes" not in called("changed", "p", "q", "--only", "serial")[1]
-    assert "MakerNotes" not in called("export", "c", "c.sqlite")[1]
+    assert "MakerNotes" not in called("catalogue", "export", "c", "c.sqlite")[1]
     called("report", "--catalogue", "c", "--html", "page.html")
     assert "MakerNotes were not read" not in (folders / "page.html").read_text(encoding="utf-8")

@@ -215,7 +215,7 @@ def _check_head(name: str, make: bool) -> None:
         if list_of(name) is not None:
             raise NoCatalogue(
                 f"{name} is a folder of catalogues, and this command takes one catalogue, such as all of them merged:"
-                f" exifnorm-pictures merge {folder} --catalogue NEW"
+                f" exifnorm-pictures catalogue merge {folder} --catalogue NEW"
             )
         raise NoCatalogue(f"{name} is a folder and not a catalogue. To make one: exifnorm-pictures index {folder} --catalogue NEW")
     if not stat.S_ISREG(kind):

@@ -127,7 +127,7 @@ def _next_steps(catalogue: Catalogue, name: str, excluded: int) -> Iterator[str]
     if count := 0 if catalogue.has_sidecars() else number_of(catalogue, OF_XMP):
         yield f"{xmp_files_alone(count)}: index --sidecars, with a new catalogue, takes those beside pictures as metadata of them"
     if excluded:
-        yield f"{excluded:,} excluded, and in the catalogue from an earlier run: exifnorm-pictures forget {word} FOLDER"
+        yield f"{excluded:,} excluded, and in the catalogue from an earlier run: exifnorm-pictures catalogue forget {word} FOLDER"
 
 
 def _parts(catalogue: Catalogue) -> List[str]:

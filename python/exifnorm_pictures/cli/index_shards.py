@@ -82,4 +82,4 @@ def _next_steps(where: str, outcome: Outcome) -> Iterator[str]:
     if outcome.refused:
         yield f"{outcome.refused:,} refused or unreadable: exifnorm-pictures report {word} --html report/"
     if outcome.excluded:
-        yield f"{outcome.excluded:,} excluded, and in a catalogue from an earlier run: exifnorm-pictures forget {word} FOLDER"
+        yield f"{outcome.excluded:,} excluded, and in a catalogue from an earlier run: exifnorm-pictures catalogue forget {word} FOLDER"

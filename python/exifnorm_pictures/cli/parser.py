@@ -6,13 +6,17 @@ import argparse
 import itertools
 import shlex
 import sys
-from typing import IO, Any, Callable, Dict, NoReturn, Optional, Sequence, Tuple
+from typing import IO, Any, Callable, Dict, Iterable, NoReturn, Optional, Sequence, Tuple
 
 from ..model.found import KINDS
 from ..model.budgets import PROGRAM_SECONDS
 from ..model.texts import safe
 from .exit_codes import USAGE
 
+_ABOUT = """Compares the Exif, IPTC and XMP metadata of many pictures. It finds pictures
+with the same metadata, lists what changed in each, and explains and mends
+metadata that break the rules of their format (refused)."""
+_Formatter = argparse.RawDescriptionHelpFormatter
 PIXELS, FILE = "pixels", "file"  # the kinds of groups with the same coded picture, and with the same bytes
 
 
@@ -43,14 +47,6 @@ class _Parser(argparse.ArgumentParser):
             super()._print_message(message, file)
 
 
-class _Formatter(argparse.RawDescriptionHelpFormatter):
-    """Leaves space for the longest command, whose indentation argparse doesn't count."""
-
-    def __init__(self, prog: str) -> None:
-        super().__init__(prog)
-        self._action_max_length = 2 + _LONGEST + self._indent_increment
-
-
 class _Version(argparse.Action):
     """Prints the version of this command and of the library, and ends."""
 
@@ -69,9 +65,11 @@ def parsed(words: Optional[Sequence[str]] = None) -> argparse.Namespace:
     """
     given = list(sys.argv[1:] if words is None else words)
     if given[:1] == ["help"]:
-        given = [*given[1:2], "--help"]
-    # all parsers are needed only to list the commands
-    whole, commands = parsers(given[0] if given and given[0] in ("--version", *_NAMES) else None)
+        given = [*given[1:3], "--help"]
+    if given[:1] == [UPKEEP]:
+        _refuse_upkeep(given[1:])
+        given = [" ".join(given[:2]), *given[2:]]
+    whole, commands = parsers(given[0] if given else None)
     _refuse_unknown(whole, commands, given)
     for word in itertools.takewhile(lambda word: word != "--", given):
         if word.startswith("--") and word.endswith("=--"):  # of which argparse makes an empty list
@@ -87,6 +85,16 @@ def parsed(words: Optional[Sequence[str]] = None) -> argparse.Namespace:
         arguments = commands[given[0]].parse_intermixed_args(given[1:], argparse.Namespace(command=given[0]))
     _refuse_apart(commands[arguments.command], arguments)
     return arguments
+
+
+def _refuse_upkeep(words: Sequence[str]) -> None:
+    """Prints the help of the commands about catalogues, if it is asked for, and refuses a line without one of them."""
+    if not words or words[0].startswith("-"):
+        name = f"exifnorm-pictures {UPKEEP}"
+        listed = _listed("Commands", [(command.split()[1], about) for command, about, _ in _OF_CATALOGUES])
+        parser = _Parser(name, f"{name} [-h] COMMAND ...", listed, formatter_class=_Formatter)
+        parser.parse_args(words)
+        parser.error("give a command: " + ", ".join(command.split()[1] for command, *_ in _OF_CATALOGUES))
 
 
 def _refuse_question(whole: _Parser, arguments: argparse.Namespace, others: Sequence[str]) -> None:
@@ -115,6 +123,8 @@ def _refuse_apart(parser: _Parser, arguments: argparse.Namespace) -> None:
 def _refuse_unknown(whole: _Parser, commands: "Dict[str, _Parser]", words: Sequence[str]) -> None:
     """Refuses a command or an option that isn't there, and names the one that may be meant."""
     first = words[0] if words else "--help"
+    if first in WENT:
+        whole.exit(USAGE, f"exifnorm-pictures: there is no command {first} any more; use: exifnorm-pictures {WENT[first]}\n")
     if not first.startswith("-") and first not in _NAMES:
         whole.error(f"there is no command {first}{_meant(first, _NAMES) or '; exifnorm-pictures --help lists them'}")
     parser = commands.get(first, whole)
@@ -147,18 +157,25 @@ def parsers(only: Optional[str] = None) -> "Tuple[_Parser, Dict[str, _Parser]]":
     """The parser of the arguments, and those of each command, or of one alone: to make all of them takes longer than to read a picture."""
     whole = _Parser(
         prog="exifnorm-pictures",
-        description="Compares the Exif, IPTC and XMP metadata of many pictures. It finds pictures\n"
-        "with the same metadata, lists what changed in each, and explains and mends\nmetadata that break the rules of their format (refused).",
+        usage="exifnorm-pictures [-h] [--version] COMMAND ...",
+        description="\n\n".join(
+            [
+                _ABOUT,
+                _listed("Daily commands, for an archive", (command[:2] for command in _DAILY)),
+                _listed("Commands for a picture, or two", (command[:2] for command in _OF_PICTURES)),
+                _listed("Upkeep", [(UPKEEP, "merge catalogues, forget or relocate pictures, export tables")]),
+            ]
+        ),
         formatter_class=_Formatter,
     )
     whole.add_argument("--version", action=_Version, nargs=0, help="the version")
-    commands = whole.add_subparsers(dest="command", metavar="COMMAND", required=True)
+    commands = whole.add_subparsers(prog=whole.prog, dest="command", metavar="COMMAND", required=True, help=argparse.SUPPRESS)
     each: Dict[str, _Parser] = {}
-    for name, words, build in _COMMANDS:
+    for name, words, build in COMMANDS:
         if only not in (None, name):
             continue
         about = words[0].upper() + words[1:] + "."
-        parser = commands.add_parser(name, help=words, description=about, formatter_class=argparse.RawDescriptionHelpFormatter)
+        parser = commands.add_parser(name, description=about, formatter_class=_Formatter)
         each[name] = parser
         build(parser)
         forms = parser.add_mutually_exclusive_group()
@@ -168,10 +185,14 @@ def parsers(only: Optional[str] = None) -> "Tuple[_Parser, Dict[str, _Parser]]":
             _path(forms, "--xlsx", "FILE", words)
         _flag(forms, "--json", "print JSON Lines: one object on each line")
         _flag(parser, "--debug", "print the traceback of an internal error, as EXIFNORM_DEBUG=1 does")
-        if name not in ("merge", "compare", "history", "list", "check", "nightly", "relocate"):
+        if name not in ("catalogue merge", "compare", "history", "list", "check", "nightly", "catalogue relocate"):
             parser.add_argument("--files-from", metavar="LIST", help="read names from the file LIST, one on each line; - is standard input")
             parser.add_argument("-0", "--null", action="store_true", help="the names in LIST end with NUL, as from find -print0")
     return whole, each
+
+
+def _listed(heading: str, commands: Iterable[Tuple[str, str]]) -> str:
+    return "\n".join([f"{heading}:", *(f"  {name:<10} {about}" for name, about in commands)])
 
 
 def _positive(text: str) -> int:
@@ -287,7 +308,7 @@ def _index_arguments(parser: argparse.ArgumentParser) -> None:
 
 
 def _merge_arguments(parser: argparse.ArgumentParser) -> None:
-    _example(parser, "merge a.catalogue b.catalogue --catalogue all.catalogue")
+    _example(parser, "catalogue merge a.catalogue b.catalogue --catalogue all")
     _path(parser, "catalogues", "CATALOGUE", "a catalogue; if several have a picture, the last one counts", nargs="+")
     parser.add_argument("--catalogue", required=True, type=_name, metavar="ALL", help="the catalogue to write; created if it is missing")
 
@@ -309,12 +330,12 @@ def _same_arguments(parser: argparse.ArgumentParser) -> None:
 
 
 def _forget_arguments(parser: argparse.ArgumentParser) -> None:
-    _example(parser, "forget my.catalogue /archive/old")
+    _example(parser, "catalogue forget my.catalogue /archive/old")
     _first_arguments(parser, "a folder, with all below it, or a picture; it need not be there")
 
 
 def _relocate_arguments(parser: argparse.ArgumentParser) -> None:
-    _example(parser, "relocate my.catalogue /mnt/old/archive /srv/archive")
+    _example(parser, "catalogue relocate my.catalogue /mnt/archive /srv/archive")
     _source_arguments(parser)
     _path(parser, "old", "OLD", "the folder that the catalogue knows")
     _path(parser, "new", "NEW", "the folder where its pictures are now")
@@ -545,7 +566,7 @@ def _report_arguments(parser: argparse.ArgumentParser) -> None:
 
 
 def _export_arguments(parser: argparse.ArgumentParser) -> None:
-    _example(parser, "export archive.catalogue archive.sqlite")
+    _example(parser, "catalogue export archive.catalogue archive.sqlite")
     _source_arguments(parser)
     _path(parser, "file", "FILE", "the file to write; only an earlier export is replaced")
     _flag(parser, "--no-look", _NO_LOOK)
@@ -603,26 +624,39 @@ _WHY = {
     **{(option, form): f": {form} has that always" for option in ("--each", "--exact", "--all") for form in ("--csv", "--xlsx", "--json")},
 }
 
-_COMMANDS: Tuple[Tuple[str, str, Callable[[argparse.ArgumentParser], None]], ...] = (
-    ("index", "read all new and changed pictures, and keep their metadata in a catalogue", _index_arguments),
-    ("merge", "join catalogues of several folders or machines", _merge_arguments),
-    ("forget", "remove folders or pictures from a catalogue", _forget_arguments),
-    ("relocate", "tell a catalogue where its pictures are now, without reading them again", _relocate_arguments),
-    ("verify", "read files again, and find those that were damaged since, not only captioned", _verify_arguments),
-    ("same", "list groups of pictures with the same metadata, or files with the same picture", _same_arguments),
+_Commands = Tuple[Tuple[str, str, Callable[[argparse.ArgumentParser], None]], ...]
+_DAILY: _Commands = (
+    ("index", "read new and changed pictures into a catalogue", _index_arguments),
     ("changed", "list what changed between two catalogues or folders, field by field", _changed_arguments),
-    ("history", "list what changed in one picture from catalogue to catalogue, even if it moved", _history_arguments),
-    ("compare", "compare two pictures, and print side by side what differs", _compare_arguments),
-    ("list", "list the pictures whose captions, names, keywords or rights fit a question", _list_arguments),
+    ("same", "list groups of pictures with the same metadata, or the same picture", _same_arguments),
+    ("list", "list the pictures whose captions, names or rights fit a question", _list_arguments),
     ("check", "list the pictures that break your own rules", _check_arguments),
-    ("nightly", "read what is new in an archive, and print the news since last night, if any", _nightly_arguments),
-    ("show", "print all fields of pictures", _show_arguments),
-    ("captions", "print the captions, names, keywords and rights of pictures, with their fields", _captions_arguments),
+    ("verify", "find files that were damaged since, not only captioned", _verify_arguments),
+    ("nightly", "read what is new, and print the news since last night, if any", _nightly_arguments),
+    ("report", "write an HTML report about a catalogue", _report_arguments),
+    ("history", "list what changed in one picture from catalogue to catalogue", _history_arguments),
     ("conflicts", "list pictures whose Exif, IPTC and XMP contradict each other", _conflicts_arguments),
-    ("explain", "explain why metadata are refused or a file is damaged, and name remedies", _explain_arguments),
-    ("report", "write an HTML report about a catalogue, as a page or a folder of pages", _report_arguments),
-    ("export", "write a catalogue as plain SQLite tables, for SQL, Datasette and pandas", _export_arguments),
+)
+_OF_PICTURES: _Commands = (
+    ("compare", "compare two pictures, and print side by side what differs", _compare_arguments),
+    ("show", "print all fields of pictures", _show_arguments),
+    ("captions", "print the captions, names, keywords and rights of pictures", _captions_arguments),
+    ("explain", "explain why metadata are refused or a file is damaged", _explain_arguments),
     ("mend", "write a copy of a picture, with its refused metadata repaired", _mend_arguments),
 )
-_NAMES = tuple(name for name, *_ in _COMMANDS)
-_LONGEST = max(map(len, _NAMES))
+UPKEEP = "catalogue"  # the first word of the commands that take care of catalogues
+_OF_CATALOGUES: _Commands = (
+    (f"{UPKEEP} merge", "join catalogues of several folders or machines", _merge_arguments),
+    (f"{UPKEEP} forget", "remove folders or pictures from a catalogue", _forget_arguments),
+    (f"{UPKEEP} relocate", "tell a catalogue where its pictures are now, without reading them", _relocate_arguments),
+    (f"{UPKEEP} export", "write a catalogue as plain SQLite tables, for SQL and pandas", _export_arguments),
+)
+COMMANDS = (*_DAILY, *_OF_PICTURES, *_OF_CATALOGUES)
+_NAMES = tuple(name for name, *_ in COMMANDS)
+# What to use in place of each command that went
+WENT = {
+    "merge": "catalogue merge CATALOGUE .. --catalogue ALL",
+    "forget": "catalogue forget CATALOGUE FOLDER ..",
+    "relocate": "catalogue relocate CATALOGUE OLD NEW",
+    "export": "catalogue export CATALOGUE FILE",
+}

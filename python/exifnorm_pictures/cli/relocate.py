@@ -28,7 +28,7 @@ def run(arguments: argparse.Namespace) -> int:
     if shards.is_of_folder(name):
         raise NoCatalogue(
             f"{shown_path(os.fsencode(name))}: each catalogue of a folder is named after its folder of pictures, by which index finds it, so none"
-            " is relocated. Merge them, and relocate the merged one: exifnorm-pictures merge FOLDER --catalogue NEW"
+            " is relocated. Merge them, and relocate the merged one: exifnorm-pictures catalogue merge FOLDER --catalogue NEW"
         )
     roll_back(name)
     with Catalogue(name) as catalogue:  # it is one; a missing one isn't made

@@ -15,9 +15,9 @@ from .parser import refuse
 # How each command with one catalogue and no further names but one is written
 _LINES = {
     "check": "check RULES CATALOGUE",
-    "export": "export CATALOGUE FILE",
+    "catalogue export": "catalogue export CATALOGUE FILE",
     "list": "list CATALOGUE",
-    "relocate": "relocate CATALOGUE OLD NEW",
+    "catalogue relocate": "catalogue relocate CATALOGUE OLD NEW",
     "report": "report CATALOGUE --html PAGE",
     "same": "same CATALOGUE",
 }

@@ -17,9 +17,9 @@ STATUSES: Dict[str, Dict[int, str]] = {
         0: "the catalogue has what could be read, refused metadata too",
         2: "a picture can't be read, or a program failed at it, and this is new since the last run; or a folder of --shards isn't there",
     },
-    "merge": {0: "the catalogues are joined"},
-    "forget": {0: "the catalogue doesn't have the pictures any more"},
-    "relocate": {
+    "catalogue merge": {0: "the catalogues are joined"},
+    "catalogue forget": {0: "the catalogue doesn't have the pictures any more"},
+    "catalogue relocate": {
         0: "all pictures are at the new place, with the same sizes and times",
         1: "a picture isn't there, or has another size or time",
     },
@@ -54,7 +54,7 @@ STATUSES: Dict[str, Dict[int, str]] = {
     "conflicts": {0: "no picture contradicts itself", 1: "a picture contradicts itself", 2: _NO_TEXTS},
     "explain": {0: "all blocks are accepted", 2: f"a block is refused or unreadable, a file is damaged, {_NOT_READ}"},
     "report": {0: "the report is written"},
-    "export": {0: "the tables are written"},
+    "catalogue export": {0: "the tables are written"},
     "mend": {
         0: "each copy has the printed values of its picture",
         1: "a copy lacks a printed value, or has another one",
@@ -85,7 +85,7 @@ no reader here (Debian: libimage-exiftool-perl)."""
 def help_of(command: str) -> str:
     """The end of the help of a command, or of the whole program if it has no name.
 
-    >>> print(help_of("export").partition("  3")[0], end="")
+    >>> print(help_of("catalogue export").partition("  3")[0], end="")
     Statuses:
       0    the tables are written
     """
