@@ -20,6 +20,7 @@ import drawings
 TOP = Path(__file__).resolve().parent.parent
 sys.path.insert(0, str(TOP / "python"))
 
+from exifnorm_pictures.cli import parser, statuses  # noqa: E402
 from exifnorm_pictures.export.tables import SCHEMA as TABLES  # noqa: E402
 from exifnorm_pictures.extract import readers  # noqa: E402
 from exifnorm_pictures.refusals import causes  # noqa: E402
@@ -28,6 +29,7 @@ OBJECTS = TOP / "python" / "exifnorm_pictures" / "output.schema.json"
 PAGES: Dict[str, Callable[[], str]] = {
     "crates/README.md": crates_page.page,
     "docs/REFUSALS.md": causes.page,
+    "docs/exifnorm-pictures.1": lambda: manual(),
     "docs/catalogue.svg": drawings.catalogue,
     "docs/letter.svg": drawings.letter,
     "docs/one-form.svg": lambda: str(runpy.run_path(str(TOP / "docs/draw.py"))["page"]()),
@@ -90,6 +92,38 @@ def columns(lines: str) -> Rows:
         words = " ".join(comment.replace("-- ", "").split())
         for name in re.findall(r"(?m)^    (\w+)", following):
             yield name, words
+
+
+def _roff(text: str) -> str:
+    return text.replace("-", "\\-")
+
+
+def synopsis() -> str:
+    """The usage of each command, for the manual page."""
+    usages = [str(it.usage).partition(" ")[2] for it in parser.parsers()[1].values()]
+    return ".br\n".join(f".B exifnorm-pictures\n{_roff(it)}\n" for it in usages)
+
+
+def of_statuses() -> str:
+    """What the statuses mean, for the manual page."""
+    lines = []
+    for status in range(3):
+        texts = [(command, of_command[status]) for command, of_command in statuses.STATUSES.items() if status in of_command]
+        lines.append(f".TP\n.B {status}\n" + "\n".join(f'.BR "{command}" :\n{_roff(text)};' for command, text in texts)[:-1])
+    lines += [f".TP\n.B {status}\n{_roff(text)}" for status, text in statuses.COMMON.items()]
+    return "\n".join([*lines, ".PP", _roff(statuses.END).partition("\n")[2].partition(". SIGTERM")[0] + ".", ""])
+
+
+def manual() -> str:
+    """The manual page, in which the synopsis and the statuses are printed."""
+    printed = {"synopsis": synopsis(), "statuses": of_statuses()}
+    text = (TOP / "docs/exifnorm-pictures.1").read_text(encoding="utf-8")
+    return re.sub(
+        r'(\.\\" printed: (\w+)\n).*?(?=\.\\" end|\.SH DESCRIPTION|\.PP\nAfter SIGTERM)',
+        lambda it: it[1] + printed[it[2]],
+        text,
+        flags=re.S,
+    )
 
 
 def of_tables() -> Dict[str, str]:

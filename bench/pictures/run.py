@@ -235,7 +235,7 @@ def great(folder: str, rows: int, compared: int) -> Iterator[ROW]:
     """Memory and size, on catalogues with many rows."""
     if rows:
         many = make_catalogue(os.path.join(folder, "many"), rows, lambda it: it // 2, plain, fields=False)
-        yield f"memory of `same`, {rows:,} pictures in pairs", megabytes(cost(pictures("same", "--catalogue", many))), "100 MB"
+        yield f"memory of `same`, {rows:,} pictures in pairs", megabytes(cost(pictures("same", many))), "100 MB"
         os.unlink(many)
     if compared:
         first = make_catalogue(os.path.join(folder, "first"), compared, lambda it: it // 2, plain)
@@ -246,9 +246,9 @@ def great(folder: str, rows: int, compared: int) -> Iterator[ROW]:
         yield f"{name} of which half say something else", megabytes(cost(pictures("changed", first, half), [1])), "100 MB"
         yield f"{name} all moved", megabytes(cost(pictures("changed", first, moved), [1])), "100 MB"
         page = os.path.join(folder, "page.html")
-        cost(pictures("report", "--catalogue", first, "--html", page))
+        cost(pictures("report", first, "--html", page))
         yield f"page of `report`, {compared:,} pictures", paged(page), ""
-        spent = cost(pictures("report", "--catalogue", half, "--since", first, "--html", page))
+        spent = cost(pictures("report", half, "--since", first, "--html", page))
         yield f"memory of `report --since`, {compared:,} pictures", megabytes(spent), ""
         yield "its page", paged(page), ""
 

@@ -41,7 +41,7 @@ def _beside(name: str) -> Any:
 
 commands, files_of = _beside("commands"), _beside("run")
 QUESTION = "list {} --where creator=anna -0"
-LISTED = ("same --no-look --catalogue {}", QUESTION, "list {} --count creator", "catalogue export --no-look {} tables --quiet")
+LISTED = ("same {} --no-look", QUESTION, "list {} --count creator", "catalogue export --no-look {} tables --quiet")
 
 
 def make(folder: Path, count: int) -> None:
@@ -64,7 +64,7 @@ def over_rows(folders: Sequence[Path], counts: Sequence[int], environment: Dict[
         if words == QUESTION:
             yield f"{words.format('C')}, the first, which makes the texts ready", slopes(*(words.format(name) for name in ("C", "shards")))
         yield words.format("C"), slopes(*(words.format(name) for name in ("C", "shards")))
-    yield "changed C D --no-exiftool", slopes("changed C D --no-exiftool", "changed shards others --no-exiftool")
+    yield "changed C D --no-programs", slopes("changed C D --no-programs", "changed shards others --no-programs")
     yield "merge shards --catalogue all", slopes("catalogue merge shards --catalogue all")
     sizes = [_size(folder / "shards") for folder in folders]
     yield "bytes of a catalogue for a picture with two fields", f"{(sizes[1] - sizes[0]) / (counts[1] - counts[0]):,.0f}"

@@ -58,7 +58,7 @@ OF_BLOCKS: Dict[str, Tuple[str, str]] = {
     ),
     "MisplacedOffset": (
         "A field has offsets of data outside the directory that aren't followed here.",
-        "Give the picture itself to `exifnorm-pictures`, without `--block`. It takes each page and each SubIFD of a TIFF "
+        "Give the picture itself to `exifnorm-pictures`. It takes each page and each SubIFD of a TIFF "
         "as a block of its own and leaves these entries out, and takes the block of a raw picture through exiv2. In a JPEG "
         "such fields point nowhere: the rebuild leaves them out.",
     ),

@@ -414,24 +414,24 @@ def plain_hole(number, mark):
 OF_SHARED = (
     "show A",
     "show A --csv",
-    "compare A B --no-exiftool",
-    "compare A B --json --no-exiftool --ignore dc:none",
-    "captions A",
-    "captions A --json",
-    "captions A --csv",
-    "conflicts A --json",
+    "compare A B --no-programs",
+    "compare A B --json --no-programs --ignore dc:none",
+    "show --captions A",
+    "show --captions A --json",
+    "show --captions A --csv",
+    "check A --json",
     "explain A",
 )
-OF_FILES = ("show A", "captions P", "conflicts P --all", "list P --json --where title=x --jobs 1 --quiet")
+OF_FILES = ("show A", "show --captions P", "check P --all", "list P --json --where title=x --jobs 1 --quiet")
 OF_TEXTS = (
     "show A --json",
-    "compare A B --json --exact --no-exiftool",
-    "changed C D --no-exiftool --quiet --jobs 1",
-    "same --catalogue C --json --ignore dc:none",
-    "captions P",
-    "conflicts P --all",
+    "compare A B --json --exact --no-programs",
+    "changed C D --no-programs --quiet --jobs 1",
+    "same C --json --ignore dc:none",
+    "show --captions P",
+    "check P --all",
     "list C --count keywords",
-    "check rules C --json",
+    "check --rules rules C --json",
     "catalogue export C written.sqlite --quiet",
 )
 OTHERS = {

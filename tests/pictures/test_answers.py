@@ -82,12 +82,12 @@ CLOSED = {
     ("index", "p", "--shards", "s"): 2,
     ("nightly", "p", "--catalogue", "n"): 2,
     ("verify", "c"): 4,
-    ("captions", "p"): 2,
-    ("captions", "p", "--csv"): 2,
-    ("conflicts", "p"): 2,
-    ("conflicts", "p", "--json"): 2,
+    ("show", "--captions", "p"): 2,
+    ("show", "--captions", "p", "--csv"): 2,
+    ("check", "p"): 2,
+    ("check", "p", "--json"): 2,
     ("list", "p"): 4,
-    ("check", "rules", "p"): 4,
+    ("check", "--rules", "rules", "p"): 4,
     ("changed", "p", "q"): 4,
     ("changed", "q", "p"): 4,
     ("changed", "c", "p"): 4,
@@ -143,7 +143,14 @@ def test_a_picture_that_nobody_compares(name, folder, called):
 @pytest.mark.parametrize("files", [{}, {"p/note.txt": b"no picture"}], ids=["nothing", "a text"])
 @pytest.mark.parametrize(
     "words",
-    [("list", "p"), ("check", "rules", "p"), ("changed", "p", "q"), ("changed", "q", "p"), ("captions", "p"), ("conflicts", "p")],
+    [
+        ("list", "p"),
+        ("check", "--rules", "rules", "p"),
+        ("changed", "p", "q"),
+        ("changed", "q", "p"),
+        ("show", "--captions", "p"),
+        ("check", "p"),
+    ],
     ids=" ".join,
 )
 def test_a_folder_without_a_picture(words, files, folder, called):
@@ -155,7 +162,20 @@ def test_a_folder_without_a_picture(words, files, folder, called):
 
 
 @pytest.mark.parametrize("sidecar", ["a.xmp", "a.jpg.xmp", "a.XMP", None])
-@pytest.mark.parametrize("words", [("show",), ("captions",), ("captions", "--csv"), ("conflicts",), ("compare", "b.jpg")], ids=" ".join)
+@pytest.mark.parametrize(
+    "words",
+    [
+        ("show",),
+        (
+            "show",
+            "--captions",
+        ),
+        ("show", "--captions", "--csv"),
+        ("check",),
+        ("compare", "b.jpg"),
+    ],
+    ids=" ".join,
+)
 def test_a_sidecar_that_is_not_read(words, sidecar, folder, called):
     """A title in it would seem to be missing."""
     put(folder, {"a.jpg": jpeg(app1(A)), "b.jpg": jpeg(app1(A)), "b.xml": T, **({sidecar: T} if sidecar else {})})

@@ -32,7 +32,7 @@ VALUES = (
     "=cmd|' /C calc'!A0",
 )
 STATUSES = range(5)
-LISTS = ("--files-from", "--ignore-file", "--only-file")  # which may be pipes, as `<(find ..)`, and wait for who writes
+LISTS = ("--files-from",)  # which may be pipes, as `<(find ..)`, and wait for who writes
 COMMANDS = parsers()[1]
 
 
@@ -40,21 +40,18 @@ COMMANDS = parsers()[1]
 GIVEN = {
     "index": ["p", "--catalogue", "c", "--quiet"],
     "catalogue merge": ["c", "--catalogue", "new"],
-    "catalogue forget": ["nothing", "--catalogue", "c"],
+    "catalogue forget": ["c", "nothing"],
     "catalogue relocate": ["c", "p", "q"],
-    "verify": ["p", "--catalogue", "c", "--quiet", "--jobs", "1"],
-    "same": ["--catalogue", "c"],
+    "verify": ["c", "p", "--quiet", "--jobs", "1"],
+    "same": ["c"],
     "changed": ["c", "c"],
-    "history": ["p/a.jpg", "c", "c"],
     "compare": ["p/a.jpg", "p/a.jpg"],
     "list": ["c", "--where", "title = x"],
     "check": ["rules", "c"],
     "nightly": ["p", "--catalogue", "c", "--rules", "rules"],
     "show": ["p/a.jpg"],
-    "captions": ["p/a.jpg"],
-    "conflicts": ["p/a.jpg"],
     "explain": ["p/a.jpg"],
-    "report": ["--catalogue", "c", "--html", "r"],
+    "report": ["c", "--html", "r"],
     "catalogue export": ["c", "t"],
     "mend": ["p/a.jpg", "copy.jpg"],
 }

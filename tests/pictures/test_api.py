@@ -445,7 +445,7 @@ def test_pages_that_share_a_block_cost_it_once(monkeypatch, folder, called):
     again = pickle.loads(pickle.dumps(picture))
     assert again.get("Keywords") == picture.get("Keywords") and not again.find("Headline")
     assert len(picture.find("Keywords")) == len(list(picture.fields)) == pages * len(keywords)
-    status, printed, _ = called("captions", "a.tif")
+    status, printed, _ = called("show", "--captions", "a.tif")
     assert status == 0 and printed.count("word 0; word 1;") == 1 and len(read) == 2
 
 
@@ -488,11 +488,11 @@ def test_the_commands_print_the_same(path, called):
     assert [(it["name"], it["key"], it["plain"], it["exact"], it["value"]) for block in them["blocks"] for it in block["fields"]] == [
         (it.name, it.key, it.text, it.exact, json.loads(json.dumps(it.json, allow_nan=False))) for it in ours.fields
     ]
-    them = json.loads(called("captions", "--json", str(path))[1])
+    them = json.loads(called("show", "--captions", "--json", str(path))[1])
     assert sorted((it["label"], it["field"], it["texts"]) for it in them["captions"]) == sorted(
         (it.label, it.field, list(it.texts)) for it in ours.captions
     )
-    table = csv.DictReader(io.StringIO(called("captions", "--csv", str(path))[1].lstrip("\ufeff"), newline=""))
+    table = csv.DictReader(io.StringIO(called("show", "--captions", "--csv", str(path))[1].lstrip("\ufeff"), newline=""))
     for row in table:
         for label in {"title", "caption", "creator", "keywords", "copyright"} - {it.label for it in ours.conflicts}:
             assert "; ".join(ours.texts(label)) == row[label].lstrip("'"), label
@@ -502,7 +502,7 @@ def test_the_commands_print_the_same(path, called):
 @pytest.mark.parametrize("name", [BOWL, VASE, PHONE, "arrivals/DSC_0042.jpg", "textiles/2011-2-sash.webp", "prints/1931-4-plan.png"])
 def test_compare_finds_what_the_command_finds(name, after, called):
     before, after = BEFORE / name, AFTER / after
-    status, printed, _ = called("compare", "--no-exiftool", "--json", str(before), str(after))
+    status, printed, _ = called("compare", "--no-programs", "--json", str(before), str(after))
     them = json.loads(printed)
     read = pictures.read(before), pictures.read(after)
     for ours in (pictures.compare(before, after), pictures.compare(*read), pictures.compare(io.BytesIO(before.read_bytes()), after)):

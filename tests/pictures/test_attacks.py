@@ -134,9 +134,7 @@ def test_a_file(name, tmp_path):
     assert any(word in it for it in found) if word else "TooMuch" not in found, found
 
 
-@pytest.mark.parametrize(
-    "words", (["compare", "p/a.png", "q/a.png"], ["changed", "p", "q", "--quiet"], ["same", "--catalogue", "c"]), ids=" ".join
-)
+@pytest.mark.parametrize("words", (["compare", "p/a.png", "q/a.png"], ["changed", "p", "q", "--quiet"], ["same", "c"]), ids=" ".join)
 def test_a_pattern_of_fields(words, tmp_path):
     """A property has a long name, in which the first word of the pattern is everywhere, and the second one nowhere."""
     for number, side in enumerate("pq"):
@@ -254,7 +252,7 @@ class TestCurrentFolder:
 
     def see_that_it_runs(self, command, folder, path):
         done = subprocess.run(
-            [*command, "same", "--catalogue", "nothing"], cwd=folder, capture_output=True, env={**Studio.environment(), "PYTHONPATH": path}
+            [*command, "same", "nothing"], cwd=folder, capture_output=True, env={**Studio.environment(), "PYTHONPATH": path}
         )
         assert (done.returncode, done.stderr) == (4, b"exifnorm-pictures: there is no catalogue nothing\n"), done
 
@@ -273,7 +271,7 @@ def journal_that_names(path, catalogue):
     (
         "index p --catalogue c",
         "catalogue merge k --catalogue c",
-        "catalogue forget p --catalogue c",
+        "catalogue forget c p",
         "catalogue relocate c p q",
         "nightly c p",
         "list c --with title",
@@ -298,24 +296,24 @@ def test_a_journal_that_names_a_file(words, is_link, folder, called):
 
 
 COMMANDS = (
-    ["same", "--catalogue", "c"],
+    ["same", "c"],
     ["changed", "c", "c"],
     ["changed", "good", "c"],
-    ["report", "--catalogue", "c", "--html", "page"],
-    ["report", "--catalogue", "c", "--json"],
+    ["report", "c", "--html", "page"],
+    ["report", "c", "--json"],
     ["catalogue", "export", "c", "tables"],
     ["catalogue", "merge", "c", "--catalogue", "into"],
     ["index", "p", "--catalogue", "c", "--quiet"],
-    ["catalogue", "forget", "p", "--catalogue", "c"],
+    ["catalogue", "forget", "c", "p"],
     ["catalogue", "relocate", "c", "p", "."],
-    ["verify", "--catalogue", "c", "--quiet"],
-    ["history", "p/a.jpg", "good", "c"],
+    ["verify", "c", "--quiet"],
+    ["changed", "--picture", "p/a.jpg", "good", "c"],
     ["list", "c", "--with", "title"],
     ["list", "c", "--geojson"],
-    ["check", "rules", "c"],
-    ["conflicts", "c"],
-    ["captions", "c"],
-    ["mend", "--catalogue", "c", "p"],
+    ["check", "--rules", "rules", "c"],
+    ["check", "c"],
+    ["show", "--captions", "c"],
+    ["mend", "c", "p"],
 )
 # What nothing printed may have: control characters but the end of a line, and marks that turn the direction of a text
 RAW = re.compile("[\0-\x09\x0b-\x1f\x7f-\x9f\u2028\u2029\u202a-\u202e\u2066-\u2069\udc80-\udcff]")
@@ -370,7 +368,7 @@ def test_many_tables(archive):
         for number in range(5000):
             base.execute(f"CREATE TABLE t{number} (x)")
         base.execute("COMMIT")
-    assert "is no catalogue" in run(archive, "same", "--catalogue", "c").check(4).err
+    assert "is no catalogue" in run(archive, "same", "c").check(4).err
 
 
 def test_a_log_of_another_state(archive):
@@ -384,7 +382,7 @@ def test_a_log_of_another_state(archive):
         assert "c-wal" in ended.check(4).err, (ended.words, ended.err)
     for name in ("c-wal", "c-shm"):
         os.remove(archive / name)
-    assert "2 pictures" in run(archive, "same", "--catalogue", "c").check(0, 1, 2).out
+    assert "2 pictures" in run(archive, "same", "c").check(0, 1, 2).out
 
 
 def test_the_log_of_a_killed_run_is_used(archive):
@@ -393,7 +391,7 @@ def test_the_log_of_a_killed_run_is_used(archive):
     write(archive / "p" / "c.jpg", jpeg(app1(exif(b"Abc")), app1_xmp(title("one"))))
     run(archive, "index", "p", "--catalogue", "c", "--quiet", code=code)
     assert os.path.getsize(archive / "c-wal") > 0
-    assert "3 pictures" in run(archive, "same", "--catalogue", "c").check(0, 1, 2).out
+    assert "3 pictures" in run(archive, "same", "c").check(0, 1, 2).out
 
 
 COARSE = """
@@ -435,7 +433,7 @@ def test_a_signal_in_a_long_query(number, archive):
         "Groups.by_meaning = endless\n"
         "from exifnorm_pictures.cli.main import main\nsys.exit(main(sys.argv[1:]))\n"
     )
-    words = ["env", f"--default-signal={number.name[3:]}", sys.executable, "-c", code, "same", "--catalogue", "c"]
+    words = ["env", f"--default-signal={number.name[3:]}", sys.executable, "-c", code, "same", "c"]
     with subprocess.Popen(words, cwd=archive, stdout=subprocess.PIPE, stderr=subprocess.DEVNULL, env=Studio.environment()) as started:
         try:
             assert started.stdout.readline() == b"begun\n"
@@ -458,7 +456,7 @@ def test_a_picture_that_became_a_pipe(archive):
     for name in ("a.jpg", "b.jpg"):
         os.remove(archive / "p" / name)
         os.mkfifo(archive / "p" / name)
-    for ended in run_each(archive, [["report", "--catalogue", "c", "--html", "page"], ["same", "--catalogue", "c"]]):
+    for ended in run_each(archive, [["report", "c", "--html", "page"], ["same", "c"]]):
         ended.check(0, 1, 2)
     commands = [
         words
@@ -466,12 +464,11 @@ def test_a_picture_that_became_a_pipe(archive):
         for words in (
             ["show", device],
             ["explain", device],
-            ["captions", device],
+            ["show", "--captions", device],
             ["mend", device, "out"],
-            ["show", "--block", device],
             ["index", device, "--catalogue", "new", "--quiet"],
         )
-        if words[0] not in ("captions", "index", "mend") or device != "p"  # which read folders, or say what to do with them
+        if words[0] not in ("show", "index", "mend") or device != "p"  # which read folders, or say what to do with them
     ]
     for ended in run_each(archive, commands):
         assert len((ended.check(2).out + ended.err).splitlines()) >= 1, ended.words
@@ -483,8 +480,8 @@ def test_a_catalogue_that_names_devices(name, archive):
     with sqlite3.connect(archive / "c") as base:
         base.execute("UPDATE pictures SET path = ? WHERE id = 1", (name.encode(),))
     commands = (
-        ["report", "--catalogue", "c", "--html", "page"],
-        ["same", "--catalogue", "c"],
+        ["report", "c", "--html", "page"],
+        ["same", "c"],
         ["changed", "good", "c"],
         ["changed", "c", "good"],
     )
@@ -522,7 +519,7 @@ def test_fields_that_inflate(archive):
         with base:
             base.execute("UPDATE pictures SET exif = 'x' || id, exif_octets = 'x' || id")
             base.execute("UPDATE blocks SET digest = 'x', fields = ? WHERE kind = 'exif'", (fields,))
-        commands = ["changed", "good", "c"], ["report", "--catalogue", "c", "--since", "good", "--html", "page"]
+        commands = ["changed", "good", "c"], ["report", "c", "--since", "good", "--html", "page"]
         for ended in run_each(archive, commands):
             no_control(ended.check(4))
             assert "c is damaged" in ended.err, ended.err
@@ -557,7 +554,10 @@ def test_texts_of_a_catalogue(archive):
         ["index", "p"],
         ["catalogue", "forget", "p"],
     ]
-    for ended in run_each(archive, [it if it[0] == "changed" else [*it, "--catalogue", "c"] for it in commands]):
+    for ended in run_each(
+        archive,
+        [it if it[0] == "changed" else [*it[: 1 + (it[0] == "catalogue")], "c", *it[1 + (it[0] == "catalogue") :]] for it in commands],
+    ):
         no_control(ended.check(0, 1, 2, 4))
     for name in ("page", "changes"):
         if (archive / name).exists():
@@ -570,21 +570,20 @@ def test_names_in_messages(archive):
     write(archive / "p" / "x\x9b\n.jpg", b"no picture")
     for name in (NASTY, "folder\n\x1b[2J"):
         commands = (
-            ["same", "--catalogue", name],
+            ["same", name],
             ["index", "p", "--catalogue", name + "/c"],
             ["changed", name, "c"],
             ["changed", "c", name],
-            ["report", "--catalogue", "c", "--html", name + "/x"],
-            ["same", "--catalogue", "c", "--files-from", name],
+            ["report", "c", "--html", name + "/x"],
+            ["same", "c", "--files-from", name],
             ["show", name],
             ["catalogue", "merge", name, "--catalogue", "c"],
             ["index", name, "--catalogue", "c"],
             ["mend", name, name],
-            ["catalogue", "forget", name, "--catalogue", "c"],
+            ["catalogue", "forget", "c", name],
             ["index", "p", "--catalogue", "c", "--keep-old", name + "/x"],
             [name],
             ["same", f"--{name}"],
-            ["show", "--block", name],
         )
         for ended in run_each(archive, commands):
             no_control(ended.check(0, 1, 2, 3, 4))
@@ -609,7 +608,7 @@ def test_what_mend_prints(archive):
     at = octets.index(b"Exif\0\0") + 6
     write(archive / "bad.jpg", octets[: at + 4] + b"\0\0\0\x09" + octets[at + 8 :])
     for name in ("p/a.jpg", "bad.jpg"):
-        commands = ["mend", name, f"out-{os.path.basename(name)}"], ["show", name], ["captions", name], ["explain", name]
+        commands = ["mend", name, f"out-{os.path.basename(name)}"], ["show", name], ["show", "--captions", name], ["explain", name]
         for ended in run_each(archive, commands):
             no_control(ended.check(0, 1, 2))
 
@@ -631,7 +630,7 @@ def test_texts_of_exiftool(archive):
     os.chmod(archive / "bin" / "exiftool", 0o755)
     write(archive / "p" / "x.gif", b"GIF89a")
     path = os.pathsep.join((str(archive / "bin"), os.environ["PATH"]))
-    commands = ["index", "p", "--catalogue", "c"], ["show", "p/x.gif"], ["report", "--catalogue", "c", "--html", "page"]
+    commands = ["index", "p", "--catalogue", "c"], ["show", "p/x.gif"], ["report", "c", "--html", "page"]
     for ended in run_each(archive, commands, PATH=path):
         no_control(ended.check(0, 2))
     assert not RAW.search((archive / "page").read_text("utf-8"))

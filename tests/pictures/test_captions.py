@@ -26,7 +26,7 @@ TAGS = {
 @pytest.fixture
 def captions(called):
     """What `captions` prints of some files: the status, and the text."""
-    return lambda *words, **files: called("captions", *words, *(f"{it}.jpg" for it in files), **files)[:2]
+    return lambda *words, **files: called("show", "--captions", *words, *(f"{it}.jpg" for it in files), **files)[:2]
 
 
 def data_set(number, octets, record=2):

@@ -443,7 +443,7 @@ class Rights(WithPictures):
         self.asked("index", "after", "--catalogue", "c", "--quiet", "--pixels")
         for words, line in (
             (("changed", "before", "after"), b"2 pictures compared: none changed."),
-            (("verify", "--catalogue", "c"), b"2 files read again, "),
+            (("verify", "c"), b"2 files read again, "),
         ):
             os.chmod(self.path("after", "closed"), 0)
             done = self.as_nobody(*words)
@@ -479,13 +479,13 @@ class Kinds(InFolder):
         for name, octets in {"a": ONE, "b": OTHER, "c": ONE, "d": OTHER, "e": OTHER, **behind}.items():
             write(self.path("p", name + ".jpg"), octets)
         self.asked("index", "p", "--catalogue", "c", "--quiet")
-        *found, _ = [json.loads(it) for it in self.asked("same", "--catalogue", "c", "--json", status=2)]
+        *found, _ = [json.loads(it) for it in self.asked("same", "c", "--json", status=2)]
         names = [[os.path.basename(it["path"]) for it in one["pictures"]] for one in found]
         self.assertEqual(names, [["b.jpg", "d.jpg", "e.jpg"], ["a.jpg", "c.jpg"]])
         os.remove(self.path("p", "e.jpg"))
         os.rename(self.path("p", "c.jpg"), self.path("p", "z.jpg"))  # of one size, that with the first name comes first
         self.asked("index", "p", "--catalogue", "d", "--quiet")
-        *found, _ = [json.loads(it) for it in self.asked("same", "--catalogue", "d", "--json", status=2)]
+        *found, _ = [json.loads(it) for it in self.asked("same", "d", "--json", status=2)]
         names = [[os.path.basename(it["path"]) for it in one["pictures"]] for one in found]
         self.assertEqual(names, [["a.jpg", "z.jpg"], ["b.jpg", "d.jpg"]])
 
@@ -517,5 +517,5 @@ class Kinds(InFolder):
             write(self.path("p", name + ".tif"), tiff(page((0x0190, LONG, 8))))  # a pointer that is not followed
         write(self.path("p", "other.tif"), tiff(page((0x0190, LONG, 9))))
         self.asked("index", "p", "--catalogue", "c", "--quiet")
-        (found, _) = [json.loads(it) for it in self.asked("same", "--catalogue", "c", "--json", status=2)]
+        (found, _) = [json.loads(it) for it in self.asked("same", "c", "--json", status=2)]
         self.assertEqual((found["basis"], [os.path.basename(it["path"]) for it in found["pictures"]]), ("bytes", ["a.tif", "b.tif"]))

@@ -29,25 +29,25 @@ VALUES = {
     "long": "x" * 100_000,
 }
 COMMANDS = (
-    ["same", "--catalogue", "c"],
-    ["same", "--catalogue", "c", "--ignore", "Make"],
+    ["same", "c"],
+    ["same", "c", "--ignore", "Make"],
     ["changed", "c", "good"],
-    ["report", "--catalogue", "c", "--json"],
-    ["captions", "c", "--csv"],
+    ["report", "c", "--json"],
+    ["show", "--captions", "c", "--csv"],
     ["catalogue", "export", "c", "tables"],
     ["catalogue", "merge", "c", "--catalogue", "into"],
-    ["mend", "--catalogue", "c", "out"],
+    ["mend", "c", "out"],
     ["index", "p", "--catalogue", "c", "--quiet", "--jobs", "1"],
-    ["catalogue", "forget", "p", "--catalogue", "c"],
+    ["catalogue", "forget", "c", "p"],
     ["catalogue", "relocate", "c", "p", "q"],
-    ["verify", "--catalogue", "c", "--quiet", "--jobs", "1"],
-    ["history", "p/a.jpg", "good", "c"],
+    ["verify", "c", "--quiet", "--jobs", "1"],
+    ["changed", "--picture", "p/a.jpg", "good", "c"],
     ["list", "c", "--where", "title = one or creator like 'A*' or date created < 1950", "--columns", "title,position"],
     ["list", "c", "--count", "title"],
     ["list", "c", "--geojson"],
-    ["check", "rules", "c"],
-    ["conflicts", "c", "--all"],
-    ["same", "--catalogue", "c", "--kind", "pixels", "--xlsx", "tables"],
+    ["check", "--rules", "rules", "c"],
+    ["check", "c", "--all"],
+    ["same", "c", "--kind", "pixels", "--xlsx", "tables"],
 )
 
 
@@ -132,7 +132,7 @@ def catalogue(archive, tmp_path, monkeypatch):
 LONG = packing.packed([Field("main", "010e", "ASCII", 5, b"abcd\0")] * 20_000).octets  # 0.7 MB as JSON
 
 
-@pytest.mark.parametrize("words", [["catalogue", "export", "c", "tables"], ["captions", "c"], ["report", "--catalogue", "c", "--json"]])
+@pytest.mark.parametrize("words", [["catalogue", "export", "c", "tables"], ["show", "--captions", "c"], ["report", "c", "--json"]])
 def test_fields_of_many_blocks(words, catalogue, capsys, monkeypatch):
     """Together they are bounded, before any is unpacked."""
     with sqlite3.connect(catalogue, isolation_level=None) as base:
@@ -159,8 +159,8 @@ def test_fields_are_unpacked_where_they_are_needed(tmp_path, monkeypatch, called
     monkeypatch.setattr(block_fields, "parted", lambda cells: asked.append(cells) or lines.parted(cells))
     for words in (
         ["changed", "before", "after"],
-        ["verify", "--catalogue", "after", "--quiet"],
-        ["same", "--catalogue", "after", "--no-look"],
+        ["verify", "after", "--quiet"],
+        ["same", "after", "--no-look"],
     ):
         assert called(*words)[0] in (0, 2) and not asked, words
     with Catalogue("before") as base:
@@ -240,7 +240,7 @@ def test_a_part_that_is_too_long():
 
 @pytest.mark.parametrize("text", [b"octets", "x" * 65_537], ids=["octets", "long"])
 @pytest.mark.parametrize(
-    "words", [["list", "c", "--columns", "title"], ["list", "c", "--count", "title"], ["check", "rules", "c"]], ids=repr
+    "words", [["list", "c", "--columns", "title"], ["list", "c", "--count", "title"], ["check", "--rules", "rules", "c"]], ids=repr
 )
 def test_a_text_that_index_never_keeps(text, words, catalogue, capsys):
     (catalogue.parent / "rules").write_text("title never in p/\n")

@@ -205,11 +205,11 @@ def test_files_of_names(run, folder, compared):
         app1(exif(b"xyz")), app1_xmp(xmp("<dc:format>b</dc:format>"))
     )
     (folder / "names").write_bytes(b"\xef\xbb\xbf# a comment\r\n  IFD0:Make  \r\n\r\ndc:format\n")
-    assert compared("--ignore-file", "names", a=one, b=two)[:3] == (0, BUT, [])
-    assert compared("--only-file", "names")[2] == ["IFD0:Make", "XMP-dc:format"]
+    assert compared("--ignore", "@names", a=one, b=two)[:3] == (0, BUT, [])
+    assert compared("--only", "@names")[2] == ["IFD0:Make", "XMP-dc:format"]
     (folder / "wrong").write_bytes(b"Make\xff")
     for name in ("wrong", "missing", "."):
-        status, lines, err = run("compare", "a.jpg", "b.jpg", "--ignore-file", name)
+        status, lines, err = run("compare", "a.jpg", "b.jpg", "--ignore", f"@{name}")
         assert (status, lines, err.count("\n")) == (3, [], 1)
 
 
@@ -401,7 +401,7 @@ def test_groups_are_those_of_compare(words, run, folder):
     put(folder, {f"p/{number:02}.jpg": octets for number, octets in enumerate(made_pictures())})
     names = sorted(os.listdir(folder / "p"))
     run("index", "p", "--catalogue", "c", "--quiet", "--jobs", "1")
-    *found, _ = (json.loads(it) for it in run("same", "--catalogue", "c", "--json", *words)[1])
+    *found, _ = (json.loads(it) for it in run("same", "c", "--json", *words)[1])
     together = {frozenset(os.path.basename(it["path"]) for it in one["pictures"]) for one in found if one["basis"] != "repair"}
     pairs = {(one, other) for one in names for other in names if one < other}
     same = {pair for pair in pairs if any({*pair} <= group for group in together)}
@@ -426,16 +426,16 @@ def test_a_group_by_fields_is_never_proved_and_keeps_nothing(run, folder):
         },
     )
     run("index", "p", "--catalogue", "c", "--quiet")
-    group, last = (json.loads(it) for it in run("same", "--catalogue", "c", "--json", "--ignore", "Make")[1])
+    group, last = (json.loads(it) for it in run("same", "c", "--json", "--ignore", "Make")[1])
     assert (group["basis"], group["digests"], group["wholly_read"]) == ("fields", {}, False)
     assert group["description"] == "IPTC is the same byte for byte, but for the fields left out"
     assert [it["keep"] for it in group["pictures"]] == [None] * 3 and last["groups"] == 1
-    lines = run("same", "--catalogue", "c", "--ignore", "Make")[1]
+    lines = run("same", "c", "--ignore", "Make")[1]
     assert lines[-1] == "A result with fields left out is tested, and not proved."
-    (group, _) = (json.loads(it) for it in run("same", "--catalogue", "c", "--json", "--ignore", "Artist")[1])
+    (group, _) = (json.loads(it) for it in run("same", "c", "--json", "--ignore", "Artist")[1])
     assert (group["basis"], group["count"]) == ("meaning", 2)
     for words, status in ((["--ignore", "*"], 3), (["--ignore", "Makr"], 3), (["--kind", "iptc", "--only", "dc:title"], 3)):
-        assert run("same", "--catalogue", "c", *words)[0] == status, words
+        assert run("same", "c", *words)[0] == status, words
 
 
 def test_least_fields(run, folder):
@@ -452,7 +452,7 @@ def test_least_fields(run, folder):
     run("index", "p", "--catalogue", "c", "--quiet")
 
     def groups(*words):
-        *found, last = (json.loads(it) for it in run("same", "--catalogue", "c", "--json", *words)[1])
+        *found, last = (json.loads(it) for it in run("same", "c", "--json", *words)[1])
         return [sorted(os.path.basename(it["path"]) for it in one["pictures"]) for one in found], last["small_groups"]
 
     refused = ["e", "f"]  # whose fields nobody knows
@@ -460,7 +460,7 @@ def test_least_fields(run, folder):
     assert groups("--least-fields", "2") == groups("--least-fields", "3") == ([["c", "d"], refused], 1)
     assert groups("--least-fields", "4") == ([refused], 2)
     assert groups("--least-fields", "3", "--ignore", "Artist") == ([refused], 2)
-    assert "1 more, of pictures with fewer than 2 fields, is not listed" in run("same", "--catalogue", "c", "--least-fields", "2")[1]
+    assert "1 more, of pictures with fewer than 2 fields, is not listed" in run("same", "c", "--least-fields", "2")[1]
 
 
 # report
@@ -471,7 +471,7 @@ def test_a_report_without_some_fields(run, folder):
     run("index", "p", "--catalogue", "old", "--quiet")
     (folder / "p" / "a").write_bytes(jpeg(app1(exif(b"new")), with_record(iim(b"Vase"))))
     run("index", "p", "--catalogue", "c", "--quiet")
-    report = ("report", "--catalogue", "c", "--since", "old", "--html", "page.html", "--no-look")
+    report = ("report", "c", "--since", "old", "--html", "page.html", "--no-look")
     assert run(*report)[0] == 0
     page = (folder / "page.html").read_text()
     assert "IFD0:Make" in page and "No two pictures have the same metadata" in page
@@ -486,11 +486,11 @@ def test_pictures_that_differ_in_what_no_field_shows_are_no_group(called, folder
     """Two digests, and one listing: what differs isn't known, so nothing can be left out."""
     put(folder, {f"p/{name}": jpeg(app1(exif(b"abc"))) for name in ("a", "b")})
     called("index", "p", "--catalogue", "c", "--quiet")
-    assert called("same", "--catalogue", "c", "--ignore", "Artist")[1].splitlines()[-2] == "1 group of 2 pictures"
+    assert called("same", "c", "--ignore", "Artist")[1].splitlines()[-2] == "1 group of 2 pictures"
     base = sqlite3.connect(folder / "c")
     base.execute("UPDATE pictures SET exif = 'other' WHERE id = 1")
     base.execute("UPDATE blocks SET digest = 'other' WHERE picture = 1")
     base.commit()
     base.close()
     for words in ([], ["--ignore", "Artist"], ["--ignore", "Make"]):
-        assert called("same", "--catalogue", "c", *words)[1].splitlines()[0] == "0 groups of 0 pictures", words
+        assert called("same", "c", *words)[1].splitlines()[0] == "0 groups of 0 pictures", words

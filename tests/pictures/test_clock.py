@@ -33,25 +33,25 @@ OF_MEANING = ("neighbouring values", "unsorted entries")
 # What each command is given that reads pictures. P and Q are folders with the picture a and another one, c a catalogue of P
 READS = {
     "index": "index P --catalogue new --quiet --jobs 1 --pixels --sidecars",
-    "verify": "verify --catalogue c --quiet --jobs 1",
-    "changed": "changed Q P --each --quiet --jobs 1 --no-exiftool",
-    "compare": "compare Q/{0} P/{0} --no-exiftool",
+    "verify": "verify c --quiet --jobs 1",
+    "changed": "changed Q P --each --quiet --jobs 1 --no-programs",
+    "compare": "compare Q/{0} P/{0} --no-programs",
     "list": "list P --with title --quiet --jobs 1",
-    "check": "check rules P --quiet --jobs 1",
+    "check": "check --rules rules P --quiet --jobs 1",
     "nightly": "nightly P --catalogue c --rules rules --jobs 1",
     "show": "show P/{}",
-    "captions": "captions P",
-    "conflicts": "conflicts P --all",
+    "captions": "show --captions P",
+    "check, agreement": "check P --all",
     "explain": "explain P/{}",
     "report": "report c --html page",
     "mend": "mend P/{} copy",
 }
 OTHERS_READ = {
     "catalogue merge": "catalogue merge c --catalogue other",
-    "catalogue forget": "catalogue forget P/{} --catalogue c",
+    "catalogue forget": "catalogue forget c P/{}",
     "catalogue relocate": "catalogue relocate c P Q",
-    "same": "same --catalogue c",
-    "history": "history P/{} c c",
+    "same": "same c",
+    "history": "changed --picture P/{} c c",
     "catalogue export": "catalogue export c tables --quiet",
 }
 
@@ -246,7 +246,7 @@ def test_an_exiftool_without_end(end, called, folder, monkeypatch):
     for words in (
         ["index", "p", "--catalogue", "c", "--quiet", "--jobs", "1"],
         ["show", "p/a.exv", "p/b.exv"],
-        ["captions", "p/a.exv", "p/b.exv"],
+        ["show", "--captions", "p/a.exv", "p/b.exv"],
     ):
         status, out, messages = called(*words, "--limit", "4")
         assert status == 2 and "internal" not in out + messages, (words, out, messages)
@@ -342,7 +342,7 @@ def test_an_exiftool_that_leaves_its_input_in_the_pipe(folder, monkeypatch):
 # What a program needs beside time
 
 
-@pytest.mark.parametrize("command", ("index p --catalogue c --quiet --jobs 1", "show p/a.exv p/b.exv --json", "captions p --json"))
+@pytest.mark.parametrize("command", ("index p --catalogue c --quiet --jobs 1", "show p/a.exv p/b.exv --json", "show --captions p --json"))
 def test_an_exiftool_that_needs_more_memory(command, called, folder, monkeypatch):
     """It ends at the limit of its memory, which the answer says, and the next picture is read by another one."""
     asked(folder, monkeypatch, GREEDY, a_exv=NO_READER + MARK, b_exv=NO_READER)

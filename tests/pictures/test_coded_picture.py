@@ -371,14 +371,14 @@ def test_same(folder, called_lines):
         },
     )
     called_lines("index", "p", "--catalogue", "c", "--pixels", "--quiet")
-    status, lines, _ = called_lines("same", "--catalogue", "c", "--kind", "pixels")
+    status, lines, _ = called_lines("same", "c", "--kind", "pixels")
     assert status == 2 and lines[0] == "2 pictures: the coded picture is the same; XMP is the same, Exif is different, no IPTC:"
     assert [os.path.basename(it) for it in lines[1:3]] == ["a.jpg", "b.jpg"] and lines[3] == "1 group of 2 pictures", lines
     assert [it.partition(" ")[0] for it in lines[4:7]] == ["3", "1", "1"] and lines[6].endswith("damaged"), lines
-    (group, summary) = (json.loads(it) for it in called_lines("same", "--catalogue", "c", "--kind", "pixels", "--json")[1])
+    (group, summary) = (json.loads(it) for it in called_lines("same", "c", "--kind", "pixels", "--json")[1])
     assert (group["basis"], group["digests"], group["wholly_read"]) == ("coded picture", {}, False)
     assert {it["keep"] for it in group["pictures"]} == {None} and (summary["groups"], summary["undecided"]) == (1, 2)
-    rows = called_lines("same", "--catalogue", "c", "--kind", "pixels", "--csv")[1]
+    rows = called_lines("same", "c", "--kind", "pixels", "--csv")[1]
     assert len(rows) == 6 and "coded picture" in rows[1] and [it.split(",")[-1] for it in rows[3:]] == lines[4:7]
 
 
@@ -388,7 +388,7 @@ def test_groups_of_files(folder, called_lines):
     kinds = [jpeg(app1(A)), jpeg(app1(B)), jpeg(app1(A))[:-9], b"", b"text", jpeg(app1(A), base=OTHER)]
     put(folder, {f"p/{number:02}.jpg": rng.choice(kinds) for number in range(20)})
     called_lines("index", "p", "--catalogue", "plain", "--quiet")
-    status, lines, errors = called_lines("same", "--catalogue", "plain", "--kind", "file")
+    status, lines, errors = called_lines("same", "plain", "--kind", "file")
     assert (status, lines) == (3, []) and "index --pixels" in errors
     os.link(folder / "p/00.jpg", folder / "p/link.jpg")
     called_lines("index", "p", "--catalogue", "c", "--pixels", "--quiet")
@@ -396,13 +396,13 @@ def test_groups_of_files(folder, called_lines):
     for number in range(20):
         octets = (folder / f"p/{number:02}.jpg").read_bytes()
         expected.setdefault(hashlib.sha256(octets).digest(), []).append(f"{number:02}.jpg")
-    status, lines, _ = called_lines("same", "--catalogue", "c", "--kind", "file", "--json")
+    status, lines, _ = called_lines("same", "c", "--kind", "file", "--json")
     *groups, summary = map(json.loads, lines)
     found = [[os.path.basename(it["path"]) for it in group["pictures"]] for group in groups]
     assert status == 0 and sorted(found) == sorted(names for names in expected.values() if len(names) > 1)
     assert {group["basis"] for group in groups} == {"file"} and sum(len(group["links"]) for group in groups) == 1
     assert (summary["groups"], summary["undecided"]) == (len(groups), 0)
-    assert called_lines("same", "--catalogue", "c", "--kind", "file", "--only", "title")[0] == 3
+    assert called_lines("same", "c", "--kind", "file", "--only", "title")[0] == 3
 
 
 @needs("exiftool")
@@ -414,7 +414,7 @@ def test_scans_with_two_titles(folder, called_lines):
         for side, text in enumerate(both, 1):
             tool(folder, "exiftool", "-q", "-overwrite_original", f"-IPTC:ObjectName={text}", "-By-line=Otto", f"p/{name}{side}.jpg")
     called_lines("index", "p", "--catalogue", "c", "--pixels", "--quiet")
-    words = ("same", "--catalogue", "c", "--kind", "pixels", "--differ", "title", "--columns", "creator")
+    words = ("same", "c", "--kind", "pixels", "--differ", "title", "--columns", "creator")
     status, lines, _ = called_lines(*words, "--json")
     *groups, summary = map(json.loads, lines)
     found = {os.path.basename(it["path"])[:2]: it["texts"] for group in groups for it in group["pictures"]}
@@ -433,19 +433,19 @@ def test_titles_that_may_differ(folder, called_lines):
     refused = b"II*\0\xff\xff\0\0"
     put(folder, {"p/a.jpg": jpeg(app1(refused)), "p/b.jpg": jpeg(app1(A))})
     called_lines("index", "p", "--catalogue", "c", "--pixels", "--quiet")
-    status, lines, _ = called_lines("same", "--catalogue", "c", "--kind", "pixels", "--differ", "title")
+    status, lines, _ = called_lines("same", "c", "--kind", "pixels", "--differ", "title")
     assert status == 2 and any("isn't sure" in line for line in lines), lines
 
 
 def test_a_catalogue_without_digests(folder, called_lines):
     put(folder, {"p/a.jpg": jpeg(app1(A)), "p/b.jpg": jpeg(app1(B)), "p/c.webp": b"RIFF\0\0\0\0WEBPVP8 "})
     called_lines("index", "p", "--catalogue", "c", "--quiet")
-    status, lines, errors = called_lines("same", "--catalogue", "c", "--kind", "pixels")
+    status, lines, errors = called_lines("same", "c", "--kind", "pixels")
     assert (status, lines) == (3, []) and "index --pixels" in errors
     assert "unchanged" not in called_lines("index", "p", "--catalogue", "c", "--pixels", "--quiet")[1][-1], "they are looked at again"
     assert called_lines("index", "p", "--catalogue", "c", "--pixels", "--quiet")[1][-1].startswith("3 unchanged")
     assert called_lines("index", "p", "--catalogue", "c", "--quiet")[1][-1].startswith("3 unchanged"), "what is known stays"
-    assert called_lines("same", "--catalogue", "c", "--kind", "pixels")[0] == 0
+    assert called_lines("same", "c", "--kind", "pixels")[0] == 0
 
 
 @pytest.fixture
@@ -464,10 +464,10 @@ class TestChanged:
         put(folder, {"b/x.jpg": jpeg(app1(A)), "b/y.jpg": jpeg(app1(A), base=OTHER)})
         put(folder, {"a/new/x.jpg": jpeg(app1(B)), "a/z.jpg": jpeg(app1(B), base=OTHER)})
         assert moved() == (1, {"x.jpg": ("moved and edited", "new/x.jpg"), "y.jpg": ("moved and edited", "z.jpg")})
-        lines = called_lines("changed", "b", "a", "--pixels", "--each", "--no-exiftool")[1]
+        lines = called_lines("changed", "b", "a", "--pixels", "--each", "--no-programs")[1]
         assert lines[0].startswith("x.jpg: moved and edited to new/x.jpg (the coded picture is the same; Exif is different"), lines
         assert "Abc" in lines[1] and "Xyz" in lines[1], lines
-        without = called_lines("changed", "b", "a", "--each", "--no-exiftool")[1][-1]
+        without = called_lines("changed", "b", "a", "--each", "--no-programs")[1][-1]
         assert "moved" not in without and "2 missing after" in without, without
 
     def test_written_again_with_the_same_metadata(self, folder, moved):
@@ -505,5 +505,5 @@ def test_same_beside_what_was_indexed_without(folder, called_lines):
     called_lines("index", "p", "--catalogue", "with", "--pixels", "--quiet")
     called_lines("index", "q", "--catalogue", "without", "--quiet")
     called_lines("catalogue", "merge", "with", "without", "--catalogue", "c")
-    status, _, errors = called_lines("same", "--catalogue", "c", "--kind", "pixels")
+    status, _, errors = called_lines("same", "c", "--kind", "pixels")
     assert status == 3 and "1 picture has no digest" in errors

@@ -41,7 +41,7 @@ def run(called):
 
 
 def compared(run, before, after, *words):
-    status, out, _ = run("compare", "a.jpg", "b.jpg", "--json", "--no-exiftool", *words, before=before, after=after)
+    status, out, _ = run("compare", "a.jpg", "b.jpg", "--json", "--no-programs", *words, before=before, after=after)
     return status, json.loads(out)
 
 
@@ -170,7 +170,7 @@ def verdict_of_changed(folder, run, before, after):
     for side, octets in (("before", before), ("after", after)):
         (folder / side).mkdir(exist_ok=True)
         (folder / side / "picture").write_bytes(octets)
-    status, out, _ = run("changed", "before", "after", "--all", "--json", "--no-exiftool", "--pixels")
+    status, out, _ = run("changed", "before", "after", "--all", "--json", "--no-programs", "--pixels")
     found = json.loads(out.splitlines()[0])
     return status, found["result"], {it["name"] for it in found["fields"]}
 
@@ -397,8 +397,8 @@ def test_no_invisible_character_is_forgotten():
 def test_contradictions_never_look_alike(folder, called):
     packet = app1_xmp(xmp("<dc:title>Otto\u3164</dc:title>"))
     (folder / "a.jpg").write_bytes(jpeg(app13(resource(0x0404, record([("title", "Otto")]))), packet))
-    for command in ("conflicts", "captions"):
-        assert "Otto<U+3164>" in called(command, "a.jpg")[1]
+    for command in (["check"], ["show", "--captions"]):
+        assert "Otto<U+3164>" in called(*command, "a.jpg")[1]
 
 
 def test_values_that_look_alike(folder, called):

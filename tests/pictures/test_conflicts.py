@@ -112,7 +112,7 @@ def written(session_folder):
 @pytest.fixture
 def run(called):
     """Runs `conflicts`: its status and what it prints."""
-    return lambda *words, **files: called("conflicts", *words, *(f"{it}.jpg" for it in files), **files)[:2]
+    return lambda *words, **files: called("check", *words, *(f"{it}.jpg" for it in files), **files)[:2]
 
 
 @needs("exiftool")
@@ -203,11 +203,12 @@ def with_position(latitude, longitude):
     return b"II*\0" + struct.pack("<IHHHIII", 8, 1, 0x8825, 4, 1, 26, 0) + gps + values
 
 
-def test_how_far_two_positions_are_apart(run):
+def test_how_far_two_positions_are_apart(run, folder):
     """A minute of latitude is a sea mile of 1,852 m."""
     packet = xmp("", "xmlns:exif='http://ns.adobe.com/exif/1.0/' exif:GPSLatitude='51,31,26.68N' exif:GPSLongitude='180,0.0W'")
     block = with_position([(51, 1), (30, 1), (2668, 100)], [(180, 1), (0, 1), (0, 1)])
     printed = run(a=jpeg(app1(block), app1_xmp(packet)))[1]
     apart = re.search(r"position: ([\d,]+) m apart", printed)
     assert apart and abs(int(apart[1].replace(",", "")) - 1852) < 10, printed
-    assert run("--ignore", "position", "a.jpg")[0] == 0
+    (folder / "rules").write_text("labels agree except position", encoding="ascii")
+    assert run("--rules", "rules", "a.jpg")[0] == 0

@@ -49,7 +49,7 @@ def reported(folder, called):
         return called(*words)[1]
 
     def call(*words):
-        run("report", "--catalogue", "c", "--html", "page.html", *words)
+        run("report", "c", "--html", "page.html", *words)
         page = Path("page.html").read_text(encoding="utf-8")
         return unescape(re.sub("<[^>]*>", " ", page.partition(">Contradictions</h2>")[2].partition("</section>")[0]))
 
@@ -68,11 +68,11 @@ def listed(lines):
 
 
 def test_the_pictures_are_those_of_conflicts(reported):
-    found = [json.loads(it) for it in reported.run("conflicts", "p", "--json").splitlines()]
+    found = [json.loads(it) for it in reported.run("check", "p", "--json").splitlines()]
     expected = {os.path.basename(it["path"]): [one["label"] for one in it["conflicts"] if one["kind"] == "different"] for it in found[:-1]}
     expected = {name: labels for name, labels in expected.items() if labels}
     assert expected == {"different.jpg": ["creator"], "two.jpg": ["creator", "copyright"], "long.jpg": ["caption"]}
-    assert listed(reported.run("report", "--catalogue", "c", "--json")) == expected
+    assert listed(reported.run("report", "c", "--json")) == expected
     section = reported()
     assert [name for name in (f"{it}.jpg" for it in PICTURES) if f" {name} " in section] == ["different.jpg", "two.jpg", "long.jpg"]
     assert "Anna" in section and "Otto" in section and section.count(LONG.strip()) == 2 and "Neu." in section, "long texts are whole"
@@ -84,10 +84,10 @@ def test_the_pictures_are_those_of_conflicts(reported):
 def test_files_are_not_needed(reported):
     """The catalogue has the texts, long ones too, in any character set."""
     expected = {"different.jpg": ["creator"], "two.jpg": ["creator", "copyright"], "long.jpg": ["caption"]}
-    assert listed(reported.run("report", "--catalogue", "c", "--json", "--no-look")) == expected
+    assert listed(reported.run("report", "c", "--json", "--no-look")) == expected
     for name in PICTURES:
         Path(f"p/{name}.jpg").unlink()
-    assert listed(reported.run("report", "--catalogue", "c", "--json")) == expected
+    assert listed(reported.run("report", "c", "--json")) == expected
     assert "1 picture not wholly compared" in reported("--no-look")
 
 

@@ -177,7 +177,7 @@ def check(checks, case, found, side):
 @needs("exiftool", "exiv2")
 @pytest.mark.parametrize("side", ["after", "before"], ids=["cut later", "cut before"])
 def test_changed(asked, checks, side):
-    words = ["changed", *("before.catalogue", "after.catalogue")[:: 1 if side == "after" else -1], "--no-exiftool"]
+    words = ["changed", *("before.catalogue", "after.catalogue")[:: 1 if side == "after" else -1], "--no-programs"]
     status, lines = asked(*words, "--all", "--json")
     objects = [json.loads(it) for it in lines]
     found = {it["path"]: it for it in objects if "path" in it}
@@ -217,14 +217,14 @@ def test_compare(archives, checks):
 
 
 @needs("exiftool", "exiv2")
-@pytest.mark.parametrize("command", ["captions", "conflicts"])
+@pytest.mark.parametrize("command", ["show --captions", "check"])
 def test_texts(asked, checks, command):
     """What isn't known is said of each cut file, in words, in a table and in an object; and nothing is said to be missing."""
-    status, lines = asked(command, "after.catalogue", "--json")
+    status, lines = asked(*command.split(), "after.catalogue", "--json")
     found = {it["path"].rpartition("/")[2]: it for it in map(json.loads, lines) if "path" in it}
-    rows = list(csv.DictReader(io.StringIO("\n".join(asked(command, "after.catalogue", "--csv")[1]))))
+    rows = list(csv.DictReader(io.StringIO("\n".join(asked(*command.split(), "after.catalogue", "--csv")[1]))))
     assert status == 2 and found
-    for head, line in pairwise(asked(command, "after.catalogue")[1]):
+    for head, line in pairwise(asked(*command.split(), "after.catalogue")[1]):
         if line in ("no Exif, IPTC or XMP block", "no title, caption, name, keyword or rights"):
             checks.equal(f"{head}: {line}", lost(*CASES[head.rpartition("/")[2]]), [])
     for case, (name, place) in CASES.items():
@@ -233,7 +233,7 @@ def test_texts(asked, checks, command):
         it = found[case]
         is_open = {*it["not_known"], *(one.partition(":")[0].lower() for one in it["refused"])}
         checks.equal(f"{case}: what is lost and seems to be known", {*lost(name, place)} - is_open, set())
-        words = [one["not read" if command == "captions" else "detail"] for one in rows if one["picture"].rpartition("/")[2] == case]
+        words = [one["not read" if command == "show --captions" else "detail"] for one in rows if one["picture"].rpartition("/")[2] == case]
         checks.equal(f"{case}: the cut is named once in {words}", sum(one.count("the file ends ") for one in words), 1)
         kinds = " and ".join(kind.upper() for kind in it["not_known"] if kind != "exif")
         checks.equal(f"{case}: {kinds} in {words}", sum(kinds in one for one in words) > 0, True)
@@ -254,7 +254,7 @@ def test_same(asked, folder, called):
     """Two files that are cut alike are the same as far as they go: what may be behind the cut isn't 'none', and others may have it."""
     put(folder, {name: FILES["a.jpg"][0][: len(app1(A)) + 20] for name in ("a.jpg", "b.jpg")})
     called("index", str(folder), "--catalogue", "cut.catalogue", "--quiet")
-    status, text, _ = called("same", "--catalogue", "cut.catalogue")
+    status, text, _ = called("same", "cut.catalogue")
     assert status == 2 and "Exif is the same" in text and "IPTC and XMP are not known" in text and "no IPTC" not in text
 
 
@@ -295,11 +295,11 @@ SOME = {name: LAST[name] for name in ("a.jpg", "a.mpo", "a.png", "a.psd", "a.cr3
 def test_commands_about_a_file(folder, called, checks):
     """Files without their last byte: each command that is about files says what is wrong with each of them."""
     put(folder, SOME)
-    for command in ("explain", "show", "captions", "conflicts"):
-        status, printed, _ = called(command, *SOME)
-        texts = printed.split("\n== ") if command != "conflicts" else printed.splitlines()
-        rows = list(csv.DictReader(io.StringIO(called(command, *SOME, "--csv")[1]))) if command != "explain" else []
-        found = [json.loads(it) for it in called(command, *SOME, "--json")[1].splitlines()]
+    for command in ("explain", "show", "show --captions", "check"):
+        status, printed, _ = called(*command.split(), *SOME)
+        texts = printed.split("\n== ") if command != "check" else printed.splitlines()
+        rows = list(csv.DictReader(io.StringIO(called(*command.split(), *SOME, "--csv")[1]))) if command != "explain" else []
+        found = [json.loads(it) for it in called(*command.split(), *SOME, "--json")[1].splitlines()]
         damages = {it["path"]: it["damage"] for it in found if "damage" in it}
         assert status == 2
         for name in SOME:
@@ -321,7 +321,7 @@ def test_nights(folder, called):
     put(folder, {f"p/{name}": FILES[name][0] for name in LAST})
     called("nightly", "p", "--catalogue", "c", "--pixels")
     put(folder, {f"p/{name}": octets for name, octets in LAST.items()})
-    status, printed, _ = called("verify", "p", "--catalogue", "c", "--json")
+    status, printed, _ = called("verify", "c", "p", "--json")
     states = {it["path"].rpartition("/")[2]: it["state"] for it in map(json.loads, printed.splitlines()) if "path" in it}
     assert status == 1 and states == dict.fromkeys(LAST, "cut off")
     status, printed, _ = called("nightly", "p", "--catalogue", "c", "--json")
@@ -335,7 +335,7 @@ def test_only_what_may_be_behind_the_cut(asked, checks, words):
     """What is asked for may be behind the cut: then it is neither kept nor changed, whichever file is cut."""
     kind = {"keywords": "iptc", "IFD0:Make": "exif"}.get(words[7:], words[7:].lower())
     for catalogues in (("before.catalogue", "after.catalogue"), ("after.catalogue", "before.catalogue")):
-        status, lines = asked("changed", *catalogues, words, "--all", "--json", "--no-exiftool")
+        status, lines = asked("changed", *catalogues, words, "--all", "--json", "--no-programs")
         assert status == 2
         for it in (one for one in map(json.loads, lines) if "path" in one):
             result, is_lost = Result(it["result"]), kind in lost(*CASES[it["path"]])

@@ -22,7 +22,7 @@ MORE = (
     "list c --columns title,creator,keywords",
     "list c --count creator",
     'list c --where \'creator like "ANNA*" or title = "a bowl"\' --csv',
-    "captions c --csv",
+    "show --captions c --csv",
     "report c --since old --rules rules --html page.html --no-look",
     "report c --since old --html pages/ --no-look",
     "index p --catalogue new --jobs 2 --pixels --sidecars",

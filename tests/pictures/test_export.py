@@ -74,7 +74,7 @@ def test_positions_are_decimals(run, exported, folder):
         tool(folder, "exiftool", "-q", "-overwrite_original", *words, f"p/{name}.jpg")
     rows = exported("p").execute("SELECT path, latitude, longitude FROM pictures")
     tables = {"export": {os.path.basename(path)[:-4]: (north, east) for path, north, east in rows}}
-    for words in ("captions p", "captions c", "list c --columns position"):
+    for words in ("show --captions p", "show --captions c", "list c --columns position"):
         rows = csv.DictReader(io.StringIO(run(*words.split(), "--csv")))
         tables[words] = {
             os.path.basename(row["picture"])[:-4]: tuple(float(it) if it else None for it in (row["latitude"], row["longitude"]))
@@ -94,8 +94,8 @@ def test_small_angles_have_the_form_of_others(run, folder):
     words = [f"-GPSLatitude={north}", f"-GPSLongitude={-east}", "-GPSLatitudeRef=N", "-GPSLongitudeRef=W"]
     tool(folder, "exiftool", "-q", "-overwrite_original", *words, "p/a.jpg")
     run("index", "p", "--catalogue", "c", "--quiet")
-    texts = {"captions": run("captions", "p"), "list": run("list", "c", "--columns", "position")}
-    for words in ("captions p", "captions c", "list c --columns position"):
+    texts = {"captions": run("show", "--captions", "p"), "list": run("list", "c", "--columns", "position")}
+    for words in ("show --captions p", "show --captions c", "list c --columns position"):
         (row,) = csv.DictReader(io.StringIO(run(*words.split(), "--csv")))
         texts[words] = f"{row['latitude']}, {row['longitude']}"
     for words, text in texts.items():
@@ -159,7 +159,7 @@ def test_each_table_has_what_the_other_commands_print(exported, run, folder):
         },
     )
     base = exported("p")
-    groups = [json.loads(it) for it in run("same", "--catalogue", "c", "--json", status=2).splitlines()][:-1]
+    groups = [json.loads(it) for it in run("same", "c", "--json", status=2).splitlines()][:-1]
     keep = {None: None, False: 0, True: 1}
     expected = [(it["number"], it["basis"], one["path"], keep[one["keep"]]) for it in groups for one in it["pictures"]]
     assert asked(base, "SELECT number, kind, path, keep FROM groups JOIN pictures ON id = picture ORDER BY number, path") == sorted(
@@ -206,7 +206,7 @@ def test_captions_are_those_of_the_files(run, folder):
         tool(folder, "exiftool", "-q", "-codedcharacterset=", *words, "-o", f"p/{name}.jpg", "bare.jpg")
     items = "<rdf:li xml:lang='de'>Krug</rdf:li><rdf:li xml:lang='x-default'>Vase</rdf:li>"
     (folder / "p" / "order.jpg").write_bytes(jpeg(app1_xmp(xmp(f"<dc:title><rdf:Alt>{items}</rdf:Alt></dc:title>"))))
-    found = [json.loads(it) for it in run("captions", "--json", "p").splitlines()]
+    found = [json.loads(it) for it in run("show", "--captions", "--json", "p").splitlines()]
     expected = {
         (os.path.basename(it["path"]), one["label"], one["field"], text, one["guess"])
         for it in found

@@ -23,17 +23,17 @@ OUR = ("pwrite64", "write", "pread64", "read", "fsync", "fdatasync", "ftruncate"
 ERRORS = {"pwrite64": "ENOSPC", "write": "ENOSPC", "openat": "EACCES", "mmap": "ENOMEM", "fcntl": "ENOLCK"}  # others: EIO
 COMMANDS = {
     "index": ["index", "p", "--catalogue", "c", "--quiet", "--jobs", "1"],
-    "same": ["same", "--catalogue", "c"],
+    "same": ["same", "c"],
     "changed": ["changed", "other", "c"],
     "catalogue merge": ["catalogue", "merge", "other", "--catalogue", "c"],
     "catalogue relocate": ["catalogue", "relocate", "c", "p", "q"],
-    "catalogue forget": ["catalogue", "forget", "p/0.jpg", "--catalogue", "c"],
+    "catalogue forget": ["catalogue", "forget", "c", "p/0.jpg"],
     "list": ["list", "c", "--with", "title", "--columns", "title"],
-    "check": ["check", "rules", "c"],
-    "history": ["history", "p/0.jpg", "other", "c"],
-    "verify": ["verify", "p/0.jpg", "--catalogue", "c", "--quiet", "--jobs", "1"],
+    "check": ["check", "--rules", "rules", "c"],
+    "history": ["changed", "--picture", "p/0.jpg", "other", "c"],
+    "verify": ["verify", "c", "p/0.jpg", "--quiet", "--jobs", "1"],
     "catalogue export": ["catalogue", "export", "c", "tables", "--quiet"],
-    "report": ["report", "--catalogue", "c", "--json"],
+    "report": ["report", "c", "--json"],
 }
 
 pytestmark = pytest.mark.skipif(not shutil.which("strace"), reason="not installed: strace")

@@ -268,9 +268,9 @@ class Catalogues(InFolder):
         before = read(self.path(name))
         for call in (
             ["index", "p", "--catalogue", name, "--quiet"],
-            ["same", "--catalogue", name],
+            ["same", name],
             ["changed", name, name],
-            ["report", "--catalogue", name, "--json"],
+            ["report", name, "--json"],
             ["catalogue", "merge", name, "--catalogue", name],
         ):
             with self.subTest(name, call=call[0]):
@@ -295,7 +295,7 @@ class Catalogues(InFolder):
             self.refused(name, name)
         for call in (
             ["index", "p", "--catalogue", "text"],
-            ["same", "--catalogue", "text"],
+            ["same", "text"],
             ["catalogue", "merge", "text", "--catalogue", "text"],
         ):
             self.asked(*call, status=4)
@@ -327,7 +327,7 @@ class Catalogues(InFolder):
             shutil.copy(self.path("good"), self.path(name))
             self.database(name, statement, "UPDATE pictures SET exif = NULL" if what != "text for a path" else "SELECT 1")
             with self.subTest(what):
-                for call in (["changed", name, "good"], ["changed", "good", name], ["report", "--catalogue", name, "--json"]):
+                for call in (["changed", name, "good"], ["changed", "good", name], ["report", name, "--json"]):
                     done = self.called(call, self.folder)
                     self.assertIn(done.returncode, (0, 1, 2, 4), call)
                     self.assertNotIn(b"Traceback", done.stderr)
@@ -338,7 +338,7 @@ class Catalogues(InFolder):
             self.refused(f"no_{table}", "a table is missing")
         octets = read(self.path("good"))
         write(self.path("cut"), octets[: len(octets) // 2])
-        for call in (["same", "--catalogue", "cut"], ["index", "p", "--catalogue", "cut", "--quiet"]):
+        for call in (["same", "cut"], ["index", "p", "--catalogue", "cut", "--quiet"]):
             self.asked(*call, status=4)
             self.assertEqual(len(errors(self.complaint)), 1)
 
@@ -352,7 +352,7 @@ class Catalogues(InFolder):
             self.database(name, f"UPDATE pictures SET {known}", f"UPDATE pictures SET {wrong}")
             with self.subTest(wrong):
                 for form in ([], ["--json"]):
-                    self.asked("same", "--catalogue", name, *form, status=4)
+                    self.asked("same", name, *form, status=4)
                     self.assertIn(f"{name} ", self.complaint)
                     self.assertNotIn("internal error", self.complaint)
 
@@ -388,8 +388,8 @@ class Catalogues(InFolder):
         other.execute("BEGIN EXCLUSIVE")
         for words in (
             ["index", "p", "--catalogue", "c", "--quiet"],
-            ["same", "--catalogue", "c"],
-            ["report", "--catalogue", "c", "--json"],
+            ["same", "c"],
+            ["report", "c", "--json"],
         ):
             with self.subTest(words[0]):
                 done = run([sys.executable, "-c", call, *words], self.folder)
@@ -446,7 +446,7 @@ class Outputs(WithPictures):
         """The message has the name that was given, not that of the file that is renamed in the end."""
         for words, name in (
             (["index", "p", "--catalogue", "c", "--quiet", "--keep-old"], "missing/old"),
-            (["report", "--catalogue", "c", "--html"], "missing/page"),
+            (["report", "c", "--html"], "missing/page"),
             (["mend", "p/refused.jpg"], "missing/out.jpg"),
             (["index", "p", "--catalogue", "c", "--quiet", "--keep-old"], "p/a.jpg/old"),
         ):
@@ -460,12 +460,12 @@ class Outputs(WithPictures):
         os.symlink("c", self.path("link"))
         for name in ("c", "d", "link", "text", "p/a.jpg", "p", "/dev/null", "missing/page"):
             with self.subTest(name):
-                self.kept("report", "--catalogue", "c", "--since", "d", "--html", name, files=["c", "d", "text", "p/a.jpg"])
+                self.kept("report", "c", "--since", "d", "--html", name, files=["c", "d", "text", "p/a.jpg"])
         write(self.path("page"), PAGE)
-        self.asked("report", "--catalogue", "c", "--html", "page")
+        self.asked("report", "c", "--html", "page")
         self.assertIn(b"</html>", read(self.path("page")))
         write(self.path("empty"), b"")
-        self.asked("report", "--catalogue", "c", "--html", "empty")
+        self.asked("report", "c", "--html", "empty")
         self.assertIn(b"</html>", read(self.path("empty")))
 
     def full(self, *words, blocks=0, **more):
@@ -537,7 +537,7 @@ class Arguments(WithPictures):
             (["show", ""], "PICTURE: "),
             (["show", "a.jpg", "--limit", "0"], "--limit: "),
             (["show", "a.jpg", "--limit", "x"], "--limit: "),
-            (["same", "--catalogue", "c", "--kind", "iim"], "--kind: invalid choice"),
+            (["same", "c", "--kind", "iim"], "--kind: invalid choice"),
         ):
             with self.subTest(words):
                 self.asked(*words, status=3)
@@ -569,10 +569,7 @@ class Arguments(WithPictures):
             lines = self.asked("changed", "one.c", "two.c", "--each", "--files-from", "-", given=listed, status=1)
             self.assertEqual((lines[-2:], self.complaint), (["1 different", ONLY_METADATA], ""))
         given = os.fsencode(self.path("two", "a.jpg"))
-        found = [
-            json.loads(it)
-            for it in self.asked("report", "--catalogue", "two.c", "--since", "one.c", "--json", "--files-from", "-", given=given)
-        ]
+        found = [json.loads(it) for it in self.asked("report", "two.c", "--since", "one.c", "--json", "--files-from", "-", given=given)]
         self.assertEqual([it["changed"]["path"] for it in found if "changed" in it], ["a.jpg"])
 
     def test_modules_in_the_current_folder(self):

@@ -296,8 +296,8 @@ ARGUMENTS = [
     (refused_words, ("nightly", ""), f"argument CATALOGUE or FOLDER: {EMPTY}"),
     (refused_words, ("verify", "c", ""), f"argument FOLDER: {EMPTY}"),
     *((refused_words, ("index", f"--{it}", ""), f"argument --{it}: {EMPTY}") for it in ("catalogue", "keep-old", "shards")),
-    *((refused_words, ("report", f"--{it}", ""), f"argument --{it}: {EMPTY}") for it in ("catalogue", "since", "html")),
-    (refused_words, ("same", "--catalogue", ""), f"argument --catalogue: {EMPTY}"),
+    *((refused_words, ("report", f"--{it}", ""), f"argument --{it}: {EMPTY}") for it in ("rules", "since", "html")),
+    (refused_words, ("same", ""), f"argument CATALOGUE: {EMPTY}"),
     (refused_words, ("catalogue", "merge", "a", "--catalogue", ""), f"argument --catalogue: {EMPTY}"),
     *(
         (refused_words, tuple(words.split()), message)
@@ -381,7 +381,7 @@ def test_what_it_returns(call, arguments, expected):
     "words, meant",
     [
         ("lst c", "list"),
-        ("help hist", "history"),
+        ("help chek", "check"),
         ("changd", "changed"),
         ("nothing", None),
         ("s", None),

@@ -113,7 +113,7 @@ def test_whoever_keeps_one_of_each_group_loses_nothing(tmp_path_factory, files, 
         for number, (name, _, afterwards) in enumerate(files):
             change_file(number, name, afterwards)
         before = contents("p")
-        *groups, _ = map(json.loads, printed("same", "--catalogue", "c", "--json", most=2))
+        *groups, _ = map(json.loads, printed("same", "c", "--json", most=2))
         assert all([it["keep"] for it in group["pictures"]].count(True) == 1 for group in groups)
         for group in groups:
             kept = next(it["path"] for it in group["pictures"] if it["keep"]) if by_keep else random.choice(group["pictures"])["path"]
@@ -184,7 +184,7 @@ def test_what_a_group_rests_on(asked, folder, one, other, basis, status):
     """The status is 2 also where nobody knows whether the pictures are the same."""
     put(folder, {f"p/{name}.jpg": octets for name, octets in zip("12", map({**FILES, **OPEN}.__getitem__, (one, other)))})
     indexed(asked, "p")
-    *found, _ = asked("same", "--catalogue", "c", status=status)
+    *found, _ = asked("same", "c", status=status)
     assert [it["basis"] for it in found] == ([basis] if basis else [])
     assert all(it["wholly_read"] is (basis == "meaning") for it in found)
 
@@ -196,10 +196,10 @@ def test_a_picture_that_was_not_read_may_be_the_same(asked, called, folder):
     )
     called("index", "p", "--catalogue", "c", "--quiet", "--pixels")
     for words in ([], ["--kind", "iptc"], ["--kind", "pixels"]):
-        assert asked("same", "--catalogue", "c", *words, status=2)[-1]["undecided"] == 1, words
+        assert asked("same", "c", *words, status=2)[-1]["undecided"] == 1, words
     (folder / "p/b.dng").unlink()
     called("index", "p", "--catalogue", "c", "--quiet")
-    assert asked("same", "--catalogue", "c")[-1]["undecided"] == 0, "a text is no picture, and the other one is gone"
+    assert asked("same", "c")[-1]["undecided"] == 0, "a text is no picture, and the other one is gone"
 
 
 def test_a_later_group_has_one_of_each_earlier_one(asked, folder):
@@ -207,7 +207,7 @@ def test_a_later_group_has_one_of_each_earlier_one(asked, folder):
     for name in ("c1", "c2", "c3"):
         put(folder, {f"p/{name}-{number}.jpg": FILES[name] for number in "12"})
     indexed(asked, "p")
-    *found, _ = asked("same", "--catalogue", "c", status=2)
+    *found, _ = asked("same", "c", status=2)
     (repair,) = [it for it in found if it["basis"] == "repair"]
     assert names_of(repair["pictures"]) == ["c1-1.jpg", "c2-1.jpg", "c3-1.jpg"]
     assert [it["others"] for it in repair["pictures"]] == [1, 1, 1]
@@ -220,10 +220,10 @@ def test_names_of_one_file_are_links(asked, folder):
     os.symlink("a.jpg", folder / "p/c.jpg")
     os.symlink("p", folder / "linked")
     asked("index", "p", "linked", "--catalogue", "c", "--quiet")
-    assert asked("same", "--catalogue", "c")[:-1] == [], "it is one file"
+    assert asked("same", "c")[:-1] == [], "it is one file"
     (folder / "p/sub/copy.jpg").write_bytes(FILES["a1"])
     indexed(asked, "p", "linked")
-    (group, _) = asked("same", "--catalogue", "c")
+    (group, _) = asked("same", "c")
     how = {os.path.relpath(it["path"], folder): it["how"] for it in group["links"]}
     assert group["count"] == 2
     assert "hard link" in how["p/b.jpg"] and "symbolic link" in how["p/c.jpg"]
@@ -245,13 +245,13 @@ def test_groups_of_which_all_files_are_gone(called, folder, kind):
     """As where a disk isn't mounted: no group may seem to be none at all."""
     put(folder, {f"p/{name}.jpg": jpeg(app1(exif(b"abc" if name < "c" else b"c"))) for name in "abc"})
     assert called("index", "p", "--catalogue", "c", "--quiet", "--pixels")[0] == 0
-    assert json.loads(called("same", "--catalogue", "c", "--json", *kind)[1].splitlines()[-1])["absent_groups"] == 0
+    assert json.loads(called("same", "c", "--json", *kind)[1].splitlines()[-1])["absent_groups"] == 0
     (folder / "p").rename(folder / "q")
     words = "1 more is not listed, because its files are gone or have changed since they were indexed"
-    assert words in called("same", "--catalogue", "c", *kind)[1].splitlines()
-    assert f"exifnorm-pictures: note: {words}\n" in called("same", "--catalogue", "c", "--csv", *kind)[2]
-    assert json.loads(called("same", "--catalogue", "c", "--json", *kind)[1])["absent_groups"] == 1
-    assert called("report", "--catalogue", "c", "--html", "page")[0] == 0
+    assert words in called("same", "c", *kind)[1].splitlines()
+    assert f"exifnorm-pictures: note: {words}\n" in called("same", "c", "--csv", *kind)[2]
+    assert json.loads(called("same", "c", "--json", *kind)[1])["absent_groups"] == 1
+    assert called("report", "c", "--html", "page")[0] == 0
     assert "No two pictures have the same metadata" not in (folder / "page").read_text()
 
 
@@ -260,12 +260,12 @@ def test_files_that_are_gone_or_have_changed(asked, folder):
     indexed(asked, "p")
     (folder / "p/a.jpg").unlink()
     (folder / "p/b.jpg").write_bytes(FILES["b1"] + b"longer")
-    (group, _) = asked("same", "--catalogue", "c")
+    (group, _) = asked("same", "c")
     assert (names_of(group["pictures"]), names_of(group["gone"]), names_of(group["changed"])) == (["c.jpg", "d.jpg"], ["a.jpg"], ["b.jpg"])
-    (group, _) = asked("same", "--catalogue", "c", "--no-look")
+    (group, _) = asked("same", "c", "--no-look")
     assert group["count"] == 4 and group["gone"] == []
     (folder / "p/c.jpg").unlink()
-    assert asked("same", "--catalogue", "c")[:-1] == [], "one file is no group"
+    assert asked("same", "c")[:-1] == [], "one file is no group"
 
 
 def test_forget(asked, folder):
@@ -274,12 +274,12 @@ def test_forget(asked, folder):
         (folder / name).write_bytes(FILES["a1"])
     indexed(asked, "p")
     shutil.rmtree(folder / "p/sub")
-    assert [it["forgotten"] for it in asked("catalogue", "forget", "p/sub", "p/nothing", "--catalogue", "c")] == [1, 0]
-    (group, _) = asked("same", "--catalogue", "c")
+    assert [it["forgotten"] for it in asked("catalogue", "forget", "c", "p/sub", "p/nothing")] == [1, 0]
+    (group, _) = asked("same", "c")
     assert names_of(group["pictures"]) == ["c.jpg", "b.jpg"]
-    assert [it["forgotten"] for it in asked("catalogue", "forget", "p/c.jpg", "--catalogue", "c")] == [1]
+    assert [it["forgotten"] for it in asked("catalogue", "forget", "c", "p/c.jpg")] == [1]
     assert (folder / "p/c.jpg").exists()
-    asked("catalogue", "forget", "p", "--catalogue", "nothing", status=4)
+    asked("catalogue", "forget", "nothing", "p", status=4)
     assert not (folder / "nothing").exists()
 
 
@@ -318,7 +318,7 @@ def test_maker_notes(asked, folder, other, result, status, groups):
     values = [(it["before"], it["after"]) for it in (found["maker_note"] or {"values": []})["values"]]
     assert (("Annette", "Ottilie") in values) is (b"Ottilie" in other)
     indexed(asked, "before", "after")
-    assert len(asked("same", "--catalogue", "c", status=0 if groups else 2)[:-1]) == groups
+    assert len(asked("same", "c", status=0 if groups else 2)[:-1]) == groups
 
 
 @needs("exiftool")
@@ -328,10 +328,10 @@ def test_a_maker_note_that_only_moved(asked, folder):
         put(folder, {f"p{number}/a.jpg": with_short_note(moved)})
     (found, _) = asked("changed", "p0", "p1", "--all", status=2)
     assert found["result"] == "the same but for a MakerNote that moved"
-    (found, _) = asked("changed", "p0", "p1", "--all", "--no-exiftool", status=2)
+    (found, _) = asked("changed", "p0", "p1", "--all", "--no-programs", status=2)
     assert found["result"] == "not wholly read"
     indexed(asked, "p0", "p1", "p2")
-    *found, _ = asked("same", "--catalogue", "c", status=2)
+    *found, _ = asked("same", "c", status=2)
     assert [(it["basis"], it["count"]) for it in found] == [("meaning", 2)]
 
 
@@ -360,7 +360,7 @@ def test_a_file_system_that_is_mounted_at_another_place(asked, folder):
     assert moved == {"disk/a.jpg": "place/a.jpg", "disk/plain.jpg": "place/plain.jpg"}
     (folder / "away").rename(folder / "other")
     assert asked("index", "other", "--catalogue", "c", "--quiet")[-1]["counts"] == {"unchanged": 2}
-    (group, _) = asked("same", "--catalogue", "c")
+    (group, _) = asked("same", "c")
     assert sorted(os.path.relpath(it["path"], folder) for it in group["pictures"]) == ["other/a.jpg", "place/a.jpg"]
 
 

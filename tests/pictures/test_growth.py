@@ -40,25 +40,23 @@ OF_A_PICTURE = 50_000  # bytes by which memory may grow for each further picture
 COMMANDS = {
     "index": ["P --catalogue C --quiet --jobs 1 --pixels --sidecars"],
     "catalogue merge": ["C D --catalogue merged"],
-    "catalogue forget": ["P --catalogue kept"],
+    "catalogue forget": ["kept P"],
     "catalogue relocate": ["moving P Q"],
-    "verify": ["--catalogue C --quiet --jobs 1"],
-    "same": ["--catalogue C", "--catalogue C --json --ignore dc:none"],
-    "history": ["A C D"],
+    "verify": ["C --quiet --jobs 1"],
+    "same": ["C", "C --json --ignore dc:none"],
     "changed": [
-        "C D --no-exiftool --quiet --jobs 1",
-        "C D --each --no-exiftool --quiet --jobs 1",
-        "C D --json --ignore dc:none --no-exiftool --quiet --jobs 1",
+        "--picture A C D",
+        "C D --no-programs --quiet --jobs 1",
+        "C D --each --no-programs --quiet --jobs 1",
+        "C D --json --ignore dc:none --no-programs --quiet --jobs 1",
     ],
-    "compare": ["A B --no-exiftool", "A B --json --exact --no-exiftool"],
-    "show": ["A", "A --json", "A --csv"],
-    "captions": ["P", "C --json"],
+    "compare": ["A B --no-programs", "A B --json --exact --no-programs"],
+    "show": ["A", "A --json", "A --csv", "--captions P", "--captions C --json"],
     "list": ["C --without credit", "P --json --where title=x --jobs 1 --quiet", "C --count keywords", "C --with Make --columns dc:none"],
-    "check": ["rules C --json"],
+    "check": ["--rules rules C --json", "P --all", "C --json"],
     "nightly": ["P --catalogue nights --rules rules --jobs 1 --json"],
-    "conflicts": ["P --all", "C --json"],
     "explain": ["A"],
-    "report": ["--catalogue D --since C --html written/"],
+    "report": ["D --since C --html written/"],
     "catalogue export": ["C written.sqlite --quiet"],
     "mend": ["A mended"],
 }
@@ -67,15 +65,15 @@ INDEX = EACH[0]  # which makes the catalogue C
 # A format, and most forms of a block, differ only in how they are read, which each command does alike: these do it in their own ways
 READING = [
     INDEX,
-    "verify --catalogue C --quiet --jobs 1",
+    "verify C --quiet --jobs 1",
     "show A --json",
     "mend A mended",
 ]
 OF_FORMS = [
     *READING,
-    "compare A B --json --exact --no-exiftool",
-    "captions P",
-    "conflicts P --all",
+    "compare A B --json --exact --no-programs",
+    "show --captions P",
+    "check P --all",
     "catalogue export C written.sqlite --quiet",
 ]
 

@@ -38,15 +38,15 @@ class Hostile(WithPictures):
         for name in NAMES:
             write(os.path.join(os.fsencode(self.path("p")), name), picture)
         self.assertEqual(self.asked("index", "p", "--catalogue", "c", "--quiet"), [f"{len(NAMES)} accepted"])
-        group = json.loads(self.asked("same", "--catalogue", "c", "--json")[0])
+        group = json.loads(self.asked("same", "c", "--json")[0])
         told = {bytes.fromhex(it["path_hex"]) if "path_hex" in it else it["path"].encode() for it in group["pictures"]}
         self.assertEqual({os.path.basename(it) for it in told}, set(NAMES))
-        lines = self.asked("same", "--catalogue", "c")
+        lines = self.asked("same", "c")
         self.assertEqual(len([it for it in lines if "/p/" in it]), len(NAMES))
         for it in lines:
             self.assertTrue(it.isprintable(), lines)
         self.assertEqual([it.rpartition("/")[2] for it in lines if "back" in it], ["back\\\\slash.jpg"], "no two names look alike")
-        self.asked("report", "--catalogue", "c", "--html", "r.html")
+        self.asked("report", "c", "--html", "r.html")
         page = read(self.path("r.html")).decode()
         self.assertIn("&lt;b onclick=alert(1)&gt;&amp;amp;.jpg", page)
         self.assertNotIn("<b onclick", page)
@@ -106,7 +106,7 @@ class Hostile(WithPictures):
             put(self.folder, {f"{folder}/a.jpg": SMALL_JPEG})
             tool(self.folder, "exiftool", "-q", "-overwrite_original", f"-Artist={artist}", f"{folder}/a.jpg")
             self.asked("index", folder, "--catalogue", folder + ".c", "--quiet")
-        self.asked("report", "--catalogue", "two.c", "--since", "one.c", "--html", "r.html")
+        self.asked("report", "two.c", "--since", "one.c", "--html", "r.html")
         page = read(self.path("r.html")).decode()
         self.assertIn("&lt;script&gt;alert(1)&lt;/script&gt;", re.sub("</?(?:del|ins)>", "", page))  # without the marks of changed words
         self.assertNotIn("<script", without_own_script(page))
@@ -131,7 +131,7 @@ class Page(WithPictures):
         for name in ("<img src=x onerror=document.title='steered'>.jpg", "<script>document.title='steered'<", "plain.jpg"):
             write(self.path("p", name.replace("/", "")), with_exif(SMALL_JPEG, block([MAKE])))
         self.asked("index", "p", "--catalogue", "c", "--quiet")
-        self.asked("report", "--catalogue", "c", "--html", "r.html", "--title", "The title")
+        self.asked("report", "c", "--html", "r.html", "--title", "The title")
         browser = [shutil.which("chromium"), "--headless", "--no-sandbox", "--disable-gpu", f"--user-data-dir={self.path('b')}"]
         there = "file://" + self.path("r.html")
         seen = run([*browser, "--dump-dom", there], self.folder, HOME=self.folder).stdout.decode()

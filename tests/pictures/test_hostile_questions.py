@@ -117,7 +117,7 @@ def test_patterns(archive):
     """None takes long for a text, however often its stars can be tried."""
     (archive / "rules").write_text("".join(f'caption like "{it}"\n' for it in PATTERNS))
     commands = [["list", "c", "--where", f'caption like "{it}"'] for it in PATTERNS]
-    for ended in run_each(archive, [*commands, ["check", "rules", "c"]]):
+    for ended in run_each(archive, [*commands, ["check", "--rules", "rules", "c"]]):
         ended.check(0, 1)
 
 
@@ -153,7 +153,7 @@ def test_rules_that_mean_harm(archive, name):
     os.mkfifo(archive / "pipe")
     (archive / "words").write_bytes(b"\n".join(b"%d" % it for it in range(20_000)))
     (archive / "rules").write_bytes(HARM[name])
-    (ended,) = run_each(archive, [["check", "rules", "c"]])
+    (ended,) = run_each(archive, [["check", "--rules", "rules", "c"]])
     ended.check(*((0, 1) if name in CHECKED else (3,)))
     if name not in CHECKED:
         refused((ended.status, ended.out, ended.err))
@@ -162,7 +162,7 @@ def test_rules_that_mean_harm(archive, name):
 def test_words_of_a_long_file(archive, called):
     (archive / "words").write_bytes(b"a\n" * (tokens.MOST_WORDS + 1))
     (archive / "rules").write_text("title from words\n")
-    refused(called("check", "rules", "c"))
+    refused(called("check", "--rules", "rules", "c"))
 
 
 def test_rules_that_are_no_regular_file(archive, called):
@@ -176,7 +176,7 @@ def test_rules_that_are_no_regular_file(archive, called):
 
 def test_a_line_that_is_long_is_shown_around_its_mistake(archive, called):
     (archive / "rules").write_text("title one of " + ", ".join(f"'{it}'" for it in range(3000)) + " nonsense, 'x'\n")
-    _, _, messages = called("check", "rules", "c")
+    _, _, messages = called("check", "--rules", "rules", "c")
     assert "nonsense" in messages and len(messages) < 1000
     shown, mark = messages.splitlines()[-2:]
     assert shown[mark.index("^") :].startswith("nonsense")

@@ -70,7 +70,7 @@ def test_excluded_pictures_of_an_earlier_run_stay(archive, called):
     found = known(archive)
     assert {path for path, problem in found.items() if problem} == {b"raw/b.jpg"} and found[b"raw/b.jpg"] == "Vanished"
     assert "2 excluded, and in the catalogue from an earlier run: exifnorm-pictures catalogue forget c FOLDER" in out
-    called("catalogue", "forget", "p/raw", "p/sub/raw", "--catalogue", "c")
+    called("catalogue", "forget", "c", "p/raw", "p/sub/raw")
     assert "in the catalogue from an earlier run" not in called("index", "p", "--catalogue", "c", "--exclude", "raw")[1]
     assert set(known(archive)) == {it for it in ALL if b"raw" not in it}
     called("index", "p", "--catalogue", "c", "--quiet")
@@ -100,7 +100,7 @@ def test_what_to_do_next(folder, called):
         "2 groups of pictures whose metadata mean the same: exifnorm-pictures same 'my catalogue'\"'\"'s'",
         "1 refused or unreadable: exifnorm-pictures report 'my catalogue'\"'\"'s' --html report.html",
     ]
-    assert called("same", "--catalogue", name)[1].splitlines()[-3].startswith("2 groups")
+    assert called("same", name)[1].splitlines()[-3].startswith("2 groups")
     assert called("index", "p", "--catalogue", name)[1].splitlines() == ["8 unchanged", *lines[2:]]
 
 
@@ -206,7 +206,7 @@ def test_an_old_catalogue_is_from_before_a_run_that_was_stopped(folder, called, 
 def test_whole_is_refused_for_a_catalogue(folder, called, capsys):
     put(folder, {"p/b.jpg": ONE})
     called(*INDEX, "--catalogue", "c")
-    for command in ("captions", "conflicts"):
+    for command in ("show --captions", "check"):
         with pytest.raises(SystemExit) as refused:
-            called(command, "p", "c", "--whole")
+            called(*command.split(), "p", "c", "--whole")
         assert refused.value.code == 3 and capsys.readouterr().out == ""

@@ -80,7 +80,7 @@ def test_a_folder_that_is_gone_forgets_nothing(archive, called_lines):
     assert rows(archive) == before
     status, lines, _ = called_lines("index", "p", "--shards", "shards", "--json")
     assert status == 2 and '"problem": "Unreadable"' in lines[0]
-    assert called_lines("catalogue", "forget", "p/b", "--catalogue", "shards")[1][0].endswith(": 2 pictures forgotten")
+    assert called_lines("catalogue", "forget", "shards", "p/b")[1][0].endswith(": 2 pictures forgotten")
     assert called_lines("index", "p", "--shards", "shards")[0] == 0
     (archive / "unmounted").rename(archive / "p" / "b")
     assert called_lines("index", "p", "--shards", "shards")[1][0] == "3 unchanged, 2 accepted"
@@ -203,7 +203,7 @@ def test_counts_and_next_steps(archive, called_lines):
     lines = called_lines("index", "p", "--shards", "shards")[1]
     assert any(line.endswith("1 cut off or damaged") for line in lines), lines
     assert "refused or unreadable: exifnorm-pictures report shards --html report/" in lines[-1]
-    assert called_lines("same", "--catalogue", "shards")[0] == 0
+    assert called_lines("same", "shards")[0] == 0
 
 
 # Several runs

@@ -61,11 +61,11 @@ def of_pictures(name, *paths):
     "words, module, name",
     [
         (["index", "p", "--catalogue", "c", "--quiet", "--jobs", "1"], store, "put_rows"),
-        (["same", "--catalogue", "c"], store, "_check_head"),
+        (["same", "c"], store, "_check_head"),
         (["changed", "c", "c"], pairs.Pairs, "_pair_of_row"),
         (["changed", "c", "c"], pairs.Pairs, "_pair"),
         (["changed", "c", "c", "--all"], pairs, "picture_of_row"),
-        (["report", "--catalogue", "c", "--json"], store, "picture_of_row"),
+        (["report", "c", "--json"], store, "picture_of_row"),
         (["report", "c", "--since", "c", "--html", "page"], pairs.Pairs, "_pair_of_row"),
     ],
 )
@@ -86,7 +86,7 @@ def test_the_traceback(command, monkeypatch, words, variable, has_it):
     if variable:
         monkeypatch.setenv("EXIFNORM_DEBUG", variable)
     monkeypatch.setattr(store, "_check_head", mistake)
-    lines = command("same", "--catalogue", "c", *words, status=4).err.splitlines()
+    lines = command("same", "c", *words, status=4).err.splitlines()
     assert ("Traceback (most recent call last):" in lines) is has_it
     assert ("    return None + 1" in lines) is has_it
 
@@ -144,7 +144,7 @@ def test_a_report_of_a_damaged_catalogue(command, values):
     with of_pictures("c", b"/a") as made:
         made.base.execute("UPDATE blocks SET status = 'refused'")
         made.base.execute(f"UPDATE {values}")
-    printed = command("report", "--catalogue", "c", "--html", "page", status=4).err
+    printed = command("report", "c", "--html", "page", status=4).err
     assert "internal error" not in printed and len(printed.splitlines()) == 1
 
 
@@ -272,16 +272,16 @@ def test_in_processes_of_their_own(tmp_path):
 @pytest.mark.parametrize(
     "words",
     (
-        "captions k.jpg",
+        "show --captions k.jpg",
         "show k.jpg",
         "list k.jpg --with title",
         "check k.jpg c",
         "show --files-from k.jpg",
-        "verify --catalogue k.jpg",
+        "verify k.jpg",
         "compare a.jpg k.jpg",
         "mend k.jpg new.jpg",
         "index . --catalogue new --quiet --jobs 1 --pixels",
-        "report --catalogue c --html page",
+        "report c --html page",
     ),
 )
 def test_a_file_that_has_no_bytes_yet(words, called, folder, monkeypatch):

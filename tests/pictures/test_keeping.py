@@ -56,10 +56,10 @@ def test_which_one_stays(name, pixels, folder, called):
         return
     put(folder / "p", {f"{it}.jpg": octets for it, octets in files.items()})
     called("index", "p", "--catalogue", "c", "--quiet", *["--pixels"] * pixels)
-    rows = list(csv.DictReader(called("same", "--catalogue", "c", "--csv")[1].splitlines()))
+    rows = list(csv.DictReader(called("same", "c", "--csv")[1].splitlines()))
     found = [{"1": True, "0": False}.get(it["keep"], it["note"]) for it in rows]
     assert found == list(expected[pixels])
-    objects = json.loads(called("same", "--catalogue", "c", "--json")[1].splitlines()[0])["pictures"]
+    objects = json.loads(called("same", "c", "--json")[1].splitlines()[0])["pictures"]
     assert [it["keep_note"] if it["keep"] is None else it["keep"] for it in objects] == found
     called("catalogue", "export", "c", "t")
     with sqlite3.connect("t") as base:
@@ -70,13 +70,13 @@ def test_which_one_stays(name, pixels, folder, called):
 def test_the_text_says_what_is_known_of_the_pictures(folder, called):
     put(folder / "p", {"a.jpg": MASTER, "b.jpg": AGAIN})
     called("index", "p", "--catalogue", "c", "--quiet")
-    assert called("same", "--catalogue", "c")[1].splitlines()[-1].startswith("Only metadata was compared")
+    assert called("same", "c")[1].splitlines()[-1].startswith("Only metadata was compared")
     called("index", "p", "--catalogue", "c", "--quiet", "--pixels")
-    text = called("same", "--catalogue", "c")[1]
+    text = called("same", "c")[1]
     assert "the pictures are the same too" in text and "Only metadata" not in text
     put(folder / "p", {"c.jpg": CUT})
     called("index", "p", "--catalogue", "c", "--quiet", "--pixels")
-    lines = called("same", "--catalogue", "c")[1].splitlines()
+    lines = called("same", "c")[1].splitlines()
     notes = {os.path.basename(it.split()[0]): it.partition("(")[2] for it in lines[1:4]}
     assert notes["c.jpg"] == f"{DAMAGED})" and notes["b.jpg"].startswith("the same picture as") and "any one may stay" not in "".join(lines)
 

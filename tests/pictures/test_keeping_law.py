@@ -82,7 +82,7 @@ def test_nothing_is_lost(folder, called, seed):
     for words in CHOICES:
         if words == ["--kind", "pixels"] and not pixels:
             continue
-        status, printed, messages = called("same", "--catalogue", "c", "--csv", *words)
+        status, printed, messages = called("same", "c", "--csv", *words)
         if status > 2:
             assert "pixels" in words, messages  # not each picture has a digest
             continue

@@ -62,7 +62,7 @@ class World:
     def forget(self):
         name = self.rng.choice([*FILES, "a", "b"])
         if (self.folder / "c").exists():
-            self.called("catalogue", "forget", name, "--catalogue", "c")
+            self.called("catalogue", "forget", "c", name)
             self.known = {other: texts for other, texts in self.known.items() if not other.startswith(name)}
 
     def relocate(self):
@@ -154,7 +154,7 @@ def test_only_new_pictures_are_read(folder, called, read):
     assert asked(called, "--where", "title = other") == (["p/3.jpg"], 5) and len(read) == 1
     read.clear()
     (folder / "rules").write_text("every picture needs title\n", encoding="ascii")
-    assert called("check", "rules", "c")[0] == 0 and read == []
+    assert called("check", "--rules", "rules", "c")[0] == 0 and read == []
 
 
 def test_an_index_costs_nothing_for_questions(folder, called, read):
@@ -179,7 +179,7 @@ def test_no_picture_gets_the_number_of_another(folder, called):
         assert asked(called, "--with", "title")[1] == 2
         with closing(sqlite3.connect(folder / "c")) as base:
             (last,) = base.execute("SELECT path FROM pictures ORDER BY id DESC LIMIT 1").fetchone()
-        called("catalogue", "forget", os.fsdecode(last), "--catalogue", "c")
+        called("catalogue", "forget", "c", os.fsdecode(last))
         os.remove(last)
         put(folder / "p", {f"c{number}.jpg": picture([("title", f"C{number}")])})
         called("index", "p", "--catalogue", "c", "--quiet")

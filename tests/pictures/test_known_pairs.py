@@ -58,7 +58,7 @@ def test_each_pair(folder, called, checks):
         if edit == "cut":  # after the edit, since no program writes to a picture that is cut
             whole = (folder / "after" / name).read_bytes()
             (folder / "after" / name).write_bytes(whole[:-20])
-    status, printed, _ = called("changed", "before", "after", "--pixels", "--all", "--json", "--no-exiftool")
+    status, printed, _ = called("changed", "before", "after", "--pixels", "--all", "--json", "--no-programs")
     found = {it["path"]: it for it in map(json.loads, printed.splitlines()) if "path" in it}
     assert status == 2 and found.keys() == pairs.keys()  # of a picture that is cut, and not edited otherwise, no difference is known
     for name, (metadata, edit) in pairs.items():
@@ -69,7 +69,7 @@ def test_each_pair(folder, called, checks):
         checks.equal(f"{metadata}, {edit}: metadata", differs, is_edited)
         checks.equal(f"{metadata}, {edit}: picture", one["coded_picture"], expected)
         checks.equal(f"{metadata}, {edit}: same", one["result"] == "same", not is_edited and expected == "the same")
-        status, printed, _ = called("compare", f"before/{name}", f"after/{name}", "--json", "--no-exiftool")
+        status, printed, _ = called("compare", f"before/{name}", f"after/{name}", "--json", "--no-programs")
         other = json.loads(printed.splitlines()[-1])
         if not other["identical_files"]:
             checks.equal(f"{metadata}, {edit}: compare", (other["result"], other["coded_picture"]), (one["result"], one["coded_picture"]))

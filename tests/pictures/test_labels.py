@@ -38,11 +38,11 @@ def test_each_field_of_a_label(folder, called):
     for label in filter(FIELDS.get, FIELDS):
         ours = [name for name, (of, _) in names.items() if of == label]
         (folder / "list").write_text("".join(f"{it}\n" for it in ours), encoding="utf-8")
-        status, printed, _ = called("changed", "before", "after", "--only", label, "--files-from", "list", "--no-exiftool")
+        status, printed, _ = called("changed", "before", "after", "--only", label, "--files-from", "list", "--no-programs")
         assert status == 1 and printed.startswith(f"{len(ours)} picture") and ("all changed" in printed or "1 changed" in printed), printed
         assert f"{label} stands for " in printed
         ignored = ["--ignore", label.upper().replace(" ", "-"), "--ignore", "IPTC:EnvelopeRecordVersion", "--ignore", "XMP-x:*"]
-        printed = called("changed", "before", "after", *ignored, "--files-from", "list", "--no-exiftool", "--json")[1]
+        printed = called("changed", "before", "after", *ignored, "--files-from", "list", "--no-programs", "--json")[1]
         assert f'"{FIELDS[label][0]}' not in printed.split('"left_out"')[0], printed
 
 
@@ -55,17 +55,23 @@ def test_a_label_wins_over_a_field(folder, called):
     assert "perhaps creator is meant" in called("compare", "a.jpg", "b.jpg", "--only", "creatoor")[2]
 
 
-@pytest.mark.parametrize("words, status", [([], 1), (["--ignore", "title"], 1), (["--only", "headline"], 0)])
+@pytest.mark.parametrize("words, status", [([], 1), (["labels agree except title"], 1), (["headline agree"], 0)])
 def test_contradictions(words, status, folder, called):
     octets = jpeg(with_texts(artist=b"Anna"), with_record(data_set(80, b"Otto")))
     put(folder, {"a.jpg": octets, "b.jpg": jpeg(app1(exif(b"abc")))})
-    found, printed, _ = called("conflicts", "a.jpg", "b.jpg", *words)
+    (folder / "rules").write_text("\n".join(words), encoding="ascii")
+    found, printed, _ = called("check", "a.jpg", "b.jpg", *(["--rules", "rules"] if words else []))
     assert (found, "creator 1" in printed) == (status, True)
-    assert ("left out though they contradict: creator 1" in printed) == (words == ["--only", "headline"])
+    assert ("left out though they contradict: creator 1" in printed) == (words == ["headline agree"])
 
 
 def test_what_is_no_label(folder, called):
-    status, _, messages = called("conflicts", ".", "--ignore", "Artist")
-    assert status == 3 and "Artist is no label" in messages and "creator" in messages
-    status, _, messages = called("conflicts", ".", "--only", "creatr")
-    assert status == 3 and "perhaps creator is meant" in messages
+    for rule, said in (
+        ("labels agree except Artist", "is none of the labels that are compared: title, "),
+        ("labels agree except creatr", "perhaps creator is meant"),
+        ("creatr agree", "perhaps creator is meant"),
+        ("serial agree", "is none of the labels that are compared"),
+    ):
+        (folder / "rules").write_text(rule, encoding="ascii")
+        status, _, messages = called("check", ".", "--rules", "rules")
+        assert status == 3 and said in messages, rule

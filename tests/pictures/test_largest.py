@@ -38,21 +38,21 @@ INDEX = "index {} --catalogue {} --quiet --jobs 1 --pixels"
 COMMANDS = {
     "index": INDEX.format("P", "new"),
     "catalogue merge": "catalogue merge c d --catalogue e",
-    "catalogue forget": "catalogue forget P --catalogue kept",
+    "catalogue forget": "catalogue forget kept P",
     "catalogue relocate": "catalogue relocate moving P Q",
-    "verify": "verify P --catalogue c --quiet --jobs 1",
-    "same": "same --catalogue c --json --ignore dc:none",
-    "changed": "changed d c --exact --no-exiftool --quiet --jobs 1",
-    "history": "history P/{} d c",
-    "compare": "compare P/{0} Q/{0} --json --exact --no-exiftool",
+    "verify": "verify c P --quiet --jobs 1",
+    "same": "same c --json --ignore dc:none",
+    "changed": "changed d c --exact --no-programs --quiet --jobs 1",
+    "history": "changed --picture P/{} d c",
+    "compare": "compare P/{0} Q/{0} --json --exact --no-programs",
     "list": "list P --json --where title=x --columns keywords --quiet --jobs 1",
-    "check": "check rules P --json --quiet --jobs 1",
+    "check": "check --rules rules P --json --quiet --jobs 1",
     "nightly": "nightly P --catalogue d --rules rules --jobs 1",
     "show": "show P/{} --json",
-    "captions": "captions P --json",
-    "conflicts": "conflicts P --all",
+    "captions": "show --captions P --json",
+    "check, agreement": "check P --all",
     "explain": "explain P/{}",
-    "report": "report --catalogue c --since d --html page",
+    "report": "report c --since d --html page",
     "catalogue export": "catalogue export c tables --quiet",
     "mend": "mend P/{} copy",
 }
@@ -125,7 +125,7 @@ def test_nothing_of_a_picture_stays(name, folder, called):
         (folder / f"{number}-{of_name(name)}").write_bytes(some)
         for words in (
             ("show", f"{number}-{of_name(name)}"),
-            ("compare", f"{number}-{of_name(name)}", f"0-{of_name(name)}", "--no-exiftool"),
+            ("compare", f"{number}-{of_name(name)}", f"0-{of_name(name)}", "--no-programs"),
         ):
             called(*words)  # which imports what it needs
             gc.collect()
@@ -165,7 +165,7 @@ def test_over_the_limits(name, start, tmp_path):
     """It isn't read, and costs no more."""
     (tmp_path / name).write_bytes(OVER[name]())
     for ended in run_each(
-        tmp_path, [["show", name, "--json"], ["captions", name], ["index", name, "--catalogue", "c"]], SMALL, PATH="/nowhere"
+        tmp_path, [["show", name, "--json"], ["show", "--captions", name], ["index", name, "--catalogue", "c"]], SMALL, PATH="/nowhere"
     ):
         assert ended.status in (0, 2) and re.search("TooMuch|over a limit", ended.out), (ended.words, ended.out[-500:], ended.err)
         assert (ended.memory - start[name_of(" ".join(ended.words))]) * SCALE <= MEMORY, (
@@ -186,16 +186,16 @@ def test_texts_behind_the_fields_that_are_read(folder, called):
     picture = pictures.read(folder / "p" / "a.tif")
     assert picture.too_many == (where,) and picture.texts("caption") == ("another caption",)
     for given in ("p", "c"):
-        status, text, _ = called("captions", given)
+        status, text, _ = called("show", "--captions", given)
         assert (
             (status, text.count(where)) == (2, 1) and "another caption" in text and "the caption" not in text.replace("another", "")
         ), text[-300:]
-        status, text, _ = called("captions", given, "--json")
+        status, text, _ = called("show", "--captions", given, "--json")
         assert (status, json.loads(text)["too_many"]) == (2, [where])
-        status, text, _ = called("captions", given, "--csv")
+        status, text, _ = called("show", "--captions", given, "--csv")
         assert status == 2 and text.count(where) == 1
         for more in ((), ("--json",), ("--csv",)):
-            status, text, _ = called("conflicts", given, *more)
+            status, text, _ = called("check", given, *more)
             assert (status, text.count(where)) == (2, 1), (given, more, text[-300:])
     assert called("list", "c", "--without", "title")[0] == 2
     called("catalogue", "export", "c", "tables", "--quiet")
@@ -209,8 +209,8 @@ def test_texts_that_are_too_many_for_a_catalogue(folder, called):
     (folder / "a.tif").write_bytes(tiff(page((0x83BB, 7, iim(b"x" * 50) * 90_000))))
     assert called("index", "a.tif", "--catalogue", "c", "--quiet")[0] == 0
     where = "the fields of IPTC, which are too many for the catalogue"
-    for command in ("captions", "conflicts"):
-        status, text, _ = called(command, "c")
+    for command in ("show --captions", "check"):
+        status, text, _ = called(*command.split(), "c")
         assert (status, text.count(where)) == (2, 1) and "no title" not in text, text
-        status, text, _ = called(command, "a.tif")
+        status, text, _ = called(*command.split(), "a.tif")
         assert status == 0 and where not in text, text[-300:]

@@ -21,7 +21,7 @@ pytestmark = pytest.mark.skipif(not shutil.which("strace"), reason="not installe
 MORE = {
     "index, shards": ["index", "p", "q", "--shards", "shards", "--quiet", "--jobs", "1"],
     "index, several processes": ["index", "p", "--catalogue", "c", "--quiet", "--jobs", "2"],
-    "forget, shards": ["catalogue", "forget", "p/a.jpg", "--catalogue", "s"],
+    "forget, shards": ["catalogue", "forget", "s", "p/a.jpg"],
     "list, shards": ["list", "s", "--with", "title"],
     "merge, shards": ["catalogue", "merge", "s", "--catalogue", "out"],
 }

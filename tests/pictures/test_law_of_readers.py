@@ -19,16 +19,16 @@ COMMANDS = [
     "same cat",
     "changed d cat",
     "changed cat d",
-    "history p/1.jpg cat d",
+    "changed --picture p/1.jpg cat d",
     "list cat",
     "list cat --with title",
-    "check rules cat",
-    "captions cat",
-    "conflicts cat",
+    "check --rules rules cat",
+    "show --captions cat",
+    "check cat",
     "report cat --html tmp/page",
     "catalogue export cat tmp/tables",
     "catalogue merge cat d --catalogue tmp/all",
-    "mend --catalogue cat tmp/copies",
+    "mend cat tmp/copies",
 ]
 OF_PICTURES = {"compare", "show", "explain"}  # which read no catalogue
 WRITE_TO_IT = {"index", "nightly", "catalogue forget", "catalogue relocate"}

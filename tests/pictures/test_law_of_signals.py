@@ -22,7 +22,7 @@ COMMANDS = {
     "report": ["report", "c", "--html", "r/"],
     "index": ["index", "p", "--catalogue", "new", "--jobs", "2"],
     "list": ["list", "c"],
-    "mend": ["mend", "--catalogue", "c", "out"],
+    "mend": ["mend", "c", "out"],
 }
 SIGNALS = (signal.SIGINT, signal.SIGTERM, signal.SIGHUP)
 

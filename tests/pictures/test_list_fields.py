@@ -183,7 +183,7 @@ def test_angles_that_make_no_position(picture, is_unclear, folder, called):
             ("every picture needs position", expected[1] or 2 * expected[2]),
         ):
             (folder / "rules").write_text(rule + "\n")
-            ended, printed, _ = called("check", "rules", source)
+            ended, printed, _ = called("check", "--rules", "rules", source)
             assert ended == status and ("no position" in printed) == (ended == 2 or (rule != "position never" and ended == 1)), printed
 
 
@@ -206,10 +206,10 @@ def test_a_position_has_the_signs_of_exiftool(folder, called):
         it["SourceFile"].rpartition("/")[2]: {"latitude": it["GPSLatitude"], "longitude": it["GPSLongitude"]}
         for it in json.loads(subprocess.run(words, cwd=folder, capture_output=True, check=True).stdout)
     }
-    objects = [json.loads(line) for line in called("captions", "p", "--json")[1].splitlines()]
+    objects = [json.loads(line) for line in called("show", "--captions", "p", "--json")[1].splitlines()]
     assert {it["path"].rpartition("/")[2]: it["position"] for it in objects if "position" in it} == expected
     put(folder, {"S.jpg": located((1, 2, 3, 4), b"S"), "x.jpg": located((1, 2, 3, 4), b"x")})
-    assert [json.loads(called("captions", name, "--json")[1])["position"] for name in ("S.jpg", "x.jpg")] == [None, None]
+    assert [json.loads(called("show", "--captions", name, "--json")[1])["position"] for name in ("S.jpg", "x.jpg")] == [None, None]
 
 
 @needs("exiftool")

@@ -45,8 +45,8 @@ def test_a_caption_of_2000_octets(name, folder, called):
     found = json.loads(called("changed", "before.c", "after.c", "--json")[1].splitlines()[0])
     (row,) = found["fields"]
     assert (row["before"]["value"], row["after"]["value"]) == (before, after)
-    assert after in called("captions", "after.c")[1]
-    assert next(csv.DictReader(io.StringIO(called("captions", "--csv", "after.c")[1].lstrip("\ufeff"))))["caption"] == after
+    assert after in called("show", "--captions", "after.c")[1]
+    assert next(csv.DictReader(io.StringIO(called("show", "--captions", "--csv", "after.c")[1].lstrip("\ufeff"))))["caption"] == after
     called("catalogue", "export", "after.c", "tables")
     with sqlite3.connect(folder / "tables") as base:
         assert base.execute("SELECT value FROM fields WHERE name = 'IPTC:Caption-Abstract'").fetchall() == [(after,)]
@@ -55,13 +55,13 @@ def test_a_caption_of_2000_octets(name, folder, called):
 
 
 COMMANDS = {
-    "captions": ("captions", "a.jpg"),
-    "conflicts": ("conflicts", "a.jpg"),
+    "captions": ("show", "--captions", "a.jpg"),
+    "conflicts": ("check", "a.jpg"),
     "show": ("show", "a.jpg"),
     "show --json": ("show", "--json", "a.jpg"),
     "explain": ("explain", "a.jpg"),
     "index": ("index", "a.jpg", "--catalogue", "c", "--jobs", "1", "--quiet"),
-    "compare": ("compare", "--no-exiftool", "a.jpg", "b.jpg"),
+    "compare": ("compare", "--no-programs", "a.jpg", "b.jpg"),
 }
 
 

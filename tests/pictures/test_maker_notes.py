@@ -161,7 +161,7 @@ def same(run):
     """The status of `same`, its groups, and the pictures that may be in one by their MakerNotes."""
 
     def call(*words):
-        status, (*groups, summary) = run("same", "--catalogue", "c", *words)
+        status, (*groups, summary) = run("same", "c", *words)
         return status, groups, summary["maker_notes_unknown"]
 
     return call
@@ -220,7 +220,7 @@ def test_compare_and_same_agree(run, folder, one_exiftool):
     for pair in PAIRS:
         _, (answer,) = run("compare", *(f"{it}.jpg" for it in pair))
         (folder / "list").write_text("".join(f"{it}.jpg\n" for it in pair))
-        status, (*groups, summary) = run("same", "--catalogue", "c", "--files-from", "list")
+        status, (*groups, summary) = run("same", "c", "--files-from", "list")
         found.add((answer["result"], may_read_the_same(answer)))
         is_open = (status, summary["maker_notes_unknown"]) == (2, 2)
         if groups or (may_read_the_same(answer) and not is_open):
@@ -271,9 +271,9 @@ def test_same_starts_no_exiftool(put, same, called, monkeypatch, folder):
     monkeypatch.setenv("PATH", str(folder))
     assert same() == (2, [], 2)
     assert same("--kind", "exif") == (2, [], 2) and same("--kind", "iptc") == (0, [], 0)
-    _, printed, _ = called("same", "--catalogue", "c")
+    _, printed, _ = called("same", "c")
     assert "2 pictures may be the same as others but for MakerNotes that moved" in printed
-    _, _, errors = called("same", "--catalogue", "c", "--csv")
+    _, _, errors = called("same", "c", "--csv")
     assert "2 pictures may be" in errors
     words = re.search("same (--ignore [^ ]*) lists them", printed)[1].split()
     assert [names(it) for it in same(*words)[1]] == [["a", "b"]]
@@ -303,9 +303,9 @@ def test_fields_that_do_not_count(put, same):
 
 def test_a_report_says_how_many_are_not_known(put, run, called, folder):
     put(a=noted(), b=noted(moved=64, inside=b"Anna"))
-    called("report", "--catalogue", "c", "--html", "page.html")
+    called("report", "c", "--html", "page.html")
     assert "2 pictures may be the same as others but for MakerNotes" in (folder / "page.html").read_text()
-    _, found = run("report", "--catalogue", "c")
+    _, found = run("report", "c")
     assert [it["maker_notes_unknown"] for it in found if it["record"] == "unknown"] == [2]
 
 

@@ -43,7 +43,7 @@ def copies(folder):
 def test_those_of_a_catalogue(archive, called_lines):
     """Its refused pictures, under their names below the folder that was indexed. Originals stay as they are."""
     called_lines("index", "p", "--catalogue", "c", "--quiet")
-    status, lines, _ = called_lines("mend", "--catalogue", "c", "out")
+    status, lines, _ = called_lines("mend", "c", "out")
     assert (
         status == 2
         and lines[-1]
@@ -57,7 +57,7 @@ def test_those_of_a_catalogue(archive, called_lines):
 def test_only_without_loss(archive, called_lines):
     """The counts tell what would be lost from what can't be mended, and no copy has a loss."""
     called_lines("index", "p", "--catalogue", "c", "--quiet")
-    status, lines, _ = called_lines("mend", "--catalogue", "c", "--lossless", "out", "--json")
+    status, lines, _ = called_lines("mend", "c", "--lossless", "out", "--json")
     *pictures, last = map(json.loads, lines)
     assert status == 2 and last["counts"] == {"lossless": 2, "lossy": 0, "plain": 0, "not mended": 2}
     assert copies(archive / "out") == ["one/shared.jpg", "one/unsorted.jpg"]
@@ -78,7 +78,7 @@ def test_those_of_a_list(archive, called_lines):
 def test_a_list_chooses_of_a_catalogue(archive, called_lines):
     (archive / "list").write_text("p/one/unsorted.jpg\np/two/accepted.jpg\n")
     called_lines("index", "p", "--catalogue", "c", "--quiet")
-    status, lines, _ = called_lines("mend", "--catalogue", "c", "--files-from", "list", "out")
+    status, lines, _ = called_lines("mend", "c", "--files-from", "list", "out")
     assert status == 0 and lines[-1] == "1 picture: 1 mended without loss"
 
 
@@ -86,9 +86,9 @@ def test_one_folder_is_given(archive, called):
     called("index", "p", "--catalogue", "c", "--quiet")
     for words in ((), ("out", "out")):
         with pytest.raises(SystemExit) as ended:
-            called("mend", "--catalogue", "c", *words)
+            called("mend", "c", *words)
         assert ended.value.code == 3
-    assert called("mend", "--catalogue", "absent", "out")[0] == 4
+    assert called("mend", "absent", "out")[0] == 4
 
 
 @needs("exiftool")

@@ -50,7 +50,7 @@ class Merge(InFolder):
         self.assertEqual(self.contents("all"), self.contents("one.c", "two.c"))
         self.asked("index", "one", "two", "--catalogue", "at once", "--quiet")
         self.assertEqual(self.contents("all"), self.contents("at once"))
-        self.assertEqual(self.asked("same", "--catalogue", "all", "--json"), self.asked("same", "--catalogue", "at once", "--json"))
+        self.assertEqual(self.asked("same", "all", "--json"), self.asked("same", "at once", "--json"))
         self.assertEqual(self.asked("index", "one", "two", "--catalogue", "all", "--quiet"), ["8 unchanged"])
 
     def test_pictures_keep_their_runs(self):

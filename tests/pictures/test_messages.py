@@ -17,6 +17,7 @@ from studio import WithPictures, put, read, write
 from exifnorm_pictures.catalogue.store import VERSION, Catalogue, NoCatalogue
 from exifnorm_pictures.cli import main, names, objects, output, parser
 from exifnorm_pictures.cli.options import Files
+from exifnorm_pictures.cli.topics import TOPICS
 from exifnorm_pictures.extract import exiftool, extraction, programs
 from exifnorm_pictures.files import atomic, opening, session, signals
 from exifnorm_pictures.model.problems import TEXTS
@@ -32,7 +33,16 @@ class CommandLine(unittest.TestCase):
         with mock.patch.dict(os.environ, COLUMNS="120"):
             whole, commands = parser.parsers()
             texts = [it.format_help() for it in (whole, *commands.values())]
-        self.golden("help.txt", "\n".join(texts))
+        topics = [f"help {name}\n{text()}\n" for name, text in TOPICS.items()]
+        self.golden("help.txt", "\n".join([*texts, *topics]))
+
+    def test_a_help_is_one_screen_whose_last_line_names_the_rest(self):
+        with mock.patch.dict(os.environ, COLUMNS="100"):
+            whole, commands = parser.parsers()
+            texts = {it.prog: it.format_help().splitlines() for it in (whole, *commands.values())}
+        self.assertEqual({name: len(lines) for name, lines in texts.items() if len(lines) > 40}, {})
+        for name, lines in texts.items():
+            self.assertEqual(re.findall(r"help (\w+)", lines[-1]), ["options", "statuses"], name)
 
     def test_help_fits_into_a_terminal(self):
         with mock.patch.dict(os.environ, COLUMNS="80"):

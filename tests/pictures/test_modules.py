@@ -260,7 +260,7 @@ class Ended(unittest.TestCase):
         ):
             lines = []
             with mock.patch.object(same, "run", side_effect=why), mock.patch.object(main.signals, "say", lines.append):
-                self.assertEqual((main._run(["same", "--catalogue", "c"]), lines), (status, [f"exifnorm-pictures: {line}"]))
+                self.assertEqual((main._run(["same", "c"]), lines), (status, [f"exifnorm-pictures: {line}"]))
 
     def test_errors_of_other_packages(self):
         """Their texts are for people, but only a package that was imported has them: most commands don't need all."""

@@ -9,7 +9,6 @@ import shlex
 import shutil
 import sqlite3
 
-import made_museum
 import pytest
 from exifnorm_pictures.catalogue.store import VERSION
 from exifnorm_pictures.cli import parser
@@ -29,7 +28,13 @@ caption at most 100 characters
 date created not after 2025-12-31
 creator is "Anna Moor" except texts/
 """
-LISTS = {"rules": RULES, "some": "archive/desk\narchive/work/pages.tif\n", "fields": "# not these\nIFD0:Artist\nIPTC:Keywords\n"}
+LISTS = {
+    "rules": RULES,
+    "but-creator": "labels agree except creator\n",
+    "creators": "creator agree\n",
+    "some": "archive/desk\narchive/work/pages.tif\n",
+    "fields": "# not these\nIFD0:Artist\nIPTC:Keywords\n",
+}
 
 # What is called, one line each, in the folder that the fixture `museum` describes, each time as it was made; an indented line goes on with
 # what the calls before it left. No line is there twice in a command.
@@ -50,66 +55,66 @@ CALLS = {
     "catalogue merge": """
         catalogue merge few plain --catalogue all
             catalogue merge few plain --catalogue all2 --json --debug
-            same --catalogue all --no-look --kind iptc
+            same all --no-look --kind iptc
         catalogue merge few full --catalogue all3
         index one/notes --catalogue other --sidecars --pixels --maker-notes --jobs 1 --quiet
             index archive/notes --catalogue another --sidecars --pixels --maker-notes --jobs 1 --quiet
             catalogue merge other another --catalogue all4
     """,
     "catalogue forget": """
-        catalogue forget archive/desk archive/refused --catalogue plain
+        catalogue forget plain archive/desk archive/refused
             catalogue forget plain archive/work --json --debug
-        catalogue forget --files-from some --catalogue full
-            catalogue forget --files-from some0 -0 --catalogue full --json
-        catalogue forget nowhere --catalogue full
+        catalogue forget full --files-from some
+            catalogue forget full --files-from some0 -0 --json
+        catalogue forget full nowhere
     """,
     "catalogue relocate": """
         catalogue relocate few one/desk moved
-            catalogue relocate --catalogue few moved one/desk --json --debug
+            catalogue relocate few moved one/desk --json --debug
         catalogue relocate few nowhere one
         catalogue relocate few one/desk nowhere
     """,
     "verify": """
         verify full --quiet
-        verify --catalogue full.before archive --quiet --jobs 1
-        verify --catalogue full.before archive --quiet --json
-        verify --catalogue full.before archive --quiet --list damaged --state state
-        verify --catalogue full --quiet --evidence sums --debug --limit 50
-        verify --catalogue full --quiet --evidence sums.hashdeep --form hashdeep
-        verify --catalogue full --quiet --evidence sums.bagit --form bagit --json
+        verify full.before archive --quiet --jobs 1
+        verify full.before archive --quiet --json
+        verify full.before archive --quiet --list damaged --state state
+        verify full --quiet --evidence sums --debug --limit 50
+        verify full --quiet --evidence sums.hashdeep --form hashdeep
+        verify full --quiet --evidence sums.bagit --form bagit --json
         verify --bag bag --quiet
-        verify --catalogue full --files-from some --quiet
-        verify --catalogue full --files-from some0 -0 --quiet
-        verify --catalogue plain --quiet
+        verify full --files-from some --quiet
+        verify full --files-from some0 -0 --quiet
+        verify plain --quiet
     """,
     "same": """
         same plain
-        same --catalogue full --kind file
-        same --catalogue full --kind pixels --columns title,creator
-        same --catalogue full --kind pixels --differ title
-        same --catalogue full --kind exif --least-fields 3
-        same --catalogue full --kind iptc --csv
-        same --catalogue full --kind xmp --json
-        same --catalogue full --no-look --ignore IFD0:Artist --ignore-file fields
-        same --catalogue full --only 'IFD0:*' --equal-numbers
-        same --catalogue full --only-file fields --json --debug
-        same --catalogue full --files-from some
-        same --catalogue full --files-from some0 -0 --csv --columns title
-        same --catalogue full --xlsx same.xlsx
+        same full --kind file
+        same full --kind pixels --columns title,creator
+        same full --kind pixels --differ title
+        same full --kind exif --least-fields 3
+        same full --kind iptc --csv
+        same full --kind xmp --json
+        same full --no-look --ignore IFD0:Artist --ignore @fields
+        same full --only 'IFD0:*' --equal-numbers
+        same full --only @fields --json --debug
+        same full --files-from some
+        same full --files-from some0 -0 --csv --columns title
+        same full --xlsx same.xlsx
     """,
     "changed": """
         changed before plain
         changed full.before full
         changed full.before full --each
         changed full.before full --exact --only '*:Artist'
-        changed full.before full --all --ignore-file fields --ignore 'XMP-*'
+        changed full.before full --all --ignore @fields --ignore 'XMP-*'
         changed full.before full --csv
         changed full.before full --only 'IPTC:*'
         changed full.before full --only IFD0:ModifyDate
         changed full.before full --ignore 'IPTC:*' --ignore 'XMP*'
-        changed full.before full --json --no-exiftool
+        changed full.before full --json --no-programs
         changed full.before full --only caption --only title
-        changed full.before full --only-file fields
+        changed full.before full --only @fields
         changed before full
         changed one archive --jobs 1 --quiet
         changed one archive --jobs 2 --quiet --sidecars --pixels --whole --limit 50
@@ -120,12 +125,10 @@ CALLS = {
         changed one/desk archive/copies --match stem
         changed full.before full --edit 2
         changed full.before full --edit 99 --json
-    """,
-    "history": """
-        history archive/work/retitled.jpg full.before full
-        history archive/drawer/1.jpg full.before full
-        history archive/work/published.jpg full.before full --json --debug
-        history archive/nowhere.jpg full.before --catalogue full
+        changed --picture archive/work/retitled.jpg full.before full
+        changed --picture archive/drawer/1.jpg full.before full
+        changed --picture archive/work/published.jpg full.before full --json --debug
+        changed --picture archive/nowhere.jpg full.before full
     """,
     "compare": """
         compare one/work/retitled.jpg archive/work/retitled.jpg
@@ -133,10 +136,10 @@ CALLS = {
         compare one/work/retitled.jpg archive/work/retitled.jpg --csv --limit 50
         compare one/work/retitled.jpg archive/work/retitled.jpg --json --whole
         compare one/work/retitled.jpg archive/work/retitled.jpg --only title
-        compare one/work/retitled.jpg archive/work/retitled.jpg --ignore 'IPTC:*' --ignore-file fields
-        compare one/work/retitled.jpg archive/work/retitled.jpg --only-file fields --equal-numbers
+        compare one/work/retitled.jpg archive/work/retitled.jpg --ignore 'IPTC:*' --ignore @fields
+        compare one/work/retitled.jpg archive/work/retitled.jpg --only @fields --equal-numbers
         compare one/notes/note.jpg one/notes/moved.jpg
-        compare one/notes/note.jpg one/notes/moved.jpg --no-exiftool
+        compare one/notes/note.jpg one/notes/moved.jpg --no-programs
         compare one/notes/note.jpg one/notes/owner.jpg --debug
         compare one/copies/order.jpg one/copies/other-order.jpg
         compare one/refused/Overlap.jpg one/refused/Unsorted.jpg
@@ -154,7 +157,7 @@ CALLS = {
         list full --count creator
         list full --count title --json
         list full --geojson
-        list --catalogue full --with damage --columns damage
+        list full --with damage --columns damage
         list full --with position -0
         list full --since 2026-01-03
         list full --since 2026-01-04
@@ -163,13 +166,22 @@ CALLS = {
         list full --xlsx list.xlsx
     """,
     "check": """
-        check rules plain
-        check rules --catalogue few --by-picture
-        check rules few --csv
-        check rules archive/work --json --jobs 1 --quiet
-        check rules archive/work --jobs 1 --quiet --sidecars --whole --limit 50 --debug
-        check rules plain --xlsx check.xlsx
-        check some plain
+        check --rules rules plain
+        check few --rules rules --by-picture
+        check --rules rules few --csv
+        check --rules rules archive/work --json --jobs 1 --quiet
+        check --rules rules archive/work --jobs 1 --quiet --sidecars --whole --limit 50 --debug
+        check --rules rules plain --xlsx check.xlsx
+        check --rules some plain
+        check full
+        check few
+        check full --all
+        check full --rules but-creator
+        check full --rules creators --csv
+        check archive/contradictions archive/texts --json --limit 50 --whole --debug
+        check --files-from some
+        check --files-from some0 -0 --all
+        check full --xlsx conflicts.xlsx
     """,
     "nightly": """
         nightly archive --catalogue night --rules rules --jobs 1
@@ -184,41 +196,25 @@ CALLS = {
         show archive/contradictions/place.jpg archive/sidecars/raw.nef --exact
         show archive/work/pages.tif archive/formats/heic.heic --csv --limit 50 --whole
         show archive/work/retitled.jpg archive/texts/structures.jpg --json --debug
-        show block --block
         show --files-from some
         show --files-from some0 -0 --csv
         show archive/states/*
         show archive/rare/* --exact
         show archive/work/retitled.jpg --xlsx shown.xlsx
-    """,
-    "captions": """
-        captions archive/texts/*.jpg archive/contradictions/*.jpg
-        captions archive/states/* archive/odd/*
-        captions archive/work/*.jpg --csv
-        captions archive/contradictions/place.jpg archive/texts/languages.jpg --json --limit 50 --whole --debug
-        captions block --block
-        captions plain --csv
-        captions --catalogue few
-        captions --files-from some0 -0
-        captions --files-from some --csv
-        captions archive/work/retitled.jpg --xlsx captions.xlsx
-    """,
-    "conflicts": """
-        conflicts full
-        conflicts --catalogue few
-        conflicts full --all
-        conflicts full --ignore creator
-        conflicts full --only creator --csv
-        conflicts archive/contradictions archive/texts --json --limit 50 --whole --debug
-        conflicts --files-from some
-        conflicts --files-from some0 -0 --all
-        conflicts full --xlsx conflicts.xlsx
+        show --captions archive/texts/*.jpg archive/contradictions/*.jpg
+        show --captions archive/states/* archive/odd/*
+        show --captions archive/work/*.jpg --csv
+        show --captions archive/contradictions/place.jpg archive/texts/languages.jpg --json --limit 50 --whole --debug
+        show --captions plain --csv
+        show --captions few
+        show --captions --files-from some0 -0
+        show --captions --files-from some --csv
+        show --captions archive/work/retitled.jpg --xlsx captions.xlsx
     """,
     "explain": """
         explain one/refused/Overlap.jpg one/refused/NoMarker.jpg one/refused/Loop.jpg
         explain archive/states/* --limit 50 --whole
         explain archive/states/packet-broken.png archive/refused/Overlap.jpg archive/states/cut-in-its-head.jpg --json --debug
-        explain block --block
         explain --files-from some
         explain --files-from some0 -0
     """,
@@ -228,20 +224,20 @@ CALLS = {
         report full --since full.before --json --only title
         report full --since full.before --rules rules --html page.html --title 'The museum' --no-look --limit 50 --debug
         report full --since full.before --rules rules --html pages/ --link-to 'https://dam.example/{path}'
-        report --catalogue full --json --ignore IFD0:Artist --ignore-file fields
-        report full --only-file fields --equal-numbers --since full.before --json --files-from some
+        report full --json --ignore IFD0:Artist --ignore @fields
+        report full --only @fields --equal-numbers --since full.before --json --files-from some
         report full --files-from some0 -0 --json
     """,
     "catalogue export": """
         catalogue export full tables.sqlite --quiet
-        catalogue export --catalogue few few.sqlite --quiet
+        catalogue export few few.sqlite --quiet
         catalogue export plain plain.sqlite --json --no-look --limit 50 --debug --quiet
         catalogue export full some.sqlite --files-from some --quiet
         catalogue export full some0.sqlite --files-from some0 -0 --quiet
     """,
     "mend": """
         mend archive/states/two-blocks.jpg mended.jpg
-        mend --catalogue full mended --lossless
+        mend full mended --lossless
         mend one/refused/Doubled.jpg mended.jpg3 --lossless --json --limit 50 --debug
         mend --files-from some mended --json
             mend --files-from some0 -0 mended
@@ -249,7 +245,7 @@ CALLS = {
     """,
 }
 # Options that no call can have here, and why
-ELSEWHERE = {"--scheduler": "needs a cluster: test_shard_tasks.py", "--help": "help.txt has it"}
+ELSEWHERE = {"--scheduler": "needs a cluster: test_shard_tasks.py", "--help": "help.txt has it", "--no-programs": "test_options.py"}
 
 
 def chains_of(command):
@@ -282,7 +278,6 @@ def test_what_a_command_prints(command, chain, museum, golden):
     for name, text in LISTS.items():
         (museum / name).write_text(text, encoding="utf-8")
     (museum / "some0").write_text(LISTS["some"].replace("\n", "\0"), encoding="utf-8")
-    (museum / "block").write_bytes(made_museum.BLOCKS["Overlap"])
     shutil.copytree("one/desk", "moved", dirs_exist_ok=True)
     os.makedirs("mended", exist_ok=True)
     heads = [f"$ exifnorm-pictures {line}\n" for line in lines_of(command)]

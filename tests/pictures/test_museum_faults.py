@@ -15,7 +15,7 @@ from exifnorm_pictures.model import budgets, found
 from exifnorm_pictures.scan import progress
 
 pytestmark = pytest.mark.xdist_group("museum")
-LISTED = ("list", "same --no-look", "conflicts", "captions")
+LISTED = ("list {}", "same {} --no-look", "check {}", "show --captions {}")
 
 
 def said(source, **options):
@@ -75,10 +75,10 @@ def test_a_file_object_is_read_as_a_file(museum, monkeypatch):
 
 def test_a_catalogue_of_which_sqlite_was_asked_for_statistics(museum):
     """ANALYZE, which tools for SQLite call, adds tables of its own."""
-    before = [run(f"{line} --catalogue plain", museum) for line in LISTED]
+    before = [run(line.format("plain"), museum) for line in LISTED]
     with contextlib.closing(sqlite3.connect("plain")) as base:
         base.execute("ANALYZE")
-    assert [run(f"{line} --catalogue plain", museum) for line in LISTED] == before
+    assert [run(line.format("plain"), museum) for line in LISTED] == before
 
 
 def test_a_value_of_another_type_is_refused(museum):
@@ -96,7 +96,7 @@ def test_processes_and_shards_say_what_one_process_says(museum):
     done("index archive --jobs 2 --catalogue new --quiet", museum)
     done("index archive --jobs 2 --shards parts --quiet", museum)
     for line in LISTED:
-        found = [run(f"{line} --catalogue {name}", museum) for name in ("plain", "new", "parts")]
+        found = [run(line.format(name), museum) for name in ("plain", "new", "parts")]
         assert found[0] == found[1] == found[2], line
 
 

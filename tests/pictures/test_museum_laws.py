@@ -67,7 +67,8 @@ def test_what_a_catalogue_keeps_is_what_is_read(museum):
     """`list` of a catalogue has the texts that `captions` reads of the files."""
     (museum / "names").write_bytes(b"".join(os.fsencode(it) + b"\0" for it in files_of(museum, "archive")))
     read = {
-        os.path.join(str(museum), path): it["captions"] for path, it in by_path(objects("captions --files-from names -0", museum)).items()
+        os.path.join(str(museum), path): it["captions"]
+        for path, it in by_path(objects("show --captions --files-from names -0", museum)).items()
     }
     kept = by_path(objects(f"list plain --columns '{LABELS}'", museum))
     assert len(kept) > 90
@@ -83,7 +84,7 @@ def test_what_a_catalogue_keeps_is_what_is_read(museum):
 @needs("exiftool")
 def test_the_table_of_captions_leaves_no_cell_empty(museum):
     """It has a text wherever `list` finds one."""
-    _, rows, _ = run("captions plain --csv", museum)
+    _, rows, _ = run("show --captions plain --csv", museum)
     kept = by_path(objects(f"list plain --columns '{LABELS}'", museum))
     lacking = {}
     for row in csv.DictReader(rows):
@@ -112,8 +113,8 @@ def test_changed_says_what_compare_says(museum):
 @pytest.mark.parametrize("catalogues", [("before", "plain"), ("full.before", "full")], ids="-".join)
 def test_there_and_back(catalogues, museum):
     """The changes from the second night to the first are those from the first to the second, the other way round."""
-    there = by_path(objects(f"changed {catalogues[0]} {catalogues[1]} --all --no-exiftool", museum))
-    back = by_path(objects(f"changed {catalogues[1]} {catalogues[0]} --all --no-exiftool", museum))
+    there = by_path(objects(f"changed {catalogues[0]} {catalogues[1]} --all --no-programs", museum))
+    back = by_path(objects(f"changed {catalogues[1]} {catalogues[0]} --all --no-programs", museum))
     places = {it["moved_to"]["path"]: name for name, it in there.items() if it["moved_to"]}
     for name, picture in there.items():
         place = picture["moved_to"]["path"] if picture["moved_to"] else name
@@ -148,9 +149,9 @@ def test_the_order_of_names_says_nothing(museum):
         (museum / f"names{number}").write_bytes(b"".join(it + b"\0" for it in part))
         run(f"index --files-from names{number} -0 --jobs 1 --catalogue other --quiet", museum)
     done("index archive --jobs 1 --catalogue once --quiet", museum)
-    for line in ("same", "list", "conflicts", "report --json"):
+    for line in ("same", "list", "check", "report --json"):
         command, *more = line.split()
-        found = [run(f"{command} --catalogue {name} {' '.join(more)}", museum) for name in ("once", "other")]
+        found = [run(f"{command} {name} {' '.join(more)}", museum) for name in ("once", "other")]
         assert found[0] == found[1], command
 
 
@@ -162,9 +163,9 @@ def test_two_merged_are_one(museum):
         done(f"index {' '.join(f'archive/{it}' for it in folders.split())} --jobs 1 --catalogue {name} --quiet", museum)
     done(f"index {' '.join(f'archive/{it}' for it in ' '.join(halves).split())} --jobs 1 --catalogue whole --quiet", museum)
     done("catalogue merge first second --catalogue merged", museum)
-    for line in ("same", "list", "conflicts", "report --json", "list --count creator"):
+    for line in ("same", "list", "check", "report --json", "list --count creator"):
         command, *more = line.split()
-        found = [run(f"{command} --catalogue {name} {' '.join(more)}", museum) for name in ("whole", "merged")]
+        found = [run(f"{command} {name} {' '.join(more)}", museum) for name in ("whole", "merged")]
         assert found[0] == found[1], command
 
 
@@ -207,7 +208,7 @@ def test_processes_keep_what_one_keeps(museum):
 def test_a_limit_is_named_by_each_command(museum, monkeypatch):
     """A picture that takes too long while its packets are judged: no command says that it has no metadata."""
     monkeypatch.setattr(budgets, "SECONDS", -1)
-    for words in ("show", "captions", "conflicts", "explain", "index --catalogue new --jobs 1"):
+    for words in ("show", "show --captions", "check", "explain", "index --catalogue new --jobs 1"):
         _, lines, messages = run(f"{words} archive/states/extended.jpg", museum)
         assert "more than -1 seconds of a processor" in "\n".join(lines + messages), (words, lines, messages)
 

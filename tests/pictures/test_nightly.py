@@ -273,7 +273,7 @@ def test_a_folder_that_was_removed(archive, night, called):
     status, news, summary = night()
     assert (status, news) == (2, {("folder not there", str(archive / "ceramics")): 4, ("moved", None): 1, ("gone", None): 3})
     assert summary["with_news"] == 4, "nothing is known of the pictures of a folder that isn't there"
-    called("catalogue", "forget", str(archive / "ceramics"), "--catalogue", "c.catalogue")
+    called("catalogue", "forget", "c.catalogue", str(archive / "ceramics"))
     assert night()[0] == 0
 
 

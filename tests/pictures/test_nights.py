@@ -72,7 +72,7 @@ def test_nights_by_the_recipe(archive, called):
         assert status == status_of_changed, (number, happens.__name__, printed)
         assert ("not wholly compared" in printed, printed.count("none changed")) == (False, status == 0), printed
         assert called("changed", "archive.catalogue", "archive.catalogue")[0] == 0
-        called("report", "--catalogue", "archive.catalogue", "--since", "last.catalogue", "--html", "page.html", "--no-look")
+        called("report", "archive.catalogue", "--since", "last.catalogue", "--html", "page.html", "--no-look")
         page = (archive.parent / "page.html").read_text(encoding="utf-8")
         assert counts_of_page(page) == counts_of_summary(printed), (number, happens.__name__)
 

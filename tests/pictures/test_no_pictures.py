@@ -34,10 +34,10 @@ def archive(folder):
 def test_groups_of_files_come_last(archive, called_lines):
     """Though more files are equal than pictures."""
     called_lines("index", "b", "--catalogue", "c", "--quiet")
-    status, lines, _ = called_lines("same", "--catalogue", "c")
+    status, lines, _ = called_lines("same", "c")
     heads = [it.partition(":")[0] for it in lines if it and not it.startswith(" ")]
     assert (status, heads[:3]) == (0, ["2 pictures", "3 files", "1 group of 2 pictures, and 1 group of 3 files that are no pictures"])
-    *found, summary = map(json.loads, called_lines("same", "--catalogue", "c", "--json")[1])
+    *found, summary = map(json.loads, called_lines("same", "c", "--json")[1])
     assert [len(it["pictures"]) for it in found] == [2, 3]
     assert (summary["groups"], summary["pictures"]) == (2, 5)
 

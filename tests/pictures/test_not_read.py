@@ -15,7 +15,19 @@ MANY = webp((b"EXIF", A), *[(b"ABCD", b"what it is")] * 1200)
 PHRASE = "chunk of an unknown kind (1,200 times)"
 
 
-@pytest.mark.parametrize("words", [("show",), ("show", "--exact"), ("explain",), ("captions",), ("captions", "--csv")])
+@pytest.mark.parametrize(
+    "words",
+    [
+        ("show",),
+        ("show", "--exact"),
+        ("explain",),
+        (
+            "show",
+            "--captions",
+        ),
+        ("show", "--captions", "--csv"),
+    ],
+)
 def test_many_parts_in_few_words(words, folder, called):
     (folder / "a.webp").write_bytes(MANY)
     printed = called(*words, "a.webp")[1]
@@ -26,7 +38,7 @@ def test_many_parts_in_few_words(words, folder, called):
 def test_many_parts_of_a_group(folder, called):
     put(folder, {name: MANY for name in ("a.webp", "b.webp")})
     called("index", ".", "--catalogue", "c", "--quiet")
-    printed = called("same", "--catalogue", "c")[1]
+    printed = called("same", "c")[1]
     assert PHRASE in printed
     assert len(printed) < 2000
 
@@ -51,10 +63,10 @@ def test_one_list_in_all_commands(name, folder, called):
     (folder / name).write_bytes(PARTS[name])
     expected = list(pictures.read(folder / name).not_read)
     assert expected
-    for words in (("show", name), ("captions", name), ("index", ".", "--catalogue", "c")):
+    for words in (("show", name), ("show", "--captions", name), ("index", ".", "--catalogue", "c")):
         assert json.loads(called(*words, "--json")[1].splitlines()[0])["not_read"] == expected, words
     assert [it["not_read"] for it in json.loads(called("compare", "--json", name, name)[1])["pictures"]] == [expected] * 2
-    (conflict, *_) = map(json.loads, called("conflicts", "--json", name)[1].splitlines())
+    (conflict, *_) = map(json.loads, called("check", "--json", name)[1].splitlines())
     assert conflict["record"] == "summary" or conflict["not_read"] == expected
 
 
@@ -83,8 +95,8 @@ def test_a_text_may_be_where_nobody_read(name, folder, called):
     assert may_fit == (name not in ("only a MakerNote reaches.jpg", "whole.jpg")) or name in BEHIND
     for source in (f"p/{name}", "p", "c"):
         for words in ([], ["--csv"], ["--json"]):
-            assert called("captions", source, *words)[0] == 2 * may_fit, (source, words)
-            status, printed, _ = called("conflicts", source, *words)
+            assert called("show", "--captions", source, *words)[0] == 2 * may_fit, (source, words)
+            status, printed, _ = called("check", source, *words)
             assert status == 2 * may_fit and (
                 "not read" in printed or "not wholly read" in printed or not may_fit or words == ["--json"]
             ), printed
@@ -92,7 +104,7 @@ def test_a_text_may_be_where_nobody_read(name, folder, called):
                 status, printed, messages = called("list", source, "--columns", "title", *words)
                 assert status == 2 * may_fit and bool(re.search('not known: |"title": null', messages + printed)) == bool(may_fit), printed
                 assert called("list", source, "--count", "title", *words)[0] == 2 * may_fit
-                assert called("check", "rules", source, *words)[0] == 2 * may_fit
+                assert called("check", "--rules", "rules", source, *words)[0] == 2 * may_fit
 
 
 @pytest.mark.parametrize("name", {**HIDDEN, **BEHIND})

@@ -32,33 +32,33 @@ def archive(folder, called):
 
 
 COMMANDS = (
-    ("captions", "p"),
-    ("captions", "p", "--csv"),
-    ("captions", "p", "--json"),
-    ("captions", "c", "--csv"),
+    ("show", "--captions", "p"),
+    ("show", "--captions", "p", "--csv"),
+    ("show", "--captions", "p", "--json"),
+    ("show", "--captions", "c", "--csv"),
     ("list", "c", "--columns", "caption"),
     ("list", "c", "--columns", "caption", "--csv"),
     ("list", "c", "--columns", "caption", "--json"),
     ("list", "c", "--columns", "IPTC:Caption-Abstract"),
     ("list", "c", "--count", "caption"),
-    ("check", "rules", "c"),
-    ("check", "rules", "c", "--csv"),
-    ("check", "rules", "c", "--json"),
+    ("check", "--rules", "rules", "c"),
+    ("check", "--rules", "rules", "c", "--csv"),
+    ("check", "--rules", "rules", "c", "--json"),
     ("show", "p/a.jpg", "p/b.jpg", "p/c.jpg", "p/d.jpg"),
     ("show", "p/a.jpg", "p/b.jpg", "p/c.jpg", "p/d.jpg", "--csv"),
     ("changed", "old", "c", "--each"),
     ("changed", "old", "c", "--csv"),
     ("changed", "old", "c", "--json"),
-    ("conflicts", "p", "--all"),
+    ("check", "p", "--all"),
 )
-IN_FULL = [words for words in COMMANDS if words[0] in ("captions", "list", "show")]
+IN_FULL = [words for words in COMMANDS if words[0] in ("list", "show")]
 
 
 @pytest.mark.parametrize("words", COMMANDS, ids=" ".join)
 def test_no_output_ends_at_a_nul(words, archive, called):
     status, printed, messages = called(*words)
     assert status in (0, 1, 2) and "\0" not in printed + messages, messages
-    assert printed.count("after") >= (4 if words in IN_FULL else 1) or words[0] == "conflicts", printed
+    assert printed.count("after") >= (4 if words in IN_FULL else 1) or words[0] == "check", printed
 
 
 @pytest.mark.parametrize(
@@ -80,7 +80,7 @@ def test_questions(question, names, archive, called):
 def test_rules(archive, called):
     """Of `at most` all characters count, also those after the NUL."""
     (archive / "rules").write_text("caption at most 11 characters\ncopyright like 'one'\n")
-    status, printed, _ = called("check", "rules", "c", "--csv")
+    status, printed, _ = called("check", "--rules", "rules", "c", "--csv")
     broken = [line for line in printed.splitlines()[1:] if line]
     assert status == 1 and len(broken) == 3 + 4, printed
 

@@ -82,7 +82,19 @@ def test_an_object_for_each_name(opened, command, end, tmp_path):
 
 
 @pytest.mark.parametrize(
-    "words", [("show",), ("show", "--exact"), ("show", "--csv"), ("captions",), ("captions", "--csv"), ("explain",)], ids=" ".join
+    "words",
+    [
+        ("show",),
+        ("show", "--exact"),
+        ("show", "--csv"),
+        (
+            "show",
+            "--captions",
+        ),
+        ("show", "--captions", "--csv"),
+        ("explain",),
+    ],
+    ids=" ".join,
 )
 def test_lines_for_each_name(opened, words):
     process = opened(*words)

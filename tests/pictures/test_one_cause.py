@@ -43,12 +43,12 @@ def by_commands(called, picture):
     called("index", "a.jpg", "--catalogue", "c", "--quiet", "--again", "--jobs", "1", a=picture)
     with sqlite3.connect("c") as base:
         yield "index", base.execute("SELECT cause, place FROM blocks").fetchone()
-    for command in ("show", "captions", "conflicts"):
-        for member in json.loads(called(command, "a.jpg", "--json")[1].splitlines()[0]).get("blocks", ()):
+    for command in ("show", "show --captions", "check"):
+        for member in json.loads(called(*command.split(), "a.jpg", "--json")[1].splitlines()[0]).get("blocks", ()):
             yield command, (member["cause"], member["offset"])
     explained = json.loads(called("explain", "a.jpg", "--json")[1])
     yield "explain", (explained.get("cause"), explained.get("offset"))
-    for member in map(json.loads, called("report", "--catalogue", "c", "--json")[1].splitlines()):
+    for member in map(json.loads, called("report", "c", "--json")[1].splitlines()):
         if "refused" in member:
             yield "report", (member["cause"], int(member["refusal"].rpartition(" at ")[2]))
 

@@ -23,24 +23,22 @@ from exifnorm_pictures.scan import batches
 
 BOWL, PHONE = f"{TOP}/samples/before/ceramics/2003-12-bowl.jpg", f"{TOP}/samples/before/arrivals/IMG_20240502.jpg"
 LISTED = ("--files-from", "list", "-0")
+OF_CHECK = ("p", "--rules", "rules")
 COMMANDS = {
     "index": (*LISTED, "--catalogue", "other"),
     "catalogue merge": ("--catalogue", "other", "c"),
-    "catalogue forget": (*LISTED, "--catalogue", "c"),
+    "catalogue forget": ("c", *LISTED),
     "catalogue relocate": ("c", "p", "q"),
-    "verify": (*LISTED, "--catalogue", "c"),
-    "same": (*LISTED, "--catalogue", "c"),
+    "verify": ("c", *LISTED),
+    "same": (*LISTED, "c"),
     "changed": (*LISTED, "p", "p"),
-    "history": ("p/a.jpg", "c"),
     "compare": (BOWL, PHONE),
     "show": LISTED,
-    "captions": LISTED,
     "list": ("p",),
-    "check": ("rules", "p"),
+    "check": (*LISTED, "--rules", "rules"),
     "nightly": ("p", "--catalogue", "nights", "--html", "page"),
-    "conflicts": LISTED,
     "explain": LISTED,
-    "report": (*LISTED, "--catalogue", "c", "--html", "page"),
+    "report": (*LISTED, "c", "--html", "page"),
     "catalogue export": (*LISTED, "c", "tables"),
     "mend": (*LISTED, "p"),
 }
@@ -74,7 +72,7 @@ def test_each_option_is_looked_at(command, archive, capsys, monkeypatch):
     options is made of all that a command has, so what counts is what is read of the record."""
     words = (*COMMANDS[command], *(("--evidence", "sums") if command == "verify" else ()))  # by which --form is looked at
     given = vars(parser.parsers()[0].parse_args([command, *words]))
-    accepted = set(given) - {"command", "version", "debug", "limit", "xlsx"}
+    accepted = set(given) - {"command", "version", "debug", "limit", "no_programs", "xlsx"}
     read = set()
     arguments = type("Recorded", (argparse.Namespace,), {})(**given, session=Session(), least=Least())
     for kind in (type(arguments), Files, Fields, Output, Run):
@@ -98,23 +96,8 @@ def of_each_command(*spellings):
 
 TRACEBACKS, LIMITS, SHEETS, LISTS = (of_each_command(it) for it in ("--debug", "--limit", "--xlsx", "--files-from"))
 WHOLE, HOWS = of_each_command("--whole"), of_each_command("--jobs", "--sidecars", "--pixels")
-CHOICES = [it for it in of_each_command("--ignore", "--only", "--ignore-file", "--only-file", "--equal-numbers") if it[0] != "conflicts"]
-NAMED = {  # whose catalogue can be given in two ways, which comes first or last among the names
-    "index": ("c", "p"),
-    "catalogue forget": ("c", "p"),
-    "catalogue relocate": ("c", "p", "q"),
-    "verify": ("c", "p"),
-    "same": ("c",),
-    "history": ("p/a.jpg", "c"),
-    "captions": ("c",),
-    "list": ("c",),
-    "check": ("rules", "c"),
-    "nightly": ("c", "p"),
-    "conflicts": ("c",),
-    "report": ("c", "--json"),
-    "catalogue export": ("c", "tables"),
-    "mend": ("c", "q"),
-}
+CHOICES = of_each_command("--ignore", "--only", "--equal-numbers")
+NAMED = {"index": ("c", "p"), "nightly": ("c", "p")}  # whose catalogue can be given in two ways
 
 
 def in_fonts(text):
@@ -177,7 +160,7 @@ def test_the_time_limit_of_each_command(command, option, archive, called, monkey
 def test_a_spreadsheet_of_each_command_has_its_table(command, option, archive, called):
     (archive / "p" / "b.jpg").write_bytes(jpeg(app1(exif(b"Otto"))))
     called("index", "p", "--catalogue", "d", "--quiet")
-    words = {**COMMANDS, "same": ("--catalogue", "d"), "changed": ("c", "d")}[command]
+    words = {**COMMANDS, "same": ("d",), "changed": ("c", "d")}[command]
     table = list(csv.reader(io.StringIO(called(*command.split(), *words, "--csv")[1].lstrip("\ufeff"), newline="")))
     status, printed, messages = called(*command.split(), *words, option, "t.xlsx")
     assert status in (0, 1, 2), messages
@@ -212,25 +195,25 @@ def test_fields_that_count_of_each_command(command, option, archive, called):
     for name, kind in (("p", BYTE), ("q", UNDEFINED)):
         octets = block([entry(0x010F, ASCII, 4, b"Ann\0"), entry(0xC000, kind, 1, b"\3\0\0\0")])
         (archive / name / "a.jpg").write_bytes(jpeg(app1(octets)))
-    name = "IFD0:0xc000" if option.startswith("--ignore") else "IFD0:Make"
+    name = "IFD0:0xc000" if option == "--ignore" else "IFD0:Make"
     (archive / "names").write_text(name, encoding="ascii")
     called("index", "p", "q", "--catalogue", "both", "--quiet")
     called("index", "p", "--catalogue", "c", "--quiet")
     called("index", "q", "--catalogue", "d", "--quiet")
     words = {
-        "same": ("--catalogue", "both"),
+        "same": ("both",),
         "changed": ("p", "q"),
         "compare": ("p/a.jpg", "q/a.jpg"),
-        "report": ("--catalogue", "d", "--since", "c", "--json", "--html", "page"),
+        "report": ("d", "--since", "c", "--json", "--html", "page"),
     }[command]
 
     def answer(*given):
         return called(*command.split(), *words, *given)[:2]
 
-    found = answer(option, *([] if option == "--equal-numbers" else ["names" if option.endswith("-file") else name]))
+    found = answer(option, *([name] * (option != "--equal-numbers")))
     assert found != answer()
-    if option.endswith("-file"):
-        assert found == answer(option[:-5], name)
+    if option != "--equal-numbers":
+        assert found == answer(option, "@names")
 
 
 @pytest.mark.parametrize("command, option", WHOLE)
@@ -238,7 +221,7 @@ def test_each_byte_is_read_by_each_command(command, option, archive, called, mon
     """Of each picture that the command reads."""
     read, budget = [], budgets.Budget.__init__
     monkeypatch.setattr(budgets.Budget, "__init__", lambda self, whole=False: read.append(whole) or budget(self, whole))
-    words = {"compare": ("p/a.jpg", "p/a.jpg"), "index": ("p", "--catalogue", "other")}.get(command, COMMANDS[command])
+    words = {"compare": ("p/a.jpg", "p/a.jpg"), "index": ("p", "--catalogue", "other"), "check": OF_CHECK}.get(command, COMMANDS[command])
     words = [*(it for it in words if it not in LISTED), *(["p/a.jpg"] * (words == LISTED))]
     called(*command.split(), *words)
     assert not any(read), "without the option"
@@ -253,13 +236,13 @@ def test_each_byte_is_read_by_each_command(command, option, archive, called, mon
 def test_how_each_command_looks_at_pictures(command, option, archive, called, monkeypatch):
     hows, how = [], batches.How.__new__
     monkeypatch.setattr(batches.How, "__new__", lambda *given, **more: hows.append(how(*given, **more)) or hows[-1])
-    words = [it for it in {"index": ("p", "--catalogue", "other")}.get(command, COMMANDS[command]) if it not in LISTED]
+    words = [it for it in {"index": ("p", "--catalogue", "other"), "check": OF_CHECK}.get(command, COMMANDS[command]) if it not in LISTED]
     called(*command.split(), *words, option, *(["3"] * (option == "--jobs")))
     assert {getattr(it, option[2:]) for it in hows} >= {3 if option == "--jobs" else True}
 
 
-def test_each_command_with_a_catalogue_takes_it_as_a_name():
-    """`catalogue merge` makes the one of its option from those that are its names, and `changed` compares two."""
+def test_only_commands_that_make_a_catalogue_have_an_option_for_it():
+    """`catalogue merge` makes the one of its option from those that are its names."""
     assert set(NAMED) == {name for name, spellings in options() if "--catalogue" in spellings} - {"catalogue merge"}
 
 
@@ -311,7 +294,6 @@ def folder_of(top):
         (("nightly", "no", "new"), "nightly no new --catalogue CATALOGUE"),
         (("nightly", "a b", "c"), "nightly c 'a b'"),
         (("mend", "p", "q"), "index p --catalogue NEW"),
-        (("check", "c", "rules"), "check rules c"),
     ],
 )
 def test_a_first_name_that_is_no_catalogue(words, proposed, archive, called):
@@ -324,13 +306,19 @@ def test_a_first_name_that_is_no_catalogue(words, proposed, archive, called):
 
 @pytest.mark.parametrize(
     "words",
-    [("same",), ("report", "--json"), ("catalogue export", "tables"), ("catalogue relocate", "p", "q"), ("list",), ("check", "rules")],
+    [
+        ("same",),
+        ("report", "--json"),
+        ("catalogue export", "tables"),
+        ("catalogue relocate", "p", "q"),
+        ("list",),
+        ("check", "--rules", "rules"),
+    ],
 )
-def test_a_catalogue_that_is_missing_or_given_twice(words, archive, called, capsys):
-    for more in ((), ("c", "--catalogue", "c")):
-        with pytest.raises(SystemExit) as ended:
-            called(*words[0].split(), *more[:1], *words[1:], *more[1:])
-        assert ended.value.code == 3 and "CATALOGUE" in capsys.readouterr().err.splitlines()[-1]
+def test_a_catalogue_that_is_missing(words, archive, called, capsys):
+    with pytest.raises(SystemExit) as ended:
+        called(*words[0].split(), *words[1:])
+    assert ended.value.code == 3 and re.search("CATALOGUE|FILE|NEW|at least one name", capsys.readouterr().err.splitlines()[-1])
 
 
 @pytest.mark.parametrize(
@@ -356,3 +344,36 @@ def test_an_option_of_a_list_without_a_list(archive, called, capsys):
         called("index", "p", "--catalogue", "d", "-0")
     assert ended.value.code == 3
     assert "--files-from" in capsys.readouterr().err
+
+
+@pytest.mark.parametrize("command, option", of_each_command("--no-programs"))
+def test_no_program_is_started(command, option, archive, called, monkeypatch):
+    """Of a picture that only ExifTool reads, one with a MakerNote, and one of which a small picture is made. Without the option most commands
+    start one, which fails here: what only it could read is not known then either."""
+    maker = block([entry(0x927C, UNDEFINED, 40, b"\1" * 40), entry(0x8769, 4, 1, (8).to_bytes(4, "little"))][:1])
+    for folder in "pq":
+        put(archive, {f"{folder}/b.exv": b"\xff\x01Exiv2\xff\xd9", f"{folder}/c.jpg": jpeg(app1(maker.replace(b"\1", folder.encode())))})
+        shutil.copy(BOWL, archive / folder / "d.jpg")
+    called("index", "p", "--catalogue", "c", "--quiet", option)
+    words = {
+        "explain": ("p/b.exv",),
+        "show": ("p/b.exv",),
+        "compare": ("p/b.exv", "q/b.exv"),
+        "mend": ("p/b.exv", "copy"),
+        "changed": ("p", "q"),
+    }
+    words = words.get(command, OF_CHECK if command == "check" else [it for it in COMMANDS[command] if it not in LISTED])
+    words = [*(["p"] * (command == "index")), *words, *(["--jobs", "1"] * ((command, "--jobs") in of_each_command("--jobs")))]
+    started = []
+
+    def start(*given, **how):
+        started.append(given[0])
+        raise OSError(2, "not there")
+
+    monkeypatch.setattr("subprocess.Popen", start)
+    status = called(*command.split(), *words, option)[0]
+    assert status in (0, 1, 2) and started == []
+    for path in ("other", "nights", "page", "tables", "copy"):
+        (archive / path).unlink(missing_ok=True)
+    called(*command.split(), *words)
+    assert bool(started) == (command != "catalogue export"), "with a catalogue of pictures that were read"

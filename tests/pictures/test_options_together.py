@@ -28,31 +28,28 @@ FORMS = {"": "", "--csv": "--csv", "--json": "--json", "--xlsx": "--xlsx sheet.x
 LINES = {
     "index": ("index p --catalogue n --jobs 1", "index p --catalogue c --jobs 1", "index p --shards parts --jobs 1"),
     "catalogue merge": ("catalogue merge old c --catalogue n",),
-    "catalogue forget": ("catalogue forget p/desk p/work --catalogue c",),
-    "catalogue relocate": ("catalogue relocate --catalogue c p q",),
-    "verify": ("verify --catalogue c --jobs 1", "verify --bag bag --jobs 1"),
-    "same": ("same --catalogue c",),
-    "changed": ("changed old c", "changed q p --jobs 1"),
-    "history": ("history p/work/retitled.jpg --catalogue old --catalogue c",),
+    "catalogue forget": ("catalogue forget c p/desk p/work",),
+    "catalogue relocate": ("catalogue relocate c p q",),
+    "verify": ("verify c --jobs 1", "verify --bag bag --jobs 1"),
+    "same": ("same c",),
+    "changed": ("changed old c", "changed q p --jobs 1", "changed old c --picture p/work/retitled.jpg"),
     "compare": ("compare q/work/retitled.jpg p/work/retitled.jpg", "compare q/notes/note.jpg p/notes/moved.jpg"),
-    "list": ("list --catalogue c", "list p --jobs 1"),
-    "check": ("check rules --catalogue c", "check rules p --jobs 1"),
+    "list": ("list c", "list p --jobs 1"),
+    "check": ("check c --rules rules", "check p --rules rules --jobs 1", "check p c", "check p/work", "check c"),
     "nightly": ("nightly p --catalogue old --jobs 1",),
-    "show": ("show p/work/retitled.jpg p/refused/Unsorted.jpg", "show block --block"),
-    "captions": ("captions p c", "captions --catalogue c", "captions block --block"),
-    "conflicts": ("conflicts p c", "conflicts p/work", "conflicts --catalogue c"),
-    "explain": ("explain p/refused/Unsorted.jpg", "explain block --block"),
-    "report": ("report --catalogue c --json",),
-    "catalogue export": ("catalogue export --catalogue c tables",),
-    "mend": ("mend --catalogue c copies", "mend p/refused/Unsorted.jpg copies/a.jpg"),
+    "show": ("show p/work/retitled.jpg p/refused/Unsorted.jpg", "show p c --captions", "show c --captions"),
+    "explain": ("explain p/refused/Unsorted.jpg",),
+    "report": ("report c --json",),
+    "catalogue export": ("catalogue export c tables",),
+    "mend": ("mend c copies", "mend p/refused/Unsorted.jpg copies/a.jpg"),
 }
 # What stands after an option, with what it needs to have an effect
 VALUES = {
     "--again": "",
     "--all": "",
-    "--block": None,  # in LINES, because names are then those of other files
     "--bag": None,
     "--by-picture": "",
+    "--captions": None,  # in LINES, because names are then those of folders, too
     "--catalogue": None,
     "--columns": "title,creator",
     "--count": "creator",
@@ -67,7 +64,6 @@ VALUES = {
     "--form": "hashdeep --evidence sums",
     "--html": "page.html",
     "--ignore": "title",
-    "--ignore-file": "fields",
     "--jobs": "1",
     "--keep-old": "older",
     "--kind": "iptc",
@@ -79,11 +75,11 @@ VALUES = {
     "--list": "missing",
     "--lossless": "",
     "--maker-notes": "",
-    "--no-exiftool": "",
+    "--no-programs": "",
     "--no-look": "",
     "--null": "--files-from names",
     "--only": "creator",
-    "--only-file": "fields",
+    "--picture": None,
     "--pixels": "",
     "--quiet": "",
     "--rules": "rules",
@@ -98,7 +94,7 @@ VALUES = {
     "--with": "creator",
     "--without": "headline",
 }
-OF_COMMANDS = {("report", "--since"): "old", ("conflicts", "--ignore"): "title", ("nightly", "--html"): "page.html"}
+OF_COMMANDS = {("report", "--since"): "old", ("check", "--rules"): None, ("nightly", "--html"): "page.html"}
 NO_EFFECT = ("--quiet", "--debug", "--jobs", "--limit")  # on what is printed on standard output, but for `index --quiet`
 MOST = 6  # options of a run, beside those of its line
 PARTS = (
@@ -264,6 +260,8 @@ class Forms:
         self.command, self.line, self.folder = name_of(line), line, folder
         self.words = " ".join([line, *(words_of(it, self.command) for it in options)])
         self.plain = outcome(self.words, folder)
+        also = {"changed": "history", "show": "captions", "check": "conflicts"}
+        self.schemas = tuple(f"exifnorm-pictures/{it}/" for it in (self.command.split()[-1], also.get(self.command, self.command)))
         taken = {*options, *line.split()}
         groups = groups_of(self.command)
         self.forms = {}
@@ -278,14 +276,14 @@ class Forms:
                 assert (found.status, found.written) == (self.plain.status, self.plain.written), (self.words, form, found.messages)
         if "--json" in self.forms:
             objects = objects_of(self.forms["--json"].lines)
-            assert all(it["schema"].startswith(f"exifnorm-pictures/{self.command.split()[-1]}/") and it["record"] for it in objects)
+            assert all(it["schema"].startswith(self.schemas) and it["record"] for it in objects)
             if "--csv" in self.forms:
                 named = {
                     row["picture"] for row in rows_of(self.forms["--csv"].lines) if row.get("picture")
                 }  # no column in that of `compare`
                 if "--files-from" in self.words:  # each name is answered
                     assert named <= {*paths_of(objects)}, self.words
-                elif self.command == "conflicts":  # objects have differences of form, too, which the table has by --all
+                elif "/conflicts/" in objects[0]["schema"]:  # objects have differences of form, too, which the table has by --all
                     real = [it for it in objects if any(row["kind"] == "different" for row in it.get("conflicts", []))]
                     assert {*paths_of(real)} <= named <= {*paths_of(objects)}, self.words
                 elif self.command != "compare" and "--count" not in self.words:
@@ -332,7 +330,7 @@ def test_each_option_is_taken_by_a_line(archive):
 )
 def test_options_that_exclude_each_other_are_refused_by_name(command, pair, archive):
     line = LINES[command][0].partition(" --")[0]
-    values = {"--catalogue": "c", "--bag": "bag", "--shards": "parts", "--block": ""}
+    values = {"--catalogue": "c", "--bag": "bag", "--shards": "parts", "--captions": "", "--picture": "p/work/retitled.jpg"}
     words = [f"{it} {values[it] if it in values else FORMS[it][len(it):] if it in FORMS else value_of(command, it)}" for it in pair]
     for one, other in (words, words[::-1]):
         found = outcome(f"{line} {one} {other}", archive)
@@ -342,7 +340,7 @@ def test_options_that_exclude_each_other_are_refused_by_name(command, pair, arch
 @needs("exiftool")
 @pytest.mark.parametrize(
     "line",
-    ["changed old c --all", "changed q p --jobs 1 --equal-numbers", "compare q/work/retitled.jpg p/work/retitled.jpg", "conflicts p"],
+    ["changed old c --all", "changed q p --jobs 1 --equal-numbers", "compare q/work/retitled.jpg p/work/retitled.jpg", "check p"],
 )
 @pytest.mark.parametrize("word", ["title", "creator", "keywords"])
 def test_only_and_ignore_make_the_whole(line, word, archive):

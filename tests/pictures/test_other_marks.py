@@ -63,7 +63,7 @@ def test_the_answers_for_odd_heads_agree(seed, folder, called):
         second = chance.choices(first, k=len(first)) if chance.random() < 0.5 else chance.sample(first, len(first))
         second[chance.randrange(len(second))] = chance.choice(PARTS)
         put(folder, {"a.jpg": jpeg(*first), "b.jpg": jpeg(*second)})
-        status, printed, messages = called("compare", "a.jpg", "b.jpg", "--json", "--no-exiftool")
+        status, printed, messages = called("compare", "a.jpg", "b.jpg", "--json", "--no-programs")
         assert status != 4, (first, second, messages)
         found = json.loads(printed)
         results = {it: found["kinds"][it] for it in ("exif", "iptc")}

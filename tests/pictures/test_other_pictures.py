@@ -35,16 +35,16 @@ def test_changed(name, folder, called):
         ([], without, coded if is_damaged else "not compared", statuses[0]),
         (["--pixels"], result, coded, statuses[1]),
     ):
-        found, printed, _ = called("changed", "a", "b", "--all", "--json", "--no-exiftool", *words)
+        found, printed, _ = called("changed", "a", "b", "--all", "--json", "--no-programs", *words)
         (it, *_, summary) = map(json.loads, printed.splitlines())
         assert (found, it["result"], it["coded_picture"]) == (status, expected, picture), it["note"]
         assert summary["coded_pictures"] == {picture: 1}
-        text = called("changed", "a", "b", "--no-exiftool", *words)[1]
+        text = called("changed", "a", "b", "--no-programs", *words)[1]
         assert ("Only metadata was compared: --pixels" in text) == (not words and not is_damaged) and (f"1 {coded}." in text) == bool(
             words or is_damaged
         ), text
         assert ("none changed" in text) == (status == 0)
-    found, printed, _ = called("compare", "a/x.jpg", "b/x.jpg", "--json", "--no-exiftool")
+    found, printed, _ = called("compare", "a/x.jpg", "b/x.jpg", "--json", "--no-programs")
     it = json.loads(printed)
     assert (found, it["result"]) == (statuses[1], result) and it["coded_picture"] in (coded, "the same")
 
@@ -54,7 +54,7 @@ def test_what_was_asked_is_not_advised(folder, called):
     put(folder / "a", {"x": MASTER})
     put(folder / "b", {"x": png()})
     for words in ([], ["--pixels"]):
-        text = called("changed", "a", "b", "--no-exiftool", *words)[1]
+        text = called("changed", "a", "b", "--no-programs", *words)[1]
         assert ("--pixels compares" in text, "two formats" in text) == (not words, bool(words)), text
 
 
@@ -96,7 +96,7 @@ def test_what_the_report_says(folder, called):
         called("index", "p", "--catalogue", before, "--quiet", *words)
         put(folder / "p", {"cut.jpg": CUT, "other.jpg": REPLACED})
         called("index", "p", "--catalogue", after, "--quiet", *words)
-        called("report", "--catalogue", after, "--since", before, "--html", f"{after}.html")
+        called("report", after, "--since", before, "--html", f"{after}.html")
     plain, page = ((folder / it).read_text(encoding="utf-8") for it in ("b.html", "d.html"))
     for sides, html in ((("a", "b"), plain), (("c", "d"), page)):
         assert counts_of_page(html) == counts_of_summary(called("changed", *sides)[1])

@@ -28,26 +28,26 @@ COMMANDS = {
     "index": ["index", "p", "--catalogue", "c", "--keep-old", "old", "--quiet", "--jobs", "1"],
     "index, new": ["index", "p", "--catalogue", "out", "--quiet", "--jobs", "1", "--pixels"],
     "catalogue merge": ["catalogue", "merge", "c", "d", "--catalogue", "out"],
-    "catalogue forget": ["catalogue", "forget", "p/a.jpg", "--catalogue", "c"],
+    "catalogue forget": ["catalogue", "forget", "c", "p/a.jpg"],
     "catalogue relocate": ["catalogue", "relocate", "c", "p", "q"],
-    "verify": ["verify", "--catalogue", "c", "--evidence", "out", "--state", "state", "--quiet", "--jobs", "1"],
-    "same": ["same", "--catalogue", "c", *XLSX],
+    "verify": ["verify", "c", "--evidence", "out", "--state", "state", "--quiet", "--jobs", "1"],
+    "same": ["same", "c", *XLSX],
     "changed": ["changed", "c", "d", *XLSX],
     "changed, undo": ["changed", "d", "c", "--undo", "out"],
-    "history": ["history", "p/a.jpg", "c", "d"],
+    "history": ["changed", "--picture", "p/a.jpg", "c", "d"],
     "compare": ["compare", "p/a.jpg", "p/refused.jpg", *XLSX],
     "list": ["list", "c", "--with", "title", *XLSX],
-    "check": ["check", "rules", "c", *XLSX],
+    "check": ["check", "--rules", "rules", "c", *XLSX],
     "nightly": ["nightly", "p", "--catalogue", "c", "--rules", "rules", "--html", "out", "--jobs", "1"],
     "show": ["show", "p/a.jpg", *XLSX],
-    "captions": ["captions", "c", *XLSX],
-    "conflicts": ["conflicts", "c", *XLSX],
+    "captions": ["show", "--captions", "c", *XLSX],
+    "conflicts": ["check", "c", *XLSX],
     "explain": ["explain", "p/refused.jpg"],
     "report": ["report", "c", "--html", "page"],
     "report, folder": ["report", "c", "--since", "d", "--rules", "rules", "--html", "pages/"],
     "catalogue export": ["catalogue", "export", "c", "tables", "--quiet"],
     "mend": ["mend", "p/refused.jpg", "out.jpg"],
-    "mend, many": ["mend", "--catalogue", "c", "copies"],
+    "mend, many": ["mend", "c", "copies"],
 }
 # Names of files that commands only read, by their options and arguments
 READ = {
@@ -327,7 +327,7 @@ GONE = {
 
 
 @pytest.mark.parametrize("how", GONE)
-@pytest.mark.parametrize("words", (["list", "c"], ["check", "rules", "c"], ["list", "c", "--json"]), ids=" ".join)
+@pytest.mark.parametrize("words", (["list", "c"], ["check", "--rules", "rules", "c"], ["list", "c", "--json"]), ids=" ".join)
 def test_a_catalogue_that_goes_away_while_it_is_read(words, how, folder, called):
     """Somebody does so while the command waits for who reads its output, of which a pipe has not room for all."""
     (folder / "p").mkdir()

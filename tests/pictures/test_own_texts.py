@@ -80,11 +80,11 @@ def test_which_caption_wins(name, folder, called):
     if packet:
         parts.append(app1_xmp(xmp(f"<dc:description>{packet.decode()}</dc:description>")))
     (folder / "a.jpg").write_bytes(jpeg(*parts))
-    (row,) = csv.DictReader(called("captions", "--csv", "a.jpg")[1].splitlines())
+    (row,) = csv.DictReader(called("show", "--captions", "--csv", "a.jpg")[1].splitlines())
     assert (row["caption"], row["camera's text"]) == (caption, own)
-    found = json.loads(called("captions", "--json", "a.jpg")[1])["captions"]
+    found = json.loads(called("show", "--captions", "--json", "a.jpg")[1])["captions"]
     assert [it["own"] for it in found] == [it["texts"] == [own] for it in found]
-    assert ("own text" in called("captions", "a.jpg")[1]) == bool(own)
+    assert ("own text" in called("show", "--captions", "a.jpg")[1]) == bool(own)
     called("index", "a.jpg", "--catalogue", "c", "--quiet")
     called("catalogue", "export", "c", "t")
     with sqlite3.connect("t") as base:
@@ -94,7 +94,7 @@ def test_which_caption_wins(name, folder, called):
 def test_the_camera_of_the_file(folder, called):
     """The make in Exif decides, of a file and of a catalogue alike."""
     (folder / "a.jpg").write_bytes(jpeg(app1(exif(b"abc")), with_record(data_set(120, b"ABC camera"))))
-    (row,) = csv.DictReader(called("captions", "--csv", "a.jpg")[1].splitlines())
+    (row,) = csv.DictReader(called("show", "--captions", "--csv", "a.jpg")[1].splitlines())
     assert (row["caption"], row["camera's text"]) == ("", "ABC camera")
     called("index", "a.jpg", "--catalogue", "c", "--quiet")
     called("catalogue", "export", "c", "t")

@@ -394,17 +394,6 @@ class Explained(WithPictures):
 
         return "\n".join(explain.explain(kind, octets).lines())
 
-    def test_whole_tiffs(self):
-        tiles = tiff([(0x100, LONG, 1), (0x142, LONG, 16), (0x143, LONG, 16), (0x144, LONG, 8), (0x145, LONG, 4)])
-        pyramid = tiff([(0x100, LONG, 1), (0x014A, LONG, page())])
-        for octets, tag in ((tiles, "TileOffsets (0144)"), (pyramid, "SubIFDs (014a)")):
-            words = self.explained("exif", octets)
-            self.assertIn("refused: MisplacedOffset", words)
-            self.assertIn(f"{tag} of the main directory", words)
-            self.assertIn("This seems to be a whole TIFF picture: give it without --block", words)
-        for octets in (b"II+\0\x08\0\0\0", b"MM\0+\0\x08\0\0"):
-            self.assertIn("This is a BigTIFF", self.explained("exif", octets))
-
     def test_packets(self):
         lines = self.explained("xmp", b"<x").splitlines()
         self.assertEqual(lines[:2], ["xmp: unreadable: NotWellFormed", "  The packet is not well-formed XML."])

@@ -158,7 +158,7 @@ def test_a_part_that_is_gone_is_named_by_each_command(name, folder, called):
     called(*night)
     called("index", "n", "--catalogue", "first", "--quiet", "--pixels")
     put(folder / "n", {"x": poor})
-    (verified, _) = map(json.loads, called("verify", "--catalogue", "first", "--json")[1].splitlines())
+    (verified, _) = map(json.loads, called("verify", "first", "--json")[1].splitlines())
     assert (verified["state"], verified["note"]) == ("other parts", f"{part} removed")
     assert (
         called(*night)[0] == 1
@@ -219,7 +219,7 @@ def test_what_programs_write_by_themselves_is_named_and_is_no_news(name, folder,
     assert called(*night)[:2] == (0, "")
     status, printed, _ = called("changed", "first", "of-nights", "--each")
     assert status == 0 and words in printed
-    status, printed, _ = called("verify", "--catalogue", "first")
+    status, printed, _ = called("verify", "first")
     assert status == 0 and words in printed
 
 
@@ -259,5 +259,5 @@ def test_content_credentials_are_named(name, folder, called):
     """Also where neither picture has metadata; and it is said that nobody has validated them."""
     put(folder, dict(zip(("a", "b"), CREDENTIALS[name])))
     for words in (("a", "b"), ("b", "a")):
-        status, printed, _ = called("compare", *words, "--no-exiftool")
+        status, printed, _ = called("compare", *words, "--no-programs")
         assert status in (1, 2) and "content credentials (not validated)" in printed, printed

@@ -105,7 +105,7 @@ def test_what_is_kept_prints_as_what_is_read(before, after, in_archive):
     for name, pictures in (("p", before), ("q", after)):
         archive.put(name, pictures)
         archive.lines(f"index {name} --jobs 1 --catalogue {name}.c --quiet --pixels")
-    for command in ("captions", "conflicts"):
+    for command in ("show --captions", "check"):
         read, kept = (archive.objects(f"{command} {name}") for name in ("p", "p.c"))
         assert by_name(read) == by_name(kept), command
     for words in (
@@ -160,7 +160,7 @@ def test_two_merged_are_one_and_twice_is_once(pictures, in_archive):
     archive.lines("merge 0.c 1.c --catalogue merged")
     asked = [
         f"{it} --catalogue"
-        for it in ("same", "same --kind pixels", "list --columns title,creator", "conflicts", "captions --csv", "report --json")
+        for it in ("same", "same --kind pixels", "list --columns title,creator", "conflicts", "show --captions --csv", "report --json")
     ]
     found = {line: archive.lines(f"{line} whole") for line in asked}
     assert {line: archive.lines(f"{line} merged") for line in asked} == found

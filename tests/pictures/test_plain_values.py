@@ -123,7 +123,7 @@ def rows(pictures, capsys):
 
     def call(picture):
         (folder, printed), number = pictures, [*PICTURES].index(picture)
-        main._run(["compare", str(folder / "a.jpg"), str(folder / f"{number}.jpg"), "--json", "--no-exiftool"])
+        main._run(["compare", str(folder / "a.jpg"), str(folder / f"{number}.jpg"), "--json", "--no-programs"])
         found = {it["name"]: it["after"]["plain"] for it in json.loads(capsys.readouterr().out)["fields"]}
         return found, printed[number]
 
@@ -308,7 +308,7 @@ def test_comments_as_programs_write_them(octets, text, folder, called):
     """What isn't declared, or is another text than is declared, is guessed, and is never empty if there is one. What questions find is the same."""
     assert comment(octets) == text
     (folder / "a.jpg").write_bytes(jpeg(app1(small_tiff((0x8769, LONG, [(0x9286, UNDEFINED, octets)]), order=">"))))
-    printed = called("captions", "a.jpg")[1]
+    printed = called("show", "--captions", "a.jpg")[1]
     assert (f" {text}   [ExifIFD:UserComment]" in printed) == bool(text), printed
     assert called("list", ".", "--with", "comment")[1].endswith(f"{int(bool(text))} of 1 picture\n"), text
     assert ("(empty)" in called("show", "a.jpg")[1]) == (text == "")

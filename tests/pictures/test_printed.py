@@ -60,7 +60,7 @@ class Commands(InProcess):
 
     def test_same(self):
         self.indexed()
-        same = ("same", "--catalogue", "@/c")
+        same = ("same", "@/c")
         text = self.transcript((2, *same), (0, *same, "--kind", "iptc"), (2, *same, "--json"))
         put(self.folder, {f"p/{name}": jpeg(app1(A)) + REST for name in ("k.jpg", "l.jpg")})
         self.indexed()
@@ -92,19 +92,18 @@ class Commands(InProcess):
                 (2, "show", *names),
                 (2, "show", "--exact", *names),
                 (0, "show", *self.named("e.jpg")),
-                (2, "show", "--block", "@/nothing", "@/block"),
                 (2, "show", *self.named("c.jpg", "f.jpg", "s/g.jpg", "nothing"), "--json"),
             ),
         )
 
     def test_report(self):
         self.indexed()
-        self.assertEqual(self.printed("report", "--catalogue", "@/c", "--html", "@/page.html", "--title", "One & two"), [])
+        self.assertEqual(self.printed("report", "@/c", "--html", "@/page.html", "--title", "One & two"), [])
         with open(self.path("page.html"), encoding="utf-8") as file:
             page = file.read()
         self.assertIn("<h1>One &amp; two</h1>", page)
         os.remove(self.path("page.html"))
-        self.golden("report.txt", self.transcript((0, "report", "--catalogue", "@/c", "--since", "@/c", "--json")))
+        self.golden("report.txt", self.transcript((0, "report", "@/c", "--since", "@/c", "--json")))
         self.assertFalse(os.path.exists(self.path("page.html")))
 
     def test_whole_pictures(self):
@@ -112,8 +111,8 @@ class Commands(InProcess):
         hidden = SMALL_JPEG[:-2] + app1(A) + b"\x11" * 100_000 + SMALL_JPEG[-2:]
         for side in ("x", "y"):
             put(self.folder, {f"{side}/a.jpg": hidden})
-        for command in ("show", "captions", "explain"):
-            found = [self.objects(command, "@/x/a.jpg"), self.objects(command, "@/x/a.jpg", "--whole", status=2)]
+        for command in (["show"], ["show", "--captions"], ["explain"]):
+            found = [self.objects(*command, "@/x/a.jpg"), self.objects(*command, "@/x/a.jpg", "--whole", status=2)]
             self.assertEqual([any(it.get("not_read") for it in some) for some in found], [False, True])
         for jobs in ("1", "2"):
             index = ("index", "@/x", "--catalogue", f"@/c{jobs}", "--jobs", jobs, "--quiet")
@@ -129,12 +128,12 @@ class Commands(InProcess):
         self.indexed()
         for words in (
             ("show", "@/p/e.jpg"),
-            ("captions", "@/p/e.jpg"),
+            ("show", "--captions", "@/p/e.jpg"),
             ("explain", "@/p/e.jpg"),
             ("mend", "@/p/a.jpg", "@/m.jpg"),
             ("index", "@/p/e.jpg", "--catalogue", "@/d", "--quiet"),
             ("changed", "@/p", "@/c"),
-            ("report", "--catalogue", "@/c", "--html", "@/page.html"),
+            ("report", "@/c", "--html", "@/page.html"),
             ("catalogue", "export", "@/c", "@/tables"),
         ):
             begun, begin = [], session.Session.__enter__

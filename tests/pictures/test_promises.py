@@ -12,7 +12,7 @@ from unittest import mock
 
 import exifnorm
 from in_process import InProcess
-from made_blocks import ASCII, BLOCKS, LONG, UNDEFINED, segment
+from made_blocks import ASCII, BLOCKS, LONG, UNDEFINED, segment, with_exif
 from made_files import A, B, K, L, T, T_OTHERWISE, U, XMP_HEAD, turned, xmp
 from made_files import app1, app13, app1_xmp, chunk, extension, jpeg, mpf, page, png, png_xmp, profile, resource, tiff, webp, with_record
 from studio import SMALL_JPEG, errors, needs, put, read, run, without_own_script, write
@@ -280,7 +280,7 @@ class Catalogues(Promises):
         self.index("@/p")
         self.files("p", b=jpeg(app1(B)), c=jpeg(app1(B)))
         self.index("@/p", "--keep-old", "@/old")
-        report = ("report", "--catalogue", "@/c", "--since", "@/old", "--html")
+        report = ("report", "@/c", "--since", "@/old", "--html")
         write(self.path("text"), b"a text")
         self.printed(*report, "@/text", status=4)
         self.assertEqual(read(self.path("text")), b"a text")
@@ -303,13 +303,14 @@ class Catalogues(Promises):
         ):
             self.assertIn(part, html)
         for more, has in (([], False), (["--since", "@/old"], True)):
-            self.assertEqual(any("results" in it for it in self.objects("report", "--catalogue", "@/c", *more)), has)
+            self.assertEqual(any("results" in it for it in self.objects("report", "@/c", *more)), has)
 
 
 class Pictures(Promises):
     def test_long_values(self):
-        write(self.path("long"), bytes.fromhex("4d4d002a00000008 0001 9999 0007 000000c8 0000001a 00000000") + bytes(200))
-        found = re.findall(r"\[(\d+)\] .*sha256:([0-9a-f]+)$", self.printed("show", "--exact", "--block", "@/long")[-1])
+        long = bytes.fromhex("4d4d002a00000008 0001 9999 0007 000000c8 0000001a 00000000") + bytes(200)
+        write(self.path("long.jpg"), with_exif(SMALL_JPEG, long))
+        found = re.findall(r"\[(\d+)\] .*sha256:([0-9a-f]+)$", self.printed("show", "--exact", "@/long.jpg")[-1])
         self.assertEqual(found, [("200", sha256(bytes(200))[:12])])
 
     @needs("exiftool")
@@ -359,12 +360,12 @@ class Pictures(Promises):
         write(self.path("later", "a.jpg"), jpeg(app1(B), with_record(K), app1_xmp(T)))
         before = self.marks("p")
         self.index("@/p")
-        (group, _) = self.objects("same", "--catalogue", "@/c", status=2)
+        (group, _) = self.objects("same", "@/c", status=2)
         (changed, *_) = self.objects("changed", "@/p", "@/later", status=1)
         self.assertEqual((sorted(group["digests"]), [it["name"] for it in changed["fields"]]), (["exif", "iptc", "xmp"], ["IFD0:Make"]))
-        for command in ("show", "captions", "explain"):
-            self.printed(command, "@/p/c.jpg", status=2)
-        self.printed("report", "--catalogue", "@/c", "--html", "@/page")
+        for command in (["show"], ["show", "--captions"], ["explain"]):
+            self.printed(*command, "@/p/c.jpg", status=2)
+        self.printed("report", "@/c", "--html", "@/page")
         self.printed("mend", "@/p/a.jpg", "@/out.jpg")
         self.assertEqual(self.marks("p"), before)
 

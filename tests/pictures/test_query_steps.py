@@ -41,35 +41,35 @@ EDITS = (  # what is changed, moved or new in the other catalogue
     "UPDATE pictures SET path = CAST(path || '.new' AS BLOB), exif = printf('%064x', id + 2000000), inode = id + 5000000 WHERE id % 8 = 2",
 )
 COMMANDS = (
-    "same --no-look --catalogue C",
-    "same --no-look --catalogue C --kind exif",
-    "same --no-look --catalogue C --kind pixels",
-    "same --no-look --catalogue C --ignore Artist",
-    "same --no-look --catalogue C --only creator",
-    "same --no-look --catalogue C --kind file",
-    "same --no-look --catalogue C --kind pixels --differ creator",
-    "changed C D --no-exiftool",
-    "changed C D --no-exiftool --each",
-    "changed C D --no-exiftool --ignore Artist",
-    "changed C D --no-exiftool --only creator --json",
-    "report --no-look --catalogue D --since C --html page",
+    "same C --no-look",
+    "same C --no-look --kind exif",
+    "same C --no-look --kind pixels",
+    "same C --no-look --ignore Artist",
+    "same C --no-look --only creator",
+    "same C --no-look --kind file",
+    "same C --no-look --kind pixels --differ creator",
+    "changed C D --no-programs",
+    "changed C D --no-programs --each",
+    "changed C D --no-programs --ignore Artist",
+    "changed C D --no-programs --only creator --json",
+    "report D --no-look --since C --html page",
     "catalogue export --no-look C tables",
     "list C --where creator=anna --columns creator",
     "list C --without credit -0",
     "list C --count creator",
     "list C --with damage --columns damage",
     "list C --where title=x",
-    "check rules C",
+    "check --rules rules C",
     "check one C",
-    "history /archive/one/00000016.jpg C D",
-    "history /archive/one/00000017.jpg C D",
-    "captions C --json",
-    "conflicts C --json",
+    "changed --picture /archive/one/00000016.jpg C D",
+    "changed --picture /archive/one/00000017.jpg C D",
+    "show --captions C --json",
+    "check C --json",
     "catalogue merge C D --catalogue E",
     "list E --with creator -0",
     "catalogue relocate E /archive new",
-    "verify --catalogue E --jobs 1 --quiet",
-    "catalogue forget new --catalogue E",
+    "verify E --jobs 1 --quiet",
+    "catalogue forget E new",
     "mend C new",
     "nightly /archive --catalogue D --json",
 )
@@ -129,7 +129,7 @@ def test_forgetting_takes_no_memory_for_each_picture(counting, tmp_path):
     memory = []
     for size in (15_000, 45_000):
         make(tmp_path / str(size), size)
-        work = counting.run(tmp_path, "forget", "/archive", "--catalogue", str(size), "--json")
+        work = counting.run(tmp_path, "catalogue", "forget", str(size), "/archive", "--json")
         assert json.loads(work.out)["forgotten"] == size, work.err
         memory.append(work.memory)
     assert memory[1] < memory[0] + 100_000
@@ -215,10 +215,10 @@ def test_the_history_of_a_picture_goes_through_each_catalogue_once(works, tmp_pa
     with closing(sqlite3.connect(tmp_path / "C")) as base:
         base.set_progress_handler(lambda: passed.append(1), 1)
         base.execute("SELECT DISTINCT root FROM pictures ORDER BY root").fetchall()
-    few, many = (works["history /archive/one/00000017.jpg C D", size].steps for size in SIZES)
+    few, many = (works["changed --picture /archive/one/00000017.jpg C D", size].steps for size in SIZES)
     assert 100 * (many - few) <= 2.5 * len(passed)
 
 
 def test_the_history_of_a_picture_that_stays_pairs_no_others(works):
-    gone, stays = (works[f"history /archive/one/{number}.jpg C D", SIZES[1]].steps for number in ("00000016", "00000017"))
+    gone, stays = (works[f"changed --picture /archive/one/{number}.jpg C D", SIZES[1]].steps for number in ("00000016", "00000017"))
     assert 10 * stays <= gone

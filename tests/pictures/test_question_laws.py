@@ -172,9 +172,9 @@ def test_a_day_is_given(asked, called, folder, monkeypatch):
     for today, later in (("2019-03-13", 3), ("2024-05-02", 2)):
         monkeypatch.setenv("EXIFNORM_TODAY", today)
         assert asked("DateTimeOriginal >= today") == later
-        assert f"by {later} of 8 pictures" in called("check", "rules", "c")[1]
+        assert f"by {later} of 8 pictures" in called("check", "--rules", "rules", "c")[1]
     monkeypatch.setenv("EXIFNORM_TODAY", "tomorrow")
-    assert "EXIFNORM_TODAY=tomorrow" in asked("DateTimeOriginal >= today") and called("check", "rules", "c")[0] == 3
+    assert "EXIFNORM_TODAY=tomorrow" in asked("DateTimeOriginal >= today") and called("check", "--rules", "rules", "c")[0] == 3
 
 
 def test_dates_of_today():
@@ -211,7 +211,7 @@ def test_rights_embargoes_sources_and_places(folder, called):
     assert status == 2 and "  position  51.500000, 0.100000\nmay fit:\n" in lines
     assert lines.splitlines()[-2].endswith("/b.jpg") and lines.splitlines()[-1].startswith("1 of 3 pictures; 1 more may fit: ")
     (folder / "rules").write_text("position never\nrights end not after 2026-12-02\nIPTC:ReleaseDate is 2026-12-02\n")
-    assert called("check", "rules", "c", "--csv")[1].count("/a.jpg,") == 3
+    assert called("check", "--rules", "rules", "c", "--csv")[1].count("/a.jpg,") == 3
 
 
 @needs("exiftool")
@@ -220,7 +220,7 @@ def test_impossible_dates_break_each_rule_of_dates(folder, called):
         put(folder / "p", {f"{number}.jpg": SMALL_JPEG})
         tool(folder / "p", "exiftool", "-q", "-overwrite_original", f"-DateTimeOriginal#={date}", f"{number}.jpg")
     (folder / "rules").write_text("date created not before 1826\n")
-    lines = called("check", "rules", "p")[1].splitlines()
+    lines = called("check", "--rules", "rules", "p")[1].splitlines()
     assert lines[-1] == "1 of 1 rule broken, by 3 of 4 pictures"
     rules = (
         "every picture needs date created",
@@ -230,7 +230,7 @@ def test_impossible_dates_break_each_rule_of_dates(folder, called):
     )
     (folder / "rules").write_text("\n".join((*rules, "IFD0:ModifyDate never", "IFD0:Artist is 20230230", "IFD0:Artist like 2*")))
     tool(folder / "p", "exiftool", "-q", "-overwrite_original", "-IFD0:Artist=20230230", "0.jpg")
-    *broken, _ = map(json.loads, called("check", "rules", "p", "--json")[1].splitlines())
+    *broken, _ = map(json.loads, called("check", "--rules", "rules", "p", "--json")[1].splitlines())
     assert [it["line"] for it in broken] == [1, 1, 1, 2, 2, 2, 3, 3, 3]
     for question in ("date created = impossible", "DateTimeOriginal = impossible"):
         assert called("list", "p", "-0", "--where", question)[1].count("\0") == 3, question

@@ -66,7 +66,7 @@ def test_the_report_counts_what_changed_counts(archive, called):
     called("index", "q", "--catalogue", "d", "--quiet")
     status, printed, _ = called("changed", "c", "d")
     assert status == 2 and "9 pictures compared: 1 changed, 6 not wholly compared." in printed
-    assert called("report", "--catalogue", "d", "--since", "c", "--html", "page.html")[0] == 0
+    assert called("report", "d", "--since", "c", "--html", "page.html")[0] == 0
     page = (archive.parent / "page.html").read_text(encoding="utf-8")
     assert counts_of_page(page) == counts_of_summary(printed)
 

@@ -57,10 +57,10 @@ def test_renumbered(name, pixels, folder, called):
     status, printed, _ = called("changed", "first", "nights", "--json")
     assert status == 1 and results(printed) == {old: ("renumbered", new) for old, new in moves.items()}
     assert f"{len(moves)} pictures compared: {len(moves)} renumbered." in called("changed", "first", "nights")[1]
-    (_, state) = map(json.loads, called("history", "in/b.jpg", "first", "nights", "--json")[1].splitlines()[:2])
+    (_, state) = map(json.loads, called("changed", "--picture", "in/b.jpg", "first", "nights", "--json")[1].splitlines()[:2])
     assert state["result"] == "renumbered", state
     if pixels:
-        status, printed, _ = called("verify", "--catalogue", "first", "--json")
+        status, printed, _ = called("verify", "first", "--json")
         *files, summary = map(json.loads, printed.splitlines())
         assert status == 0 and summary["new"] == 0
         assert {os.path.basename(it["path"]): os.path.basename(it["place"]["path"]) for it in files if it["place"]} == moves, files

@@ -270,7 +270,7 @@ def test_which_repairs_make_pictures_the_same(folder, capsys, monkeypatch):
         for side, octets in (("before", before), ("after", after)):
             put(folder, {f"{name}/{side}/a.jpg": jpeg(app1(octets))})
         capsys.readouterr()
-        assert main._run(["changed", f"{name}/before", f"{name}/after", "--json", "--all", "--no-exiftool"]) == status, name
+        assert main._run(["changed", f"{name}/before", f"{name}/after", "--json", "--all", "--no-programs"]) == status, name
         found = json.loads(capsys.readouterr().out.splitlines()[0])
         assert found["result"] == result
         if name == "edited":
@@ -409,12 +409,12 @@ def test_what_a_repair_lost_is_neither_added_nor_removed(folder, capsys, monkeyp
         (folder / name).write_bytes(jpeg(app1(octets)))
         os.makedirs(name[0])
         (folder / name[0] / "p.jpg").write_bytes(jpeg(app1(octets)))
-    assert main._run(["compare", "a.jpg", "b.jpg", "--json", "--no-exiftool"]) == 2
+    assert main._run(["compare", "a.jpg", "b.jpg", "--json", "--no-programs"]) == 2
     found = json.loads(capsys.readouterr().out.splitlines()[0])
     assert not [it["name"] for it in found["fields"] if not it["before"] or not it["after"]], found["fields"]
     if fault != "too many entries":  # these spoil other directories
         assert [it["name"] for it in found["fields"]] == ["IFD0:Model"], found["fields"]
         assert re.search(rf"\d+ fields of {group} that one picture has: the repair of the other one may have lost them", found["note"])
-    assert main._run(["changed", "a", "b", "--no-exiftool"]) == 2
+    assert main._run(["changed", "a", "b", "--no-programs"]) == 2
     printed = capsys.readouterr().out
     assert printed.startswith("1 picture compared: 1 not wholly compared.") and "added" not in printed and "removed" not in printed

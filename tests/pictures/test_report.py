@@ -76,7 +76,7 @@ class Report(WithPictures):
         os.remove(self.path("p", "Ten1.jpg"))
         write(self.path("p", "added.jpg"), picture(b"Add\0"))
         self.asked("index", "p", "--catalogue", "c", "--quiet")
-        self.asked("report", "--catalogue", "c", "--since", "old", "--html", "r.html", "--title", "The <title>")
+        self.asked("report", "c", "--since", "old", "--html", "r.html", "--title", "The <title>")
         self.page = read(self.path("r.html")).decode()
 
     def test_each_picture_is_a_link_and_none_is_left_out(self):
@@ -97,13 +97,11 @@ class Report(WithPictures):
         for number in range(300):
             write(self.path("p", f"z{number:03}.jpg"), with_exif(SMALL_JPEG, BLOCKS["Doubled"]))
         self.asked("index", "p", "--catalogue", "c", "--quiet")
-        self.asked("report", "--catalogue", "c", "--html", "r.html")
+        self.asked("report", "c", "--html", "r.html")
         page = Text(read(self.path("r.html")).decode())
         refused = " ".join(page.sections["refused"])
         self.assertEqual({it for it in range(300) if f"mended-z{it:03}.jpg" in refused}, set(range(300)))
-        self.assertEqual(
-            sum('"record": "refusal"' in it and '"Doubled"' in it for it in self.asked("report", "--catalogue", "c", "--json")), 300
-        )
+        self.assertEqual(sum('"record": "refusal"' in it and '"Doubled"' in it for it in self.asked("report", "c", "--json")), 300)
 
     @needs("chromium")
     def test_on_a_phone(self):

@@ -444,7 +444,7 @@ def test_rules_have_the_notes_of_check(folder: Path, called: Called) -> None:
     called("index", "p", "--catalogue", "c", "--quiet")
     called("report", "c", "--rules", "rules", "--html", "page.html")
     broken = " ".join(Text((folder / "page.html").read_text(encoding="utf-8")).sections["broken"])
-    notes = json.loads(called("check", "rules", "c", "--json")[1].splitlines()[-1])["notes"]
+    notes = json.loads(called("check", "--rules", "rules", "c", "--json")[1].splitlines()[-1])["notes"]
     assert len(notes) == 2 and all(note in broken for note in notes), (notes, broken)
 
 
@@ -464,5 +464,5 @@ def test_rules_and_moved_folders(folder: Path, called: Called) -> None:
     assert 0 < problems.index("zzz/big.tif") < problems.index("monday/0.jpg"), "what needs somebody isn't the first one"
     broken = " ".join(page.sections["broken"])
     assert broken.count("line 1: every picture needs credit") == 5 and "1 of 1 rule broken, by 5 of 6 pictures" in broken
-    found = [json.loads(it) for it in called("check", "rules", "c", "--json")[1].splitlines()]
+    found = [json.loads(it) for it in called("check", "--rules", "rules", "c", "--json")[1].splitlines()]
     assert len([it for it in found if it.get("text") is None and "path" in it]) == 5

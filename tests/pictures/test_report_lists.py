@@ -18,9 +18,9 @@ def test_without_jinja2(folder: Path, called: Callable[..., Any], monkeypatch: p
     (folder / "p" / "a.jpg").write_bytes(SMALL_JPEG)
     called("index", "p", "--catalogue", "c", "--quiet")
     monkeypatch.setitem(sys.modules, "jinja2", None)
-    status, _, messages = called("report", "--catalogue", "c", "--html", "page.html")
+    status, _, messages = called("report", "c", "--html", "page.html")
     assert status == 4 and "python3-jinja2" in messages and not (folder / "page.html").exists()
-    assert called("report", "--catalogue", "c", "--json")[0] == 0
+    assert called("report", "c", "--json")[0] == 0
 
 
 @pytest.mark.parametrize("most, left", [(5, 0), (4, 2), (2, 6)])
@@ -33,7 +33,7 @@ def test_how_often_fields_differ_that_are_not_counted(called, folder, monkeypatc
             packet = xmp("".join(f"<dc:a{it}>{side}</dc:a{it}>" for it in range(5)))
             (folder / side / name).write_bytes(jpeg(app1_xmp(packet)))
         assert called("index", side, "--catalogue", side + ".c", "--quiet", "--jobs", "1")[0] == 0
-    words = ["report", "--catalogue", "two.c", "--since", "one.c", "--no-look"]
+    words = ["report", "two.c", "--since", "one.c", "--no-look"]
     counts = next(it for it in map(json.loads, called(*words, "--json")[1].splitlines()) if "fields_not_counted" in it)
     assert (len(counts["fields"]), set(counts["fields"].values()), counts["fields_not_counted"]) == (most, {2}, left)
     assert sum(counts["fields"].values()) + left == 10

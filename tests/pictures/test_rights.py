@@ -63,7 +63,7 @@ def test_a_copy_of_another_group_allows_its_members_no_more_than_all(folder, mod
 
 WRITING = {
     "catalogue export": ("catalogue", "export", "c", "out"),
-    "report": ("report", "--catalogue", "c", "--html", "out"),
+    "report": ("report", "c", "--html", "out"),
     "index --keep-old": ("index", "p", "--catalogue", "c", "--keep-old", "out", "--quiet"),
     "catalogue merge": ("catalogue", "merge", "--catalogue", "out", "c"),
 }
@@ -115,7 +115,7 @@ def test_what_umask_gives(called, folder, umask):
     before = os.umask(umask)
     try:
         assert called("index", "p", "--catalogue", "c", "--quiet", "--pixels")[0] == 0
-        assert called("verify", "--catalogue", "c", "--evidence", "sums", "--quiet", "--jobs", "1")[0] == 0
+        assert called("verify", "c", "--evidence", "sums", "--quiet", "--jobs", "1")[0] == 0
         assert called("show", "p/a.jpg", "--xlsx", "table.xlsx")[0] == 0
     finally:
         os.umask(before)

@@ -104,16 +104,16 @@ def test_rules(folder, called, seed):
         if is_meant(name.rpartition("/")[0])
         for label, text in broken(texts)
     }
-    status, printed, _ = called("check", "rules", "c", "--json")
+    status, printed, _ = called("check", "--rules", "rules", "c", "--json")
     *objects, summary = map(json.loads, printed.splitlines())
     listed = [(it["path"].partition("/p/")[2], it["line"], it["label"], it["text"]) for it in objects]
     assert set(listed) == due and len(listed) == len(due) and status == 1
     assert (summary["rules"], summary["pictures"], summary["not_known"]) == (30, 24, 0)
     assert summary["broken_rules"] == len({line for _, line, _, _ in due})
     assert summary["broken_pictures"] == len({name for name, *_ in due})
-    by_picture = map(json.loads, called("check", "rules", "c", "--json", "--by-picture")[1].splitlines()[:-1])
+    by_picture = map(json.loads, called("check", "--rules", "rules", "c", "--json", "--by-picture")[1].splitlines()[:-1])
     assert sorted(it["path"] + str(it["line"]) for it in by_picture) == sorted(it["path"] + str(it["line"]) for it in objects)
-    rows = list(csv.reader(io.StringIO(called("check", "rules", "c", "--csv")[1])))[1:]
+    rows = list(csv.reader(io.StringIO(called("check", "--rules", "rules", "c", "--csv")[1])))[1:]
     assert [int(row[1]) for row in rows] == [it["line"] for it in objects]
 
 
@@ -136,7 +136,7 @@ def test_a_folder_a_catalogue_and_questions_agree(folder, called, seed):
     asked += [("date created not after 2001", "date created > 2001"), ("date created not before 2001-01", "date created < 2001-01")]
     (folder / "rules").write_text("".join(f"{rule}\n" for rule, _ in asked), "utf-8")
     called("index", "p", "--catalogue", "c", "--quiet")
-    of_catalogue, of_folder = (called("check", "rules", name, "--json") for name in ("c", "p"))
+    of_catalogue, of_folder = (called("check", "--rules", "rules", name, "--json") for name in ("c", "p"))
     assert of_catalogue[:2] == of_folder[:2]
     *broken, summary = map(json.loads, of_catalogue[1].splitlines())
     for line, (rule, question) in enumerate(asked, 1):
@@ -160,7 +160,7 @@ def test_each_value_of_a_list_counts(folder, called):
     put(folder / "p", {"a.jpg": jpeg(app1_xmp(words))})
     tests = ("is clay", "= Clay", "one of clay, Glass", "one of glass, clay", "= 'clay; glass'")
     (folder / "rules").write_text("".join(f"XMP-dc:subject {test}\n" for test in tests))
-    *broken, _ = map(json.loads, called("check", "rules", "p", "--json")[1].splitlines())
+    *broken, _ = map(json.loads, called("check", "--rules", "rules", "p", "--json")[1].splitlines())
     assert [(it["line"], it["text"]) for it in broken] == [(1, "glass"), (2, "glass"), (3, "glass"), (5, "clay"), (5, "glass")]
     assert [called("list", "p", "-0", "--where", f"XMP-dc:subject {it}")[1].count("\0") for it in tests] == [1, 1, 1, 1, 1]
 
@@ -168,7 +168,7 @@ def test_each_value_of_a_list_counts(folder, called):
 def test_nothing_is_broken(folder, called):
     put(folder / "p", {"a.jpg": picture([("title", "A")])})
     (folder / "rules").write_text("every picture needs title\ntitle is A\n")
-    assert called("check", "rules", "p")[:2] == (0, "0 of 2 rules broken, by 0 of 1 picture\n")
+    assert called("check", "--rules", "rules", "p")[:2] == (0, "0 of 2 rules broken, by 0 of 1 picture\n")
 
 
 def test_pictures_that_were_not_wholly_read(folder, called):
@@ -176,7 +176,7 @@ def test_pictures_that_were_not_wholly_read(folder, called):
     whole = picture([("title", "A")])
     put(folder / "p", {"cut.jpg": whole[:30], "b.jpg": whole})
     (folder / "rules").write_text("every picture needs title\ntitle is B\n")
-    status, printed, _ = called("check", "rules", "p", "--json")
+    status, printed, _ = called("check", "--rules", "rules", "p", "--json")
     *objects, summary = map(json.loads, printed.splitlines())
     assert status == 2 and [it["line"] for it in objects] == [2] and summary["not_known"] == 1
 
@@ -187,16 +187,16 @@ def test_owners_in_maker_notes(folder, called):
     put(folder / "p", {"web/canon.jpg": noted(b"Annette")})
     (folder / "rules").write_text("owner never in web/\n")
     called("index", "p", "--catalogue", "c", "--quiet")
-    assert called("check", "rules", "c")[0] == 2
+    assert called("check", "--rules", "rules", "c")[0] == 2
     called("index", "p", "--catalogue", "c", "--quiet", "--again", "--maker-notes")
-    status, printed, _ = called("check", "rules", "c")
+    status, printed, _ = called("check", "--rules", "rules", "c")
     assert status == 1 and 'owner "Annette"' in printed
 
 
 def test_a_folder_without_pictures_is_named(folder, called):
     put(folder / "p", {"web/a.jpg": picture([])})
     (folder / "rules").write_text("title never in wbe/\ntitle never in web/\n")
-    printed = called("check", "rules", "p")[1]
+    printed = called("check", "--rules", "rules", "p")[1]
     assert "wbe/" in printed and "line 2" not in printed
 
 
@@ -205,7 +205,7 @@ def test_each_folder_without_pictures_is_named(folder, called):
     for name in ("web", "press"):
         put(folder / "p" / name, {"a.jpg": picture([])})
     (folder / "rules").write_text("serial never in web/, pres/, press/\nserial never in wep/, preß/\nserial never in web/\n")
-    lines = called("check", "rules", "p")[1].splitlines()
+    lines = called("check", "--rules", "rules", "p")[1].splitlines()
     assert [line.partition(" below ")[0] for line in lines[:-1]] == [
         "line 1: no picture lies in pres/",
         "line 2: no picture lies in wep/ or preß/",
@@ -218,7 +218,7 @@ def test_a_text_that_no_picture_has_is_named_with_the_nearest(folder, called):
     (folder / "rules").write_text(
         'credit is "Riversid Museum"\ncredit one of "City of Salt", "Riverside Museum"\ncredit one of "X", "Riverside Musem"\n'
     )
-    *_, summary = map(json.loads, called("check", "rules", "p", "--json")[1].splitlines())
+    *_, summary = map(json.loads, called("check", "--rules", "rules", "p", "--json")[1].splitlines())
     (first, third) = summary["notes"]
     for line, text, note in ((1, "Riversid Museum", first), (3, "Riverside Musem", third)):
         assert f"line {line}:" in note and f'"{text}"' in note and '"Riverside Museum"' in note, note
@@ -229,7 +229,7 @@ def test_a_text_is_there_however_its_accents_are_composed_and_however_long_it_is
     long = "x\u00e9" * 40
     put(folder / "p", {"a.jpg": picture([("credit", "Zu\u0308rich"), ("caption", long), ("title", "Clay")])})
     (folder / "rules").write_text(f"credit is Z\u00fcrich\ncaption is {composed(long)}\ntitle is clay\n", encoding="utf-8")
-    *_, summary = map(json.loads, called("check", "rules", "p", "--json")[1].splitlines())
+    *_, summary = map(json.loads, called("check", "--rules", "rules", "p", "--json")[1].splitlines())
     (note,) = summary["notes"]
     assert "line 3:" in note and '"clay"' in note and '"Clay"' in note
 
@@ -238,7 +238,7 @@ def test_some_texts_that_no_picture_has_are_named_and_the_others_counted(folder,
     put(folder / "p", {"a.jpg": picture([("credit", "Riverside Museum")])})
     rules = [f"{label} is text{number}" for number in range(15) for label in ("credit", "caption")]
     (folder / "rules").write_text("\n".join(rules), encoding="ascii")
-    *_, summary = map(json.loads, called("check", "rules", "p", "--json")[1].splitlines())
+    *_, summary = map(json.loads, called("check", "--rules", "rules", "p", "--json")[1].splitlines())
     *named, rest = summary["notes"]
     assert [f"line {number}:" in note for number, note in enumerate(named, 1)] == [True] * len(named)
     assert 10 <= len(named) < 30 and f" {30 - len(named)} " in rest
@@ -248,7 +248,7 @@ def test_a_rule_for_the_folder_that_was_indexed_itself(folder, called):
     """It is about no picture, and the note has the folder below which rules name folders."""
     put(folder / "work", {"a.jpg": picture([("title", "A")])})
     (folder / "rules").write_text("title never in work/\n")
-    status, printed, _ = called("check", "rules", "work", "--json")
+    status, printed, _ = called("check", "--rules", "rules", "work", "--json")
     (note,) = json.loads(printed.splitlines()[-1])["notes"]
     assert status == 0 and str(folder / "work") in note
 
@@ -276,7 +276,7 @@ def test_each_mistake_is_named(folder, called):
         "title is 'A",
     )
     (folder / "rules").write_text("every picture needs title\n" + "\n".join(wrong))
-    status, printed, messages = called("check", "rules", "p")
+    status, printed, messages = called("check", "--rules", "rules", "p")
     assert (status, printed) == (3, "")
     for number, line in enumerate(wrong, 2):
         assert f"line {number}: " in messages and f"\n  {line}\n" in messages
@@ -294,10 +294,10 @@ def test_each_mistake_is_named(folder, called):
 def test_files_that_are_no_rules(folder, called, octets):
     put(folder / "p", {"a.jpg": jpeg()})
     (folder / "rules").write_bytes(octets)
-    status, printed, messages = called("check", "rules", "p")
+    status, printed, messages = called("check", "--rules", "rules", "p")
     assert (status, printed) == (3, "") and len(messages.splitlines()) == 1
 
 
 def test_missing_rules(folder, called):
     put(folder / "p", {"a.jpg": jpeg()})
-    assert called("check", "nothing", "p")[0] == 4
+    assert called("check", "--rules", "nothing", "p")[0] == 4

@@ -132,8 +132,8 @@ class Scale(WithPictures):
         self.assertLess(many["memory"] - few["memory"], most, f"{few['memory']:.0f} MB and {many['memory']:.0f} MB")
 
     def test_memory_of_same(self):
-        few = self.counted("same", "--no-look", "--catalogue", self.catalogue("few", 20000))
-        many = self.counted("same", "--no-look", "--catalogue", self.catalogue("many", 200000))
+        few = self.counted("same", self.catalogue("few", 20000), "--no-look")
+        many = self.counted("same", self.catalogue("many", 200000), "--no-look")
         self.assertEqual(self.said.count("20 pictures: "), 10000)
         self.grows_little(few, many)
 
@@ -141,7 +141,7 @@ class Scale(WithPictures):
         """The pictures of a group are in memory, with at most 700 bytes each."""
         few, many = self.catalogue("few", 20000, "1"), self.catalogue("many", 120000, "1")
         for words in ((), ("--json",)):
-            less, more = (self.counted("same", "--no-look", *words, "--catalogue", it) for it in (few, many))
+            less, more = (self.counted("same", it, "--no-look", *words) for it in (few, many))
             self.grows_little(less, more, 100_000 * 700 / (1 << 20))
         self.assertEqual([json.loads(it)["count"] for it in self.said.splitlines()[:-1]], [120000])
 
@@ -205,8 +205,8 @@ class Scale(WithPictures):
         return self.counted("changed", *words, status=1 if after else 0)
 
     def test_statements_of_same(self):
-        few = self.counted("same", "--no-look", "--catalogue", self.catalogue("few", 200))
-        many = self.counted("same", "--no-look", "--catalogue", self.catalogue("many", 2200))
+        few = self.counted("same", self.catalogue("few", 200), "--no-look")
+        many = self.counted("same", self.catalogue("many", 2200), "--no-look")
         self.assertEqual(many["statement"] - few["statement"], 100)  # of a group: its pictures
 
     def test_statements_of_an_index(self):
@@ -275,7 +275,7 @@ class Scale(WithPictures):
         watched = {"exifnorm", "html", "jinja2", "logging", "multiprocessing", "subprocess", "urllib", "xml", *reading, *fields}
         watched.update(f"exifnorm_pictures.{it}" for it in names)
         for words, needed in (
-            (["same", "--catalogue", "c"], {*fields, "exifnorm_pictures.comparison.groups"}),
+            (["same", "c"], {*fields, "exifnorm_pictures.comparison.groups"}),
             (["index", "p", "--catalogue", "c", "--quiet"], set()),
             (["index", "p", "--catalogue", "e", "--quiet"], {"exifnorm", "xml", *reading}),
             (["catalogue", "merge", "c", "--catalogue", "d"], set()),
@@ -298,7 +298,7 @@ class Scale(WithPictures):
         write(self.path("p", "0007.jpg"), made.jpeg(made.app1(made.exif(b"New"))))
         self.assertEqual(self.counted(*words)["picture"], 1)
         self.assertEqual(self.said, "99 unchanged, 1 accepted\n")
-        self.assertEqual(self.counted("same", "--no-look", "--catalogue", "c")["picture"], 0)
+        self.assertEqual(self.counted("same", "c", "--no-look")["picture"], 0)
 
     @needs("exiftool")
     def test_processes_of_exiftool(self):

@@ -18,16 +18,16 @@ from exifnorm_pictures.catalogue.store import NUMBERS, Catalogue
 from exifnorm_pictures.cli import main
 
 COMMANDS = (
-    "same --catalogue {}",
-    "same --catalogue {} --json",
-    "same --catalogue {} --csv --columns title",
-    "same --catalogue {} --kind exif",
-    "same --catalogue {} --kind pixels",
-    "same --catalogue {} --kind file --json",
-    "same --catalogue {} --ignore Model --ignore creator",
-    "same --catalogue {} --only Make --json",
-    "same --catalogue {} --differ title",
-    "same --catalogue {} --least-fields 2 --no-look",
+    "same {}",
+    "same {} --json",
+    "same {} --csv --columns title",
+    "same {} --kind exif",
+    "same {} --kind pixels",
+    "same {} --kind file --json",
+    "same {} --ignore Model --ignore creator",
+    "same {} --only Make --json",
+    "same {} --differ title",
+    "same {} --least-fields 2 --no-look",
     "list {} --columns title,keywords",
     "list {} --with title --json",
     "list {} --without title",
@@ -36,12 +36,12 @@ COMMANDS = (
     "list {} --where XMP-dc:title=two --columns Make",
     "list {} --with damage",
     "list {} --since 2001-01-01 --json",
-    "check rules {}",
-    "captions {} --json",
-    "conflicts {} --all",
+    "check --rules rules {}",
+    "show --captions {} --json",
+    "check {} --all",
     "report {} --json --no-look",
     "report {} --json --ignore Model",
-    "verify --catalogue {} --jobs 1 --quiet",
+    "verify {} --jobs 1 --quiet",
 )
 OF_TWO = (
     "changed {} {}",
@@ -190,15 +190,15 @@ def archive(folder, called_lines):
 
 
 def test_a_missing_catalogue_is_said(archive, called_lines):
-    assert called_lines("same", "--catalogue", "shards")[0] == 0
+    assert called_lines("same", "shards")[0] == 0
     (archive / "shards" / "two.catalogue").unlink()
     for words in (
-        ("same", "--catalogue", "shards"),
+        ("same", "shards"),
         ("list", "shards"),
         ("changed", "shards", "shards"),
         ("report", "shards", "--json"),
         ("catalogue", "export", "shards", "tables"),
-        ("captions", "shards", "--json"),
+        ("show", "--captions", "shards", "--json"),
         ("catalogue", "merge", "shards", "--catalogue", "all"),
     ):
         status, lines, messages = called_lines(*words)
@@ -244,7 +244,7 @@ def test_a_catalogue_that_lies_elsewhere_is_read_alone(archive, called_lines, wa
         (archive / "shards" / "catalogues").symlink_to(archive / "list")
     before = other.read_bytes(), (archive / "shards" / "two.catalogue").read_bytes()
     for words, due in (
-        ("catalogue forget one two --catalogue shards", 4),
+        ("catalogue forget shards one two", 4),
         ("index one --shards shards", 3),
         ("list shards --with title", 0),
     ):
@@ -259,7 +259,7 @@ def test_a_picture_in_two_catalogues_is_refused(archive, called_lines, are_apart
     if not are_apart:
         (archive / "shards" / "two.catalogue").unlink()
     assert called_lines("index", "one", "two", "--catalogue", "shards/two.catalogue", "--quiet")[0] == 0
-    for words in (("same", "--catalogue", "shards"), ("list", "shards", "--json"), ("changed", "shards", "one")):
+    for words in (("same", "shards"), ("list", "shards", "--json"), ("changed", "shards", "one")):
         status, lines, messages = called_lines(*words)
         assert (status, lines) == (3, []), words
         assert "one/one.jpg is in " in messages and "shards/one.catalogue" in messages and "shards/two.catalogue" in messages
@@ -269,9 +269,9 @@ def test_a_folder_is_one_of_pictures_unless_its_list_says_otherwise(archive, cal
     """A file of another kind with this name changes nothing, and neither does a folder."""
     (archive / "one" / "catalogues").write_text("catalogues of one archive, which are sold out\n")
     (archive / "two" / "catalogues").mkdir()
-    assert called_lines("changed", "one", "two", "--no-exiftool")[0] == 1
+    assert called_lines("changed", "one", "two", "--no-programs")[0] == 1
     assert called_lines("list", "one")[1][-1] == called_lines("list", "two")[1][-1] == "1 of 1 picture"
-    status, _, messages = called_lines("same", "--catalogue", "one")
+    status, _, messages = called_lines("same", "one")
     assert status == 4 and "not a catalogue" in messages
 
 
@@ -299,12 +299,12 @@ def test_history_is_that_of_the_merged_catalogues(archive, called_lines):
     assert called_lines("index", "one", "--catalogue", "shards/one.catalogue", "--quiet")[0] == 0
     for name in ("before", "shards"):
         assert called_lines("catalogue", "merge", name, "--catalogue", f"{name}-as-one")[0] == 0
-    status, lines, messages = called_lines("history", "one/one.jpg", "before", "shards")
+    status, lines, messages = called_lines("changed", "--picture", "one/one.jpg", "before", "shards")
     assert (status, messages) == (1, "") and any("new" in line for line in lines), lines
-    merged_lines = called_lines("history", "one/one.jpg", "before-as-one", "shards-as-one")[1]
+    merged_lines = called_lines("changed", "--picture", "one/one.jpg", "before-as-one", "shards-as-one")[1]
     assert lines == [line.replace("-as-one", "") for line in merged_lines]
     (archive / "shards" / "two.catalogue").unlink()
-    status, _, messages = called_lines("history", "one/one.jpg", "shards", "before")
+    status, _, messages = called_lines("changed", "--picture", "one/one.jpg", "shards", "before")
     assert status == 2 and "the answer is without the catalogue shards/two.catalogue" in messages
 
 
@@ -371,7 +371,7 @@ def test_as_many_as_sqlite_attaches_and_more(folder, called_lines, count):
     with shards.opened(shards.shards_of(str(folder / "shards")), str(folder)) as catalogue:
         assert isinstance(catalogue, shards.Together) == (count == shards.MOST)
     for words in (
-        "same --catalogue {} --json",
+        "same {} --json",
         "list {} --json",
         "report {} --json",
         "verify {} --quiet --json",
@@ -379,21 +379,21 @@ def test_as_many_as_sqlite_attaches_and_more(folder, called_lines, count):
     ):
         both = [called_lines(*words.format(name).split()) for name in ("shards", "all")]
         assert both[0][0] == both[1][0], words
-    assert called_lines("changed", "shards", "all", "--no-exiftool")[0] == 0
+    assert called_lines("changed", "shards", "all", "--no-programs")[0] == 0
 
 
 # What it costs
 
 MORE = 5  # times as many steps as over one catalogue
 OVER_SHARDS = (
-    "same --no-look --catalogue {}",
-    "same --no-look --catalogue {} --kind pixels --differ creator",
-    "same --no-look --catalogue {} --ignore Artist",
+    "same {} --no-look",
+    "same {} --no-look --kind pixels --differ creator",
+    "same {} --no-look --ignore Artist",
     "list {} --where creator=anna --columns creator",
     "list {} --without credit -0",
     "list {} --count creator",
     "list {} --where title=x",
-    "check rules {}",
+    "check --rules rules {}",
     "report {} --no-look --html page",
     "catalogue export --no-look {} tables",
 )

@@ -14,8 +14,8 @@ COMMANDS = (
     ["show", "a.tif"],
     ["show", "a.tif", "--json"],
     ["show", "a.tif", "--csv"],
-    ["captions", "a.tif"],
-    ["conflicts", "a.tif"],
+    ["show", "--captions", "a.tif"],
+    ["check", "a.tif"],
     ["explain", "a.tif"],
     ["compare", "a.tif", "b.tif"],
 )
@@ -53,9 +53,9 @@ def test_what_is_left_out_of_shared_lists_is_said(called, folder):
         (folder / name).write_bytes(sharing(b"".join(iim(b"%s%d" % (mark, it)) for it in range(30_000)), 9, 0x83BB, 1))
     compared = json.loads(called("compare", "a.tif", "b.tif", "--json")[1])
     assert len(compared["fields"]) < 9 and compared["fields"][-1]["note"]
-    status, printed, _ = called("captions", "a.tif", "--json")
+    status, printed, _ = called("show", "--captions", "a.tif", "--json")
     read = json.loads(printed)
     assert (status, len(read["captions"]), read["has_more_captions"]) == (2, 2, True)
     (folder / "c.tif").write_bytes(sharing(iim(b"pot"), 9, 0x83BB, 1))
-    status, printed, _ = called("captions", "c.tif", "--json")
+    status, printed, _ = called("show", "--captions", "c.tif", "--json")
     assert (status, json.loads(printed)["has_more_captions"]) == (0, False)

@@ -85,7 +85,7 @@ def test_a_file_that_does_not_begin_like_a_packet(octets, folder, called_lines):
     """It is left to ExifTool, and never the same as another with other bytes."""
     put(folder / "b", {"a.xmp": octets})
     put(folder / "a", {"a.xmp": octets + b" "})
-    assert called_lines("changed", "b", "a", "--no-exiftool")[0] != 0
+    assert called_lines("changed", "b", "a", "--no-programs")[0] != 0
 
 
 @pytest.fixture
@@ -117,7 +117,7 @@ class TestChanged:
     def test_an_edited_sidecar(self, name, called_lines, results):
         write(self.folder / "a" / name, OTHER)
         assert results("b", "a", "--sidecars") == (1, {name[0] + ".jpg": "different"})
-        status, lines, _ = called_lines("changed", "b", "a", "--sidecars", "--each", "--no-exiftool")
+        status, lines, _ = called_lines("changed", "b", "a", "--sidecars", "--each", "--no-programs")
         assert (status, [it.strip()[:2] for it in lines[1:2]]) == (1, ["~ "]) and "sidecar" in lines[1] and "two" in lines[1], lines
 
     def test_a_lost_sidecar(self, results):
@@ -185,7 +185,7 @@ class TestCatalogue:
         assert called_lines("index", "p", "--catalogue", "c", "--sidecars", "--quiet")[:2] == (0, ["3 accepted"])
 
     def groups(self, called_lines):
-        lines = called_lines("same", "--catalogue", "c", "--json")[1]
+        lines = called_lines("same", "c", "--json")[1]
         return [
             [os.path.basename(it["path"]) for it in group["pictures"]]
             for group in map(json.loads, lines)
@@ -234,7 +234,7 @@ class TestCatalogue:
             (("index", "p", "--catalogue", "plain", "--sidecars"), 3),
             (("changed", "plain", "c"), 4),
             (("changed", "c", "plain"), 4),
-            (("report", "--catalogue", "c", "--since", "plain", "--json"), 4),
+            (("report", "c", "--since", "plain", "--json"), 4),
             (("catalogue", "merge", "plain", "--catalogue", "c"), 4),
             (("catalogue", "merge", "c", "--catalogue", "plain"), 4),
             (("catalogue", "merge", "plain", "c", "--catalogue", "both"), 4),
@@ -246,7 +246,7 @@ class TestCatalogue:
         assert called_lines("catalogue", "merge", "c", "--catalogue", "both")[0] == 0
         assert called_lines("changed", "both", "c")[0] == 0
         assert called_lines("changed", "p", "c")[0] == 0, "a folder is read as the catalogue was"
-        assert called_lines("catalogue", "forget", "p", "--catalogue", "plain")[0] == 0
+        assert called_lines("catalogue", "forget", "plain", "p")[0] == 0
         assert (
             called_lines("catalogue", "merge", "c", "--catalogue", "plain")[0] == 0
         ), "a catalogue without pictures takes those of either kind"
@@ -297,7 +297,7 @@ def test_a_picture_whose_title_is_beside_it_is_listed_with_a_note(called, folder
     """Without --sidecars the title of the XMP file is none of the picture's. Nothing is said where there are no such files, or they count."""
     titled = xmp("<dc:title><rdf:Alt><rdf:li xml:lang='x-default'>Bowl</rdf:li></rdf:Alt></dc:title>")
     put(folder, {"p/a.jpg": PICTURE, "p/a.xmp": titled, "q/a.jpg": PICTURE, "rules": b"every picture needs title\n"})
-    words = (("list", "{}", "--without", "title"), ("check", "rules", "{}"), ("index", "{}", "--catalogue", "{}.c"))
+    words = (("list", "{}", "--without", "title"), ("check", "--rules", "rules", "{}"), ("index", "{}", "--catalogue", "{}.c"))
     for name, *line in words:
         for place, more, is_noted in (("p", [], True), ("p", ["--sidecars"], False), ("q", [], False)):
             for old in folder.glob("*.c"):
@@ -321,7 +321,7 @@ def test_a_sidecar_counts_in_each_answer(folder, called):
     with rows as base:
         texts = {row[0] for row in base.execute("SELECT text FROM captions WHERE label = 'creator'")}
         assert texts == {"Anna", "Ben"} and base.execute("SELECT label FROM conflicts").fetchall() == [("creator",)]
-    asked = ("list {} --columns creator", "list {} --count creator", "check rules {}", "conflicts {}", "captions {}")
+    asked = ("list {} --columns creator", "list {} --count creator", "check --rules rules {}", "check {}", "show --captions {}")
     for words in asked:
         assert "Ben" in called(*words.format("c").split())[1], words
     assert "Ben" in (folder / "page.html").read_text("utf-8")

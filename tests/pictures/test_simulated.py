@@ -272,7 +272,7 @@ def test_nights(seed, folder, called):
             news[it["news"] if it["record"] == "news" else ""] += it.get("count", 0)
         news["moved"] += news.pop("folder moved", 0)
         records = [
-            it for it in map(json.loads, called("changed", f"before-{number}", "c", "--json", "--all", "--no-exiftool")[1].splitlines())
+            it for it in map(json.loads, called("changed", f"before-{number}", "c", "--json", "--all", "--no-programs")[1].splitlines())
         ]
         found = {it["path"]: it for it in records if it["record"] == "picture" and it["result"] != "missing before"}
         came = [it["path"] for it in records if it.get("result") == "missing before"]
@@ -292,7 +292,7 @@ def test_nights(seed, folder, called):
 
 def check_verify(called, catalogue, results, has_sidecars):
     """verify says of each file what changed says."""
-    _, printed, _ = called("verify", "--catalogue", catalogue, "--json")
+    _, printed, _ = called("verify", catalogue, "--json")
     files = {it["path"].partition("/in/")[2]: it["state"] for it in map(json.loads, printed.splitlines()) if it["record"] == "picture"}
     wrong = {name: (result, files.get(name)) for name, (result, _) in results.items() if files.get(name) not in STATES[result]}
     assert not (wrong if not has_sidecars else {name: it for name, it in wrong.items() if it[0] != "different"})
@@ -303,7 +303,7 @@ def check_compare(called, results, has_sidecars):
     for name, (result, place) in list(results.items())[:3]:
         if result == "missing after" or has_sidecars:
             continue
-        status, printed, _ = called("compare", f"old/{name}", f"in/{place or name}", "--json", "--no-exiftool")
+        status, printed, _ = called("compare", f"old/{name}", f"in/{place or name}", "--json", "--no-programs")
         answer = json.loads(printed)
         expected = {"moved": "same", "renumbered": "same", "moved and edited": "different"}.get(result, result)
         assert status != 4 and answer["result"] == expected, (name, answer)

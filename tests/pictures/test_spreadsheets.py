@@ -43,10 +43,10 @@ def put(folder, octets, names=NAMES):
             file.write(octets)
 
 
-@pytest.mark.parametrize("command", ["show", "captions", "conflicts"])
+@pytest.mark.parametrize("command", ["show", "show --captions", "check"])
 def test_no_cell_is_a_formula(command, run, folder):
     put(folder, PICTURE)
-    _, out = run(command, "--csv", names=NAMES)
+    _, out = run(*command.split(), "--csv", names=NAMES)
     found = rows(out)
     assert len({it["picture"] for it in found}) == len(NAMES)
     for it in found:
@@ -56,7 +56,7 @@ def test_no_cell_is_a_formula(command, run, folder):
     assert {it["picture"] for it in found} >= {"'=1+1.jpg", "'+b\\xff\\n.jpg", 'plain,"1".jpg'}
 
 
-@pytest.mark.parametrize("command", ["show", "captions", "conflicts"])
+@pytest.mark.parametrize("command", ["show", "show --captions", "check"])
 @pytest.mark.parametrize("separator", ",;\t", ids=["comma", "semicolon", "tab"])
 def test_no_part_of_a_cell_is_a_formula(command, separator, run, folder):
     """Whatever separates cells where the table is opened."""
@@ -65,7 +65,7 @@ def test_no_part_of_a_cell_is_a_formula(command, separator, run, folder):
         jpeg(with_texts(artist=INSIDE.encode(), copyright=INSIDE.encode()), with_record(data_set(80, b"Otto"))),
         [b"a;=1.jpg", b"b\t@1.jpg"],
     )
-    _, out = run(command, "--csv", names=[b"a;=1.jpg", b"b\t@1.jpg"])
+    _, out = run(*command.split(), "--csv", names=[b"a;=1.jpg", b"b\t@1.jpg"])
     cells = [cell for row in csv.reader(io.StringIO(out, newline=""), delimiter=separator) for cell in row]
     assert "1" in "".join(cells)
     assert not [it for it in cells if it.startswith(("=", "+", "-", "@"))]
@@ -74,14 +74,14 @@ def test_no_part_of_a_cell_is_a_formula(command, separator, run, folder):
 def test_a_cell_with_a_separator_is_in_quotes(run, folder):
     for separator, text in ((",", "a,b"), (";", "a;b"), ("\t", "a\tb")):
         (folder / "a.jpg").write_bytes(jpeg(with_record(data_set(120, text.encode()))))
-        assert f'"{text}"' in run("captions", "a.jpg", "--csv")[1], separator
+        assert f'"{text}"' in run("show", "--captions", "a.jpg", "--csv")[1], separator
 
 
 def test_groups(run, folder):
     put(folder, PICTURE)
     (folder / "refused.jpg").write_bytes(with_exif(SMALL_JPEG, BLOCKS["Overlap"]))
     run("index", ".", "--catalogue", "c", "--quiet")
-    status, out = run("same", "--catalogue", "c", "--csv")
+    status, out = run("same", "c", "--csv")
     found = rows(out)
     assert status == 0 and [it["keep"] for it in found] == ["1", *["0"] * 5]
     assert {it["pictures"] for it in found} == {"6"} and len({it["group"] for it in found}) == 1
@@ -96,7 +96,7 @@ def test_links_and_files_that_are_gone_are_not_to_be_deleted(run, folder):
     os.symlink("p", folder / "linked")
     run("index", "p", "linked", "--catalogue", "c", "--quiet")
     (folder / "p/c.jpg").unlink()
-    found = {os.path.relpath(it["picture"], folder): it for it in rows(run("same", "--catalogue", "c", "--csv")[1])}
+    found = {os.path.relpath(it["picture"], folder): it for it in rows(run("same", "c", "--csv")[1])}
     assert {name: it["keep"] for name, it in found.items() if it["keep"]} == {"p/a.jpg": "1", "p/b.jpg": "0"}
     assert "gone" in found["p/c.jpg"]["note"] and "hard link" in found["p/d.jpg"]["note"]
 
@@ -124,6 +124,6 @@ def test_an_open_answer_has_a_row(run, folder):
     """A table without a row would say that nothing differs."""
     (folder / "a.jpg").write_bytes(jpeg(app1(BLOCKS["UnknownKind"])))
     (folder / "b.jpg").write_bytes(jpeg(app1(exif(b"abc"))))
-    for words in (["compare", "a.jpg", "b.jpg"], ["compare", "b.jpg", "nothing.jpg"], ["conflicts", "a.jpg"], ["conflicts", "nothing.jpg"]):
-        status, out = run(*words, "--csv", "--no-exiftool") if words[0] == "compare" else run(*words, "--csv")
+    for words in (["compare", "a.jpg", "b.jpg"], ["compare", "b.jpg", "nothing.jpg"], ["check", "a.jpg"], ["check", "nothing.jpg"]):
+        status, out = run(*words, "--csv", "--no-programs") if words[0] == "compare" else run(*words, "--csv")
         assert status == 2 and any("refused" in cell or "NoFile" in cell for it in rows(out) for cell in it.values()), words

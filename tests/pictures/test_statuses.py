@@ -69,10 +69,10 @@ def test_a_copy_of_a_damaged_file_is_not_mended(asked, folder):
 @pytest.mark.parametrize(
     "words",
     [
-        ("same", "--catalogue", "c"),
+        ("same", "c"),
         ("changed", "p", "p"),
         ("changed", "c", "c"),
-        ("report", "--catalogue", "c", "--json"),
+        ("report", "c", "--json"),
         ("catalogue", "export", "c", "t"),
     ],
     ids=" ".join,
@@ -136,9 +136,9 @@ def test_a_page_has_the_remedy_of_each_cause(asked, folder):
         },
     )
     asked("index", "p", "--catalogue", "c", "--quiet")
-    asked("report", "--catalogue", "c", "--html", "page")
+    asked("report", "c", "--html", "page")
     page = (folder / "page").read_text()
-    found = {json.loads(it)["cause"] for it in asked("report", "--catalogue", "c", "--json") if '"record": "refusal"' in it}
+    found = {json.loads(it)["cause"] for it in asked("report", "c", "--json") if '"record": "refusal"' in it}
     assert len(found) > 1 and page.count("<b>Remedy.</b>") == len(found)
 
 
@@ -181,17 +181,17 @@ def test_a_catalogue_that_is_gone_before_the_end(asked, folder, harm, monkeypatc
 @pytest.mark.parametrize(
     "words",
     [
-        ("same", "--catalogue", "c"),
+        ("same", "c"),
         ("changed", "c", "c"),
         ("changed", "c", "p"),
-        ("captions", "c"),
-        ("conflicts", "c"),
-        ("report", "--catalogue", "c", "--json"),
+        ("show", "--captions", "c"),
+        ("check", "c"),
+        ("report", "c", "--json"),
         ("catalogue", "export", "c", "tables"),
-        ("verify", "--catalogue", "c"),
+        ("verify", "c"),
         ("index", "p", "--catalogue", "c", "--quiet"),
         ("catalogue", "merge", "c", "--catalogue", "d"),
-        ("catalogue", "forget", "p", "--catalogue", "c"),
+        ("catalogue", "forget", "c", "p"),
     ],
     ids=lambda words: " ".join(words),
 )

@@ -18,9 +18,9 @@ COMMANDS = (
     "index p --catalogue new --quiet",
     "index p --catalogue other",
     "index --again p --catalogue c",
-    "same --catalogue c",
-    "same --catalogue c --kind pixels",
-    "same --catalogue c --ignore title",
+    "same c",
+    "same c --kind pixels",
+    "same c --ignore title",
     "changed p q",
     "changed p q --each",
     "changed p q --pixels --only creator",
@@ -29,13 +29,13 @@ COMMANDS = (
     "compare p/ceramics/2003-12-bowl.jpg q/ceramics/2003-12-bowl.jpg",
     "show p",
     "show p/ceramics/2003-12-bowl.jpg",
-    "captions p",
-    "conflicts p --all",
-    "conflicts p --ignore title",
+    "show --captions p",
+    "check p --all",
+    "check p --ignore title",
     "explain p",
     "explain p/arrivals/IMG_20240502.jpg",
     "catalogue export c c.sqlite",
-    "verify --catalogue c",
+    "verify c",
     "mend p/arrivals/IMG_20240502.jpg mended.jpg",
 )
 
@@ -109,6 +109,6 @@ def test_explain_says_what_it_waits_for(words, tmp_path):
 
 
 def test_a_folded_line_has_the_same_words():
-    for text in ("a " * 90, "x" * 200, "b" * 90 + ": " + "c d " * 30, "one two three: exifnorm-pictures same --catalogue " + "e" * 90):
+    for text in ("a " * 90, "x" * 200, "b" * 90 + ": " + "c d " * 30, "one two three: exifnorm-pictures list --where " + "e" * 90):
         for columns in (20, 80):
             assert " ".join(folded(text, columns)).split() == text.split(), text

@@ -48,7 +48,7 @@ def exiftool(folder, *words):
 
 def fields_of(called, before, after):
     """The fields of each picture that have other texts, by its name before."""
-    objects = map(json.loads, called("changed", before, after, "--json", "--no-exiftool")[1].splitlines())
+    objects = map(json.loads, called("changed", before, after, "--json", "--no-programs")[1].splitlines())
     return {it["path"]: {one["name"] for one in it["fields"] if has_changed(one)} for it in objects if it["record"] == "picture"}
 
 
@@ -79,7 +79,7 @@ def put_back(called, folder, before, after):
     """The arguments for a copy, on which they are run, and the fields that each picture keeps."""
     shutil.rmtree(folder / "back", ignore_errors=True)
     shutil.copytree(folder / after, folder / "back", symlinks=True)
-    status, _, said = called("changed", before, after, "--undo", "args", "--json", "--no-exiftool")
+    status, _, said = called("changed", before, after, "--undo", "args", "--json", "--no-programs")
     written = (folder / "args").read_bytes().decode("utf-8", "surrogateescape")
     kept = {it[1]: it[2].split(", ") for it in re.finditer("^# left as it is:  (.*): (.*)$", written, re.M)}
     assert (status == 2) or not kept, said

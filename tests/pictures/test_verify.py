@@ -45,7 +45,7 @@ def verified(called):
     """Runs `verify`: its status, and the state of each file that isn't as it was."""
 
     def call(*words):
-        status, printed, messages = called("verify", "--catalogue", "c", "--json", *words)
+        status, printed, messages = called("verify", "c", "--json", *words)
         objects = [json.loads(it) for it in printed.splitlines()]
         return status, {os.path.basename(it["path"]): (it["state"], it["note"]) for it in objects[:-1]}, objects[-1:] or messages
 
@@ -109,7 +109,7 @@ def test_a_missing_picture_that_is_there_elsewhere(archive, called, verified):
     (archive / "a.jpg").unlink()
     status, states, _ = verified()
     assert (status, states) == (1, {"a.jpg": ("missing", "the same picture is")})
-    assert f"a.jpg (the same picture is {archive / 'b.jpg'})" in called("verify", "--catalogue", "c")[1]
+    assert f"a.jpg (the same picture is {archive / 'b.jpg'})" in called("verify", "c")[1]
 
 
 def test_metadata_that_rotted(archive, verified, monkeypatch):
@@ -143,12 +143,12 @@ def test_folders_and_catalogues(archive, called, verified):
     assert (status, states, summary["new"], summary["files"]) == (0, {}, 1, 5)
     (archive / "a.jpg").unlink()
     assert verified("p/sub")[0] == 0  # what isn't below the folder isn't asked
-    assert called("verify", "nothing", "--catalogue", "c")[0] == 3
+    assert called("verify", "c", "nothing")[0] == 3
     archive.rename(archive.parent / "unmounted")
-    status, printed, messages = called("verify", "--catalogue", "c")
+    status, printed, messages = called("verify", "c")
     assert (status, printed) == (3, "") and "is its file system mounted?" in messages
     called("index", "unmounted", "--catalogue", "plain", "--quiet")
-    assert "without a digest" in called("verify", "--catalogue", "plain")[1] and called("verify", "--catalogue", "plain")[0] == 2
+    assert "without a digest" in called("verify", "plain")[1] and called("verify", "plain")[0] == 2
 
 
 @needs("exiftool")
@@ -164,12 +164,12 @@ def test_evidence(archive, called):
         with open(os.path.join(os.fsencode(archive), name), "wb") as file:
             file.write(PICTURE + name)
     called("index", "p", "--catalogue", "c", "--pixels", "--quiet")
-    assert called("verify", "--catalogue", "c", "--evidence", "e")[0] == 0
+    assert called("verify", "c", "--evidence", "e")[0] == 0
     checked = subprocess.run(["sha256sum", "-c", "e"], capture_output=True)
     assert checked.returncode == 0 and checked.stdout.count(b": OK") == 8, checked
     (archive / "a.jpg").write_bytes(b"x")
     assert subprocess.run(["sha256sum", "--quiet", "-c", "e"], capture_output=True).returncode == 1
-    status, printed, messages = called("verify", "--catalogue", "c", "--evidence", "e")
+    status, printed, messages = called("verify", "c", "--evidence", "e")
     assert (status, printed) == (4, "") and "e isn't written: it is there already" in messages
 
 
@@ -186,7 +186,7 @@ def named(archive, called, *more):
 def test_evidence_for_hashdeep(archive, called):
     """hashdeep knows each file of it, also one whose name is no UTF-8, and each that has changed since."""
     named(archive, called, "\udcff.jpg")
-    assert called("verify", "--catalogue", "c", "--evidence", "e", "--form", "hashdeep")[0] == 0
+    assert called("verify", "c", "--evidence", "e", "--form", "hashdeep")[0] == 0
     audit = ["hashdeep", "-r", "-a", "-v", "-k", "e", str(archive)]
     result = subprocess.run(audit, capture_output=True, text=True)
     assert result.returncode == 0 and f"Files matched: {len(NAMES) + 5}\n" in result.stdout, result
@@ -194,7 +194,7 @@ def test_evidence_for_hashdeep(archive, called):
     assert "Known files not found: 1" in subprocess.run(audit, capture_output=True, text=True).stdout
     (archive / "line\nend.jpg").write_bytes(PICTURE)
     called("index", "p", "--catalogue", "c", "--quiet")
-    status, printed, messages = called("verify", "--catalogue", "c", "--evidence", "f", "--form", "hashdeep")
+    status, printed, messages = called("verify", "c", "--evidence", "f", "--form", "hashdeep")
     assert (status, printed) == (4, "") and "line ends" in messages and not os.path.exists("f")
 
 
@@ -286,7 +286,7 @@ def test_a_picture_that_was_damaged_before(archive, called):
     (archive / "new.jpg").unlink()
     called("catalogue", "forget", "c", "p/moved.jpg")
     (archive / "b.jpg").write_bytes((PICTURE + b"trailer")[: len(PICTURE) // 2])
-    status, printed, _ = called("verify", "--catalogue", "c", "--list", "damaged")
+    status, printed, _ = called("verify", "c", "--list", "damaged")
     names = [line.partition(":")[0] for line in printed.splitlines() if line.startswith("/")]
     assert (status, names) == (1, [f"{archive}/a.jpg", f"{archive}/b.jpg"]), printed
 
@@ -304,8 +304,8 @@ def test_all_damaged_files_are_listed(archive, called):
     called("index", "p", "--catalogue", "c", "--quiet")
     for number in range(30):
         (archive / f"{number}.jpg").write_bytes(PICTURE[:-20])
-    assert called("verify", "--catalogue", "c")[1].count(".jpg") == 10
-    assert called("verify", "--catalogue", "c", "--list", "damaged")[1].count(".jpg: ") == 30
+    assert called("verify", "c")[1].count(".jpg") == 10
+    assert called("verify", "c", "--list", "damaged")[1].count(".jpg: ") == 30
 
 
 def test_index_goes_on_with_digests(archive, called, verified):
@@ -352,9 +352,7 @@ def test_bytes_of_a_file_as_it_was(folder, called):
     put(folder / "p", {f"{number}.jpg": PICTURE + bytes([number]) * size for number in range(3)})
     called("index", "p", "--catalogue", "c", "--pixels", "--quiet")
     words = ["strace", "-ff", "-y", "-e", "trace=read,pread64,readv,mmap", "-o", "trace", sys.executable, "-m", "exifnorm_pictures"]
-    ran = subprocess.run(
-        [*words, "verify", "--catalogue", "c", "--jobs", "1", "--quiet"], cwd=folder, capture_output=True, env=Studio.environment()
-    )
+    ran = subprocess.run([*words, "verify", "c", "--jobs", "1", "--quiet"], cwd=folder, capture_output=True, env=Studio.environment())
     assert ran.returncode == 0, ran.stderr
     traces = [
         it.read_text(encoding="utf-8", errors="replace") for it in folder.glob("trace.*")
@@ -375,7 +373,7 @@ def test_a_run_that_was_stopped(archive, called, verified, reads, monkeypatch):
         return digest(path, *more)
 
     monkeypatch.setattr(hashing, "digest", stops)
-    status, _, messages = called("verify", "--catalogue", "c", "--state", "s", "--jobs", "1")
+    status, _, messages = called("verify", "c", "--state", "s", "--jobs", "1")
     assert status == 130 and "goes on from there" in messages and os.listdir("s") == ["verified.catalogue"]
     monkeypatch.setattr(hashing, "digest", digest)
     written(archive / "b.jpg", OTHER)
@@ -388,7 +386,7 @@ def test_a_run_that_was_stopped(archive, called, verified, reads, monkeypatch):
 @pytest.mark.parametrize("words", [(), ("--json",), ("--list", "damaged")], ids=" ".join)
 def test_a_run_whose_answer_did_not_get_out(words, archive, called, verified):
     """Its state stays until the answer is written, and not only in a buffer."""
-    line = f'exec exifnorm-pictures verify --catalogue c --state s {" ".join(words)} > /dev/full'
+    line = f'exec exifnorm-pictures verify c --state s {" ".join(words)} > /dev/full'
     found = run(["sh", "-c", line], archive.parent)
     assert found.returncode == 4 and b"standard output" in found.stderr
     status, _, (summary,) = verified("--state", "s")
@@ -397,7 +395,7 @@ def test_a_run_whose_answer_did_not_get_out(words, archive, called, verified):
 
 def test_a_run_that_failed_at_its_end(archive, called, verified):
     """Its evidence can't be written, and what it has read isn't read again."""
-    assert called("verify", "--catalogue", "c", "--state", "s", "--evidence", "e", "--form", "bagit")[0] == 4
+    assert called("verify", "c", "--state", "s", "--evidence", "e", "--form", "bagit")[0] == 4
     status, _, (summary,) = verified("--state", "s")
     assert status == 0 and summary["earlier"] > 0 and not os.path.exists("s")
 
@@ -406,7 +404,7 @@ def test_a_run_that_failed_at_its_end(archive, called, verified):
 def test_a_state_that_is_somebodys(name, archive, called):
     """No file and no folder of anybody else is taken for a state."""
     before = os.listdir(archive), (archive.parent / "c").read_bytes()
-    status, _, messages = called("verify", "--catalogue", "c", "--state", name)
+    status, _, messages = called("verify", "c", "--state", name)
     assert status == 4 and name in messages
     assert before == (os.listdir(archive), (archive.parent / "c").read_bytes())
 
@@ -522,7 +520,7 @@ def test_a_hole_of_terabytes(archive, called, verified):
     with sqlite3.connect("new") as base:
         assert base.execute("SELECT count(*) FROM pictures WHERE sha256 = ''").fetchall() == [(2,)]
     assert "identical" not in called("compare", "p/a.jpg", "p/e.jpg")[1]
-    assert '"keep": false' not in called("same", "--catalogue", "new", "--json")[1]
+    assert '"keep": false' not in called("same", "new", "--json")[1]
 
 
 @pytest.mark.parametrize("words", ([], ["p"], ["--json"], ["--evidence", "e"]))

@@ -16,11 +16,13 @@ def pictures(folder):
 @pytest.mark.parametrize("command", ("show", "explain"))
 def test_a_folder_where_pictures_are_expected(pictures, called, command):
     """The words that are printed can be typed: they lead to the same pictures."""
-    status, printed, _ = called(command, "p q")
+    status, printed, _ = called(*command.split(), "p q")
     assert (
-        status == 2 and "captions, conflicts and index take folders" in printed and f"{command} takes pictures, such as 'p q'/*" in printed
+        status == 2
+        and "show --captions, check and index take folders" in printed
+        and f"{command} takes pictures, such as 'p q'/*" in printed
     )
-    assert called(command, "p q", "--json")[1].count("NotAFile") == 1
+    assert called(*command.split(), "p q", "--json")[1].count("NotAFile") == 1
 
 
 @pytest.mark.parametrize("name", ("a.csv", "a.CSV", "a.xlsx", "x.y/a.ods", "a.json"))

@@ -18,7 +18,7 @@ COMMANDS = (
     ("changed", "p", "q", "--all"),
     ("compare", "p/a.jpg", "q/a.jpg"),
     ("compare", "p/a.jpg", "q/b.jpg"),
-    ("same", "--catalogue", "c"),
+    ("same", "c"),
 )
 
 
@@ -50,7 +50,7 @@ def test_a_word_that_fits_what_is_the_same(folders, called):
         assert "No picture has" not in called("changed", "p", "q", "--only", name)[1]
 
 
-@pytest.mark.parametrize("words", (*COMMANDS, ("conflicts", "p"), ("report", "--catalogue", "c", "--html", "page.html")), ids=" ".join)
+@pytest.mark.parametrize("words", (*COMMANDS, ("check", "p"), ("report", "c", "--html", "page.html")), ids=" ".join)
 @pytest.mark.parametrize("option", ("--only", "--ignore"))
 def test_a_word_that_no_standard_has(folders, called, words, option):
     status, _, messages = called(*words, option, "nonsense")
@@ -91,7 +91,7 @@ SAID = "MakerNotes were not read: 1 picture has one"
 
 def test_what_a_maker_note_may_have(with_a_maker_note, called):
     """It is said where serial numbers and owners are asked for or listed, and only there."""
-    for words in (("changed", "p", "q"), ("compare", "p/a.jpg", "q/b.jpg"), ("same", "--catalogue", "c")):
+    for words in (("changed", "p", "q"), ("compare", "p/a.jpg", "q/b.jpg"), ("same", "c")):
         for name in ("serial", "owner", "BodySerialNumber", "aux:OwnerName"):
             printed = called(*words, "--only", name)[1]
             assert SAID in printed, printed
@@ -101,12 +101,12 @@ def test_what_a_maker_note_may_have(with_a_maker_note, called):
     assert SAID in called("catalogue", "export", "c", "c.sqlite")[1]
     os.remove("c.sqlite")
     assert json.loads(called("catalogue", "export", "c", "c.sqlite", "--json")[1])["maker_notes_not_read"] == 1
-    called("report", "--catalogue", "c", "--html", "page.html")
+    called("report", "c", "--html", "page.html")
     assert SAID in (with_a_maker_note / "page.html").read_text(encoding="utf-8")
 
 
 def test_without_maker_notes(folders, called):
     assert "MakerNotes" not in called("changed", "p", "q", "--only", "serial")[1]
     assert "MakerNotes" not in called("catalogue", "export", "c", "c.sqlite")[1]
-    called("report", "--catalogue", "c", "--html", "page.html")
+    called("report", "c", "--html", "page.html")
     assert "MakerNotes were not read" not in (folders / "page.html").read_text(encoding="utf-8")

@@ -24,7 +24,7 @@ def rows_of(path):
 
 def test_inventory_numbers_stay_texts(folder, called):
     put(folder / "p", {f"{at:02}.jpg": jpeg(with_record(data_set(5, it.encode()))) for at, it in enumerate(NUMBERS)})
-    status, printed, messages = called("captions", "p", "--xlsx", "t.xlsx")
+    status, printed, messages = called("show", "--captions", "p", "--xlsx", "t.xlsx")
     assert (status, printed, messages) == (0, f"t.xlsx: {len(NUMBERS)} rows\n", "")
     rows, sheet = rows_of("t.xlsx")
     column = rows[0].index("title")
@@ -38,7 +38,7 @@ def test_inventory_numbers_stay_texts(folder, called):
 def test_gnumeric_shows_the_same_texts(folder, called):
     """A program that people open such files in, which turns such texts of a CSV file into numbers and dates."""
     put(folder / "p", {f"{at:02}.jpg": jpeg(with_record(data_set(5, it.encode()))) for at, it in enumerate(NUMBERS)})
-    called("captions", "p", "--xlsx", "t.xlsx")
+    called("show", "--captions", "p", "--xlsx", "t.xlsx")
     tool(folder, "ssconvert", "t.xlsx", "shown.csv")
     with open("shown.csv", encoding="utf-8", newline="") as file:
         assert [row["title"] for row in csv.DictReader(file)] == NUMBERS
@@ -47,12 +47,12 @@ def test_gnumeric_shows_the_same_texts(folder, called):
 @pytest.mark.parametrize(
     "words",
     [
-        ["captions", "p"],
-        ["conflicts", "p"],
+        ["show", "--captions", "p"],
+        ["check", "p"],
         ["show", "p/a.jpg"],
         ["compare", "p/a.jpg", "p/b.jpg"],
         ["changed", "p", "q"],
-        ["same", "--catalogue", "c"],
+        ["same", "c"],
     ],
     ids=lambda it: it[0],
 )
@@ -75,7 +75,7 @@ def test_each_table_is_that_of_csv(words, folder, called):
 
 def test_no_file_is_replaced(folder, called):
     put(folder, {"a.jpg": jpeg(app1(exif(b"abc"))), "t.xlsx": b"somebody's work"})
-    status, printed, messages = called("captions", "a.jpg", "--xlsx", "t.xlsx")
+    status, printed, messages = called("show", "--captions", "a.jpg", "--xlsx", "t.xlsx")
     assert (status, printed) == (4, "") and "t.xlsx isn't written: it is there already" in messages
     assert (folder / "t.xlsx").read_bytes() == b"somebody's work"
 
@@ -83,12 +83,12 @@ def test_no_file_is_replaced(folder, called):
 def test_without_the_package(folder, called, monkeypatch):
     monkeypatch.setitem(sys.modules, "xlsxwriter", None)
     put(folder, {"a.jpg": jpeg(app1(exif(b"abc")))})
-    status, _, messages = called("captions", "a.jpg", "--xlsx", "t.xlsx")
+    status, _, messages = called("show", "--captions", "a.jpg", "--xlsx", "t.xlsx")
     assert status == 4 and "python3-xlsxwriter" in messages and not (folder / "t.xlsx").exists()
 
 
 def test_a_command_that_fails_leaves_no_file(folder, called):
-    assert called("same", "--catalogue", "nothing", "--xlsx", "t.xlsx")[0] == 4
+    assert called("same", "nothing", "--xlsx", "t.xlsx")[0] == 4
     assert not (folder / "t.xlsx").exists()
 
 
@@ -102,18 +102,18 @@ def test_the_limits_of_a_sheet(folder, called, monkeypatch):
             "b.jpg": jpeg(),
         },
     )
-    called("captions", "a.jpg", "--xlsx", "t.xlsx")
+    called("show", "--captions", "a.jpg", "--xlsx", "t.xlsx")
     (heads, row), _ = rows_of("t.xlsx")
     assert row[heads.index("caption")].endswith("x.. (40,000 characters)") and row[heads.index("title")] == "a\\x01b"
     monkeypatch.setattr(sheets, "ROWS", 2)
-    status, _, messages = called("captions", ".", "--xlsx", "u.xlsx")
+    status, _, messages = called("show", "--captions", ".", "--xlsx", "u.xlsx")
     assert status == 4 and "no more than 2 rows: use --csv" in messages and not (folder / "u.xlsx").exists()
 
 
 def test_a_long_text_beyond_the_first_plane(folder, called):
     """A cell has room for 32,767 characters of UTF-16, of which those beyond the first plane take two each."""
     put(folder, {"a.png": png(png_xmp(xmp(f"<dc:description>{AMPHORA * 20_000}</dc:description>")))})
-    called("captions", "a.png", "--xlsx", "t.xlsx")
+    called("show", "--captions", "a.png", "--xlsx", "t.xlsx")
     (heads, row), _ = rows_of("t.xlsx")
     text = row[heads.index("caption")]
     assert len(text.encode("utf-16-le")) // 2 <= 32_767 and text.endswith(f"{AMPHORA}.. (20,000 characters)")
@@ -125,5 +125,5 @@ def test_a_full_disk(folder, called, monkeypatch):
 
     put(folder, {"a.jpg": jpeg(app1(exif(b"abc")))})
     monkeypatch.setattr("xlsxwriter.workbook.ZipFile", full)
-    status, _, messages = called("captions", "a.jpg", "--xlsx", "t.xlsx")
+    status, _, messages = called("show", "--captions", "a.jpg", "--xlsx", "t.xlsx")
     assert status == 4 and "no space left on device" in messages and "report it" not in messages and not (folder / "t.xlsx").exists()

@@ -14,7 +14,7 @@ from pathlib import Path
 from typing import Callable
 
 import pytest
-from installed import CALLS, DEBIAN_PYTHON, EXAMPLES, MAKE, TOP, VERSION, Tree, modules, need_headers, run, text_of, tree
+from installed import CALLS, DEBIAN_PYTHON, EXAMPLES, MAKE, TOP, VERSION, Tree, modules, need_headers, run, text_of, tree, with_block
 
 pytestmark = pytest.mark.xdist_group("installation")  # two installations are made once, and shared
 BLOCK = bytes.fromhex("4d4d002a00000008 0001 0112 0003 00000001 00060000 00000000")
@@ -418,9 +418,8 @@ class TestPicturesCommand:
         assert lines[:2] == ["#!/bin/sh", f"'''exec' '{other.python}' \"$0\" \"$@\""]
 
     def test_judges_a_block(self, usr: Tree, other: Tree, folder: Path) -> None:
-        (folder / "block").write_bytes(BLOCK)
         for it in (usr, other):
-            assert "Orientation" in self.call(it, "show", "--block", folder / "block")
+            assert "Orientation" in self.call(it, "show", with_block(folder / "a.jpg", BLOCK))
 
     def test_prints_its_version(self, usr: Tree, other: Tree) -> None:
         for it in (usr, other):
@@ -429,11 +428,12 @@ class TestPicturesCommand:
     def test_starts_through_a_link(self, other: Tree, folder: Path) -> None:
         link = folder / "linked-pictures"
         link.symlink_to(other.at("bin/exifnorm-pictures"))
-        assert "--catalogue" in run(link, "same", "--help", folder=Path("/"), PYTHONPATH="", PYTHONDONTWRITEBYTECODE="1")
+        assert "--kind" in run(link, "same", "--help", folder=Path("/"), PYTHONPATH="", PYTHONDONTWRITEBYTECODE="1")
 
     def test_a_refused_block_ends_with_its_status(self, usr: Tree, folder: Path) -> None:
-        (folder / "refused").write_bytes(BLOCK[:-4] + bytes.fromhex("00000008"))
-        assert "refused: Loop at 22" in self.call(usr, "show", "--block", folder / "refused", status=2)
+        assert "refused: Loop at 22" in self.call(
+            usr, "show", with_block(folder / "a.jpg", BLOCK[:-4] + bytes.fromhex("00000008")), status=2
+        )
 
     def test_takes_the_packages_that_were_installed_with_it(self, other: Tree, folder: Path) -> None:
         another = folder / "another"
@@ -454,7 +454,7 @@ class TestPicturesCommand:
         here = Tree(Path("/"), str(prefix), str(prefix / "bin" / "python3"))
         here.make("install")
         (folder / "block").write_bytes(BLOCK)
-        assert "Orientation" in self.call(here, "show", "--block", folder / "block")
+        assert "Orientation" in self.call(here, "show", with_block(folder / "a.jpg", BLOCK))
         said = run(here.python, "-B", "-c", "import exifnorm; print(exifnorm.version())", folder=folder, PYTHONPATH="", EXIFNORM_LIBRARY="")
         assert said == f"{VERSION}\n"
         here.make("uninstall")

@@ -17,7 +17,7 @@ import zipfile
 from pathlib import Path
 
 import pytest
-from installed import CALLS, DEBIAN_PYTHON, EXAMPLES, FILE, TOP, VERSION, Tree, has_headers, modules, need_headers, run, tree
+from installed import CALLS, DEBIAN_PYTHON, EXAMPLES, FILE, TOP, VERSION, Tree, has_headers, modules, need_headers, run, tree, with_block
 
 BLOCK = bytes.fromhex("4d4d002a00000008 0001 0112 0003 00000001 00060000 00000000")
 SYSTEM_PATH = "/usr/sbin:/usr/bin:/sbin:/bin"
@@ -132,9 +132,10 @@ class TestWheel:
         target = folder / "target"
         words = ["--no-index", "--no-deps", "--disable-pip-version-check", "--root-user-action=ignore", "--target", target]
         run(DEBIAN_PYTHON, "-m", "pip", "install", *words, self.file, folder=folder)
-        (block := folder / "block").write_bytes(BLOCK)
         command = target / "bin" / "exifnorm-pictures"
-        assert "Orientation" in run(command, "show", "--block", block, PYTHONPATH=str(target), PYTHONDONTWRITEBYTECODE="1")
+        assert "Orientation" in run(
+            command, "show", with_block(folder / "a.jpg", BLOCK), PYTHONPATH=str(target), PYTHONDONTWRITEBYTECODE="1"
+        )
 
     def test_metadata_is_that_of_an_installation(self, folder: Path) -> None:
         found = email.message_from_string((self.info / "METADATA").read_text(encoding="utf-8"))
@@ -298,7 +299,7 @@ class TestDebian:
     def test_program_and_pictures_run(self, folder: Path) -> None:
         assert self.used("exifnorm", "--version") == f"exifnorm {VERSION}\n"
         (folder / "block").write_bytes(BLOCK)
-        assert "Orientation" in self.used("exifnorm-pictures", "show", "--block", folder / "block")
+        assert "Orientation" in self.used("exifnorm-pictures", "show", with_block(folder / "a.jpg", BLOCK))
         first = (self.root / "usr/bin/exifnorm-pictures").read_text(encoding="utf-8").split("\n")[0]
         assert first == f"#!{DEBIAN_PYTHON}"
 
@@ -409,10 +410,9 @@ class TestArchive:
         assert {it for it in in_python if ".dist-info/" not in it} == {*modules(), "exifnorm/libexifnorm.so.1", *extension}
 
     def test_runs_where_it_is_unpacked(self, folder: Path) -> None:
-        (folder / "block").write_bytes(BLOCK)
         clean = {"PYTHONPATH": "", "EXIFNORM_LIBRARY": "", "PYTHONDONTWRITEBYTECODE": "1"}
         assert run(self.top / "bin/exifnorm", "--version", folder=Path("/")) == f"exifnorm {VERSION}\n"
-        assert "Orientation" in run(self.top / "bin/exifnorm-pictures", "show", "--block", folder / "block", folder=folder, **clean)
+        assert "Orientation" in run(self.top / "bin/exifnorm-pictures", "show", with_block(folder / "a.jpg", BLOCK), folder=folder, **clean)
         flags = run("pkg-config", "--cflags", "--libs", "exifnorm", PKG_CONFIG_LIBDIR=str(self.top / "lib/pkgconfig")).split()
         run("cc", EXAMPLES / "compare.c", *flags, "-o", folder / "example")
         assert run(folder / "example", LD_LIBRARY_PATH=str(self.top / "lib")) == "same\n"

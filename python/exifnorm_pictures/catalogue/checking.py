@@ -7,13 +7,13 @@ import os
 import re
 from dataclasses import replace
 from itertools import groupby
-from typing import Dict, Iterator, List, NamedTuple, Optional, Sequence, Tuple
+from typing import Callable, Dict, Iterator, List, NamedTuple, Optional, Sequence, Tuple
 
 from ..fields.folding import compose, folded
 from ..fields.labels import DATED, POSITION, UNCLEAR_POSITION
 from ..fields.plain_names import group_name
 from ..fields.questions import Condition, fields_in
-from ..fields.rules import AFTER, BEFORE, EQUAL, LENGTH, LIKE, NEEDS, NEVER, VALUES, Rule
+from ..fields.rules import AFTER, AGREE, BEFORE, EQUAL, LENGTH, LIKE, NEEDS, NEVER, VALUES, Rule
 from ..model.records import has, has_short
 from ..model.texts import escaped, pictures_in_words, shown_path
 from .asking import IN_SCOPE, add_functions, forms_of_word, has_text, is_field, parts_of, pattern_of, put_wanted, unread
@@ -52,10 +52,13 @@ class Unused(NamedTuple):
     near: str = ""  # the one that pictures have and that most looks like it; empty if none does
 
 
+Contradictions = Callable[[Catalogue], Iterator[Tuple[bytes, bytes, str, str]]]  # path, root, label, and its texts
+
+
 class Checked:
     """The result of checking a catalogue's pictures by some rules. It is kept in a temporary table, however many pictures break a rule."""
 
-    def __init__(self, catalogue: Catalogue, rules: Sequence[Rule], report: Report = say_nothing) -> None:
+    def __init__(self, catalogue: Catalogue, rules: Sequence[Rule], contradictions: Contradictions, report: Report = say_nothing) -> None:
         make_ready(catalogue, report)
         fields = fields_in(label for rule in rules for label in rule.labels)
         self._places = add_fields(catalogue, fields, report) if fields else {}
@@ -69,11 +72,23 @@ class Checked:
         for number, rule in enumerate(rules):
             if rule.kind == VALUES:
                 self._allowed[rule] = put_wanted(catalogue, rule.values)
-            for label in rule.labels:
-                rows = ((*row, number, label) for row in self._rows(rule, label))
-                with catalogue.guarded():
-                    base.executemany("INSERT INTO temp.broken (path, text, number, label) VALUES (?, ?, ?, ?)", rows)
+            for label in rule.labels if rule.kind != AGREE else ():
+                self._put((*row, number, label) for row in self._rows(rule, label))
+        if any(rule.kind == AGREE for rule in rules):
+            self._put(self._disagreeing(contradictions))
         self._put_not_known()
+
+    def _put(self, rows: Iterator[Tuple[bytes, Optional[str], int, str]]) -> None:
+        with self._catalogue.guarded():
+            self._catalogue.base.executemany("INSERT INTO temp.broken (path, text, number, label) VALUES (?, ?, ?, ?)", rows)
+
+    def _disagreeing(self, contradictions: Contradictions) -> Iterator[Tuple[bytes, Optional[str], int, str]]:
+        """The pictures that break a rule by texts that differ between Exif, IPTC and XMP."""
+        rules = [(number, rule) for number, rule in enumerate(self.rules) if rule.kind == AGREE]
+        for path, root, label, texts in contradictions(self._catalogue):
+            yield from (
+                (path, texts, number, label) for number, rule in rules if label in rule.labels and rule.is_about(_below(path, root))
+            )
 
     def _rows(self, rule: Rule, label: str) -> Iterator[Tuple[bytes, Optional[str]]]:
         """The pictures that break a rule by one label, each with the text that does."""

@@ -1,4 +1,4 @@
-"""The command `captions`: the texts of pictures by label, each with its fields."""
+"""`show --captions`: the texts of pictures by label, each with its fields."""
 
 from __future__ import annotations
 

@@ -9,7 +9,7 @@ import os
 import shutil
 import sys
 from collections import Counter
-from typing import Callable, Iterable, Iterator, List, NamedTuple, Optional, Sequence, Set, Tuple
+from typing import Callable, Iterable, Iterator, List, Optional, Sequence, Set, Tuple
 
 from ..catalogue.store import Catalogue, NoCatalogue, of_day
 from ..comparison import changed as changes
@@ -31,12 +31,19 @@ from .looking import catalogue_of, files_of, is_of_pictures
 from .names import from_list, refuse_pictures, say_unknown
 from .options import Fields, Files, Output, Run, group_of
 from .output import print_line, print_lines, say_notes, table_of
+from .parser import refuse
 from .summary import Style, lines
 from .undo import Undo
 
 
 def run(arguments: argparse.Namespace) -> int:
     """Prints the differences between two states."""
+    if arguments.picture is not None:
+        from . import history  # which few runs need
+
+        return history.run(arguments)
+    if arguments.more:
+        refuse("changed", "two catalogues or folders are compared; --picture takes more")
     sides = (arguments.before, arguments.after)
     run = group_of(Run, arguments)
     _refuse_missing(*sides)
@@ -46,17 +53,7 @@ def run(arguments: argparse.Namespace) -> int:
     with contextlib.ExitStack() as open_:
         run = _with_sidecars(run, *sides)
         before, after = (open_.enter_context(catalogue_of(it, run, True)) for it in sides)
-        asked = _Asked(
-            arguments.before,
-            arguments.after,
-            arguments.each,
-            arguments.all,
-            arguments.edit,
-            arguments.null,
-            arguments.match,
-            arguments.no_exiftool,
-        )
-        work = _Work(asked, group_of(Fields, arguments), run, before, after, names)
+        work = _Work(arguments, group_of(Fields, arguments), run, before, after, names)
         output = group_of(Output, arguments)
         if arguments.undo:
             work.undo = Undo(open_.enter_context(open(os.path.join(run.session.room, "undo"), "w+b")))
@@ -73,25 +70,12 @@ def run(arguments: argparse.Namespace) -> int:
 Comparisons = Iterable[changes.Compared]
 
 
-class _Asked(NamedTuple):
-    """The options of this command alone."""
-
-    before: str
-    after: str
-    each: bool
-    all: bool
-    edit: int
-    null: bool
-    match: str
-    no_exiftool: bool
-
-
 class _Work:
     """Two catalogues, and which of their pictures are compared and listed."""
 
     def __init__(
         self,
-        asked: _Asked,
+        asked: argparse.Namespace,
         fields: Fields,
         run: Run,
         before: Catalogue,
@@ -102,7 +86,7 @@ class _Work:
         self.asked, self.before, self.after = asked, before, after
         self.choice = choice_of(fields)
         refuse_unknown(self.choice, listings_of(before, after))
-        self._session = None if asked.no_exiftool else run.session
+        self._session = run.session if run.session.programs else None
         self._only = None if names is None else {it for name in names for it in _places(name)}
         self._pictures: "Counter[Coded]" = Counter()  # by what is known of the coded ones
         has_pixels = before.has_digests() and after.has_digests()
@@ -192,7 +176,7 @@ class _Notes:
 
     def __init__(
         self,
-        asked: _Asked,
+        asked: argparse.Namespace,
         fields: Fields,
         counts: "Counter[Coded]",
         has_pixels: bool,
@@ -201,7 +185,7 @@ class _Notes:
         words = ("index --pixels", "index --pixels, and --pixels here,", "--pixels")
         self.pixels = "" if has_pixels else words[folders]
         # the words of --only are all that is asked
-        self.is_asked = not (fields.only or fields.only_file)
+        self.is_asked = not fields.only
         self.counts = counts
 
     def has_news_of(self, comparison: changes.Compared) -> bool:

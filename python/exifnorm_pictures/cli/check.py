@@ -1,23 +1,25 @@
-"""The command `check`: what breaks a museum's own rules."""
+"""The command `check`: what breaks a museum's own rules, or, without any, the rule that labels agree."""
 
 from __future__ import annotations
 
 import argparse
 import os
-import shlex
 from itertools import groupby
 from typing import TYPE_CHECKING, Dict, List, Tuple
 
 from ..catalogue.checking import Broken, Checked
-from ..fields.rules import Rule, WrongRules, rules_of
+from ..comparison.agreeing import checked as checked_by
+from ..fields.rules import AGREE, COMPARED, Rule, WrongRules, rules_of
+from ..model.errors import WrongUse
 from ..model.texts import Members, escaped, in_words, path_members, pictures_in_words, shown_path
+from . import conflicts
 from .exit_codes import DIFFERENCE, SUCCESS, UNKNOWN
-from .looking import Preparing, catalogue_for_questions, note_sidecars, refuse_for_catalogues
-from .names import is_catalogue
+from .looking import Preparing, catalogue_of_pictures, note_sidecars, refuse_for_catalogues
+from .names import named
 from .objects import print_object
 from .options import Files, Output, Run, group_of
-from .output import named, print_line, print_lines, say_notes, table_of
-from .sources import settle
+from .output import named as in_lines
+from .output import print_line, print_lines, say_notes, table_of
 from .word_files import text_of_file, words_of_file
 
 if TYPE_CHECKING:
@@ -27,15 +29,16 @@ if TYPE_CHECKING:
 def run(arguments: argparse.Namespace) -> int:
     """Lists the pictures that break a rule."""
     files, run, output = group_of(Files, arguments), group_of(Run, arguments), group_of(Output, arguments)
-    source = settle(files)
-    refuse_for_catalogues(files, run, source)
-    if is_catalogue(arguments.rules):
-        names = " ".join(escaped(shlex.quote(name)) for name in (source, arguments.rules))
-        raise WrongRules(f"{escaped(arguments.rules)} is a catalogue, and the rules come first. Write: exifnorm-pictures check {names}")
-    rules = rules_of_file(arguments.rules)
-    with catalogue_for_questions(source, run) as catalogue, catalogue.reading(is_answer=True):
-        note_sidecars(catalogue, source, run)
-        checked = Checked(catalogue, rules, Preparing(run).report)
+    rules = rules_of_file(arguments.rules) if arguments.rules else [Rule(1, "labels agree", AGREE, COMPARED)]
+    if all(rule.kind == AGREE and not rule.inside and not rule.outside for rule in rules) and not arguments.by_picture:
+        return conflicts.run(files, run, output, arguments.all, {label for rule in rules for label in rule.labels})
+    if arguments.all:
+        raise WrongUse("--all lists what differs in form alone, which is for rules that labels agree, without others and without folders")
+    sources = named(files)
+    refuse_for_catalogues(files, run, sources)
+    with catalogue_of_pictures(sources, run) as catalogue, catalogue.reading(is_answer=True):
+        note_sidecars(catalogue, sources, run)
+        checked = checked_by(catalogue, rules, Preparing(run).report)
         table = table_of(output, ["picture", "line", "rule", "label", "text", "damage"])
         if table:
             _print_table(table, checked, arguments.by_picture)
@@ -106,7 +109,7 @@ def _print_end(output: Output, checked: Checked) -> None:
         may = list(map(path_members, checked.paths_not_known()))
         print_object("check", "summary", {**numbers, "may_break": may, "notes": nowhere})
         return
-    may_break = named("may break more rules:", checked.paths_not_known(), checked.not_known())
+    may_break = in_lines("may break more rules:", checked.paths_not_known(), checked.not_known())
     notes = [*nowhere, *may_break, *filter(None, [checked.unknown()])]
     if output.csv:
         say_notes(*notes)

@@ -16,8 +16,7 @@ from .word_files import text_of, words_in
 
 def choice_of(fields: Fields) -> Choice:
     """The choice of a command line. Raises `UnknownField`."""
-    ignored = [*fields.ignore, *_of_files(fields.ignore_file)]
-    return Choice(ignored, [*fields.only, *_of_files(fields.only_file)], fields.equal_numbers)
+    return Choice(list(_named(fields.ignore)), list(_named(fields.only)), fields.equal_numbers)
 
 
 def choice_for(fields: Fields, *catalogues: Catalogue) -> Choice:
@@ -28,14 +27,17 @@ def choice_for(fields: Fields, *catalogues: Catalogue) -> Choice:
     return choice
 
 
-def _of_files(names: Sequence[str]) -> Iterator[str]:
-    """The names in some files: one in each line. A line that begins with # is a comment."""
-    for name in names:
+def _named(words: Sequence[str]) -> Iterator[str]:
+    """The words, and those of each file that is given as @FILE: one in each line. A line that begins with # is a comment."""
+    for word in words:
+        if not word.startswith("@"):
+            yield word
+            continue
         try:
-            with open(name, "rb") as file:  # the user's own, which may be a pipe
-                yield from words_in(text_of(file, name), name)
+            with open(word[1:], "rb") as file:  # the user's own, which may be a pipe
+                yield from words_in(text_of(file, word[1:]), word[1:])
         except OSError as error:
-            raise UnknownField(f"{escaped(name)}: {reason(error)}") from None
+            raise UnknownField(f"{escaped(word[1:])}: {reason(error)}") from None
 
 
 Listed = Tuple[str, Sequence[Field]]  # the fields of a block, with its name if it isn't the first one of its kind

@@ -38,14 +38,14 @@ if TYPE_CHECKING:
 def run(arguments: argparse.Namespace) -> int:
     """Compares two pictures."""
     run, output = group_of(Run, arguments), group_of(Output, arguments)
-    how = How(1, whole=run.whole, pixels=True, seconds=run.limit, debug=run.session.debug)
+    how = How(1, whole=run.whole, pixels=True, seconds=run.limit, debug=run.session.debug, programs=run.session.programs)
     names = [os.fsencode(it) for it in (arguments.before, arguments.after)]
     paths = [os.path.abspath(it) for it in names]
     with held(paths[0]), held(paths[1]):
         refuse_folders(arguments.before, arguments.after)
         (old, head), (new, other) = (read(it, how, run.session) for it in paths)
     choice = _choice(group_of(Fields, arguments), old, new)
-    session = None if arguments.no_exiftool else run.session
+    session = run.session if run.session.programs else None
     comparison = compare(old, new, session, choice, (head, other))
     rows = rows_of(comparison, output.exact)
     rows = rows if output.exact else with_position(rows, old, new)

@@ -1,26 +1,24 @@
-"""The command `conflicts`: pictures whose Exif, IPTC and XMP contradict each other."""
+"""`check` by rules of agreement alone: pictures whose Exif, IPTC and XMP contradict each other."""
 
 from __future__ import annotations
 
-import argparse
-import difflib
 from collections import Counter
 from dataclasses import dataclass, field
-from typing import TYPE_CHECKING, Dict, Iterator, List, Sequence, Set
+from typing import TYPE_CHECKING, Dict, Iterator, List, Optional, Sequence, Set
 
 from ..comparison.conflicts import Conflict, ConflictKind, conflicts
 from ..comparison.wording import tell_apart
-from ..fields.choosing import UnknownField
-from ..fields.labels import LABELS, POSITION, label_of
 from ..model.found import SIDECAR, STANDARDS, damage
 from ..model.texts import Members, escaped, pictures_in_words, shown_path
 from ..picture import Picture
 from .captions import text_members
 from .exit_codes import DIFFERENCE, SUCCESS, UNKNOWN
-from .labelled import is_open, members, not_read, origins, pictures, refused, together
+from .labelled import is_open, members, not_read, of_catalogue, origins, pictures, refused, together
+from .looking import catalogue_of_pictures, refuse_for_catalogues
+from .names import named
 from .objects import print_object
 from .not_read import picture_cut, unread
-from .options import Fields, Files, Output, Run, group_of
+from .options import Files, Output, Run
 from .output import print_line, print_lines, table_of
 
 if TYPE_CHECKING:
@@ -44,42 +42,39 @@ class _Counts:
     sidecars: int = 0  # pictures with texts of an XMP sidecar, which are compared, too
 
 
-def run(arguments: argparse.Namespace) -> int:
-    """Lists contradictions inside pictures."""
-    files, output = group_of(Files, arguments), group_of(Output, arguments)
-    counts, chosen = _Counts(), _chosen(group_of(Fields, arguments))
+def run(files: Files, run: Run, output: Output, every: bool, chosen: Set[str]) -> int:
+    """Lists contradictions inside pictures, in some labels; or also differences of form."""
+    counts = _Counts()
     table = table_of(output, ["picture", "label", "kind", "detail", *STANDARDS])
-    for picture in pictures(files, group_of(Run, arguments)):
-        every = picture.conflicts
-        counted = [one for one in every if one.label in chosen]
+    for picture in _with_sidecars(files, run) if run.sidecars else pictures(files, run):
+        known = picture.conflicts
+        counted = [one for one in known if one.label in chosen]
         _count(counts, picture, counted)
-        counts.left_out.update(one.label for one in every if one.is_real and one.label not in chosen)
-        listed = [one for one in counted if one.is_real or arguments.all]
-        if table:
-            _print_rows(table, picture, listed)
-        elif not output.json:
-            _print(picture, listed)
+        counts.left_out.update(one.label for one in known if one.is_real and one.label not in chosen)
+        if not output.json:
+            _print_listed(table, picture, [one for one in counted if one.is_real or every])
         elif counted or is_open(picture) or picture.damage or files.files_from:  # of a list each name has an answer
             print_object("conflicts", "picture", _members(picture, counted))
     if output.json:
         print_object("conflicts", "summary", vars(counts))
     elif not table:
-        print_lines(_summary(counts, arguments.all))
+        print_lines(_summary(counts, every))
     return UNKNOWN if counts.not_wholly_read else DIFFERENCE if counts.contradicting else SUCCESS
 
 
-def _chosen(labels: Fields) -> Set[str]:
-    """The labels that count. Raises `UnknownField`."""
-    known = [*(it.word for it in LABELS), POSITION]
-    given = {}
-    for word in (*labels.ignore, *labels.only):
-        given[word] = label_of(word) or ""
-        if given[word] not in known:
-            near = difflib.get_close_matches(word.casefold(), known, 1)
-            which = f" (perhaps {near[0]} is meant)" if near else f", which are: {', '.join(known)}"
-            raise UnknownField(f"{escaped(word)} is no label of texts that are compared{which}")
-    only = {given[it] for it in labels.only} or set(known)
-    return only - {given[it] for it in labels.ignore}
+def _print_listed(table: Optional[Table], picture: Picture, listed: Sequence[Conflict]) -> None:
+    if table:
+        _print_rows(table, picture, listed)
+    else:
+        _print(picture, listed)
+
+
+def _with_sidecars(files: Files, run: Run) -> Iterator[Picture]:
+    """The pictures, which are indexed with the XMP files beside them."""
+    names = named(files)
+    refuse_for_catalogues(files, run, names)
+    with catalogue_of_pictures(names, run) as catalogue:
+        yield from of_catalogue(catalogue)
 
 
 def _count(counts: _Counts, picture: Picture, counted: Sequence[Conflict]) -> None:

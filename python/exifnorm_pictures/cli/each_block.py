@@ -28,10 +28,9 @@ def status_of(picture: Picture, is_about_file: bool = False) -> int:
 def each_picture(files: Files, run: Run) -> Iterator[Picture]:
     """The pictures that are named. What is printed of one is written before the next name of standard input is read."""
     for name in each_name(files):
-        if not run.block:
-            note_sidecar(name)
+        note_sidecar(name)
         with held(name):
-            yield Picture.of(name, blocks_of_named(name, run.session, run.whole, run.block))
+            yield Picture.of(name, blocks_of_named(name, run.session, run.whole))
 
 
 def each_block(
@@ -53,7 +52,9 @@ def each_block(
     return worst
 
 
-_OF_CATALOGUE = f"{Problem.NO_PICTURE}: a catalogue, and no picture. captions and list print its texts, report explains what is refused"
+_OF_CATALOGUE = (
+    f"{Problem.NO_PICTURE}: a catalogue, and no picture. show --captions and list print its texts, report explains what is refused"
+)
 
 
 def _print(command: str, picture: Picture, head: List[str], describe: Describe, refused_too: bool) -> None:
@@ -80,4 +81,4 @@ def _of_folder(command: str, name: bytes) -> str:
     import shlex  # which nothing else needs
 
     files = escaped(os.path.join(shlex.quote(os.fsdecode(name)), "*"))
-    return f"a folder: {command} takes pictures, such as {files}; captions, conflicts and index take folders"
+    return f"a folder: {command} takes pictures, such as {files}; show --captions, check and index take folders"

@@ -31,7 +31,6 @@ def run(arguments: argparse.Namespace) -> int:
     """Explains refusals, and tries whether `mend` helps."""
     files, run = group_of(Files, arguments), group_of(Run, arguments)
     tried: Try = functools.lru_cache(maxsize=1)(functools.partial(_tried, run.session))
-    tried = (lambda _: "") if run.block else tried
     if group_of(Output, arguments).json:
         return _print_objects(files, run, tried)
 

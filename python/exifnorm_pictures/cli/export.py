@@ -24,7 +24,6 @@ from .names import chosen_paths, say_unknown
 from .objects import print_object
 from .options import Files, Output, Run, group_of
 from .output import print_line
-from .sources import settle
 
 
 def run(arguments: argparse.Namespace) -> int:
@@ -32,7 +31,7 @@ def run(arguments: argparse.Namespace) -> int:
     _refuse_table(arguments.file)
     files, run = group_of(Files, arguments), group_of(Run, arguments)
     chosen = chosen_paths(files)
-    name = settle(files)
+    name = arguments.source
     with opened(name, run) as catalogue:
         file = os.path.join(run.session.room, "export")
         with tables(file) as written:
@@ -64,7 +63,7 @@ def _refuse_table(name: str) -> None:
     """Raises `WrongUse` for the name of a file that a program for spreadsheets would open."""
     ending = os.path.splitext(name)[1].lower()
     if ending in (".csv", ".tsv", ".xls", ".xlsx", ".ods", ".json"):
-        tables_ = "captions, changed, conflicts and same print tables with --csv, and write them with --xlsx"
+        tables_ = "show --captions, changed, check and same print tables with --csv, and write them with --xlsx"
         raise WrongUse(f"{shown_path(name)}: export writes a database of SQLite, whose name doesn't end with {ending}; {tables_}")
 
 

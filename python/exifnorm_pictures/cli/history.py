@@ -1,4 +1,4 @@
-"""The command `history`: what changed in one picture from catalogue to catalogue."""
+"""`changed --picture`: what changed in one picture from catalogue to catalogue."""
 
 from __future__ import annotations
 
@@ -17,15 +17,12 @@ from .looking import opened
 from .objects import print_object
 from .options import Output, Run, group_of
 from .output import local_time, print_lines
-from .parser import refuse
 
 
 def run(arguments: argparse.Namespace) -> int:
     """Prints the history of a picture."""
     status = SUCCESS
-    names = [*arguments.catalogues, *arguments.catalogue]
-    if not names:
-        refuse("history", "give the catalogues: exifnorm-pictures history PICTURE CATALOGUE ..")
+    names = [arguments.before, arguments.after, *arguments.more]
     with contextlib.ExitStack() as open_:
         catalogues = [open_.enter_context(opened(name, group_of(Run, arguments), in_one_file=True)) for name in names]
         for state in history(os.fsencode(arguments.picture), catalogues):

@@ -1,9 +1,9 @@
-"""The labelled texts of pictures, for `captions` and `conflicts`."""
+"""The labelled texts of pictures, for `show --captions` and rules of agreement."""
 
 from __future__ import annotations
 
 import os
-from typing import Dict, Iterator, List, Sequence
+from typing import TYPE_CHECKING, Dict, Iterator, List, Sequence
 
 from ..extract.named import blocks_of_named
 from ..fields.labels import Caption
@@ -22,15 +22,13 @@ from .options import Files, Run
 from .output import note_sidecar
 from .parser import refuse
 
+if TYPE_CHECKING:
+    from ..catalogue.store import Catalogue
+
 
 def pictures(files: Files, run: Run) -> Iterator[Picture]:
     """The pictures that are named, and those of folders and catalogues that are named. Other files in these are passed over."""
-    if files.catalogue is not None:
-        if files.names:
-            refuse(files.command, "--catalogue is given alone")
-        yield from _in_catalogue(files.command, run, os.fsencode(files.catalogue))
-        return
-    if run.whole and not run.block and any(is_catalogue(it) and is_of_many(os.fsencode(it)) for it in files.names):
+    if run.whole and any(is_catalogue(it) and is_of_many(os.fsencode(it)) for it in files.names):
         _refuse_whole(files.command, run)  # before anything is printed
     for name in each_name(files):
         with opening.held(name):
@@ -38,9 +36,8 @@ def pictures(files: Files, run: Run) -> Iterator[Picture]:
 
 
 def _named(command: str, run: Run, name: bytes) -> Iterator[Picture]:
-    if run.block or not is_of_many(name):
-        if not run.block:
-            note_sidecar(name)
+    if not is_of_many(name):
+        note_sidecar(name)
         yield _reading(run, name)
     elif os.path.isdir(name) and not is_catalogue(os.fsdecode(name)):
         yield from _in_folder(run, name)
@@ -71,22 +68,27 @@ def _refuse_whole(command: str, run: Run) -> None:
 
 def _in_catalogue(command: str, run: Run, name: bytes) -> Iterator[Picture]:
     """The pictures of a catalogue as they were when it looked at them. Their files aren't needed."""
-    from ..catalogue.texts import texts_of
-
     from .looking import opened
 
     _refuse_whole(command, run)
     with opened(os.fsdecode(name), run) as catalogue:
-        for picture in catalogue.pictures():
-            if picture.problem in (Problem.NO_PICTURE, *NOT_THERE):
-                continue
-            blocks = catalogue.blocks_with_fields(picture)
-            texts = texts_of(blocks)
-            too_long = [NotRead(f"the {word}, which is too long for the catalogue", "") for word in sorted(texts.long)]
-            parts = catalogue.not_read_of(picture) + too_long
-            fault = "" if cut(part.what for part in parts) else picture.damage
-            read = Blocks(problem=picture.problem, detail=picture.detail, type=picture.type, not_read=parts, damage=fault)
-            yield Picture(picture.path, read, [block for block, _ in blocks], texts=texts)
+        yield from of_catalogue(catalogue)
+
+
+def of_catalogue(catalogue: Catalogue) -> Iterator[Picture]:
+    """The pictures of a catalogue that is open."""
+    from ..catalogue.texts import texts_of
+
+    for picture in catalogue.pictures():
+        if picture.problem in (Problem.NO_PICTURE, *NOT_THERE):
+            continue
+        blocks = catalogue.blocks_with_fields(picture)
+        texts = texts_of(blocks)
+        too_long = [NotRead(f"the {word}, which is too long for the catalogue", "") for word in sorted(texts.long)]
+        parts = catalogue.not_read_of(picture) + too_long
+        fault = "" if cut(part.what for part in parts) else picture.damage
+        read = Blocks(problem=picture.problem, detail=picture.detail, type=picture.type, not_read=parts, damage=fault)
+        yield Picture(picture.path, read, [block for block, _ in blocks], texts=texts)
 
 
 def _in_folder(run: Run, folder: bytes) -> Iterator[Picture]:
@@ -105,7 +107,7 @@ def _in_folder(run: Run, folder: bytes) -> Iterator[Picture]:
 
 
 def _reading(run: Run, name: bytes) -> Picture:
-    return Picture.of(name, blocks_of_named(name, run.session, run.whole, run.block))
+    return Picture.of(name, blocks_of_named(name, run.session, run.whole))
 
 
 def refused(picture: Picture) -> List[str]:

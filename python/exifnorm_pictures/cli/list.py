@@ -3,6 +3,7 @@
 from __future__ import annotations
 
 import argparse
+import os
 import json
 import re
 import sys
@@ -21,7 +22,6 @@ from .looking import Preparing, catalogue_for_questions, note_sidecars, refuse_f
 from .objects import print_object
 from .options import Files, Output, Run, group_of
 from .output import named, print_line, print_lines, say_notes, table_of
-from .sources import settle
 from .word_files import words_of_file
 
 _WHAT_CHANGED = (
@@ -39,11 +39,11 @@ def run(arguments: argparse.Namespace) -> int:
     counted = given_label(arguments.count) if arguments.count else None
     form = _Form(output, arguments.null, arguments.since)
     since = _since(arguments.since) if arguments.since else None
-    source = settle(files)
-    refuse_for_catalogues(files, run, source)
+    source = arguments.source
+    refuse_for_catalogues(files, run, [os.fsencode(source)])
     run = run._replace(pixels=DAMAGE in (*(labels_of(question) if question else ()), *columns, counted))  # of a folder
     with catalogue_for_questions(source, run) as catalogue, catalogue.reading(is_answer=True):
-        note_sidecars(catalogue, source, run)
+        note_sidecars(catalogue, [os.fsencode(source)], run)
         shown = [*columns, *([] if counted is None else [counted])]
         answer = Answer(catalogue, question, since, Preparing(run).report, shown, not output.json)
         not_known = 0

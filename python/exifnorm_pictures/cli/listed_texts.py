@@ -4,7 +4,7 @@ from __future__ import annotations
 
 from typing import TYPE_CHECKING, Dict, Iterator, List, Optional, Sequence
 
-from ..fields.labels import POSITION
+from ..fields.labels import LABEL_WORDS, POSITION
 from ..fields.places import place_of
 from ..fields.questions import given_label
 from ..model.texts import escaped
@@ -15,7 +15,9 @@ if TYPE_CHECKING:
 
 
 def labels_in(words: str) -> List[str]:
-    """The labels of --columns, each once. Raises `WrongQuestion`."""
+    """The labels of --columns, each once; `all` are those of captions. Raises `WrongQuestion`."""
+    if words == "all":
+        return [*LABEL_WORDS, POSITION]
     return list(dict.fromkeys(given_label(word) for word in words.split(",")))
 
 

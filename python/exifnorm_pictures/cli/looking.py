@@ -6,16 +6,19 @@ import contextlib
 import os
 import sys
 import tempfile
-from typing import ContextManager, Iterator, List, Optional
+from typing import ContextManager, Iterator, List, Optional, Sequence
 
 from ..catalogue import shards
 from ..catalogue.store import Catalogue, NoCatalogue
 from ..extract import programs
+from ..model.errors import WrongUse
+from ..model.problems import Problem
 from ..model.texts import shown_path
 from ..scan.batches import How, Lines
 from ..scan.index import OF_XMP, IndexOptions, index, number_of
 from ..scan.progress import Progress
 from .exit_codes import UNKNOWN
+from .names import is_catalogue
 from .options import Files, Run
 from .output import closed_folder, say_notes
 from .parser import refuse
@@ -28,7 +31,9 @@ def how_of(run: Run, room: str, lines: Optional[Lines] = None) -> How:
     """How a command looks at pictures."""
     if run.maker_notes and not run.scheduler and not programs.is_there("exiftool"):
         say_notes(f"no MakerNote is read, because ExifTool isn't installed ({_DEBIAN}); later runs ask again")
-    return How(run.jobs, run.maker_notes, run.whole, run.pixels, run.sidecars, run.limit, room, run.session.debug, lines)
+    return How(
+        run.jobs, run.maker_notes, run.whole, run.pixels, run.sidecars, run.limit, room, run.session.debug, lines, run.session.programs
+    )
 
 
 def opened(name: str, run: Run, in_one_file: bool = False) -> Catalogue:
@@ -71,15 +76,26 @@ def catalogue_of(name: str, run: Run, in_one_file: bool = False) -> Iterator[Cat
         with opened(name, run, in_one_file) as catalogue:
             yield catalogue
         return
+    with _made([os.fsencode(name)], run) as catalogue:
+        yield catalogue
+
+
+@contextlib.contextmanager
+def _made(names: Sequence[bytes], run: Run) -> Iterator[Catalogue]:
+    """A new catalogue of folders and pictures, which is removed with the session. Raises `NoCatalogue` for a file that isn't one of these."""
     room = tempfile.mkdtemp(dir=run.session.room)
     with Catalogue(os.path.join(room, "catalogue"), make=True) as catalogue:
         closed: List[str] = []
         how = how_of(run, room, closed_folder)
-        index(IndexOptions([os.fsencode(name)], quiet=_is_quiet(run), how=how, print_line=closed.append), catalogue)
+        index(IndexOptions(names, quiet=_is_quiet(run), how=how, print_line=closed.append), catalogue)
         if closed:  # its pictures would seem to be missing
             raise NoCatalogue("; ".join(closed))
+        for name in filter(is_picture, names):
+            known = catalogue.known(os.path.abspath(name))
+            if known is None or known.problem == Problem.NO_PICTURE:
+                raise NoCatalogue(f"{shown_path(name)} is no picture, and no catalogue")
         if not number_of(catalogue, "problem IS NOT 'NoPicture'"):
-            note_no_picture(os.fsencode(name))
+            note_no_picture(names[0])
         yield catalogue
 
 
@@ -115,6 +131,21 @@ def catalogue_for_questions(name: str, run: Run) -> ContextManager[Catalogue]:
     return catalogue_of(name, run)
 
 
+def catalogue_of_pictures(names: Sequence[bytes], run: Run) -> ContextManager[Catalogue]:
+    """The same of one name, or of several folders and pictures."""
+    if len(names) == 1 and not is_picture(names[0]):
+        return catalogue_for_questions(os.fsdecode(names[0]), run)
+    for name in names:
+        if not is_of_pictures(os.fsdecode(name)) and not is_picture(name):
+            raise WrongUse(f"{shown_path(name)}: by these rules one catalogue is checked, or folders and pictures together")
+    return _made(names, run)
+
+
+def is_picture(name: bytes) -> bool:
+    """Whether a name is that of a file which is no catalogue."""
+    return os.path.isfile(name) and not is_catalogue(os.fsdecode(name))
+
+
 def keep_texts(name: str, run: Run) -> None:
     """Lets a catalogue, or each of a folder of catalogues, keep the texts of its pictures, if it can be written."""
     from ..catalogue import kept_texts  # which takes long to import
@@ -128,15 +159,16 @@ def xmp_files_alone(count: int) -> str:
     return "1 XMP file counts as a file of its own" if count == 1 else f"{count:,} XMP files count as files of their own"
 
 
-def note_sidecars(catalogue: Catalogue, source: str, run: Run) -> None:
+def note_sidecars(catalogue: Catalogue, sources: Sequence[bytes], run: Run) -> None:
     """Says that the XMP files of a folder are none of its pictures' metadata: a picture would seem to lack what the file beside it has."""
-    count = 0 if run.sidecars or not is_of_pictures(source) else number_of(catalogue, OF_XMP)
+    is_read = any(is_of_pictures(os.fsdecode(it)) for it in sources)
+    count = number_of(catalogue, OF_XMP) if is_read and not run.sidecars else 0
     if count:
         say_notes(f"{xmp_files_alone(count)}: --sidecars takes those beside pictures as metadata of them")
 
 
-def refuse_for_catalogues(files: Files, run: Run, source: str) -> None:
+def refuse_for_catalogues(files: Files, run: Run, sources: Sequence[bytes]) -> None:
     """Refuses options that say how pictures are read, if these were read by `index`."""
     given = [option for option, is_given in (("whole", run.whole), ("sidecars", run.sidecars)) if is_given]
-    if given and not is_of_pictures(source):
+    if given and not all(is_of_pictures(os.fsdecode(it)) or is_picture(it) for it in sources):
         refuse(files.command, f"--{given[0]} is for folders: a catalogue has what index --{given[0]} read")

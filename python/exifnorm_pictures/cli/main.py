@@ -76,7 +76,7 @@ def _run(words: Optional[Sequence[str]]) -> int:
         given, least = parsed(words), Least()
         arguments = argparse.Namespace(**vars(given), session=session, least=least)
         session.debug = session.debug or arguments.debug
-        session.seconds = getattr(arguments, "limit", PROGRAM_SECONDS)
+        session.seconds, session.programs = getattr(arguments, "limit", PROGRAM_SECONDS), not getattr(arguments, "no_programs", False)
         # importing the modules of all commands would take longer than most commands do
         command = arguments.command
         goes_on = command in ("index", "nightly") or bool(getattr(arguments, "state", None))

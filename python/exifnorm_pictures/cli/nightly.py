@@ -11,9 +11,9 @@ from collections import Counter
 from typing import List, Optional, Sequence, Tuple
 
 from ..catalogue import kept_texts, shards
-from ..catalogue.checking import Checked
 from ..catalogue.nights import Nights
 from ..catalogue.store import Catalogue, NoCatalogue, earlier_release
+from ..comparison.agreeing import checked
 from ..comparison.coded import sentence_of_coded
 from ..comparison.edit_groups import Group
 from ..comparison.news import Between, Kind, News, Tally
@@ -96,7 +96,7 @@ class Night:
                 raise _no_picture(self.folders)
             self.news = list(tally.all())
             if self.rules:
-                self.broken = (Checked(tonight, self.rules).pictures_broken(), 0)
+                self.broken = (checked(tonight, self.rules).pictures_broken(), 0)
         if self.nights.earlier:
             self.notes = _of_earlier(self.nights)
 
@@ -126,7 +126,7 @@ class Night:
     def _check(self, between: Between, last: Catalogue, tonight: Catalogue) -> None:
         """What breaks a rule that didn't, by the same rules."""
         with last.reading():
-            before, now = Checked(last, self.rules), Checked(tonight, self.rules)
+            before, now = checked(last, self.rules), checked(tonight, self.rules)
             for broken in newly_broken(before, now, between.moves):
                 rule = self.rules[broken.number]
                 between.tally.add(Kind.RULE, between.shown(broken.path), f"line {rule.line}: {rule.text}")

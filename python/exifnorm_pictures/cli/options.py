@@ -24,7 +24,7 @@ class Files(NamedTuple):
 
     command: str
     source: Optional[str] = None  # the first name, which may be a catalogue
-    catalogue: Optional[str] = None  # of --catalogue
+    catalogue: Optional[str] = None  # of --catalogue, which index and nightly have
     names: Sequence[str] = ()
     files_from: Optional[str] = None
     null: bool = False  # the names of that list end with NUL
@@ -34,9 +34,7 @@ class Fields(NamedTuple):
     """The fields that count, or the labels."""
 
     ignore: Sequence[str] = ()
-    ignore_file: Sequence[str] = ()
     only: Sequence[str] = ()
-    only_file: Sequence[str] = ()
     equal_numbers: bool = False
 
 
@@ -61,7 +59,6 @@ class Run(NamedTuple):
     again: bool = False
     exclude: Sequence[str] = ()
     scheduler: Optional[str] = None
-    block: bool = False
     whole: bool = False
     pixels: bool = False
     sidecars: bool = False

@@ -16,18 +16,13 @@ from .exit_codes import USAGE
 _ABOUT = """Compares the Exif, IPTC and XMP metadata of many pictures. It finds pictures
 with the same metadata, lists what changed in each, and explains and mends
 metadata that break the rules of their format (refused)."""
+_MORE = "More: exifnorm-pictures help options, and exifnorm-pictures help statuses"
 _Formatter = argparse.RawDescriptionHelpFormatter
 PIXELS, FILE = "pixels", "file"  # the kinds of groups with the same coded picture, and with the same bytes
 
 
 class _Parser(argparse.ArgumentParser):
     """A parser that ends with the status of refused arguments."""
-
-    def format_help(self) -> str:
-        from .statuses import help_of  # which takes long to import, and few runs need it
-
-        self.epilog = help_of(self.prog.partition(" ")[2])
-        return super().format_help()
 
     def error(self, message: str) -> NoReturn:
         self.print_usage(sys.stderr)
@@ -65,6 +60,7 @@ def parsed(words: Optional[Sequence[str]] = None) -> argparse.Namespace:
     """
     given = list(sys.argv[1:] if words is None else words)
     if given[:1] == ["help"]:
+        _print_topic(given[1:])
         given = [*given[1:3], "--help"]
     if given[:1] == [UPKEEP]:
         _refuse_upkeep(given[1:])
@@ -87,12 +83,21 @@ def parsed(words: Optional[Sequence[str]] = None) -> argparse.Namespace:
     return arguments
 
 
+def _print_topic(words: Sequence[str]) -> None:
+    """Prints what `help` says of something that several commands have, and ends."""
+    from .topics import TOPICS  # which few runs need
+
+    if len(words) == 1 and words[0] in TOPICS:
+        print(TOPICS[words[0]]())
+        _Parser().exit()
+
+
 def _refuse_upkeep(words: Sequence[str]) -> None:
     """Prints the help of the commands about catalogues, if it is asked for, and refuses a line without one of them."""
     if not words or words[0].startswith("-"):
         name = f"exifnorm-pictures {UPKEEP}"
         listed = _listed("Commands", [(command.split()[1], about) for command, about, _ in _OF_CATALOGUES])
-        parser = _Parser(name, f"{name} [-h] COMMAND ...", listed, formatter_class=_Formatter)
+        parser = _Parser(name, f"{name} [-h] COMMAND ...", listed, _MORE, formatter_class=_Formatter)
         parser.parse_args(words)
         parser.error("give a command: " + ", ".join(command.split()[1] for command, *_ in _OF_CATALOGUES))
 
@@ -166,6 +171,7 @@ def parsers(only: Optional[str] = None) -> "Tuple[_Parser, Dict[str, _Parser]]":
                 _listed("Upkeep", [(UPKEEP, "merge catalogues, forget or relocate pictures, export tables")]),
             ]
         ),
+        epilog=f"Also: exifnorm-pictures help COMMAND, help fields, help questions, help rules\n{_MORE}",
         formatter_class=_Formatter,
     )
     whole.add_argument("--version", action=_Version, nargs=0, help="the version")
@@ -175,20 +181,28 @@ def parsers(only: Optional[str] = None) -> "Tuple[_Parser, Dict[str, _Parser]]":
         if only not in (None, name):
             continue
         about = words[0].upper() + words[1:] + "."
-        parser = commands.add_parser(name, description=about, formatter_class=_Formatter)
+        parser = commands.add_parser(name, description=about, epilog=_MORE, formatter_class=_Formatter)
         each[name] = parser
         build(parser)
         forms = parser.add_mutually_exclusive_group()
         if name in _TABLES:
             _flag(forms, "--csv", f"a table for spreadsheets: {_TABLES[name]}")
-            words = "the same table as a new spreadsheet file, in which 1998.10 stays as it is (needs python3-xlsxwriter)"
+            words = "the same table as a new spreadsheet file (needs python3-xlsxwriter)"
             _path(forms, "--xlsx", "FILE", words)
         _flag(forms, "--json", "print JSON Lines: one object on each line")
-        _flag(parser, "--debug", "print the traceback of an internal error, as EXIFNORM_DEBUG=1 does")
-        if name not in ("catalogue merge", "compare", "history", "list", "check", "nightly", "catalogue relocate"):
+        parser.add_argument("--debug", action="store_true", help=argparse.SUPPRESS)
+        if name not in ("catalogue merge", "compare", "list", "nightly", "catalogue relocate"):
             parser.add_argument("--files-from", metavar="LIST", help="read names from the file LIST, one on each line; - is standard input")
             parser.add_argument("-0", "--null", action="store_true", help="the names in LIST end with NUL, as from find -print0")
+        needed = [f"{it.option_strings[0]} {it.metavar}" for it in parser._get_optional_actions() if it.required]
+        parser.usage = " ".join([parser.prog, "[OPTIONS]", *needed, *map(_operand, parser._get_positional_actions())])
     return whole, each
+
+
+def _operand(action: argparse.Action) -> str:
+    """An operand as the usage has it."""
+    name = str(action.metavar)
+    return {"?": f"[{name}]", "*": f"[{name} ...]", "+": f"{name} ..."}.get(str(action.nargs), name)
 
 
 def _listed(heading: str, commands: Iterable[Tuple[str, str]]) -> str:
@@ -238,13 +252,14 @@ def _path(parser: argparse._ActionsContainer, name: str, metavar: str, words: st
 
 
 def _limit_arguments(parser: argparse.ArgumentParser) -> None:
-    words = f"how long ExifTool may take for a file (default: {PROGRAM_SECONDS:g})"
-    parser.add_argument("--limit", type=_seconds, default=PROGRAM_SECONDS, metavar="SECONDS", help=words)
+    """For a command that may start other programs."""
+    _flag(parser, "--no-programs", "start no other program, such as ExifTool")
+    parser.add_argument("--limit", type=_seconds, default=PROGRAM_SECONDS, metavar="SECONDS", help=argparse.SUPPRESS)
 
 
 def _looking_arguments(parser: argparse.ArgumentParser) -> None:
     _limit_arguments(parser)
-    _flag(parser, "--whole", "read every byte of a JPEG, not only its head and tail")
+    _flag(parser, "--whole", argparse.SUPPRESS)
 
 
 def _many_arguments(parser: argparse.ArgumentParser) -> None:
@@ -254,45 +269,44 @@ def _many_arguments(parser: argparse.ArgumentParser) -> None:
 
 
 def _jobs_argument(parser: argparse.ArgumentParser) -> None:
-    words = "how many processes read pictures (default: as many as processors)"
-    parser.add_argument("--jobs", type=_positive, default=0, metavar="N", help=words)
+    parser.add_argument("--jobs", type=_positive, default=0, metavar="N", help=argparse.SUPPRESS)
 
 
 def _sidecars_argument(parser: argparse.ArgumentParser) -> None:
-    _flag(parser, "--sidecars", "read the XMP files beside a picture, NAME.EXT.xmp and NAME.xmp, as its metadata")
+    _flag(parser, "--sidecars", "read the XMP files beside a picture as its metadata: NAME.EXT.xmp, NAME.xmp")
 
 
 def _more_arguments(parser: argparse.ArgumentParser) -> None:
     _sidecars_argument(parser)
     words = (
-        "read the pictures too, not only their metadata. Then changed finds pictures that were replaced, damaged, or moved and edited."
-        " verify and same --kind pixels need it"
+        "read the pictures too: changed then finds those that were replaced, damaged, or moved and edited, and verify and same --kind pixels"
+        " need it"
     )
     _flag(parser, "--pixels", words)
 
 
 def _source_arguments(parser: argparse.ArgumentParser, words: str = "the catalogue") -> None:
     """For a command with one catalogue."""
-    _path(parser, "source", "CATALOGUE", words, nargs="?")
-    _path(parser, "--catalogue", "FILE", "the catalogue, in place of CATALOGUE")
+    _path(parser, "source", "CATALOGUE", words)
 
 
-def _first_arguments(parser: argparse.ArgumentParser, folder: str, words: str = "the catalogue") -> None:
+def _first_arguments(parser: argparse.ArgumentParser, folder: str) -> None:
     """For a command with a catalogue and folders."""
+    parser.add_argument("source", nargs="?", type=_first_name, metavar="CATALOGUE", help="the catalogue")
+    _path(parser, "names", "FOLDER", folder, nargs="*")
+
+
+def _made_arguments(parser: argparse.ArgumentParser, folder: str, words: str) -> None:
+    """For a command with a catalogue, which it makes if that is missing, and folders."""
     first = "an existing catalogue, unless --catalogue is given"
     parser.add_argument("source", nargs="?", type=_first_name, metavar="CATALOGUE", help=first)
     _path(parser, "names", "FOLDER", folder, nargs="*")
     _path(parser, "--catalogue", "FILE", words)
 
 
-def _many_names_arguments(parser: argparse.ArgumentParser) -> None:
-    _path(parser, "names", "PICTURE", "a picture, a folder with all below it, or a catalogue", nargs="*")
-    _path(parser, "--catalogue", "FILE", "a catalogue, in place of PICTURE")
-
-
 def _index_arguments(parser: argparse.ArgumentParser) -> None:
     _example(parser, "index /archive --catalogue my.catalogue --exclude '*.tmp'")
-    _first_arguments(parser, "a folder, with all below it, or a picture", "the catalogue; created if it is missing")
+    _made_arguments(parser, "a folder, with all below it, or a picture", "the catalogue; created if it is missing")
     words = "keep a catalogue for each folder directly in FOLDER, all in the folder DIR, which other commands take as a catalogue"
     _path(parser, "--shards", "DIR", words)
     _path(parser, "--keep-old", "OLD", "first copy the catalogue to OLD, for changed and report --since")
@@ -342,58 +356,39 @@ def _relocate_arguments(parser: argparse.ArgumentParser) -> None:
 
 
 def _choice_arguments(parser: argparse.ArgumentParser) -> None:
-    group = parser.add_argument_group("fields that count", _FIELDS)
-    for word, what in (
-        ("ignore", "leave out this field, or all that fit a pattern"),
-        ("only", "compare this field alone, or all that fit a pattern"),
-    ):
-        group.add_argument(f"--{word}", action="append", default=[], metavar="FIELD", help=what)
-        files = f"as --{word}, with a field or a pattern on each line of FILE; # begins a comment"
-        group.add_argument(f"--{word}-file", action="append", default=[], metavar="FILE", help=files)
-    _flag(group, "--equal-numbers", "count numbers as equal that are written in two ways, such as 10/1250 and 1/125")
-
-
-_FIELDS = """FIELD is a name as it is printed, or Artist, dc:title, 2:25, 0x013b, or a
-group: GPS, IPTC, XMP-crs. The wildcards * and ? are allowed, as in xmpMM:*;
-upper and lower case don't matter. exif:NAME is a field of an Exif block,
-XMP-exif:NAME a property of XMP. A label of captions, such as creator or 'date
-created', stands for all its fields of Exif, IPTC and XMP; so do position,
-serial and owner. --ignore saves leaves out what every save changes (see the
-manual page)."""
+    group = parser.add_argument_group("fields that count (exifnorm-pictures help fields)")
+    for word, what in (("ignore", "leave out"), ("only", "compare nothing but")):
+        words = f"{what} this field, what fits a pattern, or those of @FILE"
+        group.add_argument(f"--{word}", action="append", default=[], metavar="FIELD", help=words)
+    _flag(group, "--equal-numbers", "count numbers as equal that are written in two ways, as 10/50 and 1/5")
 
 
 def _changed_arguments(parser: argparse.ArgumentParser) -> None:
     _example(parser, "changed last.catalogue archive.catalogue")
     _path(parser, "before", "BEFORE", "a catalogue or a folder")
     _path(parser, "after", "AFTER", "a catalogue or a folder")
+    _path(parser, "more", "CATALOGUE", "a further catalogue, with --picture", nargs="*")
+    words = "what changed in one picture from catalogue to catalogue, even if it moved"
+    _path(parser, "--picture", "PATH", words)
     _flag(parser, "--each", "list each picture with its fields, in place of the summary")
     _flag(parser, "--all", "as --each, with unchanged pictures too")
-    words = "as --each, with tags, types and exact values, and with each value of a MakerNote that ExifTool reads differently"
+    words = "as --each, with tags, types, exact values, and MakerNotes by ExifTool"
     _flag(parser, "--exact", words)
-    words = "compare pictures whose names differ only in folders and endings, as a master 7.tif and its copy web/7.jpg"
+    words = "compare pictures whose names differ only in folders and endings"
     parser.add_argument("--match", choices=("stem",), metavar="stem", help=words)
     words = "list the pictures of a group, by the number that the summary gives it"
     parser.add_argument("--edit", type=_positive, default=0, metavar="N", help=words)
-    words = "write arguments for exiftool -@ FILE, which put the earlier texts of labels back"
+    words = "write what puts earlier texts of labels back, for exiftool -@ FILE"
     _path(parser, "--undo", "FILE", words)
-    _flag(parser, "--no-exiftool", _NO_EXIFTOOL)
     _choice_arguments(parser)
     _more_arguments(parser)
     _many_arguments(parser)
 
 
-def _history_arguments(parser: argparse.ArgumentParser) -> None:
-    _example(parser, "history vase.jpg monday.catalogue my.catalogue")
-    _path(parser, "picture", "PICTURE", "its path in the newest catalogue that has it; it need not be there")
-    words = "catalogues of one archive, as index --keep-old keeps them; their order doesn't matter"
-    _path(parser, "catalogues", "CATALOGUE", words, nargs="*")
-    parser.add_argument("--catalogue", action="append", default=[], type=_name, metavar="FILE", help="another catalogue")
-
-
 def _verify_arguments(parser: argparse.ArgumentParser) -> None:
     _example(parser, "verify archive.catalogue --evidence sums.txt")
     words = "a folder, with all below it (default: all that were indexed)"
-    _first_arguments(parser, words, "a catalogue of index --pixels, which is not changed")
+    _first_arguments(parser, words)
     _path(parser, "--bag", "BAG", "verify the files of a bag (BagIt) by its manifest-sha256.txt, in place of a catalogue")
     _path(parser, "--evidence", "FILE", "write the SHA-256 of each file to a new file")
     words = "the form of the evidence: for sha256sum -c (the default), for hashdeep -a -k, or as the manifest of a bag"
@@ -416,14 +411,12 @@ def _compare_arguments(parser: argparse.ArgumentParser) -> None:
     _path(parser, "before", "A", "a picture")
     _path(parser, "after", "B", "a picture")
     _flag(parser, "--exact", "each field with its tag, its type and its exact value")
-    _flag(parser, "--no-exiftool", _NO_EXIFTOOL)
     _choice_arguments(parser)
     _looking_arguments(parser)
 
 
 def _pictures_arguments(parser: argparse.ArgumentParser) -> None:
     _path(parser, "names", "PICTURE", "a picture", nargs="*")
-    _flag(parser, "--block", "each PICTURE is a block that was extracted before")
     _looking_arguments(parser)
 
 
@@ -435,21 +428,15 @@ def _explain_arguments(parser: argparse.ArgumentParser) -> None:
 def _show_arguments(parser: argparse.ArgumentParser) -> None:
     _example(parser, "show --csv picture.jpg > fields.csv")
     _flag(parser, "--exact", "each field with its tag, its type and its exact value")
+    words = "only captions, names, keywords and rights, of pictures, of folders with all below them, and of catalogues"
+    _flag(parser, "--captions", words)
     _pictures_arguments(parser)
-
-
-def _captions_arguments(parser: argparse.ArgumentParser) -> None:
-    _example(parser, "captions --csv pictures > captions.csv")
-    _many_names_arguments(parser)
-    _flag(parser, "--block", "each PICTURE is a block that was extracted before")
-    _looking_arguments(parser)
 
 
 def _list_arguments(parser: argparse.ArgumentParser) -> None:
     _example(parser, "list my.catalogue --without credit --columns title")
-    parser.description = f"{parser.description}\n\n{_FIRST}"
     _source_arguments(parser, "a catalogue, or a folder to read")
-    asked = parser.add_argument_group("the question", _QUESTIONS)
+    asked = parser.add_argument_group("the question (exifnorm-pictures help questions); a picture must fit all")
     words = "pictures with a text of this label"
     asked.add_argument("--with", dest="having", action="append", default=[], metavar="LABEL", help=words)
     asked.add_argument("--without", action="append", default=[], metavar="LABEL", help="pictures without one")
@@ -457,7 +444,8 @@ def _list_arguments(parser: argparse.ArgumentParser) -> None:
     words = "pictures that a run of index found new or changed since this day, as 2026-03-31 or '2026-03-31 14:30'"
     asked.add_argument("--since", metavar="DAY", help=words)
     shown = parser.add_mutually_exclusive_group()
-    shown.add_argument("--columns", metavar="LABELS", help="also print the texts of these labels, as in title,creator")
+    words = "also print the texts of these labels, as in title,creator; all are those of show --captions"
+    shown.add_argument("--columns", metavar="LABELS", help=words)
     words = "list the texts of this label in place of pictures: how many pictures have each, and which texts are spelled alike"
     shown.add_argument("--count", metavar="LABEL", help=words)
     parser.add_argument("-0", "--null", action="store_true", help="print only the names, each with NUL after it, as for xargs -0")
@@ -466,61 +454,29 @@ def _list_arguments(parser: argparse.ArgumentParser) -> None:
     _many_arguments(parser)
 
 
-_FIRST = """The first list or check after index reads the texts of new pictures from the
-catalogue, and keeps them in it."""
-_QUESTIONS = """A question compares labels by =, !=, has, like (with *, ?, and # for a digit),
-and dates and numbers by <, <=, >, >=. Join comparisons by and, or, not and
-brackets:
-  keywords = clay and not creator like 'Otto*'
-  date created < 1950 or without credit
-  rights end < today + 30 days or Orientation = upright
-  credit one of "Riverside Museum", "Public domain"
-  date created = impossible            (30 February, or 25 o'clock)
-A label is one of captions, or position, serial, owner, rights end, embargo,
-digital source, data mining, person shown or damage, or the name of a field as
-this program, ExifTool, exiv2 or the standards have it, such as FNumber,
-EXIF:Model or Exif.Photo.DateTimeDigitized. A question about a field takes
-longer; its value may be as show or exiftool prints it, or the number: f/11,
-1/60 s, upright, 1.
-A picture fits if some text of the label does. Capitals, spaces and composed
-letters make no difference, but after is, one of, and from FILE (a text on
-each line), which take only the very text. In double quotes "" is one of them.
-If you give several options, a picture must fit all. A text that a camera
-writes by itself doesn't count."""
-
-
 def _check_arguments(parser: argparse.ArgumentParser) -> None:
-    _example(parser, "check museum.rules my.catalogue")
-    parser.description = f"{parser.description}\n\n{_RULES}\n\n{_FIRST}"
-    _path(parser, "rules", "RULES", "a file with a rule on each line")
-    _source_arguments(parser, "a catalogue, or a folder to read")
+    _example(parser, "check my.catalogue --rules museum.rules")
+    parser.description = f"{parser.description}\n\n{_ONE_RULE}"
+    words = "a catalogue, a folder with all below it, or a picture"
+    _path(parser, "names", "PICTURE", words, nargs="*")
+    _path(parser, "--rules", "FILE", "a file with a rule on each line; see exifnorm-pictures help rules")
     _flag(parser, "--by-picture", "list the broken rules of each picture, not the pictures that break each rule")
+    words = "also list texts that are empty, cut, in a wrong character set, or a camera's own: for rules of agreement alone"
+    _flag(parser, "--all", words)
     _sidecars_argument(parser)
     _many_arguments(parser)
 
 
-_RULES = """Rules:
-  every picture needs creator, credit, copyright    # a comment
-  copyright is "Riverside Museum"
-  credit one of "Riverside Museum", "Public domain"
-  title like "####.##*" in scans/
-  keywords from words.txt
-  position, serial never in web/ except web/press/
-  caption at most 2000 characters
-  date created not after today
-  city = Zürich
-
-A rule is about every text of a label; the answer names the one that breaks
-it. is, one of, from and like take only the very text, and = also one with
-other capitals, as in list --where. In like, # is a digit. A date that no
-calendar has, as 30 February, breaks each rule about it but never."""
+_ONE_RULE = """Without --rules there is one rule, labels agree: Exif, IPTC and XMP of a picture
+must not contradict each other. Rules of agreement alone, without folders, are
+answered with the texts of each."""
 
 
 def _nightly_arguments(parser: argparse.ArgumentParser) -> None:
     _example(parser, "nightly /archive --catalogue my.catalogue --rules my.rules")
     parser.description = f"{parser.description}\n\n{_NIGHTLY}"
     words = "the catalogue of the last night; created if it is missing. nightly keeps two more beside it, with .before and .tonight in their names"
-    _first_arguments(parser, "a folder, with all below it", words)
+    _made_arguments(parser, "a folder, with all below it", words)
     _path(parser, "--rules", "RULES", "a file of rules, as for check: a picture that newly breaks one is news")
     _path(parser, "--html", "NAME", "if there is news, also write a report about it, as report --html does")
     parser.add_argument("--exclude", action="append", default=[], type=_name, metavar="PATTERN", help=_EXCLUDE)
@@ -537,18 +493,7 @@ folder that is empty or gone for a disk that isn't mounted, and keeps its
 pictures in the catalogue until the folder is back or you forget it."""
 _EXCLUDE = "skip files and folders with this name or path below FOLDER; * and ? are wildcards"
 _MAKER_NOTES = "also keep the values that ExifTool reads from MakerNotes, so that changed doesn't need the earlier files"
-_NO_EXIFTOOL = "don't ask ExifTool whether MakerNotes that differ or have moved read the same"
 _NO_LOOK = "don't look at the files, as for a catalogue from another machine"
-
-
-def _conflicts_arguments(parser: argparse.ArgumentParser) -> None:
-    _example(parser, "conflicts pictures")
-    parser.set_defaults(block=False)
-    _many_names_arguments(parser)
-    _flag(parser, "--all", "also list texts that are empty, cut, in a wrong character set, or a camera's own")
-    for word, what in (("ignore", "leave out this label"), ("only", "compare this label alone")):
-        parser.add_argument(f"--{word}", action="append", default=[], metavar="LABEL", help=f"{what}, such as title")
-    _looking_arguments(parser)
 
 
 def _report_arguments(parser: argparse.ArgumentParser) -> None:
@@ -580,7 +525,6 @@ def _mend_arguments(parser: argparse.ArgumentParser) -> None:
     _path(parser, "picture", "PICTURE", words, nargs="?")
     words = "the copy to write; for a catalogue or --files-from, the folder for the copies, which is made if it isn't there"
     _path(parser, "out", "OUT", words, nargs="?")
-    _path(parser, "--catalogue", "FILE", "the catalogue, in place of PICTURE")
     _flag(parser, "--lossless", "write no copy that loses or changes a printed value")
     _limit_arguments(parser)
 
@@ -590,26 +534,29 @@ _TABLES = {
     "changed": "a row for each field that differs",
     "same": "a row for each picture of a group",
     "compare": "a row for each field that differs",
-    "show": "a row for each field",
-    "captions": "a row for each picture, a column for each label",
-    "list": "a row for each picture, a column for each label of --columns",
-    "check": "a row for each picture and rule that it breaks",
-    "conflicts": "a row for each label that differs in a picture",
+    "show": "a row for each field, or with --captions for each picture",
+    "list": "a row for each picture",
+    "check": "a row for each picture and rule, or label",
 }
 
+# Options of `changed` that are about many pictures
+_NOT_OF_ONE = (
+    *("--each", "--all", "--exact", "--match", "--edit", "--undo", "--no-programs", "--ignore", "--only", "--equal-numbers"),
+    *("--sidecars", "--pixels", "--whole", "--jobs", "--csv", "--xlsx", "--files-from"),
+)
 # Options of which one may be given, beside those that argparse knows, and why two exclude each other
 _APART: Dict[str, Tuple[Tuple[str, ...], ...]] = {
-    "index": (("--shards", "--catalogue"), ("--shards", "--keep-old")),
-    "verify": (("--bag", "--catalogue"),),
+    "index": (("--shards", "--catalogue"), ("--shards", "--keep-old"), ("--maker-notes", "--no-programs")),
+    "nightly": (("--maker-notes", "--no-programs"),),
     "list": (("-0", "--geojson", "--csv", "--xlsx", "--json"), ("-0", "--count"), ("--geojson", "--count"), ("-0", "--columns")),
     "changed": (
         ("--each", "--csv", "--xlsx", "--json"),
         ("--exact", "--csv", "--xlsx", "--json"),
         ("--match", "--undo"),
+        *(("--picture", option) for option in _NOT_OF_ONE),
     ),
-    "show": (("--exact", "--csv", "--xlsx", "--json"),),
-    "captions": (("--catalogue", "--files-from"), ("--catalogue", "--block"), ("--catalogue", "--whole")),
-    "conflicts": (("--catalogue", "--files-from"), ("--catalogue", "--whole"), ("--all", "--json")),
+    "show": (("--exact", "--csv", "--xlsx", "--json"), ("--exact", "--captions")),
+    "check": (("--all", "--json"), ("--all", "--by-picture")),
 }
 # Options that have no effect without another one
 _ONLY_WITH = {
@@ -617,10 +564,10 @@ _ONLY_WITH = {
     "--link-to": ("--html",),
     "--form": ("--evidence",),
     "--null": ("--files-from", "--edit"),
+    "--by-picture": ("--rules",),
 }
 _WHY = {
     ("--shards", "--keep-old"): ", which copies one catalogue: copy the folder of --shards before the run",
-    ("--catalogue", "--whole"): ": a catalogue has what index --whole read",
     **{(option, form): f": {form} has that always" for option in ("--each", "--exact", "--all") for form in ("--csv", "--xlsx", "--json")},
 }
 
@@ -630,17 +577,14 @@ _DAILY: _Commands = (
     ("changed", "list what changed between two catalogues or folders, field by field", _changed_arguments),
     ("same", "list groups of pictures with the same metadata, or the same picture", _same_arguments),
     ("list", "list the pictures whose captions, names or rights fit a question", _list_arguments),
-    ("check", "list the pictures that break your own rules", _check_arguments),
+    ("check", "list the pictures that break your rules, or contradict themselves", _check_arguments),
     ("verify", "find files that were damaged since, not only captioned", _verify_arguments),
     ("nightly", "read what is new, and print the news since last night, if any", _nightly_arguments),
     ("report", "write an HTML report about a catalogue", _report_arguments),
-    ("history", "list what changed in one picture from catalogue to catalogue", _history_arguments),
-    ("conflicts", "list pictures whose Exif, IPTC and XMP contradict each other", _conflicts_arguments),
 )
 _OF_PICTURES: _Commands = (
     ("compare", "compare two pictures, and print side by side what differs", _compare_arguments),
-    ("show", "print all fields of pictures", _show_arguments),
-    ("captions", "print the captions, names, keywords and rights of pictures", _captions_arguments),
+    ("show", "print all fields of pictures, or their captions, names and rights", _show_arguments),
     ("explain", "explain why metadata are refused or a file is damaged", _explain_arguments),
     ("mend", "write a copy of a picture, with its refused metadata repaired", _mend_arguments),
 )
@@ -659,4 +603,7 @@ WENT = {
     "forget": "catalogue forget CATALOGUE FOLDER ..",
     "relocate": "catalogue relocate CATALOGUE OLD NEW",
     "export": "catalogue export CATALOGUE FILE",
+    "history": "changed --picture PATH CATALOGUE CATALOGUE ..",
+    "captions": "show --captions PICTURE ..",
+    "conflicts": "check PICTURE ..",
 }

@@ -13,14 +13,13 @@ from ..model.texts import path_members, shown_path
 from ..scan.relocating import ABSENT, AS_BEFORE, CHANGED, relocated
 from .exit_codes import DIFFERENCE, SUCCESS
 from .objects import print_object
-from .options import Files, Output, group_of
+from .options import Output, group_of
 from .output import print_line
-from .sources import settle
 
 
 def run(arguments: argparse.Namespace) -> int:
     """Gives pictures of a catalogue their names below another folder; the files stay."""
-    name, old, new = settle(group_of(Files, arguments)), os.fsencode(arguments.old), os.fsencode(arguments.new)
+    name, old, new = arguments.source, os.fsencode(arguments.old), os.fsencode(arguments.new)
     if not os.path.isdir(new):
         raise WrongUse(f"{shown_path(new)} is no folder: give the folder where the pictures of {shown_path(old)} are now")
     if os.path.abspath(new).startswith(os.path.abspath(old).rstrip(b"/") + b"/"):

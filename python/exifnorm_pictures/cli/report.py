@@ -16,7 +16,6 @@ from .objects import print_object
 from .options import Fields, Files, Output, Run, group_of
 from .page_file import write_report
 from .parser import refuse
-from .sources import settle
 
 
 def run(arguments: argparse.Namespace) -> int:
@@ -24,7 +23,7 @@ def run(arguments: argparse.Namespace) -> int:
     files, output = group_of(Files, arguments), group_of(Output, arguments)
     if not output.html and not output.json:
         refuse("report", "give --html PAGE, --json, or both")
-    name, run = settle(files), group_of(Run, arguments)
+    name, run = arguments.source, group_of(Run, arguments)
     if output.html:
         check()
     address = links.check(arguments.link_to) if arguments.link_to else ""

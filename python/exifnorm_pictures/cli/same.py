@@ -31,7 +31,6 @@ from .objects import line_of, print_object
 from .options import Fields, Files, Output, Run, group_of
 from .output import print_line, print_lines, say_notes, table_of
 from .parser import FILE, PIXELS
-from .sources import settle
 
 if TYPE_CHECKING:
     from ..catalogue.asking import Answer, Texts
@@ -125,7 +124,7 @@ class _Texts:
 def run(arguments: argparse.Namespace) -> int:
     """Lists the groups of pictures with the same metadata."""
     files, run, output = group_of(Files, arguments), group_of(Run, arguments), group_of(Output, arguments)
-    name = settle(files)
+    name = arguments.source
     kinds = KINDS if arguments.kind in ("all", PIXELS, FILE) else (arguments.kind,)
     chosen = chosen_paths(files)
     if arguments.columns or arguments.differ:

@@ -26,6 +26,10 @@ if TYPE_CHECKING:
 
 def run(arguments: argparse.Namespace) -> int:
     """Lists the fields of pictures."""
+    if arguments.captions:
+        from . import captions  # which few runs need
+
+        return captions.run(arguments)
     files, run, output = group_of(Files, arguments), group_of(Run, arguments), group_of(Output, arguments)
     if not output.json and not output.csv:
         return each_block(files, run, lambda: _describer(output.exact, run.least))

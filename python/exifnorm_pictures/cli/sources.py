@@ -1,4 +1,4 @@
-"""The catalogue of a command: it is given by --catalogue, or it is the first name."""
+"""The catalogue of a command with folders: it is the first name, or for those that make it, that of --catalogue."""
 
 from __future__ import annotations
 
@@ -12,24 +12,7 @@ from .names import is_catalogue
 from .options import Files
 from .parser import refuse
 
-# How each command with one catalogue and no further names but one is written
-_LINES = {
-    "check": "check RULES CATALOGUE",
-    "catalogue export": "catalogue export CATALOGUE FILE",
-    "list": "list CATALOGUE",
-    "catalogue relocate": "catalogue relocate CATALOGUE OLD NEW",
-    "report": "report CATALOGUE --html PAGE",
-    "same": "same CATALOGUE",
-}
 _MAKERS = ("index", "nightly")  # which make the catalogue of --catalogue, if it is missing
-
-
-def settle(files: Files) -> str:
-    """The catalogue, which is given once."""
-    given = [name for name in (files.source, files.catalogue) if name is not None]
-    if len(given) != 1:
-        refuse(files.command, f"give one catalogue: exifnorm-pictures {_LINES[files.command]}")
-    return given[0]
 
 
 def with_first(files: Files) -> Files:
@@ -46,13 +29,15 @@ def settle_first(files: Files) -> Tuple[str, Files]:
     if not files.names:
         refuse(files.command, f"give a catalogue: exifnorm-pictures {_line(files.command, files.names)}")
     if not is_catalogue(files.names[0]):
-        raise WrongUse(_why(files.names[0]) + f". Write: exifnorm-pictures {_line(files.command, files.names)}")
+        raise WrongUse(_why(files.command, files.names[0]) + f". Write: exifnorm-pictures {_line(files.command, files.names)}")
     return files.names[0], files._replace(names=files.names[1:])
 
 
-def _why(name: str) -> str:
+def _why(command: str, name: str) -> str:
     what = "is a folder and" if os.path.isdir(name) else "is a file and" if os.path.lexists(name) else "isn't there, so it is"
-    return f"{escaped(name)} {what} not a catalogue: give a catalogue as the first name, or by --catalogue"
+    return (
+        f"{escaped(name)} {what} not a catalogue: give a catalogue as the first name{', or by --catalogue' if command in _MAKERS else ''}"
+    )
 
 
 def _line(command: str, names: Sequence[str]) -> str:

@@ -121,7 +121,7 @@ def _read_again(folders: Sequence[bytes], run: Run, state: Optional[str], before
     with Catalogue(name, make=True) as catalogue:
         closed: List[str] = []
         # sidecars are files like all others here, each with its own digest
-        how = How(run.jobs, False, False, True, False, run.limit, run.session.room, run.session.debug, closed_folder)
+        how = How(run.jobs, False, False, True, False, run.limit, run.session.room, run.session.debug, closed_folder, run.session.programs)
         options = IndexOptions(folders, quiet=run.quiet or not sys.stderr.isatty(), how=how, print_line=closed.append, look=looker(before))
         earlier = index(options, catalogue)["unchanged"]
         if closed:

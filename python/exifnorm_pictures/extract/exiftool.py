@@ -112,6 +112,8 @@ def _members(output: bytes, names: Sequence[bytes]) -> List[Dict[str, str]]:
 
 def _process(session: Session) -> Process:
     """The session's ExifTool, which starts at the first call."""
+    if not session.programs:
+        raise programs.Missing("exiftool", may_start=False)
     tool = cast(Optional[Process], session.tool)
     if tool is not None and tool.process.poll() is not None:
         session.close_tool()  # it ended between two questions

@@ -34,13 +34,12 @@ _WORDS = 1000  # bytes that are kept of what a program writes on standard error
 
 
 class Missing(Failure):
-    """A program isn't installed. The text names Debian's package."""
+    """A program isn't installed, or may not be started. The text names Debian's package."""
 
-    def __init__(self, program: str) -> None:
-        super().__init__(
-            f"{program} isn't installed, and without it no block of this picture can be extracted."
-            f" In Debian: apt-get install {PACKAGES.get(program, program)}"
-        )
+    def __init__(self, program: str, may_start: bool = True) -> None:
+        why = f"{program} isn't installed" if may_start else "no other program may be started"
+        install = f" In Debian: apt-get install {PACKAGES.get(program, program)}" * may_start
+        super().__init__(f"{why}, and without it no block of this picture can be extracted.{install}")
 
 
 class Failed(Failure):

@@ -9,11 +9,14 @@
     caption at most 2000 characters
     date created not after today
     city = zurich
+    labels agree except keywords
+    title, caption agree
 
 A label is one of `captions`, or the name of a field as `show` or ExifTool has it (IPTC:ExpirationDate). A rule but `needs` is about every text
 that is there. `is`, `one of` and `from` compare exactly, but for how accents are composed, and `=` without capitals, as in questions. `like` is
 exact, too, and has the wildcards * and ?, and # for a digit. A date that no calendar has breaks each rule about dates. A folder with a slash
 inside lies at the top of what was indexed, and any other one anywhere below it.
+`agree` is about what Exif, IPTC and XMP of a picture have of a label.
 """
 
 from __future__ import annotations
@@ -29,12 +32,14 @@ from typing import Callable, Dict, Iterable, List, NoReturn, Optional, Sequence,
 from ..model.errors import WrongUse
 from . import dates
 from .choosing import hint
-from .labels import DATED, fields_by_label, label_of
+from .labels import DATED, LABELS, POSITION, fields_by_label, label_of
 from .questions import WrongQuestion, checked_value, exact_value, given_label
 from .tokens import EXACT, MOST_WORDS, Mistake, Reader, Token, tokens_of
 
 NEEDS, VALUES, EQUAL, LIKE, NEVER = "needs", "values", "equal", "like", "never"
 LENGTH, AFTER, BEFORE = "length", "after", "before"
+AGREE = "agree"
+COMPARED = (*(it.word for it in LABELS), POSITION)  # labels of which Exif, IPTC and XMP of a picture may disagree
 _PREDICATES = {  # by their words
     ("needs",): NEEDS,
     ("is",): VALUES,
@@ -46,6 +51,7 @@ _PREDICATES = {  # by their words
     ("at", "most"): LENGTH,
     ("not", "after"): AFTER,
     ("not", "before"): BEFORE,
+    ("agree",): AGREE,
 }
 _PLACES = ("in", "except")
 _MEANT = {  # words in place of a predicate, and what may be meant
@@ -162,12 +168,24 @@ class _Reader(Reader):
             if not self._takes("needs"):
                 self._fail("expected: needs, as in `every picture needs credit`")
             kind, labels, values = NEEDS, self._labels(), ()  # type: Tuple[str, Tuple[str, ...], Tuple[str, ...]]
+        elif self._takes("labels", "agree"):
+            left_out = self._left_out()
+            kind, labels, values = AGREE, tuple(it for it in COMPARED if it not in left_out), ()
         else:
             labels = self._labels()
             kind, values = self._predicate(labels)
         inside, outside = self._places()
         written = self._text[self._tokens[0].start : self._tokens[-1].end]
         return Rule(number, written, kind, labels, values, inside, outside)
+
+    def _left_out(self) -> Sequence[str]:
+        """The labels after `labels agree except`, where folders may be, too, which have a slash."""
+        at = self._at
+        if self._takes("except") and "/" not in self._up_to(lambda: self._next.word in _ENDS).text:
+            self._at = at + 1
+            return self._labels()
+        self._at = at
+        return ()
 
     def _labels(self) -> Tuple[str, ...]:
         """Labels up to a predicate, a place or the end."""
@@ -217,8 +235,8 @@ class _Reader(Reader):
         return kind, self._values(words, kind, labels)
 
     def _values(self, words: Tuple[str, ...], kind: str, labels: Sequence[str]) -> Tuple[str, ...]:
-        if kind == NEVER:
-            return ()
+        if kind in (NEVER, AGREE):
+            return self._refuse_others(labels) if kind == AGREE else ()
         if kind == LENGTH:
             return (self._length(),)
         if kind in (AFTER, BEFORE):
@@ -232,6 +250,12 @@ class _Reader(Reader):
             return tuple(checked_value(label, words[0], value) for label in labels)[:1]
         except ValueError as error:
             self._fail(str(error), value)
+
+    def _refuse_others(self, labels: Sequence[str]) -> Tuple[str, ...]:
+        """Refuses labels that aren't kept in several of Exif, IPTC and XMP."""
+        if others := [label for label in labels if label not in COMPARED]:
+            self._fail(f"{others[0]} is none of the labels that are compared: {', '.join(COMPARED)}", *self._tokens[:1])
+        return ()
 
     def _length(self) -> str:
         number = self._next

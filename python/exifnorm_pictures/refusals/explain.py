@@ -16,18 +16,6 @@ from ..model.sides import Status
 from .causes import CAUSES, Cause, words_of
 from .layout import Layout, Part, hexadecimal
 
-_OTHER_FILES = (
-    (b"\xff\xd8\xff", "This is a whole JPEG; give it without --block."),
-    (b"\x89PNG", "This is a whole PNG; give it without --block."),
-    (b"8BIM", "These are Photoshop resources; the IPTC record inside: exiftool -b -IPTC PICTURE"),
-    (b"Photoshop 3.0", "These are Photoshop resources; the IPTC record inside: exiftool -b -IPTC PICTURE"),
-    (b"II+\0", "This is a BigTIFF, whose offsets have eight bytes; as a picture it is read."),
-    (b"MM\0+", "This is a BigTIFF, whose offsets have eight bytes; as a picture it is read."),
-    (b"RIFF", "This is a whole WebP; give it without --block."),
-    (b"<", "This is XML, perhaps XMP, which is compared in whole pictures: give the picture without --block."),
-)
-
-
 NO_REMEDY = "none is known. Each step of `exifnorm-pictures mend` was tried on this file, and none makes a block that is accepted."
 
 
@@ -127,9 +115,6 @@ def _beginning(layout: Layout, cause: str, place: int) -> List[str]:
     block = layout.block
     if not block:
         return ["The block is empty: the picture has no such metadata."]
-    for beginning, words in _OTHER_FILES:
-        if block.startswith(beginning):
-            return [words]
     return [f"It begins with {block[:8].hex(' ')}."]
 
 
@@ -191,16 +176,11 @@ def _entry_line(layout: Layout, place: int) -> List[str]:
     return [f"At {place} is entry {entry.number}: {entry.label}, {entry.form}, last field {entry.last}."]
 
 
-_PIXELS = (0x0111, 0x0144, 0x014A)  # StripOffsets, TileOffsets, SubIFDs
-
-
 def _entry(layout: Layout, cause: str, place: int) -> List[str]:
     lines = _entry_line(layout, place)
     entry = layout.entries.get(place)
     if entry is None:
         return lines
-    if cause == "MisplacedOffset" and entry.where == "main" and entry.tag in _PIXELS:
-        lines.append("This seems to be a whole TIFF picture: give it without --block, and each of its pages is taken as a block.")
     before = layout.entries.get(place - 12)
     if cause in ("Unsorted", "Doubled") and before is not None:
         lines.append(f"Before it is {before.label}, {before.form}, last field {before.last}.")

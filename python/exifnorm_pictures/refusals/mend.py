@@ -45,15 +45,16 @@ class NotWritten(Exception):
 
 
 class NeedsExifTool(programs.Failed):
-    """Only ExifTool can mend a picture, and isn't installed. The text says why a repair isn't enough, and which package has it."""
+    """Only ExifTool can mend a picture, and isn't installed or may not be started. The text says why a repair isn't enough, and which package has it."""
 
-    def __init__(self, kind: str, repair: "Optional[_Repair]") -> None:
+    def __init__(self, kind: str, repair: "Optional[_Repair]", may_start: bool = True) -> None:
         if repair is not None:
             why = f"the repair of its block loses {' and '.join(loses(repair.steps))}, and ExifTool, which shows what that is,"
         else:
             known = "no repair of its block is known" if kind in REPAIRED_TYPES else f"in a {kind} file no block is repaired"
             why = f"{known}, and ExifTool, which writes it again,"
-        super().__init__(f"{why} isn't installed. In Debian: apt-get install libimage-exiftool-perl")
+        rest = "isn't installed. In Debian: apt-get install libimage-exiftool-perl" if may_start else "may not be started"
+        super().__init__(f"{why} {rest}")
 
 
 @dataclass
@@ -119,12 +120,12 @@ def attempt(session: Session, picture: bytes, room: str) -> Tuple[Mended, Option
     if os.stat(picture).st_size > MENDED_BYTES:
         raise TooMuch(f"more than {MENDED_BYTES:,} bytes of a picture to mend")
     repair = _repaired(session, picture, taken, room)
-    if programs.is_there("exiftool"):
+    if session.programs and programs.is_there("exiftool"):
         best = _best(session, picture, taken, repair, room)
     elif repair is not None and not loses(repair.steps):
         best = (Remedy.REPAIR, repair.file, [], [])
     else:
-        raise NeedsExifTool(taken.type, repair)
+        raise NeedsExifTool(taken.type, repair, session.programs)
     if best is None:
         return Mended(Remedy.NONE, before, damage=left, cut_off=end), None
     remedy, file, lost, gained = best

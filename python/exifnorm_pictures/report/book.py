@@ -6,6 +6,7 @@ from dataclasses import dataclass, field
 from typing import Any, Callable, Iterator, List, NamedTuple, Optional
 
 from ..catalogue.checking import Checked
+from ..comparison.agreeing import checked
 from ..model.errors import WrongUse
 from ..model.texts import shown_path
 from . import lists
@@ -79,7 +80,7 @@ class Book:
         """The first page, after all others were written."""
         changes = Changes(self.about) if self.about.old else None
         try:
-            rules = Checked(self.about.catalogue, self.about.rules) if self.about.rules else None
+            rules = checked(self.about.catalogue, self.about.rules) if self.about.rules else None
             written = [self._written(section) for section in self._sections(changes, rules)]
             shown = [it for it in written if it.entries or self._says_something(it.section.key)]
             return self._renderer.index(self.counts, shown, changes, rules, self._files(written))

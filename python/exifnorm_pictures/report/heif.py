@@ -17,9 +17,9 @@ _LARGEST = 32 << 20  # bytes of a JPEG that is made
 
 def as_jpeg(path: bytes, session: Session) -> bytes:
     """The main picture of a HEIC or AVIF as JPEG, turned as its own rotation says. Empty if the file is another one, if it can't be read or
-    converted in time, or if heif-convert isn't installed."""
+    converted in time, or if heif-convert isn't installed or may not be started."""
     try:
-        if not programs.is_there(CONVERTER) or not _is_heif(path):
+        if not session.programs or not programs.is_there(CONVERTER) or not _is_heif(path):
             return b""
         folder = Path(session.folder())
         target = folder / "converted.jpg"

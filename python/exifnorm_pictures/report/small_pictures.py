@@ -102,7 +102,7 @@ class SmallPictures:
     def __init__(self, catalogues: Sequence[Catalogue], kept: Kept, session: Optional[Session] = None) -> None:
         """`catalogues` may know the digests of coded pictures."""
         self._catalogues, self._kept, self._session = catalogues, kept, session
-        self._shrinker = Shrinker()
+        self._shrinker = Shrinker(session is None or session.programs)
         self.has_pillow = self._shrinker.is_there
         self._failed: Set[str] = set()
         self._known: Dict[bytes, str] = {}

@@ -24,8 +24,8 @@ _JPEG = b"\xff\xd8\xff"
 class Shrinker:
     """The process that makes small pictures. It is started when it is needed, and again when a picture has ended it. Close it."""
 
-    def __init__(self) -> None:
-        self.is_there = importlib.util.find_spec("PIL") is not None
+    def __init__(self, may_start: bool = True) -> None:
+        self.is_there = may_start and importlib.util.find_spec("PIL") is not None
         self._process: "Optional[subprocess.Popen[bytes]]" = None
 
     def close(self) -> None:

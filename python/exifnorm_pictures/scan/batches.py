@@ -33,6 +33,7 @@ class How(NamedTuple):
     room: str = ""  # a folder for temporary files
     debug: bool = False  # print tracebacks
     lines: Optional[Lines] = None  # makes the lines that are printed about a picture
+    programs: bool = True  # whether other programs may be started
 
     @property
     def processes(self) -> int:

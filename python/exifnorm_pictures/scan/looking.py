@@ -161,6 +161,6 @@ def _is_racy(times: Sequence[int], began: int) -> bool:
 
 def in_this_process(work: Iterable[FoundFile], how: How) -> Iterator[PictureRecord]:
     """The results for these files, in their order."""
-    with Session(how.seconds, how.debug, how.room or None) as session:
+    with Session(how.seconds, how.debug, how.room or None, how.programs) as session:
         for file in work:
             yield look(file, how, session)

@@ -137,7 +137,7 @@ def _begin(how: How, parent: int, mask: Set[int]) -> None:
     signal.signal(signal.SIGHUP, signal.SIG_DFL)
     signal.signal(signal.SIGTERM, signal.SIG_DFL)
     signal.pthread_sigmask(signal.SIG_SETMASK, mask)
-    session = Session(how.seconds, how.debug, how.room)
+    session = Session(how.seconds, how.debug, how.room, how.programs)
     _session.set(session)
     util.Finalize(None, session.close, exitpriority=10)  # the processes of a pool don't run atexit
 

@@ -1,0 +1,92 @@
+"""What `help` says of options, statuses, fields, questions and rules, which several commands have."""
+
+from __future__ import annotations
+
+import textwrap
+from typing import Dict, Callable
+
+from ..model.budgets import PROGRAM_SECONDS
+from . import statuses
+from .parser import parsers
+
+_OPTIONS = {
+    "--debug": "print the traceback of an internal error, as EXIFNORM_DEBUG=1 does",
+    "--limit": f"SECONDS: how long ExifTool may take for a file (default: {PROGRAM_SECONDS:g})",
+    "--jobs": "N: how many processes read pictures (default: as many as processors)",
+    "--whole": "read every byte of a JPEG, not only its head and tail",
+    "--no-programs": "start no other program: ExifTool, exiv2, heif-convert, or a Python for small pictures. What only they read is not known then",
+}
+_ALL = """A file that can't be read, is gone, is no picture or has no metadata gets a
+line, and the other files are still read. In names, control characters and
+undecodable bytes are escaped. With --json each line is one object; it has the
+name as "path", and as "path_hex" too if the name is no UTF-8.
+
+Two Exif blocks, or two IPTC records, mean the same if their normal forms are
+equal, which is proved. How blocks are found in pictures, XMP, and groups are
+tested. XMP is compared by its statements. ExifTool reads the formats that have
+no reader here (Debian: libimage-exiftool-perl)."""
+_FIELDS = """FIELD is a name as it is printed, or Artist, dc:title, 2:25, 0x013b, or a
+group: GPS, IPTC, XMP-crs. The wildcards * and ? are allowed, as in xmpMM:*;
+upper and lower case don't matter. exif:NAME is a field of an Exif block,
+XMP-exif:NAME a property of XMP. A label of captions, such as creator or 'date
+created', stands for all its fields of Exif, IPTC and XMP; so do position,
+serial and owner. @FILE has a field or a pattern on each line; # begins a
+comment. --ignore saves leaves out what every save changes (see the manual
+page)."""
+_FIRST = """The first list or check after index reads the texts of new pictures from the
+catalogue, and keeps them in it."""
+_QUESTIONS = """A question compares labels by =, !=, has, like (with *, ?, and # for a digit),
+and dates and numbers by <, <=, >, >=. Join comparisons by and, or, not and
+brackets:
+  keywords = clay and not creator like 'Otto*'
+  date created < 1950 or without credit
+  rights end < today + 30 days or Orientation = upright
+  credit one of "Riverside Museum", "Public domain"
+  date created = impossible            (30 February, or 25 o'clock)
+A label is one of captions, or position, serial, owner, rights end, embargo,
+digital source, data mining, person shown or damage, or the name of a field as
+this program, ExifTool, exiv2 or the standards have it, such as FNumber,
+EXIF:Model or Exif.Photo.DateTimeDigitized. A question about a field takes
+longer; its value may be as show or exiftool prints it, or the number: f/11,
+1/60 s, upright, 1.
+A picture fits if some text of the label does. Capitals, spaces and composed
+letters make no difference, but after is, one of, and from FILE (a text on
+each line), which take only the very text. In double quotes "" is one of them.
+If you give several options, a picture must fit all. A text that a camera
+writes by itself doesn't count."""
+_RULES = """Rules:
+  every picture needs creator, credit, copyright    # a comment
+  copyright is "Riverside Museum"
+  credit one of "Riverside Museum", "Public domain"
+  title like "####.##*" in scans/
+  keywords from words.txt
+  position, serial never in web/ except web/press/
+  caption at most 2000 characters
+  date created not after today
+  city = Zürich
+  labels agree except keywords
+  title, caption agree
+
+A rule is about every text of a label; the answer names the one that breaks
+it. is, one of, from and like take only the very text, and = also one with
+other capitals, as in list --where. In like, # is a digit. A date that no
+calendar has, as 30 February, breaks each rule about it but never. agree asks
+whether Exif, IPTC and XMP of a picture have one text of a label."""
+
+
+def _options() -> str:
+    lines = []
+    for name, words in _OPTIONS.items():
+        having = [command for command, parser in parsers()[1].items() if name in parser._option_string_actions]
+        of = "each command" if name == "--debug" else ", ".join(having)
+        lines += textwrap.wrap(f"{words}. Of {of}", 80, initial_indent=f"  {name}  ", subsequent_indent="      ")
+    return "\n".join(["Options of several commands:", *lines, "", _ALL])
+
+
+TOPICS: Dict[str, Callable[[], str]] = {
+    "options": _options,
+    "statuses": statuses.text,
+    "fields": lambda: _FIELDS,
+    "questions": lambda: f"{_QUESTIONS}\n\n{_FIRST}",
+    "rules": lambda: f"{_RULES}\n\n{_FIRST}",
+}
