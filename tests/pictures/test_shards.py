@@ -5,6 +5,7 @@ import io
 import os
 import shutil
 import sqlite3
+import tracemalloc
 
 import hypothesis
 import hypothesis.strategies as st
@@ -13,7 +14,7 @@ from made_files import A, app1, app1_xmp, jpeg, xmp
 from test_groups import FILES, with_short_note
 from test_query_steps import SIZES, TIMES, make
 
-from exifnorm_pictures.catalogue import shards
+from exifnorm_pictures.catalogue import shards, store
 from exifnorm_pictures.catalogue.store import NUMBERS, Catalogue
 from exifnorm_pictures.cli import main
 
@@ -225,6 +226,32 @@ def test_of_many_missing_catalogues_three_are_named(archive, called_lines, count
     notes = [f"the answer is without the catalogue shards/{number}.catalogue, which isn't there" for number in range(3)]
     notes += [f"the answer is without {more}, not there either"] * (count > 3)
     assert status == 2 and [it.partition("note: ")[2] for it in messages.splitlines()] == notes
+
+
+@pytest.mark.parametrize("line", ("{}.catalogue", "one.catalogue"))
+def test_names_of_a_list_are_not_in_memory(archive, line):
+    """Those that a stranger has put there may be a million, of which none is there, or all are one catalogue."""
+    for count in (20_000, 40_000):
+        shards.put_list(str(archive / "shards"), ["one.catalogue", *(line.format(number) for number in range(count))])
+        tracemalloc.start()
+        try:
+            assert shards.shards_of(str(archive / "shards")).there == [str(archive / "shards" / "one.catalogue")]
+            assert not any(shards.elsewhere(str(archive / "shards")))
+            assert tracemalloc.get_traced_memory()[1] < 2 * (archive / "shards" / "catalogues").stat().st_size + 50_000
+        finally:
+            tracemalloc.stop()
+
+
+def test_a_catalogue_that_is_listed_twice_is_read_once(archive, called_lines):
+    once = called_lines("list", "shards")
+    shards.put_list(str(archive / "shards"), ["one.catalogue", "two.catalogue", "one.catalogue", "./two.catalogue"])
+    assert called_lines("list", "shards") == once and once[0] == 0
+
+
+def test_a_list_that_is_too_long_is_not_cut(archive, called_lines, monkeypatch):
+    monkeypatch.setattr(store, "_LONGEST_LIST", 20)
+    status, _, messages = called_lines("list", "shards")
+    assert status == 4 and messages == "exifnorm-pictures: shards/catalogues: file too large\n"
 
 
 @pytest.mark.parametrize("way", ("../v", "sub/v", "{folder}/v", "link", "the list"))

@@ -8,10 +8,11 @@ from __future__ import annotations
 
 import contextlib
 import fcntl
+import io
 import itertools
 import os
 import tempfile
-from typing import BinaryIO, Iterator, List, NamedTuple, Optional, Sequence, Tuple
+from typing import BinaryIO, Container, Dict, Iterator, List, NamedTuple, Optional, Sequence, Tuple
 
 from ..files import atomic
 from ..model.errors import Failure, WrongUse
@@ -33,20 +34,17 @@ class Shards(NamedTuple):
     """The catalogues of a folder."""
 
     folder: str
-    there: List[str]  # those that are listed, in the order of the list
-    missing: List[str]  # that are listed, and aren't there
-    unlisted: List[str]  # that are there, and aren't listed
+    there: List[str]  # those that are listed, in the order of the list, each once
+    notes: List[str]  # what makes that an answer isn't about the whole archive
 
-    def notes(self) -> Iterator[str]:
-        """What makes that an answer isn't about the whole archive."""
-        for what, others, names in (
-            ("which isn't there", "not there either", self.missing),
-            ("which its list doesn't name", "not in its list either", self.unlisted),
-        ):
-            for name in names[:_NAMED]:
-                yield f"the answer is without the catalogue {shown_path(os.fsencode(name))}, {what}"
-            if len(names) > _NAMED:
-                yield f"the answer is without {in_words(len(names) - _NAMED, 'more catalogue')}, {others}"
+
+def _notes(names: Iterator[str], what: str, others: str) -> Iterator[str]:
+    """What is said of catalogues that an answer is without. They may be a million, of which no more are in memory than are named."""
+    for name in itertools.islice(names, _NAMED):
+        yield f"the answer is without the catalogue {shown_path(os.fsencode(name))}, {what}"
+    more = sum(1 for _ in names)
+    if more:
+        yield f"the answer is without {in_words(more, 'more catalogue')}, {others}"
 
 
 def is_folder(name: str) -> bool:
@@ -57,17 +55,26 @@ def is_folder(name: str) -> bool:
 def is_of_folder(name: str) -> bool:
     """Whether a name is that of a folder of catalogues, or of a catalogue that such a folder lists."""
     folder, file = os.path.split(name)
-    return is_folder(name) or (is_folder(folder or ".") and file in listed(folder or "."))
+    return is_folder(name) or (is_folder(folder or ".") and file in _listed(folder or "."))
 
 
 def shards_of(folder: str) -> Shards:
     """The catalogues of a folder. Raises `NoCatalogue` if none is there."""
-    names = [os.path.join(folder, name) for name in listed(folder)]
-    made = [(name, is_made(name)) for name in names]
-    there = [name for name, is_there in made if is_there]
+    there: Dict[Optional[Tuple[int, int]], str] = {}
+
+    def missing() -> Iterator[str]:
+        for name in _listed(folder):
+            path = os.path.join(folder, name)
+            if is_made(path):
+                there.setdefault(identity(path), path)
+            else:
+                yield path
+
+    notes = list(_notes(missing(), "which isn't there", "not there either"))
     if not there:
-        raise NoCatalogue(f"{folder}: none of its {in_words(len(names), 'catalogue')} is there")
-    return Shards(folder, there, [name for name, is_there in made if not is_there], list(_unlisted(folder, there)))
+        raise NoCatalogue(f"{folder}: none of its {in_words(sum(1 for _ in _listed(folder)), 'catalogue')} is there")
+    unlisted = _notes(_unlisted(folder, there), "which its list doesn't name", "not in its list either")
+    return Shards(folder, list(there.values()), [*notes, *unlisted])
 
 
 def is_made(name: str) -> bool:
@@ -77,7 +84,12 @@ def is_made(name: str) -> bool:
 
 def listed(folder: str) -> List[str]:
     """The names of the catalogues of a folder, relative to it."""
-    return [os.fsdecode(line) for line in (list_of(folder) or b"").split(b"\n") if line]
+    return list(_listed(folder))
+
+
+def _listed(folder: str) -> Iterator[str]:
+    lines = io.BytesIO(list_of(folder) or b"")  # of which one at a time is in memory
+    return (os.fsdecode(line.rstrip(b"\n")) for line in lines if line != b"\n")
 
 
 @contextlib.contextmanager
@@ -101,9 +113,10 @@ def _lock(folder: str, lock: int) -> None:
         raise Failure(f"{shown}: its file system has no POSIX locks ({error.strerror}), {why}") from error
 
 
-def elsewhere(folder: str) -> List[str]:
+def elsewhere(folder: str) -> Iterator[str]:
     """The names in a folder of catalogues that lead out of it, of which each may be a stranger's word: no command writes to what they name."""
-    return [it for it in (LIST, *listed(folder)) if os.path.basename(it) != it or os.path.islink(os.path.join(folder, it))]
+    names = itertools.chain([LIST], _listed(folder))
+    return (it for it in names if os.path.basename(it) != it or os.path.islink(os.path.join(folder, it)))
 
 
 def put_list(folder: str, names: Sequence[str]) -> None:
@@ -116,9 +129,8 @@ def put_list(folder: str, names: Sequence[str]) -> None:
     atomic.replace(os.fsencode(os.path.join(folder, LIST)), write, lambda head: head.startswith(LIST_HEAD))
 
 
-def _unlisted(folder: str, there: Sequence[str]) -> Iterator[str]:
+def _unlisted(folder: str, known: Container[Optional[Tuple[int, int]]]) -> Iterator[str]:
     """The catalogues in a folder that its list doesn't name."""
-    known = set(map(identity, there))
     with os.scandir(folder) as entries:
         for entry in sorted(entries, key=lambda entry: entry.name):
             if entry.is_file() and identity(entry.path) not in known and head_is_ours(head_of(entry.path)[0]):

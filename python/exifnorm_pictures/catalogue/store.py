@@ -7,6 +7,7 @@ stay if the program is killed. Any SQLite tool can read the tables. A file is on
 from __future__ import annotations
 
 import contextlib
+import errno
 import functools
 import os
 import re
@@ -43,7 +44,7 @@ NUMBERS = 1 << 32  # of pictures and of runs, for each of the catalogues that `i
 
 LIST = "catalogues"  # the file that names the catalogues of a folder ..
 LIST_HEAD = b"exifnorm-pictures: catalogues of one archive\n"  # .. and begins with this line
-_LONGEST_LIST = 1 << 24  # bytes of it
+_LONGEST_LIST = 1 << 26  # bytes of it
 
 HEAD = 40  # characters of a text that its index has
 
@@ -266,7 +267,7 @@ def _is_writable(name: str) -> bool:
     return all(os.access(it, os.W_OK) for it in (name, os.path.dirname(os.path.realpath(name))))
 
 
-def _is_left_open(name: str) -> bool:
+def is_left_open(name: str) -> bool:
     """Whether a catalogue is as a run leaves it that was killed."""
     return os.path.exists(f"{os.path.realpath(name)}-journal") or os.path.isfile(name) and head_of(name)[0][18:20] == _OPEN
 
@@ -324,8 +325,12 @@ def list_of(folder: str) -> Optional[bytes]:
     if not os.path.isfile(name):  # a folder of pictures may have a folder of that name
         return None
     with files.reading(name) as file:
-        octets = file.read(_LONGEST_LIST)
-    return octets[len(LIST_HEAD) :] if octets.startswith(LIST_HEAD) else None
+        if file.read(len(LIST_HEAD)) != LIST_HEAD:
+            return None
+        size = os.fstat(file.fileno()).st_size
+        if size > _LONGEST_LIST:  # an answer without the rest would seem to be one about all
+            raise OSError(errno.EFBIG, os.strerror(errno.EFBIG), name)
+        return file.read(size)
 
 
 def of_day(name: str) -> str:
@@ -494,7 +499,7 @@ class Catalogue:
         if (
             not self._is_written
             and str(error) in ("attempt to write a readonly database", "unable to open database file")
-            and _is_left_open(self.file)
+            and is_left_open(self.file)
         ):
             return NoCatalogue(
                 f"{self.name} is as a killed run has left it, with a journal or a log, and can't be read so:"

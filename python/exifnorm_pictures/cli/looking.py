@@ -47,7 +47,7 @@ def opened(name: str, run: Run, in_one_file: bool = False) -> Catalogue:
 
 def say_missing(known: shards.Shards, run: Run) -> None:
     """Says which catalogues of a folder an answer is without; the status is 2 at least then."""
-    for note in known.notes():
+    for note in known.notes:
         say_notes(note)
         run.least.status = UNKNOWN
 
@@ -150,7 +150,7 @@ def keep_texts(name: str, run: Run) -> None:
     """Lets a catalogue, or each of a folder of catalogues, keep the texts of its pictures, if it can be written."""
     from ..catalogue import kept_texts  # which takes long to import
 
-    for file in [] if shards.elsewhere(name) else files_of(name):
+    for file in [] if any(shards.elsewhere(name)) else files_of(name):
         kept_texts.keep(file, Preparing(run).report)
 
 
