@@ -106,8 +106,7 @@ class Nights:
         _refuse_others(self.tonight)
         _refuse_others(self.of_today)
         for ending in ("", *_SQLITES):
-            with contextlib.suppress(FileNotFoundError):
-                os.unlink(self.tonight + ending)
+            _remove(self.tonight + ending)
         if not self.is_first:
             with Catalogue(self.last) as catalogue:
                 copy_over(catalogue, self.tonight, room)
@@ -155,10 +154,15 @@ def _replace(name: str, other: str) -> None:
     beside = f"{other}.new"
     for there in (other, beside):
         _refuse_others(there)
-    with contextlib.suppress(FileNotFoundError):
-        os.unlink(beside)
+    _remove(beside)
     _link(name, beside)
     os.replace(beside, other)
+    _remove(beside)  # if a run was killed, both may be names of one file, of which the system keeps both
+
+
+def _remove(name: str) -> None:
+    with contextlib.suppress(FileNotFoundError):
+        os.unlink(name)
 
 
 def _link(name: str, other: str) -> None:
