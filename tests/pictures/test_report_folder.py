@@ -254,7 +254,7 @@ def test_what_a_killed_run_left_is_removed_by_the_next_one(small: Path, called: 
 def test_what_a_killed_run_left_of_one_page_is_removed_by_the_next_one(
     nameless: bool, small: Path, called: Called, monkeypatch: pytest.MonkeyPatch
 ) -> None:
-    """On file systems with and without files that have no name. No file of a run that lives, none of another kind, and none with another name."""
+    """On file systems with and without files that have no name. No file of a run that lives, no link or folder, none of another user, and none with another name."""
     if not nameless:
         monkeypatch.delattr(os, "O_TMPFILE")
 
@@ -270,14 +270,19 @@ def test_what_a_killed_run_left_of_one_page_is_removed_by_the_next_one(
         return {it.name for it in small.glob(".*") if it.name not in others}
 
     others = {
-        ".exifnorm-1-0123456789ab.part": b"mine",
-        ".exifnorm-1-0123456789ad.part": b"<!doctype html>",  # which is a link
-        ".exifnorm-1-notes.part": b"<!doctype html>",
-        ".exifnorm-1-0123456789ab.part.html": b"<!doctype html>",
+        ".exifnorm-0123456789ab-01234567.part",  # the sum is another one
+        ".exifnorm-0123456789ab-notes.part",
+        ".exifnorm-0123456789ab-0623c932.part.html",
+        folder := ".exifnorm-0123456789ae-98475c91.part",
+        link := ".exifnorm-0123456789ab-0623c932.part",
     }
-    put(str(small), {name: octets for name, octets in others.items() if not name.endswith("d.part")})
-    (small / "mine.html").write_bytes(b"<!doctype html>")
-    (small / ".exifnorm-1-0123456789ad.part").symlink_to(small / "mine.html")
+    put(str(small), {"mine.html": b"<!doctype html>", **{name: b"mine" for name in others - {folder, link}}})
+    (small / folder).mkdir()
+    (small / link).symlink_to(small / "mine.html")
+    if os.geteuid() == 0:
+        others.add(another := ".exifnorm-0123456789ad-ef406c07.part")
+        (small / another).write_bytes(b"")
+        os.chown(small / another, 1, 1)
     killed()
     assert len(left()) == 1, "a killed run leaves a file, or this test shows nothing"
     (dead,) = left()
@@ -292,7 +297,7 @@ def test_what_a_killed_run_left_of_one_page_is_removed_by_the_next_one(
     living: Set[str] = set()
     atomic.replace(os.fsencode(small / "other.html"), write, lambda head: head.lower().startswith(b"<!doctype html"))
     assert len(living) == (not nameless) and left() == set() and (small / "other.html").read_bytes() == b"<!DOCTYPE html>"
-    assert {it.name for it in small.glob(".*")} == set(others) and (small / "mine.html").exists()
+    assert {it.name for it in small.glob(".*")} == others and (small / "mine.html").exists()
 
 
 def test_what_is_put_into_the_earlier_folder_meanwhile_stays(small: Path, called: Called, monkeypatch: pytest.MonkeyPatch) -> None:

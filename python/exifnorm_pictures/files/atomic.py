@@ -11,6 +11,7 @@ import fcntl
 import os
 import re
 import stat
+import zlib
 from typing import AnyStr, BinaryIO, Callable, Iterator, Optional, Pattern, Tuple
 
 from ..model.errors import Failure
@@ -18,14 +19,8 @@ from ..model.texts import reason, shown_path
 from . import copying, opening, rights, signals
 
 Write = Callable[[BinaryIO], None]
-_LEFT = re.compile(rb"\.exifnorm-\d+-[0-9a-f]{12}\.part")  # as `_free_name` makes it
+_LEFT = re.compile(rb"\.exifnorm-[0-9a-f]{12}-[0-9a-f]{8}\.part")  # as `_part` makes it
 _HEAD = 100  # bytes by which the kind of a file is known
-# How what this program writes begins, and before it has its first bytes: catalogues, tables, pages, sheets, evidence, lists; copies of pictures
-_OURS = re.compile(
-    rb"\0*($|SQLite format 3|PK\x03\x04|<!doctype html|# exifnorm-|%%%% HASHDEEP|[0-9a-f]{64}  |exifnorm-pictures: "
-    rb"|\xff[\xd8\x4f\x0a]|II|MM|MRM|FUJI|FOVb|\x89PNG|RIFF|8BPS|GIF8|....(ftyp|JXL |jP  ))",
-    re.IGNORECASE | re.DOTALL,
-)
 
 
 class NotReplaced(Failure):
@@ -117,7 +112,7 @@ def _check(out: bytes, allowed: Callable[[bytes], bool], kept: Tuple[str, ...]) 
 
 def remove_left(folder: bytes) -> None:
     """Removes the files that killed runs have left in a folder."""
-    sweep(folder, _LEFT, lambda entry: _remove_dead(entry.path))
+    sweep(folder, _LEFT, _remove_dead)
 
 
 def sweep(folder: AnyStr, names: "Pattern[AnyStr]", remove: "Callable[[os.DirEntry[AnyStr]], None]") -> None:
@@ -129,14 +124,15 @@ def sweep(folder: AnyStr, names: "Pattern[AnyStr]", remove: "Callable[[os.DirEnt
                     remove(entry)
 
 
-def _remove_dead(path: bytes) -> None:
-    """Removes a file that a killed run of this user has left, which nobody has locked, if it begins as what this program writes."""
-    with open(os.open(path, os.O_RDONLY | os.O_NOFOLLOW | os.O_NONBLOCK | os.O_CLOEXEC), "rb") as file:
+def _remove_dead(entry: "os.DirEntry[bytes]") -> None:
+    """Removes a file that a killed run of this user has left, which nobody has locked."""
+    if entry.name != _part(entry.name[10:22]):
+        return
+    with open(os.open(entry.path, os.O_RDONLY | os.O_NOFOLLOW | os.O_NONBLOCK | os.O_CLOEXEC), "rb") as file:
         now = os.fstat(file.fileno())
         if stat.S_ISREG(now.st_mode) and now.st_uid == os.geteuid():
-            fcntl.flock(file, fcntl.LOCK_EX | fcntl.LOCK_NB)
-            if _OURS.match(file.read(_HEAD)):
-                os.unlink(path)
+            fcntl.flock(file, fcntl.LOCK_SH | fcntl.LOCK_NB)  # NFS has no other lock of a file that is only read
+            os.unlink(entry.path)
 
 
 @contextlib.contextmanager
@@ -179,7 +175,16 @@ def locked(number: int) -> int:
 
 def _free_name(out: bytes) -> bytes:
     """A name beside `out` that isn't taken."""
-    return os.path.join(os.path.dirname(out), b".exifnorm-%d-%s.part" % (os.getpid(), os.urandom(6).hex().encode("ascii")))
+    return os.path.join(os.path.dirname(out), _part(os.urandom(6).hex().encode("ascii")))
+
+
+def _part(word: bytes) -> bytes:
+    """A name with a sum of itself, which a file of another program doesn't have by accident, so that whatever is in it can be removed.
+
+    >>> _part(b"0123456789ab")
+    b'.exifnorm-0123456789ab-0623c932.part'
+    """
+    return b".exifnorm-%s-%08x.part" % (word, zlib.crc32(word))
 
 
 def _link(file: BinaryIO, name: Optional[bytes], out: bytes) -> None:

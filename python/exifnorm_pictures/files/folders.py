@@ -126,7 +126,7 @@ def _remove_dead(folder: bytes, mark: str) -> None:
     try:
         if os.fstat(lock).st_uid != os.geteuid():
             return
-        fcntl.flock(lock, fcntl.LOCK_EX | fcntl.LOCK_NB)
+        fcntl.flock(lock, fcntl.LOCK_SH | fcntl.LOCK_NB)  # as of a file in atomic.py
         with os.scandir(lock) as entries:
             is_ours = all(_is_ours(entry, mark) for entry in entries)
         if is_ours:
