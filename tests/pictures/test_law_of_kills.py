@@ -5,16 +5,19 @@ A short form tries some calls of each command; with --long each is tried.
 """
 
 import contextlib
+import functools
 import os
 import re
 import shlex
 import shutil
 import signal
 import sqlite3
+import tempfile
 from collections import Counter
+from pathlib import Path
 
 import pytest
-from test_outputs import COMMANDS, Runner, needs_xlsx, runner  # noqa: F401 (a fixture)
+from test_outputs import COMMANDS, READ, Runner, needs_xlsx, not_tried, runner  # noqa: F401 (a fixture)
 
 pytestmark = pytest.mark.skipif(not shutil.which("strace"), reason="not installed: strace")
 
@@ -28,15 +31,23 @@ MORE = {
 WRITING = {name: words for name, words in {**COMMANDS, **MORE}.items() if name not in ("history", "explain")}  # which write nothing
 # so that few pictures are several transactions
 SMALL = "from exifnorm_pictures.scan import index; index.BATCH = 1\nfrom exifnorm_pictures.catalogue import kept_texts; kept_texts.AT_ONCE = 2\n"
-WAYS = {
-    "here": SMALL,
-    # where SQLite keeps a journal, and no file is without a name
-    "on a share": SMALL + "from exifnorm_pictures.files import mounts; mounts.is_on_network = lambda _: True; del os.O_TMPFILE\n",
-}
+# where SQLite keeps a journal, no file is without a name, and only one that is open to write can be locked for one process
+SHARE = """
+import fcntl
+from exifnorm_pictures.files import mounts
+mounts.is_on_network = lambda _: True
+del os.O_TMPFILE
+def flock(file, how, call=fcntl.flock):
+    if how & fcntl.LOCK_EX and fcntl.fcntl(file, fcntl.F_GETFL) & os.O_ACCMODE == os.O_RDONLY:
+        raise OSError(9, "as NFS has it")
+    call(file, how)
+fcntl.flock = flock
+"""
+WAYS = {"here": SMALL, "on a share": SMALL + SHARE}
 KILLS = {"here": 4, "on a share": 4}  # of each command in the short form, spread over a run, and here the first of each call
 READS = 3  # of so many kills one is followed by a command that reads
 
-STAYS = re.compile(r"(^|/)\.exifnorm-\d+-[0-9a-f]{12}\.part$|-(wal|shm|journal)$|^state/")  # where there was nothing left to write
+STAYS = re.compile(r"(^|/)\.exifnorm-[0-9a-f]{12}-[0-9a-f]{8}\.part$|^state/")  # where there was nothing left to write
 PYTHONS = re.compile("[a-z0-9_]{8}")  # a file by which Python tries whether it can write to TMPDIR
 CALLS = (
     "write pwrite64 fsync fdatasync ftruncate rename renameat renameat2 link linkat unlink unlinkat rmdir mkdir mkdirat symlink fchmod fchown"
@@ -95,6 +106,7 @@ def rows(path):
         return found
 
 
+BESIDE = ("-wal", "-journal")
 TIME = re.compile(r"\d{4}-\d\d-\d\d[T ]\d\d:\d\d(:\d\d)?|[0-9a-f]{64}  ")  # and the digests of pages with one
 OF_A_RUN = ("id", "run", "device", "inode", "changed")  # of a row, and of a copy of the archive
 
@@ -105,23 +117,32 @@ def plain(row, paths):
     return {name: it for name, it in row.items() if name not in OF_A_RUN}
 
 
-def content(path):
-    octets = path.read_bytes() if path.exists() else b""  # which SQLite has removed
+@functools.lru_cache(maxsize=1000)
+def content(octets, *beside):
+    """What a file has, with what SQLite has beside it. A copy is read, because SQLite rolls back."""
     if octets.startswith(b"SQLite"):
-        try:
-            return rows(path)
-        except (sqlite3.Error, AssertionError) as error:
-            return str(error)
+        with tempfile.TemporaryDirectory() as folder:
+            path = Path(folder) / "copy"
+            path.write_bytes(octets)
+            for ending, more in beside:
+                Path(f"{path}{ending}").write_bytes(more)
+            try:
+                return rows(path)
+            except (sqlite3.Error, AssertionError) as error:
+                return str(error)
     return TIME.sub("", octets.decode("latin-1")) if not octets.startswith(b"PK") else "a sheet"
 
 
 def state(folder):
-    """Each file of a folder, or the error of a catalogue. A lock has what is about one run alone. A copy is read, because SQLite rolls back."""
-    copy = folder.with_name("copy")
-    shutil.rmtree(copy, ignore_errors=True)
-    shutil.copytree(folder, copy, symlinks=True)
-    names = [str(it.relative_to(folder)) for it in folder.rglob("*") if not it.is_dir()]
-    return {name: b"" if name.endswith("lock") else content(copy / name) for name in names if not name.startswith("tmp/")}
+    """Each file of a folder, or the error of a catalogue. What a lock has, and what SQLite has beside a catalogue, is about one run alone."""
+    there = {str(it.relative_to(folder)): it.read_bytes() if it.exists() else b"" for it in folder.rglob("*") if not it.is_dir()}
+    return {
+        name: ""
+        if name.endswith(("lock", "-shm", *BESIDE))
+        else content(octets, *((it, there[name + it]) for it in BESIDE if name + it in there))
+        for name, octets in there.items()
+        if not name.startswith("tmp/")
+    }
 
 
 def left(archive, here):
@@ -156,6 +177,10 @@ def archive(runner):  # noqa: F811
     shutil.rmtree(runner.archive)
     shutil.copytree(here, runner.archive)
     return runner
+
+
+def test_all_that_is_written_is_tried():
+    assert not [it for it in not_tried(WRITING.values()) if it[1] not in READ]
 
 
 @pytest.mark.parametrize("way", WAYS)

@@ -16,10 +16,10 @@ from pathlib import Path
 import pytest
 from made_blocks import BLOCKS, with_exif
 from made_files import app1_xmp, jpeg, title
-from studio import SMALL_JPEG, Studio, name_of, put
+from studio import SMALL_JPEG, Studio, put
 from test_attacks import journal_that_names
 from test_law_of_kills import ATTACH
-from test_outputs import Runner
+from test_outputs import Runner, not_tried
 
 from exifnorm_pictures.catalogue.store import LIST_HEAD
 from exifnorm_pictures.cli import parser
@@ -153,7 +153,7 @@ def left(top):
     for folder in (top / "disk", top / "tmp"):
         for name in (".exifnorm-abcdefgh.part", "exifnorm-abcdefgh"):
             put(str(folder / name), {"notes.txt": b"mine"})
-        put(str(folder), {".exifnorm-1-0123456789ab.part": b"mine"})
+        put(str(folder), {".exifnorm-0123456789ab-01234567.part": b"mine"})  # which has no sum of its name
 
 
 STRANGERS = (journals, beside, lists, links, left)
@@ -206,6 +206,12 @@ COMMANDS = {
     "check --rules rules c": ASKED,
     "check --rules rules d": SHARDS,
     "nightly p --catalogue n": [*catalogue("n", "n.tonight", "n.before"), "n.lock", FILE],
+    "nightly p --catalogue old --rules rules --html page.html": [
+        *catalogue("old", "old.tonight", "old.before"),
+        "old.lock",
+        "page.html",
+        FILE,
+    ],
     "show p": [],
     "show --captions p": [],
     "show --captions c": ASKED,
@@ -238,20 +244,29 @@ def runner(saved):
 
 
 def tree(top):
-    """The files at home, and those in the folder of a report that no report writes."""
-    mine = [it for it in (top / "home").rglob("*") if it.is_file()]
-    mine += [it for it in (top / "disk").rglob("*") if it.name in ("notes.html", "holiday.jpg", "notes.txt")]
+    """The files at home, and those elsewhere that no command writes."""
+    files = [it for it in top.rglob("*") if it.is_file() and not it.is_symlink()]
+    mine = [it for it in files if top / "home" in it.parents or it.read_bytes().startswith(b"mine")]
     return {str(it.relative_to(top)): (it.read_bytes(), it.lstat().st_ino) for it in mine}
 
 
-def test_each_command_is_there():
-    assert {name_of(words) for words in COMMANDS} == {name for name, *_ in parser.COMMANDS}
+def words_of(line):
+    """A command line, with a spreadsheet if its command has any. A new command, or one with another name of a file, fails until a line has it."""
+    given = parser.parsed(line.split())
+    return [*line.split(), *["--xlsx", "table.xlsx"] * (getattr(given, "xlsx", "") is None and not given.csv)]
+
+
+def test_each_command_is_there_with_each_name_of_a_file():
+    lines = list(map(words_of, COMMANDS))
+    assert {parser.parsed(it).command for it in lines} == set(parser.parsers()[1])
+    assert not not_tried(lines)
 
 
 @pytest.mark.parametrize("stranger", STRANGERS, ids=lambda it: it.__name__)
 def test_nothing_else_is_written(stranger, saved, runner, tmp_path):
     wrong = []
     for words, outputs in COMMANDS.items():
+        line = words_of(words)
         shutil.rmtree(saved)
         shutil.copytree(f"{saved}.saved", saved, symlinks=True)
         stranger(saved)
@@ -259,10 +274,14 @@ def test_nothing_else_is_written(stranger, saved, runner, tmp_path):
         traces = tmp_path / "traces"
         shutil.rmtree(traces, ignore_errors=True)
         traces.mkdir()
-        status, said = runner.run(saved / "disk", words.split(), traced(saved, traces))
+        status, said = runner.run(saved / "disk", line, traced(saved, traces))
         if status not in range(5):
             wrong.append((words, status, said[-300:]))
-        allowed = [*(str(saved / "disk" / it) for it in outputs), str(saved / "tmp" / "*"), *FREE]
+        allowed = [
+            *(str(saved / "disk" / it) for it in (*outputs, *["table.xlsx", FILE] * ("table.xlsx" in line))),
+            str(saved / "tmp" / "*"),
+            *FREE,
+        ]
         others = {it for it in written(str(saved / "disk"), traces) if not any(fnmatch.fnmatchcase(it[1], due) for due in allowed)}
         wrong += [
             (words, call, path.replace(str(saved), "")) for call, path in sorted(others) if os.path.realpath(path) != str(saved / "disk")

@@ -19,7 +19,7 @@ import zipfile
 import pytest
 from made_blocks import BLOCKS, with_exif
 from made_files import app1, app1_xmp, exif, jpeg, title
-from studio import SMALL_JPEG, Studio, errors, name_of, put
+from studio import SMALL_JPEG, Studio, errors, put
 
 from exifnorm_pictures.cli import parser
 
@@ -63,7 +63,7 @@ READ = {
     "--since",
     "--rules",
 }
-READ |= {"--exclude", "--bag", "old", "new"}
+READ |= {"--bag", "old", "new"}
 KEEPS = (
     "index",
     "index, new",
@@ -121,14 +121,27 @@ os._exit(status)
 """
 
 
+def not_tried(lines):
+    """The arguments of each command that are names of files, and that none of some command lines has. What a command is about has
+    several places."""
+    tried = {(one.command, PLACES.get(name, name)) for one in map(parser.parsed, lines) for name, it in vars(one).items() if it}
+    named = {
+        (command, it)
+        for command, one in parser.parsers()[1].items()
+        for it in one._actions
+        if it.type is parser._name and it.metavar != "PATTERN"
+    }
+    return {
+        (command, (it.option_strings or [it.dest])[-1]) for command, it in named if (command, PLACES.get(it.dest, it.dest)) not in tried
+    }
+
+
+PLACES = dict.fromkeys(("source", "names", "catalogues"), "catalogue")
+
+
 def test_all_commands_and_what_they_write_are_tried():
-    commands = parser.parsers()[1]
-    assert {name_of(" ".join(words)) for words in COMMANDS.values()} == set(commands)
-    for name, one in commands.items():
-        tried = {word for words in COMMANDS.values() if name_of(" ".join(words)) == name for word in words}
-        files = {(it.option_strings or [it.dest])[-1] for it in one._actions if it.type is parser._name}
-        elsewhere = {"catalogue export": {"file"}, "mend": {"out"}, "index": {"--shards"}}  # the last in test_index_shards.py
-        assert files - tried - READ <= elsewhere.get(name, set()), name
+    assert {parser.parsed(words).command for words in COMMANDS.values()} == set(parser.parsers()[1])
+    assert {it for it in not_tried(COMMANDS.values()) if it[1] not in READ} == {("index", "--shards")}  # which the law of kills has
 
 
 class Runner:

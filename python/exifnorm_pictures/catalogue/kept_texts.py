@@ -12,7 +12,7 @@ from typing import Callable, Iterator, List, Sequence, Tuple
 
 from ..model.records import PictureRecord
 from .label_texts import rows_of
-from .store import Catalogue, NoCatalogue, put_text, roll_back, texts_table
+from .store import Catalogue, NoCatalogue, is_left_open, put_text, roll_back, texts_table
 
 Report = Callable[[int, int], None]  # of how many pictures the texts were added, and how many had none
 Rows = Callable[[Catalogue, int], Iterator[Tuple[object, ...]]]  # the texts of a picture, by its number
@@ -27,15 +27,16 @@ def say_nothing(_added: int, _due: int) -> None:
 
 
 def keep(name: str, report: Report = say_nothing) -> None:
-    """Adds the texts that a catalogue lacks. It does nothing if the catalogue can't be written, or another run writes to it."""
+    """Adds the texts that a catalogue lacks, and closes one that a killed run has left open. It does nothing if the catalogue can't be written,
+    or another run writes to it."""
     roll_back(name, adds=True)
     with Catalogue(name) as catalogue:
         due = lacking(catalogue)
-        if not due or not os.stat(name).st_mode & _WRITERS:
-            return
+    if not (due or is_left_open(name)) or not os.stat(name).st_mode & _WRITERS:
+        return
     with suppress(NoCatalogue, OSError), Catalogue(name, adds=True) as catalogue:
         done = 0
-        while True:
+        while done < due:
             with catalogue.transaction():
                 numbers = _add(catalogue, "main.texts", catalogue.without_texts(), 0, _rows)  # another run may have added some meanwhile
                 if numbers:
