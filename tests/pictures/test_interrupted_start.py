@@ -1,8 +1,11 @@
 """Signals at moments that no call of the system marks."""
 
+import gc
 import os
 import signal
+import sys
 import tempfile
+import weakref
 
 import pytest
 
@@ -43,3 +46,31 @@ def test_a_query_that_is_open_when_python_ends(folder, monkeypatch):
             for name in ("sqlite3", "Damaged"):
                 patched.setattr(store, name, None)
             rows.close()
+
+
+def test_what_a_signal_raised_is_gone_before_python_ends():
+    """With all that it knows, as a pool of processes, whose functions need modules that Python removes."""
+
+    class Pool:
+        pass
+
+    def run():
+        pool = Pool()
+        seen.append(weakref.ref(pool))
+        signal.raise_signal(signal.SIGHUP)
+
+    seen, hook = [], sys.unraisablehook
+    before = {it: signal.getsignal(it) for it in signals._HEEDED}
+    signal.signal(signal.SIGHUP, signal.SIG_DFL)
+    try:
+        signals.heed_signals()
+        with pytest.raises(signals.Stopped) as raised:
+            run()
+        del raised
+        signals.heed_no_more()
+        gc.collect()
+        assert seen[0]() is None
+    finally:
+        sys.unraisablehook = hook
+        for number, handler in before.items():
+            signal.signal(number, handler)

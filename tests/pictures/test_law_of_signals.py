@@ -21,6 +21,8 @@ COMMANDS = {
     "version": ["--version"],
     "report": ["report", "c", "--html", "r/"],
     "index": ["index", "p", "--catalogue", "new", "--jobs", "2"],
+    "changed": ["changed", "c", "p", "--jobs", "2"],
+    "nightly": ["nightly", "p", "--catalogue", "new", "--html", "r/"],
     "list": ["list", "c"],
     "mend": ["mend", "c", "out"],
 }
