@@ -1,17 +1,12 @@
 #!/usr/bin/env python3
 """Takes the pictures of the report and of the page for the tutorial and the README, with Chromium. Needs Pillow.
 
-  docs/screenshots.py [COMMAND [PAGE]]
-  docs/screenshots.py --check
-
-COMMAND is exifnorm-pictures; by default it is the one of this clone. The pictures show the report that the tutorial makes. PAGE is the page that
-compares pictures in a browser; by default docs/exifnorm.html. Its picture shows the samples of both days.
-
---check says, by docs/screenshots.txt, whether what the pictures are made from has changed since then.
+The pictures show the report that the tutorial makes, and the page that compares pictures in a browser, with the samples of both days.
 """
 
 from __future__ import annotations
 
+import argparse
 import hashlib
 import re
 import shutil
@@ -140,20 +135,26 @@ def take_page(page: Path, folder: Path) -> Image.Image:
     return without_empty(Image.open(folder / "page.png").convert("RGB"))
 
 
-def main(words: list[str]) -> None:
-    if len(words) > 2:
-        sys.exit(__doc__)
-    if words == ["--check"]:
+def main() -> None:
+    parser = argparse.ArgumentParser(description=__doc__)
+    parser.add_argument(
+        "command", nargs="?", type=Path, default=DOCS.parent / "exifnorm-pictures", help="exifnorm-pictures; by default this clone's"
+    )
+    parser.add_argument("page", nargs="?", type=Path, default=DOCS / "exifnorm.html", help="by default docs/exifnorm.html")
+    parser.add_argument(
+        "--check", action="store_true", help="take none: say, by docs/screenshots.txt, whether what they show has changed since"
+    )
+    arguments = parser.parse_args()
+    if arguments.check:
         check()
         return
-    command = str(Path(words[0] if words else DOCS.parent / "exifnorm-pictures").resolve())
     with tempfile.TemporaryDirectory() as name:
-        keep(take_page(Path(words[1]) if len(words) > 1 else DOCS / "exifnorm.html", Path(name)), "page.png")
-        page = report(command, Path(name))
+        keep(take_page(arguments.page, Path(name)), "page.png")
+        page = report(str(arguments.command.resolve()), Path(name))
         for file, titles in PICTURES.items():
             keep(take(only(page, titles), Path(name)), file)
     RECORD.write_text(sources(), encoding="utf-8")
 
 
 if __name__ == "__main__":
-    main(sys.argv[1:])
+    main()
