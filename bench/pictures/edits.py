@@ -1,73 +1,100 @@
 #!/usr/bin/env python3
-"""Measures `changed` and `report` between two catalogues in which every picture got the same edit,
-but for three in two hundred, with two versions of exifnorm_pictures in turn.
+"""What `changed` costs over another tree of these sources, such as a checkout of an earlier commit, if every picture got the same edit, but for
+three in two hundred, whose captions became each another one.
 
-  bench/pictures/edits.py FOLDER OLD NEW [PICTURES [ROUNDS]]
+  bench/pictures/edits.py LIBRARY TREE [--pictures 10000 200000] [--rounds 3]
 
-OLD and NEW are clones; each makes its own catalogues in FOLDER. EXIFNORM_LIBRARY names the library.
+LIBRARY is a folder such as out/lib, which both use. It prints the instructions for each further picture, which Valgrind counts and which hardly
+depend on the machine, and for catalogues of so many pictures, whose rows are copies with other names, the processor time and the most memory:
+the median of the ratios of so many rounds, in each of which both trees have a turn.
 """
 
-from __future__ import annotations
-
+import argparse
 import os
-import subprocess
-import sys
+import sqlite3
+import statistics
+import tempfile
+from contextlib import closing
 from pathlib import Path
+from typing import Tuple
 
-MOST = 65_000  # of a folder
+from commands import cost
+from over import TOP, Tree, data_set, made
+
+MADE, FEW = 1000, 200  # pictures that are indexed, and those of the smaller catalogue whose instructions are counted
+COPIES = """
+INSERT INTO pictures SELECT {pictures} FROM pictures, (WITH RECURSIVE copies (number) AS (VALUES (1) UNION ALL SELECT number + 1 FROM copies
+    LIMIT {times} - 1) SELECT number FROM copies WHERE {times} > 1);
+INSERT INTO blocks SELECT {blocks} FROM pictures JOIN blocks ON picture = 1 + (pictures.id - 1) % {made} WHERE pictures.id > {made};
+DELETE FROM pictures WHERE id > {pictures_left};
+"""
 
 
-def jpeg(caption: str) -> bytes:
-    """A picture with a caption of IPTC."""
-    text = caption.encode()
-    octets = b"\x1c\x02\x78" + len(text).to_bytes(2, "big") + text
-    resource = b"8BIM\x04\x04\0\0" + len(octets).to_bytes(4, "big") + octets + b"\0" * (len(octets) % 2)
-    segment = b"Photoshop 3.0\0" + resource
-    return b"\xff\xd8\xff\xed" + (len(segment) + 2).to_bytes(2, "big") + segment + b"\xff\xd9"
-
-
-def make(folder: Path, pictures: int) -> None:
+def make(folder: Path) -> None:
     """The pictures before and after."""
-    for number in range(pictures):
+    for number in range(MADE):
         before = f"Plate {number}: the market, {1700 + number % 300}, signed on the back"
-        after = {77: "", 163: before.replace("1", "2")}.get(number % 200, before + ", recto")
+        after = {77: "", 120: f"Plate {number + 1}: the harbour", 163: before.replace("1", "2")}.get(number % 200, before + ", recto")
         for side, text in (("before", before), ("after", after)):
-            path = folder / side / str(number // MOST) / f"{number:06}.jpg"
+            path = folder / side / f"{number:04}.jpg"
             path.parent.mkdir(parents=True, exist_ok=True)
-            path.write_bytes(jpeg(text))
+            path.write_bytes(made.jpeg(made.app13(made.resource(0x0404, data_set(120, text)))))
 
 
-def run(clone: str, *words: str) -> "tuple[float, int]":
-    """Seconds of the processor, and the most memory in kB."""
-    environment = {**os.environ, "PYTHONPATH": str(Path(clone) / "python")}
-    command = [sys.executable, "-m", "exifnorm_pictures", *words]
-    child = subprocess.Popen(command, env=environment, stdout=subprocess.DEVNULL)
-    _, status, used = os.wait4(child.pid, 0)
-    if os.waitstatus_to_exitcode(status) not in (0, 1):
-        sys.exit(f"{clone}: {' '.join(words)} failed")
-    return used.ru_utime + used.ru_stime, used.ru_maxrss
+def grow(catalogue: Path, pictures: int) -> None:
+    """Makes a catalogue have so many pictures."""
+    with closing(sqlite3.connect(catalogue)) as base, base:
+        columns = {table: [row[1] for row in base.execute(f"PRAGMA table_info({table})")] for table in ("pictures", "blocks")}
+        others = {"id": f"id + number * {MADE}", "path": "CAST(path || '.' || number AS BLOB)", "inode": "-id - number * 1000"}
+        base.executescript(
+            COPIES.format(
+                pictures=", ".join(others.get(it, it) for it in columns["pictures"]),
+                blocks=", ".join("pictures.id" if it == "picture" else f"blocks.{it}" for it in columns["blocks"]),
+                times=-(-pictures // MADE),
+                made=MADE,
+                pictures_left=pictures,
+            )
+        )
 
 
-def main(words: "list[str]") -> None:
-    if len(words) < 3:
-        sys.exit(__doc__)
-    folder, clones = Path(words[0]), words[1:3]
-    pictures, rounds = int(words[3]) if len(words) > 3 else 10_000, int(words[4]) if len(words) > 4 else 5
-    if not folder.exists():
-        make(folder, pictures)
-    sides = {}
-    for number, clone in enumerate(clones):
-        sides[clone] = [str(folder / f"{side}.{number}") for side in ("before", "after")]
-        for side, catalogue in zip(("before", "after"), sides[clone]):
-            run(clone, "index", str(folder / side), "--catalogue", catalogue, "--quiet", "--jobs", "1")
-    times: "dict[str, list[tuple[float, int]]]" = {it: [] for it in clones}
-    for _ in range(rounds):
-        for clone in clones:
-            times[clone].append(run(clone, "changed", *sides[clone]))
-    for clone in clones:
-        seconds, memory = min(it for it, _ in times[clone]), max(it for _, it in times[clone])
-        print(f"{clone}: {seconds:.2f} s at best of {rounds}, {memory / 1000:.1f} MB")
+def indexed(tree: Tree, folder: Path, pictures: int) -> Tuple[str, str]:
+    """The catalogues of both states, with so many pictures."""
+    names = []
+    for side in ("before", "after"):
+        names.append(f"{side}.{pictures}")
+        tree.run("index", str(folder / side), "--catalogue", names[-1], "--quiet", "--jobs", "1")
+        grow(tree.folder / names[-1], pictures)
+    return names[0], names[1]
+
+
+def used(tree: Tree, words: str) -> Tuple[float, int]:
+    """The seconds of a processor and the MB that a command takes."""
+    return cost(tree.folder, words, {**os.environ, "PYTHONPATH": str(tree.folder / "python")})
+
+
+def main() -> None:
+    """Measures and prints."""
+    parser = argparse.ArgumentParser(description=__doc__, formatter_class=argparse.RawDescriptionHelpFormatter)
+    parser.add_argument("library", type=Path)
+    parser.add_argument("tree", type=Path)
+    parser.add_argument("--pictures", type=int, nargs="*", default=[10_000, 200_000])
+    parser.add_argument("--rounds", type=int, default=3)
+    arguments = parser.parse_args()
+    os.environ["EXIFNORM_LIBRARY"] = str(arguments.library.resolve() / "libexifnorm.so.1")
+    with tempfile.TemporaryDirectory() as name:
+        folder = Path(name)
+        make(folder)
+        trees = Tree(arguments.tree.resolve(), folder / "other"), Tree(TOP, folder / "this")
+        counts = [[it.instructions("changed", *indexed(it, folder, pictures)) for pictures in (FEW, MADE)] for it in trees]
+        other, this = ((many - few) / (MADE - FEW) for few, many in counts)
+        print(f"instructions for each further picture: {this / other:.3f} ({this / 1e6:.2f} over {other / 1e6:.2f} million)")
+        for pictures in arguments.pictures:
+            words = [f"changed {' '.join(indexed(it, folder, pictures))}" for it in trees]
+            rounds = [[used(*it) for it in zip(trees, words)] for _ in range(arguments.rounds)]
+            ratio = statistics.median(this_time / other_time for (other_time, _), (this_time, _) in rounds)
+            (other_time, other_memory), (this_time, memory) = (map(max, zip(*of_tree)) for of_tree in zip(*rounds))
+            print(f"{pictures:,} pictures: {ratio:.2f}; at most {this_time:.1f} s, {memory} MB over {other_time:.1f} s, {other_memory} MB")
 
 
 if __name__ == "__main__":
-    main(sys.argv[1:])
+    main()

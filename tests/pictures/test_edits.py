@@ -50,7 +50,7 @@ def lines(before, after, has_parts=True):
     """The edits in words. A field that both have keeps a block from being one that came or went."""
     beside = one("iptc", "2:0", "octets", "x") + one("xmp", "x:y", "text", "x") + one("main", "010f", "ASCII", "x")
     beside += one("exif", "9000", "ASCII", "x") + one("gps", "0000", "ASCII", "x")
-    return [line_of(it, True) for it in edits_of(differences(before + beside, after + beside), has_parts)]
+    return [line_of(it, True) for it in edits_of(differences(before + beside, after + beside), has_parts).values()]
 
 
 @pytest.mark.parametrize(
@@ -102,8 +102,11 @@ def test_all_dates_that_move_alike_are_one_edit():
 
 def test_a_block_that_went_is_one_edit():
     record = keywords("a") + caption("vase")[:1]
-    assert [line_of(it) for it in edits_of(differences(record, []))] == ["IPTC (caption, keywords) removed"]
-    assert [line_of(it) for it in edits_of(differences(record, []), False)] == ["caption (IPTC) removed", "keywords (IPTC) removed"]
+    assert [line_of(it) for it in edits_of(differences(record, [])).values()] == ["IPTC (caption, keywords) removed"]
+    assert [line_of(it) for it in edits_of(differences(record, []), False).values()] == [
+        "caption (IPTC) removed",
+        "keywords (IPTC) removed",
+    ]
 
 
 def test_a_position_is_one_edit():
@@ -114,7 +117,7 @@ def test_a_position_is_one_edit():
     assert line.startswith("position (Exif): [-") and line.endswith("+}")
     assert lines([], place)[0].startswith("position (Exif): {+")
     whole = [*place, *one("gps", "0007", "ASCII", "x"), *one("main", "010f", "ASCII", "x"), *one("main", "013b", "ASCII", "x")]
-    assert [line_of(it) for it in edits_of([it._replace(part="Exif") for it in differences(whole, [])])] == [
+    assert [line_of(it) for it in edits_of([it._replace(part="Exif") for it in differences(whole, [])]).values()] == [
         "Exif (creator, position) removed"
     ]
 
@@ -148,7 +151,7 @@ MEMBERS = st.lists(st.text("ab1é", min_size=1, max_size=4), max_size=6)
 
 @given(MEMBERS, MEMBERS)
 def test_an_edit_of_the_earlier_list_gives_the_later_one(before, after):
-    edits = [it for it in edits_of(differences(keywords(*before), keywords(*after)), False) if it.is_list and not it.note]
+    edits = [it for it in edits_of(differences(keywords(*before), keywords(*after)), False).values() if it.is_list and not it.note]
     for edit in edits:
         out, put = ([it.text for it in edit.steps if it.sign == sign] for sign in "-+")
         left = list(before)
@@ -243,7 +246,7 @@ def test_memory_has_a_limit(monkeypatch):
 
 def test_a_strangers_fields_are_limited():
     changes = differences([], [one("xmp", f"x:f{number}", "text", "a")[0] for number in range(2000)])
-    edits = edits_of(changes, False)
+    edits = [*edits_of(changes, False).values()]
     assert len(edits) <= 101
     other = differences([], [one("xmp", f"x:f{number}", "text", "b" if number == 1998 else "a")[0] for number in range(2000)])
     kinds = Kinds(False)

@@ -37,8 +37,10 @@ class FieldDifference(NamedTuple):
     @property
     def is_equal_number(self) -> bool:
         """Whether both have equal numbers, or the same bytes with another type."""
-        has_both = bool(self.before and self.after and not self.note)
-        return has_both and list(map(equal_form, self.before)) == list(map(equal_form, self.after))
+        if self.note or not self.before or len(self.before) != len(self.after):
+            return False
+        pairs = zip(self.before, self.after)
+        return all(one.count == other.count and equal_form(one) == equal_form(other) for one, other in pairs)
 
 
 def exact_side(fields: Sequence[Field]) -> Optional[str]:

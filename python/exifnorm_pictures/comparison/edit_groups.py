@@ -149,7 +149,7 @@ class Kinds:
     ) -> int:
         """Adds a picture with the fields that differ, and with the standards that it has. Returns
         the number of its kind from 1 on, or 0 if it has none."""
-        edits = {it.key: it for it in edits_of(changes, self.has_parts)} if changes else {}
+        edits = edits_of(changes, self.has_parts) if changes else {}
         if not edits:
             return 0
         identity = tuple(sorted(key for key, it in edits.items() if not it.is_minor))

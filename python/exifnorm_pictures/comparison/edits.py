@@ -13,12 +13,14 @@ import hashlib
 import re
 from collections import Counter
 from datetime import timedelta
+from itertools import chain
 from typing import Dict, Iterator, List, NamedTuple, Optional, Sequence, Set, Tuple
 
 from ..fields.choosing import SAVES
 from ..fields.field import Field
 from ..fields.labels import POSITION, label_of_fields
 from ..fields.listing import MAKER_NOTE
+from ..fields.plain_names import group_name
 from ..fields.plain_texts import xmp_texts
 from ..model.found import EXIF, IPTC, NAMES, XMP
 from .dates import in_words, shifts
@@ -86,17 +88,13 @@ class Edit(NamedTuple):
     @property
     def key(self) -> bytes:
         """Equal for equal edits."""
-        words = _plain(self.core) if not self.note else self.name == FURTHER and self.value
+        words = [*chain(*self.core)] if not self.note else self.name == FURTHER and self.value
         return digest(repr((self.name, self.note, words)))
 
     @property
     def shape(self) -> bytes:
         """Equal for edits whose words differ only in their digits."""
-        return digest(repr((self.name, self.note, _plain(numberless(self.core)))))
-
-
-def _plain(steps: Sequence[Step]) -> List[Tuple[str, str]]:
-    return [(sign, text) for sign, text in steps]
+        return digest(repr((self.name, self.note, [*chain(*numberless(self.core))])))
 
 
 def numberless(steps: Sequence[Step]) -> Tuple[Step, ...]:
@@ -112,9 +110,10 @@ def _bare(step: Step) -> Step:
 def places_of(edit: Edit) -> List[str]:
     """In which standards an edit was, which dates moved, or the labels of the texts that went with
     a block; nothing if the name says it."""
-    labels = {label_of_fields().get(it, "") for it in edit.fields}
-    if edit.note in ("removed", "added") and "" not in labels and edit.name not in labels:
-        return sorted(labels, key=lambda it: _order()[it])
+    if edit.note in ("removed", "added"):
+        labels = {label_of_fields().get(it, "") for it in edit.fields}
+        if "" not in labels and edit.name not in labels:
+            return sorted(labels, key=lambda it: _order()[it])
     if edit.fields[:1] == (edit.name,):
         return []
     if edit.name == DATES:
@@ -132,18 +131,20 @@ def digest(text: str) -> bytes:
     return hashlib.sha256(text.encode("utf-8", "surrogatepass")).digest()[:16]
 
 
-def edits_of(changes: Sequence[FieldDifference], has_parts: bool = True) -> List[Edit]:
-    """The edits of a picture by the fields that differ: those with a label first, and last what
-    programs write by themselves. A block or directory that came or went is one edit, but for the
-    texts that came with it, unless only some fields are compared."""
+def edits_of(changes: Sequence[FieldDifference], has_parts: bool = True) -> Dict[bytes, Edit]:
+    """The edits of a picture, with their keys, by the fields that differ: those with a label first,
+    and last what programs write by themselves. A block or directory that came or went is one edit,
+    but for the texts that came with it, unless only some fields are compared."""
     edits: Dict[bytes, Edit] = {}
     for edit in _single(changes, _parts(changes) if has_parts else {}):
         _add(edits, edit)
-    major = [it for it in edits.values() if not it.is_minor]
+    major = [(key or it.key, it) for key, it in edits.items() if not it.is_minor]
+    major.sort(key=lambda it: (_order().get(it[1].name, len(_order())), it[1].name))
     names = tuple(name for it in edits.values() if it.is_minor for name in it.fields)
-    major.sort(key=lambda it: (_order().get(it.name, len(_order())), it.name))
-    minor = Edit(PROGRAMS, (), "changed", names, is_minor=bool(major))
-    return [*major, minor] if names else major
+    if names:
+        minor = Edit(PROGRAMS, (), "changed", names, is_minor=bool(major))
+        major.append((minor.key, minor))
+    return dict(major)
 
 
 def _add(edits: Dict[bytes, Edit], edit: Edit) -> None:
@@ -168,6 +169,8 @@ def _parts(changes: Sequence[FieldDifference]) -> Dict[_Part, str]:
     """The blocks and directories that came or went. A small one isn't an edit by itself: what
     counts are the texts that came with it, or the only one that went with it."""
     parted = [it for it in changes if it.part]
+    if not parted:
+        return {}
     texts: Dict[_Part, Set[str]] = {(it.sign, it.part): set() for it in parted}
     for change in parted:
         if _has_label(change):
@@ -183,12 +186,12 @@ def _size(part: _Part, count: int, texts: int) -> str:
 def _single(changes: Sequence[FieldDifference], parts: Dict[_Part, str]) -> Iterator[Edit]:
     """The edits of single fields, and of those that are one: dates that moved, and positions that
     didn't go with a block or directory."""
-    moved = shifts([it for it in changes if not it.is_equal_number])
+    moved = shifts(changes)
     dates = [it for fields in moved.values() for it in fields]
     left = _without(changes, dates)
     positions = [it for it in left if _is_position(it, parts)]
     yield from (_of_dates(shift, fields) for shift, fields in moved.items())
-    yield from _positions(positions)
+    yield from _positions(positions) if positions else ()
     for change in _without(left, positions):
         yield _edit(change, parts.get((change.sign, change.part), ""))
 
@@ -228,13 +231,12 @@ def _order() -> Dict[str, int]:
 
 
 def _name(change: FieldDifference) -> str:
-    block = f" ({change.block})" if change.block else ""
-    name = change.name.removesuffix(block)
-    return label_of_fields().get(name, name) + block
+    name = group_name(change.directory, change.tag)
+    return label_of_fields().get(name, name) + (f" ({change.block})" if change.block else "")
 
 
 def _has_label(change: FieldDifference) -> bool:
-    return _name(change) != change.name
+    return group_name(change.directory, change.tag) in label_of_fields()
 
 
 def _edit(change: FieldDifference, of_part: str) -> Edit:
@@ -246,7 +248,7 @@ def _edit(change: FieldDifference, of_part: str) -> Edit:
     note = _note_of(change)
     edit = Edit(_name(change), (), note, (change.name,)) if note else _of_values(change)
     is_minor = change.name in BY_THEMSELVES or (of_part == SMALL and not has_label)
-    return edit._replace(is_minor=is_minor)
+    return edit._replace(is_minor=True) if is_minor else edit
 
 
 def _note_of(change: FieldDifference) -> str:

@@ -211,7 +211,8 @@ class Pairs:
         """Pairs the others by what they have, and finds those that were renumbered."""
         self.base.execute(f"INSERT INTO taken {self._query_taken()}")
         for keys, have_taken in (((_FORM,), False), ((_FILE,), True), ((*_ROUNDS, *_CODED), False), ((*_KEYS, *_CODED), True)):
-            if have_taken and not self.base.execute("SELECT 1 FROM taken").fetchone():
+            those = "taken" if have_taken else "alone_before, alone_after"
+            if not self.base.execute(f"SELECT 1 FROM {those}").fetchone():
                 continue
             for key in keys:
                 left = self._alone(BEFORE, key, have_taken), self._alone(AFTER, key, have_taken)
@@ -252,15 +253,15 @@ class Pairs:
         """The number, the digests and the key of each picture that isn't paired yet, by key and path, also of those whose name has another file.
         SQLite has sorted them before the first is fetched."""
         key = f"form(substr(path, {len(self.heads[side]) + 1}))" if key == _FORM else key
-        alone = f"SELECT id FROM alone_{_BASES[side]}" + f" UNION SELECT {_ALIASES[side]} FROM taken" * has_taken
-        left = (
-            f"FROM ({alone}) JOIN {_BASES[side]}.pictures USING (id) WHERE problem IS NULL"
-            f" AND {_HAS_KEY} AND id NOT IN (SELECT {_ALIASES[side]} FROM moved)"
-        )
+        alone = [f"SELECT id FROM alone_{base}" + f" UNION SELECT {alias} FROM taken" * has_taken for base, alias in zip(_BASES, _ALIASES)]
+        rows = [f"FROM ({query}) CROSS JOIN {base}.pictures USING (id)" for base, query in zip(_BASES, alone)]
+        left = f"{rows[side]} WHERE problem IS NULL AND {_HAS_KEY} AND id NOT IN (SELECT {_ALIASES[side]} FROM moved)"
         if key in _CODED:
             left += " AND coded_picture != ''"
         if key.startswith("content"):
             left += " AND not_read IS NOT NULL AND NOT (exif_octets = '' AND iptc_octets = '' AND xmp_octets = '')"
+        if key == _KEYS[-1] and has_taken:  # all that were edited: a digest is made only of those that may have an equal one
+            left += f" AND (size, modified) IN (SELECT size, modified {rows[1 - side]})"
         query = f"SELECT id, sha256, coded_picture, {key} {left}"
         if key in _CODED or key.startswith("content"):
             query += f" AND ({key}) IN (SELECT {key} {left} GROUP BY {key} HAVING count(*) = 1)"

@@ -7,7 +7,8 @@ import unicodedata
 from typing import List, Optional, Sequence, Tuple
 
 from ..fields.field import Field
-from ..fields.plain_values import in_line
+from ..fields.plain_texts import without_nul
+from ..fields.plain_values import in_line, plain
 from ..model.texts import shown_path
 from .differing import FieldDifference, exact_side
 
@@ -20,10 +21,10 @@ def sides(difference: FieldDifference, exactly: bool = False) -> Tuple[Optional[
     >>> sides(FieldDifference("main", "0112", (), (Field("main", "0112", "SHORT", 1, (6,)),)))
     (None, 'turn 90° clockwise to view')
     """
-    plain = [", ".join(map(in_line, one)) if one else None for one in (difference.before, difference.after)]
-    if exactly or plain[0] == plain[1]:
+    texts = [", ".join(map(in_line, one)) if one else None for one in (difference.before, difference.after)]
+    if exactly or texts[0] == texts[1]:
         return exact_side(difference.before), exact_side(difference.after)
-    return told_apart(plain[0], plain[1])
+    return told_apart(texts[0], texts[1])
 
 
 def told_apart(before: Optional[str], after: Optional[str]) -> Tuple[Optional[str], Optional[str]]:
@@ -72,7 +73,8 @@ _NOTHING, _SPACE = re.compile(f"[{_IGNORED}]"), re.compile(f"[{_BLANKS}]")
 
 def look(text: str) -> str:
     """Equal of texts that look alike."""
-    return " ".join(_SPACE.sub(" ", _NOTHING.sub("", unicodedata.normalize("NFC", text))).split())
+    shown = text if text.isascii() else _NOTHING.sub("", unicodedata.normalize("NFC", text))
+    return " ".join(_SPACE.sub(" ", shown).split())
 
 
 def numbered(text: str) -> str:
@@ -94,7 +96,7 @@ def plain_sides(difference: FieldDifference) -> Tuple[Optional[str], Optional[st
     >>> plain_sides(FieldDifference("main", "013b", (), (Field("main", "013b", "ASCII", 5, b"Otto\\0"),)))
     (None, 'Otto')
     """
-    values = ["; ".join(it.text for it in one) if one else None for one in (difference.before, difference.after)]
+    values = ["; ".join([without_nul(plain(it)) for it in one]) if one else None for one in (difference.before, difference.after)]
     if values[0] == values[1]:
         return exact_side(difference.before), exact_side(difference.after)
     return told_apart(values[0], values[1])
