@@ -212,6 +212,19 @@ def test_many_texts_of_their_own_are_one_group():
     ]
 
 
+def test_numbers_that_are_only_written_otherwise_come_last():
+    """However few pictures have them: nothing was edited there."""
+    kinds = Kinds()
+    for number in range(9):
+        texts = caption("a vase"), caption("a vase, recto")
+        numbers = ([field("exif", "829a", "RATIONAL", 1, it)] for it in ("1/2", "2/4"))
+        kinds.add(b"%d" % number, differences(*(numbers if number < 2 else texts)))
+    assert [line_of(it.edits[0]) for it in kinds.groups()] == [
+        "caption (IPTC, XMP): .. {+, recto+}",
+        "equal numbers (Exif) written otherwise",
+    ]
+
+
 def test_a_day_of_keywords():
     """Of 343 pictures 69 get a keyword, whatever they had, and six lose their rating; three went wrong."""
     rating = one("xmp", "xmp:Rating", "text", "3")

@@ -66,9 +66,13 @@ def test_every_picture_is_there_on_pages_of_at_most_200(archive: Path, called: C
     for name, text in texts.items():
         linked.setdefault(re.sub(r"-\d+\.html", "", name), set()).update(files_of(text.links, archive))
         assert len(files_of(text.links, archive)) <= 200, f"{name} has more pictures than a page should"
-        if name.startswith("folders-"):
-            assert len({os.path.dirname(it) for it in files_of(text.links, archive)}) == 1, f"{name} has several folders"
     assert linked["folders"] == everything
+    full = [
+        len(files_of(texts[f"folders-{number}.html"].links, archive))
+        for number in range(1, len(texts))
+        if f"folders-{number}.html" in texts
+    ]
+    assert all(sum(two) > 200 for two in zip(full, full[1:])), f"pages of {full} pictures might be fewer"
     assert len(linked["changed"]) == 440 and len(linked["refused"]) == 205 and len(linked["same"]) >= 240
     values = "".join(page for name, page in pages.items() if name.startswith("changed-"))
     assert [it for it in range(230) if f">{999 - it:03}</ins>" not in values] == [], "values that no page has"

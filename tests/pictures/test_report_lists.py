@@ -37,3 +37,16 @@ def test_how_often_fields_differ_that_are_not_counted(called, folder, monkeypatc
     counts = next(it for it in map(json.loads, called(*words, "--json")[1].splitlines()) if "fields_not_counted" in it)
     assert (len(counts["fields"]), set(counts["fields"].values()), counts["fields_not_counted"]) == (most, {2}, left)
     assert sum(counts["fields"].values()) + left == 10
+
+
+def test_captions_are_compared_whole_and_listed_short(called, folder, monkeypatch) -> None:
+    """Two files with one picture, whose captions differ only behind what the page shows of them."""
+    monkeypatch.setattr(contents, "LONGEST", 10)
+    (folder / "p").mkdir()
+    for place in ("market", "harbour"):
+        texts = f"<dc:description><rdf:Alt><rdf:li xml:lang='x-default'>A view of the {place}</rdf:li></rdf:Alt></dc:description>"
+        (folder / "p" / f"{place}.jpg").write_bytes(jpeg(app1_xmp(xmp(texts))))
+    called("index", "p", "--catalogue", "c", "--quiet", "--pixels", "--jobs", "1")
+    assert called("report", "--catalogue", "c", "--html", "page.html", "--no-look")[0] == 0
+    page = (folder / "page.html").read_text(encoding="utf-8").partition('<section id="captioned"')[2].partition("</section>")[0]
+    assert page.count(">A view of  ..<") == 2 and "view of the" not in page

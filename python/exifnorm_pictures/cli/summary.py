@@ -4,7 +4,7 @@ other, on about 30 lines."""
 from __future__ import annotations
 
 from collections import Counter
-from itertools import islice
+from itertools import chain, islice
 from typing import Iterator, List, NamedTuple, Optional, Sequence
 
 from ..comparison.edit_groups import KINDS, Group
@@ -50,7 +50,7 @@ def lines(
     results = [*map(safe, results_of(summary, counts)), *map(safe, notes)]
     groups = summary.kinds.groups()
     odd = [it for it in groups if it.is_odd]
-    alike = [it for it in reversed(groups) if not it.is_odd]  # the largest first
+    alike = sorted((it for it in groups if not it.is_odd), key=lambda it: (it.is_of_numbers, -it.pictures))
     texts = [[*_group(it, style)] for it in alike]
     pictures = [[*_picture(it, style)] for it in odd[:LINES]]
     room = LINES - len(results) - 6
@@ -58,7 +58,7 @@ def lines(
     many = _fitting(pictures, ODD, room - sum(map(len, texts[:shown])))
     yield sentence_of_partners(counts) if by_stem else sentence(counts)
     yield from [""] * bool(alike)
-    yield from _lines(texts[:shown])
+    yield from chain(*texts[:shown])
     yield from _smaller(alike[shown:])
     yield from _further(summary.kinds.further)
     yield from _odd(pictures[:many], len(odd))
@@ -75,19 +75,14 @@ def _further(count: int) -> Iterator[str]:
 def _odd(texts: Sequence[List[str]], count: int) -> Iterator[str]:
     """The pictures that changed like no other, as far as there is room."""
     if count:
-        yield from ["", f"{pictures_in_words(count)} changed like no other:", *_lines(texts)]
+        yield from ["", f"{pictures_in_words(count)} changed like no other:", *chain(*texts)]
     if count > len(texts):
         yield f"  and {count - len(texts):,} more, which --json has"
 
 
 def _hint(counts: "Counter[Result]", has_groups: bool) -> Iterator[str]:
     if any(counts[it] for it in counts if it.has_changed is not False):
-        of_group = ", --edit N the pictures of a group" * has_groups
-        yield from ["", f"--each lists each picture with its fields{of_group}."]
-
-
-def _lines(texts: Sequence[List[str]]) -> Iterator[str]:
-    return (line for text in texts for line in text)
+        yield from ["", f"--each lists each picture with its fields{', --edit N the pictures of a group' * has_groups}."]
 
 
 def _smaller(groups: Sequence[Group]) -> Iterator[str]:

@@ -268,8 +268,7 @@ def _details(judged: Judged, old: PictureRecord, new: PictureRecord, sides: Side
 
 
 def _programs(blocks: Sequence[Sequence[BlockRecord]]) -> List[str]:
-    used = {block.extractor for side in blocks for block in side}
-    return [f"extracted by {PROGRAMS[it]}" for it in PROGRAMS if it in used]
+    return [f"extracted by {PROGRAMS[it]}" for it in PROGRAMS if any(block.extractor == it for side in blocks for block in side)]
 
 
 def total(counts: "Counter[Result]") -> int:

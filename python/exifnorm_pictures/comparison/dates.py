@@ -57,10 +57,8 @@ def _shift(change: FieldDifference) -> Optional[timedelta]:
 def _date_of(field: Field) -> Optional[Tuple[datetime, str]]:
     """The time of a date, and what follows it; None for a field that is none, or for a date that
     isn't in the calendar."""
-    if isinstance(field.content, bytes) and not field.content[:1].isdigit():
-        return None
     form = _IPTC.get(field.tag, _DATE) if field.directory == "iptc" else _DATE
-    match = form.fullmatch(_text(field))
+    match = None if isinstance(field.content, bytes) and not field.content[:1].isdigit() else form.fullmatch(_text(field))
     if not match:
         return None
     numbers = [int(it or least) for it, least in zip(match.groups(), (2000, 1, 1, 0, 0, 0))]

@@ -37,10 +37,8 @@ class FieldDifference(NamedTuple):
     @property
     def is_equal_number(self) -> bool:
         """Whether both have equal numbers, or the same bytes with another type."""
-        if self.note or not self.before or len(self.before) != len(self.after):
-            return False
-        pairs = zip(self.before, self.after)
-        return all(one.count == other.count and equal_form(one) == equal_form(other) for one, other in pairs)
+        pairs = [*zip(self.before, self.after)] if len(self.before) == len(self.after) and not self.note else []
+        return bool(pairs) and all(one.count == other.count and equal_form(one) == equal_form(other) for one, other in pairs)
 
 
 def exact_side(fields: Sequence[Field]) -> Optional[str]:

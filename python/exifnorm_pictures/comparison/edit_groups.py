@@ -10,7 +10,7 @@ from typing import Collection, Dict, Iterable, List, Sequence, Set, Tuple
 from ..model.found import STANDARDS
 from .differing import FieldDifference
 from .edit_words import NUMBERED, line_of
-from .edits import Edit, digest, edits_of, places_of, numberless
+from .edits import NUMBERS, Edit, digest, edits_of, places_of, numberless
 from .marking import IN, KEPT, OUT, Step
 from .wording import look
 
@@ -107,6 +107,11 @@ class Group:
         return self.pictures == 1
 
     @property
+    def is_of_numbers(self) -> bool:
+        """Whether numbers are only written otherwise, and nothing else was edited."""
+        return {it.edit.name for it in self.counted} == {NUMBERS}
+
+    @property
     def edits(self) -> List[Edit]:
         """What all of its pictures have in common."""
         return [it.edit for it in self.counted]
@@ -197,7 +202,7 @@ class Kinds:
             group.names = [*group.names, *kind.names][: max(self.most_names, 1)]
             group.kinds.append(number)
             group.firsts.append((kind.names[0], [it.edit for it in kind.edits]))
-        groups = sorted(joined.values(), key=lambda it: (it.pictures, it.names[0]))
+        groups = sorted(joined.values(), key=lambda it: (it.is_of_numbers, it.pictures, it.names[0]))
         for group in _alike(groups):
             group.show_exactly()
         for group in _alike(groups):

@@ -118,12 +118,8 @@ def places_of(edit: Edit) -> List[str]:
         return []
     if edit.name == DATES:
         return list(dict.fromkeys(it.rpartition(":")[2] for it in edit.fields))
-    return sorted({NAMES[standard_of(it)] for it in edit.fields})
-
-
-def standard_of(field: str) -> str:
-    """The standard of a field, by its name."""
-    return next((kind for kind in (IPTC, XMP) if field.startswith(NAMES[kind])), EXIF)
+    kinds = (IPTC, XMP, EXIF)  # the names of Exif begin otherwise
+    return sorted({NAMES[next(it for it in kinds if it == EXIF or name.startswith(NAMES[it]))] for name in edit.fields})
 
 
 def digest(text: str) -> bytes:
@@ -141,10 +137,8 @@ def edits_of(changes: Sequence[FieldDifference], has_parts: bool = True) -> Dict
     major = [(key or it.key, it) for key, it in edits.items() if not it.is_minor]
     major.sort(key=lambda it: (_order().get(it[1].name, len(_order())), it[1].name))
     names = tuple(name for it in edits.values() if it.is_minor for name in it.fields)
-    if names:
-        minor = Edit(PROGRAMS, (), "changed", names, is_minor=bool(major))
-        major.append((minor.key, minor))
-    return dict(major)
+    minor = Edit(PROGRAMS, (), "changed", names, is_minor=bool(major))
+    return dict([*major, (minor.key, minor)] if names else major)
 
 
 def _add(edits: Dict[bytes, Edit], edit: Edit) -> None:
@@ -176,11 +170,7 @@ def _parts(changes: Sequence[FieldDifference]) -> Dict[_Part, str]:
         if _has_label(change):
             texts[change.sign, change.part].add(_name(change))
     counts = Counter((it.sign, it.part) for it in parted)
-    return {it: _size(it, count, len(texts[it])) for it, count in counts.items()}
-
-
-def _size(part: _Part, count: int, texts: int) -> str:
-    return SMALL if count <= FEW and (part[0] == IN or texts == 1) else WHOLE
+    return {it: SMALL if count <= FEW and (it[0] == IN or len(texts[it]) == 1) else WHOLE for it, count in counts.items()}
 
 
 def _single(changes: Sequence[FieldDifference], parts: Dict[_Part, str]) -> Iterator[Edit]:
@@ -209,8 +199,7 @@ def _of_dates(shift: timedelta, fields: Sequence[FieldDifference]) -> Edit:
     names = tuple(it.name for it in fields)
     before, after = (side or "" for side in plain_sides(fields[0]))
     is_minor = bool(shift % _QUARTER) and set(names) <= set(BY_THEMSELVES)
-    steps = (Step(OUT, before), Step(IN, after))
-    return Edit(DATES, steps, in_words(shift), names, after, is_minor=is_minor)
+    return Edit(DATES, (Step(OUT, before), Step(IN, after)), in_words(shift), names, after, is_minor=is_minor)
 
 
 def _is_position(change: FieldDifference, parts: Dict[_Part, str]) -> bool:
@@ -221,8 +210,7 @@ def _is_position(change: FieldDifference, parts: Dict[_Part, str]) -> bool:
 
 def edit_of(change: FieldDifference) -> Edit:
     """The edit of one field by itself."""
-    found: List[Edit] = [*_single([change], {})]
-    return found[0] if found else _edit(change, "")
+    return next(_single([change], {}), _edit(change, ""))
 
 
 @functools.lru_cache(maxsize=1)
@@ -233,6 +221,12 @@ def _order() -> Dict[str, int]:
 def _name(change: FieldDifference) -> str:
     name = group_name(change.directory, change.tag)
     return label_of_fields().get(name, name) + (f" ({change.block})" if change.block else "")
+
+
+def place_of(change: FieldDifference) -> Tuple[int, str]:
+    """The place of a field among others, by its label, and what it is about."""
+    name = _name(change)
+    return _order().get(name, len(_order())), name
 
 
 def _has_label(change: FieldDifference) -> bool:
@@ -265,9 +259,9 @@ def _of_values(change: FieldDifference) -> Edit:
     before, after = (side or "" for side in plain_sides(change))
     if not change.after:
         return Edit(name, (Step(OUT, before),), "removed", fields)
-    less, more = _members(change.before), _members(change.after)
-    if less is not None and more is not None and not len(less) == len(more) == 1:
-        return _of_list(name, less, more, fields)
+    lists = lists_of(change)
+    if lists:
+        return _of_list(name, *lists, fields)
     steps = _script(before, after)
     if not any(it.sign == KEPT and it.text.strip() for it in steps):
         steps = (*(Step(OUT, before),) * bool(before), Step(IN, after))
@@ -281,6 +275,12 @@ def _script(before: str, after: str) -> Tuple[Step, ...]:
 
 
 # Lists
+
+
+def lists_of(change: FieldDifference) -> Optional[Tuple[List[str], List[str]]]:
+    """The members of a list before and after; None for a field that is none, or has one on both sides."""
+    less, more = _members(change.before), _members(change.after)
+    return None if less is None or more is None or len(less) == len(more) == 1 else (less, more)
 
 
 def _of_list(name: str, before: List[str], after: List[str], fields: Tuple[str, ...]) -> Edit:
@@ -300,11 +300,7 @@ def _members(fields: Sequence[Field]) -> Optional[List[str]]:
     if first.directory == "iptc" and first.tag in _REPEATED:
         return [it.text for it in fields]
     texts = xmp_texts(first) if len(fields) == 1 and first.type in ("Bag", "Seq") else None
-    return None if texts is None else [_member(*it) for it in texts]
-
-
-def _member(text: str, language: str) -> str:
-    return f"{text} ({language})" if language else text
+    return None if texts is None else [f"{text} ({language})" if language else text for text, language in texts]
 
 
 # Positions
@@ -314,12 +310,8 @@ def _positions(changes: Sequence[FieldDifference]) -> Iterator[Edit]:
     """The latitude and the longitude as one text, of Exif and of XMP."""
     for is_xmp in (False, True):
         mine = [it for it in changes if (it.directory == "xmp") == is_xmp]
-        before, after = (_joined([plain_sides(it)[at] for it in mine]) for at in (0, 1))
+        before, after = (", ".join(filter(None, (plain_sides(it)[at] for it in mine))) for at in (0, 1))
         steps = (Step(OUT, before),) * bool(before) + (Step(IN, after),) * bool(after)
         if steps:
             names = tuple(it.name for it in mine)
             yield Edit(POSITION, steps, "" if after else "removed", names, after)
-
-
-def _joined(sides: Sequence[Optional[str]]) -> str:
-    return ", ".join(filter(None, sides))

@@ -6,7 +6,6 @@ import difflib
 import re
 from dataclasses import dataclass
 from itertools import compress, count
-from operator import ne
 from typing import List, NamedTuple, Optional, Sequence, Tuple
 
 # Scripts without blanks between words have a word for each character
@@ -35,7 +34,7 @@ Pieces = Tuple[Piece, ...]
 
 def _common(words: Sequence[str], others: Sequence[str]) -> int:
     """How many words two texts have in common at their beginning."""
-    return next(compress(count(), map(ne, words, others)), min(len(words), len(others)))
+    return next(compress(count(), map(str.__ne__, words, others)), min(len(words), len(others)))
 
 
 def _joined(steps: Sequence[Step]) -> List[Step]:

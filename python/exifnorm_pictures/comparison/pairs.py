@@ -255,23 +255,22 @@ class Pairs:
         key = f"form(substr(path, {len(self.heads[side]) + 1}))" if key == _FORM else key
         alone = [f"SELECT id FROM alone_{base}" + f" UNION SELECT {alias} FROM taken" * has_taken for base, alias in zip(_BASES, _ALIASES)]
         rows = [f"FROM ({query}) CROSS JOIN {base}.pictures USING (id)" for base, query in zip(_BASES, alone)]
-        left = f"{rows[side]} WHERE problem IS NULL AND {_HAS_KEY} AND id NOT IN (SELECT {_ALIASES[side]} FROM moved)"
-        if key in _CODED:
-            left += " AND coded_picture != ''"
-        if key.startswith("content"):
-            left += " AND not_read IS NOT NULL AND NOT (exif_octets = '' AND iptc_octets = '' AND xmp_octets = '')"
-        if key == _KEYS[-1] and has_taken:  # all that were edited: a digest is made only of those that may have an equal one
-            left += f" AND (size, modified) IN (SELECT size, modified {rows[1 - side]})"
-        query = f"SELECT id, sha256, coded_picture, {key} {left}"
-        if key in _CODED or key.startswith("content"):
-            query += f" AND ({key}) IN (SELECT {key} {left} GROUP BY {key} HAVING count(*) = 1)"
-        if key.startswith("sha256"):
-            query += " AND sha256 != ''"
-        if key in _LIKELY:
-            query += f" AND {_IS_ALONE.format(base=_BASES[side])}"
-        if key == _CODED[-1]:
-            query += f" AND {_HAS_NO_COPY.format(base=_BASES[side])}"
-        return self.base.execute(f"{query} ORDER BY {key}, path")
+        key = f"form(substr(path, {len(self.heads[side]) + 1}))" if key == _FORM else key
+        base, is_coded, is_content = _BASES[side], key in _CODED, key.startswith("content")
+        left = (
+            f"{rows[side]} WHERE problem IS NULL AND {_HAS_KEY} AND id NOT IN (SELECT {_ALIASES[side]} FROM moved)"
+            + " AND coded_picture != ''" * is_coded
+            + " AND not_read IS NOT NULL AND NOT (exif_octets = '' AND iptc_octets = '' AND xmp_octets = '')" * is_content
+            # of all that were edited a digest is made only if one may be equal: their key has the size and the time, too
+            + f" AND (size, modified) IN (SELECT size, modified {rows[1 - side]})" * (is_content and has_taken)
+        )
+        conditions = (
+            f" AND ({key}) IN (SELECT {key} {left} GROUP BY {key} HAVING count(*) = 1)" * (is_coded or is_content)
+            + " AND sha256 != ''" * key.startswith("sha256")
+            + f" AND {_IS_ALONE.format(base=base)}" * (key in _LIKELY)
+            + f" AND {_HAS_NO_COPY.format(base=base)}" * (key == _CODED[-1])
+        )
+        return self.base.execute(f"SELECT id, sha256, coded_picture, {key} {left}{conditions} ORDER BY {key}, path")
 
     # The results
 

@@ -21,6 +21,11 @@ def standards_of(comparison: Compared) -> List[str]:
     return [NAMES[it.kind] for it in comparison.verdicts if it.result not in _NOT_THERE]
 
 
+def name_of(comparison: Compared) -> bytes:
+    """The name of a picture, and its new one if it has moved."""
+    return comparison.name if comparison.moved_to is None else comparison.name + NOW + comparison.moved_to
+
+
 class Summary:
     """Counts what `changed` finds. If only some fields are compared, each is counted by itself, also if its block came or went."""
 
@@ -32,9 +37,7 @@ class Summary:
     def add(self, comparison: Compared) -> int:
         """Counts a picture that was compared. Returns the number of its kind of edit, or 0."""
         self._add_name(comparison)
-        place = b"" if comparison.moved_to is None else NOW + comparison.moved_to
-        name = comparison.name + place
-        return self.kinds.add(name, comparison.changes, standards_of(comparison))
+        return self.kinds.add(name_of(comparison), comparison.changes, standards_of(comparison))
 
     def _add_name(self, comparison: Compared) -> None:
         """Keeps the name of a picture, if it is one of the first; of those that moved with their folder that of the first one."""

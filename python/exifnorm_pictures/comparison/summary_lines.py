@@ -76,8 +76,7 @@ class LeftOut(NamedTuple):
     @property
     def line(self) -> str:
         """All in a line."""
-        more = " .." * (self.few.pictures > len(self.few.names))
-        return f"{self.what} {', '.join(map(shown_name, self.few.names))}{more}"
+        return f"{self.what} {', '.join(map(shown_name, self.few.names))}{' ..' * (self.few.pictures > len(self.few.names))}"
 
 
 def lacking_of(group: Group) -> Iterator[LeftOut]:

@@ -73,8 +73,7 @@ _NOTHING, _SPACE = re.compile(f"[{_IGNORED}]"), re.compile(f"[{_BLANKS}]")
 
 def look(text: str) -> str:
     """Equal of texts that look alike."""
-    shown = text if text.isascii() else _NOTHING.sub("", unicodedata.normalize("NFC", text))
-    return " ".join(_SPACE.sub(" ", shown).split())
+    return " ".join(_SPACE.sub(" ", text if text.isascii() else _NOTHING.sub("", unicodedata.normalize("NFC", text))).split())
 
 
 def numbered(text: str) -> str:

@@ -121,8 +121,7 @@ class Book:
     def _written(self, section: Section) -> Written:
         """Writes a list: on the first page, if that is the only one or the list is short, and otherwise on pages of its own."""
         written = Written(section)
-        is_apart = section.key == "folders" and self.counts.total > SHORT
-        pages = pages_of(section.entries, bool(self._put) and is_apart)
+        pages = pages_of(section.entries)
         page = next(pages, None)
         while page is not None:
             following = next(pages, None)
@@ -165,7 +164,8 @@ def _number(entry: Entry, section: Section) -> int:
 
 
 def _label(section: Section, page: List[Entry], number: int) -> str:
-    """What a link to a page says: its number, or the folder that it shows."""
+    """What a link to a page says: its number, or the folders that it shows."""
     if section.key != "folders":
         return f"page {number}"
-    return shown_path(page[0].data.path) + " (continued)" * (not page[0].data.is_first)
+    first, last = (shown_path(it.data.path) for it in (page[0], page[-1]))
+    return first + " (continued)" * (not page[0].data.is_first) + f" to {last}" * (first != last)

@@ -4,24 +4,25 @@ from __future__ import annotations
 
 import json
 from collections import Counter
-from typing import Dict, Iterable, Iterator, List, NamedTuple, Optional, Tuple
+from typing import Dict, Iterable, Iterator, List, NamedTuple, Optional, Sequence, Tuple, Union
 
 from ..catalogue.store import Known
 from ..comparison import changed
 from ..comparison.coded import Coded, sentence_of_coded
-from ..comparison.marking import Marker, Pieces
-from ..comparison.moved_folders import MovedFolder, MovedFolders
+from ..comparison.differing import FieldDifference
+from ..comparison.marking import Marker, Piece, Pieces
+from ..comparison.moved_folders import MovedFolders
 from ..comparison.pairs import AFTER, BEFORE, heads_of
 from ..comparison.edit_groups import KINDS, Group
 from ..comparison.edit_words import head_of
-from ..comparison.edits import Edit
-from ..comparison.summary import NOW, Summary
+from ..comparison.edits import Edit, lists_of, place_of
+from ..comparison.summary import NOW, Summary, name_of
 from ..comparison.summary_lines import lacking_of
-from ..comparison.wording import sides
+from ..comparison.wording import sides, tell_apart
 from ..fields.left_out import lines
 from ..model.records import Stamp, is_as_before
 from ..model.results import Result
-from ..model.texts import pictures_in_words
+from ..model.texts import escaped, pictures_in_words
 from .contents import About
 from .entries import Entry, chunks
 
@@ -34,7 +35,7 @@ BAR, THINNEST = 1000, 8  # the length of the bar, and of its shortest part
 class Row(NamedTuple):
     """A field that differs, with its two values in pieces, or what is printed in their place."""
 
-    name: str
+    names: List[str]  # of fields of one label with equal values
     before: Optional[Pieces]
     after: Optional[Pieces]
     note: str
@@ -85,7 +86,7 @@ class Changes:
         self.results: "Counter[Result]" = Counter()
         self.coded: "Counter[Coded]" = Counter()  # what is known of the coded pictures of both catalogues
         self.summary = Summary(about.choice, SHEET)
-        self._folders = MovedFolders()
+        self.folders = MovedFolders()
         self._old = about.old
         self._heads = heads_of((about.old, about.catalogue))
         self._equal = changed.Equal()
@@ -100,6 +101,7 @@ class Changes:
             self.close()
             raise
         self.left_out = list(lines(about.choice, True))
+        self.compared = changed.total(self.results)
         self._groups = self.summary.kinds.groups()
         self._group_of: Dict[int, int] = {kind: group.number for group in self._groups for kind in group.kinds}
 
@@ -111,31 +113,21 @@ class Changes:
         kind = self.summary.add(comparison)
         if comparison.result.has_changed is False:
             return
-        rows = [(one.name, *sides(one), one.note) for one in comparison.changes]
-        place, note = comparison.moved_to, comparison.note
-        if place is not None:
-            self._folders.add(comparison.name, place)
-        name = comparison.name if place is None else comparison.name + NOW + place
+        if comparison.moved_to is not None:
+            self.folders.add(comparison.name, comparison.moved_to)
         rank = _RESULTS.index(comparison.result)
         is_other = comparison.picture == Coded.OTHER or comparison.picture.is_damaged
-        self._equal.add(json.dumps([rank, note, rows, is_other, kind]), name, False, rank)
-
-    @property
-    def compared(self) -> int:
-        """How many pictures were compared."""
-        return changed.total(self.results)
+        self._equal.add(json.dumps([rank, comparison.note, _rows(comparison.changes), is_other, kind]), name_of(comparison), False, rank)
 
     @property
     def counted(self) -> List[Tuple[Result, int]]:
         """How many pictures have each result, those first that are listed."""
-        there = [(it, self.results[it]) for it in Result if self.results[it]]
-        return sorted(there, key=lambda it: it[0].has_changed is False)
+        return sorted(((it, self.results[it]) for it in Result if self.results[it]), key=lambda it: it[0].has_changed is False)
 
     def groups(self) -> List[ShownGroup]:
         """The groups of pictures that were edited alike, the smallest first: so many of one picture,
         and the largest ones."""
-        first = max(self.number_odd, len(self._groups) - GROUPS)
-        shown = [*self._groups[: self.number_odd][:GROUPS], *self._groups[first:]]
+        shown = [*self._groups[: self.number_odd][:GROUPS], *self._groups[max(self.number_odd, len(self._groups) - GROUPS) :]]
         pictures = max(1, sum(it.pictures for it in shown))
         lengths = [max(THINNEST, BAR * it.pictures / pictures) for it in shown]
         scale, start, groups = BAR / max(1, sum(lengths)), 0.0, []
@@ -145,11 +137,9 @@ class Changes:
         return groups
 
     def _shown_group(self, group: Group, start: float, length: float) -> ShownGroup:
-        many = group.pictures
-        heads = [head_of(it, places, many) for it, places in zip(group.edits, group.places)]
+        heads = [head_of(it, places, group.pictures) for it, places in zip(group.edits, group.places)]
         few = [(it.what, self._pictures(it.few.names)) for it in lacking_of(group)]
-        shown = self._shown(group)
-        return ShownGroup(group.number, group.edits, heads, many, shown, start, length, few)
+        return ShownGroup(group.number, group.edits, heads, group.pictures, self._shown(group), start, length, few)
 
     @property
     def number_odd(self) -> int:
@@ -177,23 +167,18 @@ class Changes:
         more = [f"More than {KINDS:,} kinds of edit: {pictures_in_words(further)} more, which aren't grouped"] * bool(further)
         return [*more, *filter(None, [sentence_of_coded(self.coded)]), *self.left_out]
 
-    def folders(self) -> List[MovedFolder]:
-        """The folders that moved."""
-        return self._folders.lines()
-
     def entries(self) -> Iterator[Entry]:
         """Each difference with its pictures, by what happened and by their number, damaged ones first; of many pictures so many as a page has."""
         for text, count, names in self._equal.all(by_rank=True):
             rank, note, all_rows, is_other, kind = json.loads(text)
             result = _RESULTS[rank]
             marker = Marker()
-            rows = [Row(name, *marker.marked(before, after), what) for name, before, after, what in all_rows]
+            rows = [Row(names, *_marked(marker, before, after), what) for names, before, after, what in all_rows]
             is_first = True
             for chunk in chunks(names, lambda name: name):
                 pictures = [self._picture(result, name, is_other) for name in chunk]
-                paths = tuple(it.after or it.before or b"" for it in pictures)
                 difference = Difference(result, note, rows, is_other, count, pictures, is_first, self._group_of.get(kind, 0))
-                yield Entry(difference, paths, 1 + len(rows), is_first, len(text))
+                yield Entry(difference, tuple(it.after or it.before or b"" for it in pictures), 1 + len(rows), is_first, len(text))
                 is_first = False
 
     def _picture(self, result: Result, name: bytes, is_other: bool) -> ChangedPicture:
@@ -206,6 +191,38 @@ class Changes:
         if old != new and _is_as_it_was(old, known):
             return ChangedPicture(before, old, new, earlier=old)
         return ChangedPicture(before, old, new, digest=known.coded_picture or "")
+
+
+_Side = Union[None, str, Sequence[str]]  # no value, a text, or the members of a list
+
+
+def _rows(changes: Sequence[FieldDifference]) -> List[Tuple[object, ...]]:
+    """The fields that differ, those with a label first, such as the caption. Those of one label with equal values are one row."""
+    names: Dict[Tuple[object, ...], List[str]] = {}
+    for one in sorted(changes, key=lambda it: place_of(it)[0]):
+        names.setdefault((place_of(one)[1], *_values(one), one.note), []).append(one.name)
+    return [(those, *row[1:]) for row, those in names.items()]
+
+
+def _values(change: FieldDifference) -> Tuple[_Side, _Side]:
+    less, more = lists_of(change) or ([], [])
+    if less == more or change.note:
+        return sides(change)
+    shown = tuple(map(escaped, tell_apart([*less, *more])))
+    return shown[: len(less)] or None, shown[len(less) :] or None
+
+
+def _marked(marker: Marker, before: _Side, after: _Side) -> Tuple[Optional[Pieces], Optional[Pieces]]:
+    """Both values in pieces: words, or whole members of a list."""
+    if isinstance(before, str) or isinstance(after, str):
+        return marker.marked(before, after)  # type: ignore[arg-type]  # neither is a list then
+    return _members(before or (), after), _members(after or (), before)
+
+
+def _members(members: Sequence[str], others: Optional[Sequence[str]]) -> Optional[Pieces]:
+    known = set(members if others is None else others)
+    pieces = [piece for it in members for piece in (Piece("; ", False), Piece(it, it not in known))]
+    return tuple(pieces[1:]) or None
 
 
 def _is_as_it_was(path: Optional[bytes], known: Known) -> bool:

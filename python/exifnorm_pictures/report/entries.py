@@ -36,8 +36,8 @@ def chunks(pictures: Iterable[Made], path_of: Callable[[Made], bytes]) -> Iterat
         yield chunk
 
 
-def pages_of(entries: Iterable[Entry], apart: bool = False) -> Iterator[List[Entry]]:
-    """The entries of each page. An entry is on one page, and `apart` on its own.
+def pages_of(entries: Iterable[Entry]) -> Iterator[List[Entry]]:
+    """The entries of each page. An entry is on one page.
 
     >>> [len(it) for it in pages_of([Entry(0, (b"",) * 150), Entry(0, (b"",) * 50), Entry(0, (b"",))])]
     [2, 1]
@@ -46,7 +46,7 @@ def pages_of(entries: Iterable[Entry], apart: bool = False) -> Iterator[List[Ent
     pictures = rows = size = 0
     for entry in entries:
         more, longer = max(1, len(entry.pictures)), entry.size + sum(map(len, entry.pictures))
-        if page and (apart or pictures + more > PAGE or rows + entry.rows > ROWS or size + longer > CHARACTERS):
+        if page and (pictures + more > PAGE or rows + entry.rows > ROWS or size + longer > CHARACTERS):
             yield page
             page, pictures, rows, size = [], 0, 0, 0
         pictures, rows, size = pictures + more, rows + entry.rows, size + longer

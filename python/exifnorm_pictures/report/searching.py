@@ -102,13 +102,13 @@ _WORDS: Dict[type, _Words] = {
 
 def _row(row: Row) -> str:
     sides = ("".join(piece.text for piece in pieces) if pieces else "(none)" for pieces in (row.before, row.after))
-    return f"{row.name}: {row.note or ' -> '.join(sides)};"
+    return f"{', '.join(row.names)}: {row.note or ' -> '.join(sides)};"
 
 
 def labels_of(rows: Sequence[Row]) -> str:
     """The labels of the fields of some rows, by which people look for them."""
     labels = label_of_fields()
-    return " ".join(dict.fromkeys(labels[row.name] for row in rows if row.name in labels))
+    return " ".join(dict.fromkeys(labels[name] for row in rows for name in row.names if name in labels))
 
 
 def kinds_of(lists: Sequence[Tuple[str, str]], results: Iterable[str]) -> List[Tuple[str, str]]:
