@@ -200,6 +200,16 @@ def test_one_value_for_all_is_one_edit_whatever_was_there():
     assert groups_of(*((it, "Riverside Museum") for it in earlier)) == [(4, ["caption (IPTC, XMP): {+Riverside Museum+}"])]
 
 
+def test_fields_whose_long_names_begin_alike_are_two():
+    """One value that both were given makes no edit of them, and each is shown shortened."""
+    kinds = Kinds()
+    for end in "ab":
+        given = one("xmp", f"dc:{'f' * 1000}{end}", "text", "v")
+        kinds.add(end.encode(), differences(caption("a vase"), caption("a vase") + given))
+    shown = [line_of(it) for group in kinds.groups() for it in group.edits]
+    assert len(set(shown)) == 2 and max(map(len, shown)) < 500
+
+
 def test_many_texts_of_their_own_are_one_group():
     """But what was removed isn't hidden among them."""
     changes = (
