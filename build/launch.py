@@ -64,6 +64,7 @@ def work(command: str, words: list[str]) -> None:
 def main(command: str, words: list[str]) -> int:
     while os.open(os.devnull, os.O_RDWR) < 3:  # no other file gets the number of a closed standard stream, which stays closed
         pass
+    sys.executable = sys.executable or os.readlink("/proc/self/exe")  # empty without a PATH
     try:
         return prove.status_of(lambda: work(command, words), NOT_BUILT)
     except Exception:

@@ -11,7 +11,7 @@ from pathlib import Path
 
 import pytest
 from museum import run, standing_clock
-from studio import TESTS_PATH, needs
+from studio import TESTS_PATH, TOP, needs
 from test_options_together import LINES, fresh, make, written
 
 MORE = (
@@ -136,3 +136,10 @@ def test_another_environment_changes_nothing(name, usual, locales, tmp_path_fact
         if zone != "UTC":
             sides = [[LOCAL.sub("a local time", text) for text in side] for side in sides]
         checks.equal(line, *([text for text in side if text not in other] for side, other in (sides[::-1], sides)))
+
+
+def test_the_launcher_of_a_clone_needs_no_environment():
+    """Without a PATH Python doesn't know its own name."""
+    only = {"EXIFNORM_LIBRARY": os.environ["EXIFNORM_LIBRARY"]}
+    done = subprocess.run([f"{TOP}/exifnorm-pictures", "--version"], capture_output=True, env=only)
+    assert (done.returncode, done.stderr) == (0, b"") and done.stdout.startswith(b"exifnorm-pictures "), done
