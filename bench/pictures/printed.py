@@ -3,7 +3,7 @@
     python3 bench/pictures/printed.py FOLDER
 
 It prints for each program how many keys `in` finds (those of ExifTool's -G1, -G and no group, and exiv2's), how many it leaves out and why,
-and how many values of `show` the question NAME = VALUE finds. A base is `apt-get source libimage-exiftool-perl exiv2 pillow`.
+and how many values of `show` the question NAME = VALUE finds. A base is `apt-get source libimage-exiftool-perl exiv2 pillow libmetadata-extractor-java`.
 MakerNotes, File, Composite and ICC profiles aren't asked for.
 """
 
@@ -18,7 +18,6 @@ import re
 import subprocess
 import sys
 import tempfile
-from pathlib import Path
 from typing import Callable, Dict, Iterable, Iterator, List, Tuple
 
 import exifnorm
@@ -26,6 +25,7 @@ from exifnorm_pictures.catalogue.asking import Answer
 from exifnorm_pictures.catalogue.store import Catalogue
 from exifnorm_pictures.cli import main
 from exifnorm_pictures.fields.questions import LONGEST, question_of
+from exifnorm_pictures.model.problems import Problem
 
 AT_ONCE = 40  # names that are asked together
 GROUPS = ("-EXIF:all", "-IPTC:all", "-XMP:all")
@@ -131,8 +131,10 @@ def say(what: str, results: Iterable[Tuple[str, str, bool]]) -> None:
 
 
 if __name__ == "__main__":
-    pictures = sorted(str(it) for it in Path(sys.argv[1]).rglob("*") if it.is_file())
     with tempfile.TemporaryDirectory() as room:
-        say("keys", found_keys(pictures))
         printed("index", sys.argv[1], "--quiet", "--catalogue", f"{room}/c")
+        with Catalogue(f"{room}/c") as indexed, indexed.reading():
+            pictures = [os.fsdecode(it.path) for it in indexed.pictures() if it.problem != Problem.NO_PICTURE]
+        print(f"{len(pictures):,} pictures")
+        say("keys", found_keys(pictures))
         say("values", found_values(f"{room}/c", values_of(pictures)))
