@@ -7,14 +7,14 @@ from typing import Dict, Iterator, List, Mapping, NamedTuple, Optional, Sequence
 
 from ..fields.folding import folded
 from ..fields.dates import plain_date
-from ..fields.labels import CODED, DATED, OF_FIELDS, POSITION, UNCLEAR_POSITION
+from ..fields.labels import CODED, DATED, OF_FIELDS, POSITION, UNCLEAR_POSITION, has_long
 from ..fields.field import Field
 from ..fields.listing import LONGEST_TEXT, is_rest
 from ..fields.places import further_places, has_angles, position_of
 from ..fields.plain_numbers import iptc_time
 from ..fields.plain_texts import decoded
 from ..model.records import BlockRecord
-from ..model.xmp_values import Long, texts_in
+from ..model.xmp_values import texts_in
 from .store import HEAD
 from .texts import PictureTexts, texts_of
 
@@ -55,7 +55,9 @@ def rows_of(blocks: Sequence[Tuple[BlockRecord, List[Field]]], maker_notes: Mapp
     left = _MOST_CHARACTERS
     labelled = texts_of(blocks)
     fields = [field for _, of_block in blocks for field in of_block]
-    has_more = bool(labelled.missing) or any(is_rest(field.directory, field.tag) or _is_long(field) for field in fields)
+    has_more = bool(labelled.missing) or any(
+        is_rest(it.directory, it.tag) or ((it.directory, it.tag) in _OF_FIELDS and has_long(it)) for it in fields
+    )
     for label, text in chain(_texts(labelled, fields), _of_maker_notes(maker_notes)):
         if not text or (label, text) in known:
             continue
@@ -65,13 +67,6 @@ def rows_of(blocks: Sequence[Tuple[BlockRecord, List[Field]]], maker_notes: Mapp
             break
         known[label, text] = kept_text(label, text)
     return (*known.values(), MORE) if has_more else tuple(known.values())
-
-
-def _is_long(field: Field) -> bool:
-    """Whether the text of a label of fields is too long to be kept."""
-    if (field.directory, field.tag) not in _OF_FIELDS:
-        return False
-    return isinstance(field.content, Long) or (field.directory == "xmp" and any(isinstance(value, Long) for value in field.content))
 
 
 def _texts(labelled: PictureTexts, fields: Sequence[Field]) -> Iterator[Tuple[str, str]]:

@@ -6,7 +6,7 @@ import functools
 import os
 import re
 import time
-from datetime import date, timedelta
+from datetime import date, datetime, timedelta
 
 from ..model.errors import WrongUse
 from ..model.texts import safe
@@ -79,14 +79,14 @@ def is_impossible(day: str) -> bool:
     if match is None:
         return False
     year, month, number, hour, minute, second = (int(it or 0) for it in match.groups())
-    if month > 12 or hour > 23 or minute > 59 or second > 60:  # a leap second
+    try:
+        datetime(year or _LEAP, month or 1, number or 1, hour, minute, min(second, 59))  # a leap second is none of Python's
+    except ValueError:
         return True
-    return bool(number) and number > (29 if month == 2 and (year % 4 or (not year % 100 and year % 400)) == 0 else 31 - _SHORTER[month])
+    return second > 60
 
 
-_SHORTER = (0, 0, 3, 0, 1, 0, 1, 0, 0, 1, 0, 1, 0)  # by how many days a month is shorter than 31
-
-
+_LEAP = 2000  # a year in place of 0000, which has every day that a year can have
 EXPECTED = "a date, such as 1950, 1950-03, 1950-03-21, today or today + 30 days"  # for a sentence
 IMPOSSIBLE = "impossible"  # asks for dates that no calendar has
 

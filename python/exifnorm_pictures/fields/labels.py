@@ -102,15 +102,7 @@ def fields_by_label() -> Dict[str, Tuple[str, ...]]:
     >>> fields_by_label()["creator"]
     ('IFD0:Artist', 'IPTC:By-line', 'XMP-dc:creator', 'XMP-tiff:Artist', 'IFD0:XPAuthor')
     """
-    by_label: Dict[str, List[Tuple[str, str]]] = {}
-    for label in LABELS:
-        places = [
-            ("exif" if label.word == DATE else "main", label.exif),
-            ("iptc", label.iptc),
-            ("xmp", label.xmp),
-            ("xmp", _MIRRORS.get(label.exif, "")),
-        ]
-        by_label[label.word] = [(where, key) for where, key in places if key]
+    by_label = {it.word: _fields_of(it) for it in LABELS}
     by_label[DATE] += [("exif", "9291"), ("exif", "9011"), ("iptc", "2:60")]
     by_label[COMMENT] = [("exif", "9286"), ("xmp", "exif:UserComment")]
     for tag, word in WINDOWS.items():
@@ -121,6 +113,12 @@ def fields_by_label() -> Dict[str, Tuple[str, ...]]:
     ]
     by_label.update({word: list(fields) for word, fields in OF_FIELDS.items()})
     return {word: tuple(group_name(*it) for it in fields) for word, fields in by_label.items()}
+
+
+def _fields_of(label: Label) -> List[Tuple[str, str]]:
+    exif = ("exif" if label.word == DATE else "main", label.exif)
+    places = [exif, ("iptc", label.iptc), ("xmp", label.xmp), ("xmp", _MIRRORS.get(label.exif, ""))]
+    return [(where, key) for where, key in places if key]
 
 
 @functools.lru_cache(maxsize=1)
@@ -213,10 +211,11 @@ def word_of(field: Field) -> Optional[str]:
 
 def not_kept(fields: Iterable[Field]) -> Set[str]:
     """The labels of which a text is too long to be kept."""
-    return {word for it in fields if not isinstance(it.content, bytes) and _has_long(it) for word in [word_of(it)] if word}
+    return {word for it in fields if not isinstance(it.content, bytes) and has_long(it) for word in [word_of(it)] if word}
 
 
-def _has_long(field: Field) -> bool:
+def has_long(field: Field) -> bool:
+    """Whether a text of a field is too long to be kept."""
     if isinstance(field.content, Long):
         return True
     return field.directory == "xmp" and any([isinstance(one, Long) for one in field.content])

@@ -136,24 +136,22 @@ def further_places(fields: Iterable[Field]) -> Tuple[List[Place], bool]:
     >>> further_places([Field("xmp", "Iptc4xmpExt:LocationCreated", "structure", 2, (place,))])
     ([Place(latitude=52.5, longitude=13.25)], False)
     """
-    places: List[Place] = []
-    is_unclear = False
-    for field in fields:
-        if field.directory != "xmp" or not isinstance(field.content, tuple):
-            continue
-        if field.tag in _PLACES and any(isinstance(it, Long) and not isinstance(it, LongStructure) for it in field.content):
-            is_unclear = True
-        for structure in _structures(field.content):
-            halves = {name.rpartition(":")[2]: value for name, value in structure.members if name.rpartition(":")[2] in _HALVES}
-            if halves:
-                angles = [
-                    _of_xmp(Field("xmp", name, "text", 1, (halves[name],)) if name in halves else None, signs)
-                    for name, signs in _HALVES.items()
-                ]
-                place = _located(*angles)
-                places += [place.place] if place else []
-                is_unclear = is_unclear or place is None
-    return places, is_unclear
+    properties = [it for it in fields if it.directory == "xmp" and isinstance(it.content, tuple)]
+    places = [place for it in properties for structure in _structures(it.content) for place in _place_in(structure)]
+    is_unclear = None in places or any(it.tag in _PLACES and any(map(_is_long_text, it.content)) for it in properties)
+    return [it for it in places if it is not None], is_unclear
+
+
+def _place_in(structure: Structure) -> List[Optional[Place]]:
+    """The position of a structure with a coordinate; None if it makes no position."""
+    halves = {name.rpartition(":")[2]: value for name, value in structure.members if name.rpartition(":")[2] in _HALVES}
+    angles = [_of_xmp(Field("xmp", it, "text", 1, (halves[it],)) if it in halves else None, signs) for it, signs in _HALVES.items()]
+    located_ = _located(*angles)
+    return [located_ and located_.place] if halves else []
+
+
+def _is_long_text(value: object) -> bool:
+    return isinstance(value, Long) and not isinstance(value, LongStructure)
 
 
 _HALVES = {"GPSLatitude": "NS", "GPSLongitude": "EW"}
