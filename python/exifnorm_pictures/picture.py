@@ -5,6 +5,7 @@ from __future__ import annotations
 
 import os
 import re
+import warnings
 from typing import (
     TYPE_CHECKING,
     Any,
@@ -311,19 +312,34 @@ class Picture(Mapping[str, "Value"]):
 
     def get(self, name: str, default: Any = None, *, type: Optional[Type[Any]] = None) -> Any:
         """The value of the first field with a name; of a DataSet that is repeated a tuple of all its values. With a `type`, such as int, a value of
-        another type counts as none."""
+        another type counts as none. If several fields have the name, as "FNumber" without a group may be one of Exif and one of XMP, and their
+        values differ, a `UserWarning` has their own names; `find` returns them all."""
+        value = self._value(name, default)
+        return value if type is None or isinstance(value, type) else default
+
+    def _value(self, name: str, default: Any) -> Any:
+        """The value of the first field with a name. A warning is for the caller of what calls this."""
+        named: Dict[str, List[Field]] = {}
         for _, fields in self._named(name):
-            same = fields if len(fields) == 1 else [it for it in fields if it.name == fields[0].name]
-            value = same[0].value if len(same) == 1 else tuple([it.value for it in same])
-            return value if type is None or isinstance(value, type) else default
-        return default
+            known = frozenset(named)
+            for field in fields:
+                if field.name not in known:
+                    named.setdefault(field.name, []).append(field)
+        if not named:
+            return default
+        first, *others = map(_value_of, named.values())
+        if any(it != first for it in others):
+            from .fields.choosing import stands_for  # which few names need
+
+            warnings.warn(f"{stands_for(name, list(named))}; this is the value of the first", stacklevel=3)
+        return first
 
     def _first(self, name: str) -> Value:
         """The value of the first field with a name of this program."""
         return next((fields[0].value for _, fields in self._own(name)), None)
 
     def __getitem__(self, name: str) -> Value:
-        found = self.get(name, _NOTHING) if isinstance(name, str) else _NOTHING
+        found: Value = self._value(name, _NOTHING) if isinstance(name, str) else _NOTHING
         if found is _NOTHING:
             raise NoField(name, self.names)
         return found
@@ -420,6 +436,11 @@ class Picture(Mapping[str, "Value"]):
 
     def __repr__(self) -> str:
         return f"Picture(name={self.name!r}, type={self.type!r}, not_read={self.not_read!r})"
+
+
+def _value_of(fields: Sequence[Field]) -> Value:
+    """The value of a field, or of one that is repeated those of all."""
+    return fields[0].value if len(fields) == 1 else tuple([it.value for it in fields])
 
 
 def _by_name(fields: Sequence[Field]) -> Dict[str, List[Field]]:

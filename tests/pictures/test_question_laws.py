@@ -8,7 +8,9 @@ import json
 import os
 import re
 import shutil
+import warnings
 
+import exifnorm
 import pytest
 from exifnorm_pictures.catalogue.asking import Answer
 from exifnorm_pictures.catalogue.store import Catalogue
@@ -154,16 +156,42 @@ def test_what_fits_no_value_is_refused(asked, question, why):
     assert why in asked(question)
 
 
-def test_names_of_no_field_and_of_several(asked, called):
-    """The answer says so."""
+@needs("exiftool")
+def test_names_of_no_field_and_of_several(asked, called, folder):
+    """Each answer says so, whatever its form, and so does Python's."""
     assert asked("DNGVersion = 1") == 0
-    for question, end in (
-        ("DNGVersion = 1", "none has DNGVersion"),
-        ("XResolution = 72", "XResolution stands for IFD0:XResolution, IFD1:XResolution"),
-    ):
-        assert called("list", "c", "--where", question)[1].splitlines()[-1].endswith(f"; {end}")
+    assert called("list", "c", "--where", "DNGVersion = 1")[1].endswith("; none has DNGVersion\n")
+    for name, number in (("a", 8), ("b", 9)):
+        put(folder / name, {"p.jpg": SMALL_JPEG})
+        numbers = (f"-ExifIFD:FNumber={number + 2}", f"-XMP-exif:FNumber={number}")
+        tool(folder, "exiftool", "-q", "-overwrite_original", *numbers, f"{name}/p.jpg")
+        called("index", name, "--catalogue", f"{name}.c")
+    (folder / "rules").write_text("FNumber never\n")
+    one, other = "a/p.jpg", "b/p.jpg"
+    fields = ["ExifIFD:FNumber", "XMP-exif:FNumber"]
+    said = f"FNumber stands for {', '.join(fields)}"
+    listing = [("list", "a.c", *words) for words in (("--where", "with FNumber"), ("--count", "FNumber"))]
+    choosing = [
+        (*words, option, "FNumber")
+        for words in (("compare", one, other), ("changed", "a.c", "b.c"), ("same", "a.c"))
+        for option in ("--only", "--ignore")
+    ]
+    for words in (*listing, *choosing, ("check", "rules", "a.c")):
+        for option in ((), ("--csv",)):
+            assert said in "".join(called(*words, *option)[1:]), (words, option)
+        summary = json.loads(called(*words, "--json")[1].splitlines()[-1])
+        assert summary.get("stands_for") == {"FNumber": fields} or summary["notes"] == [said], words
     for group in ("IFD0", "IPTC", "GPS*"):  # which is meant so
         assert "stands for" not in called("list", "c", "--where", f"with {group}")[1]
+    picture = exifnorm.read(folder / one)
+    for ask in (picture.get, picture.__getitem__):
+        with pytest.warns(UserWarning, match="FNumber stands for") as warned:
+            assert ask("FNumber") == picture.find("FNumber")[0].value
+        assert all(it in str(warned[0].message) for it in fields) and warned[0].filename == __file__
+    tool(folder, "exiftool", "-q", "-overwrite_original", "-FNumber=8", one)
+    with warnings.catch_warnings():  # without any for a name of one field, nor for equal values
+        warnings.simplefilter("error")
+        assert dict(picture) and exifnorm.read(folder / one)["FNumber"] == 8
 
 
 def test_a_day_is_given(asked, called, folder, monkeypatch):

@@ -15,12 +15,25 @@ from typing import Callable, Dict, Iterable, Iterator, List, NamedTuple, Optiona
 
 from ..fields.folding import bare, compose, folded
 from ..fields.forms import clock_of, number_of, words_of
-from ..fields.choosing import is_of_several, kinds_of
+from ..fields.choosing import kinds_of
 from ..fields.dates import EXPECTED, asked_date, is_asked_impossible, is_impossible, plain_date
 from ..fields.labels import DAMAGE, DATED, POSITION, UNCLEAR_POSITION, fields_by_label, is_in_maker_notes
 from ..fields.listing import LONGEST_TEXT
-from ..fields.questions import ORDERED, All, Any, Condition, Not, Question, With, WrongQuestion, conditions_of, fields_in, labels_of
-from ..fields.plain_names import group_name
+from ..fields.questions import (
+    ORDERED,
+    All,
+    Any,
+    Condition,
+    Not,
+    Question,
+    With,
+    WrongQuestion,
+    conditions_of,
+    fields_in,
+    has_order,
+    is_field,
+    labels_of,
+)
 from ..model.columns import Damaged
 from ..model.found import EXIF, IPTC, XMP
 from ..model.numbers import Numbers
@@ -29,7 +42,7 @@ from ..model.records import has, has_short
 from ..model.texts import unescaped
 from ..model.words import Word
 from .field_texts import DATE as FIELD_DATE
-from .field_texts import NUMBER, OTHER, SHOWN, Places, add_fields
+from .field_texts import NUMBER, OTHER, SHOWN, add_fields
 from .kept_texts import Report, make_ready, say_nothing
 from .store import HEAD, NOT_WHOLE, Catalogue, root_of_row
 
@@ -202,11 +215,6 @@ def pattern_of(text: str) -> str:
     return text.replace("[", "[[]").replace("#", "[0-9]")
 
 
-def is_field(word: str) -> bool:
-    """Whether a word of a question stands for fields, whose texts are made for it."""
-    return word not in fields_by_label() and word != DAMAGE
-
-
 def forms_of_word(word: str) -> List[str]:
     """The labels that have the texts of a word in all their forms."""
     return [before + word for before in ("", SHOWN, OTHER, NUMBER, FIELD_DATE)] if is_field(word) else [word]
@@ -353,16 +361,6 @@ def _counted(row: Tuple[str, int, str]) -> Tuple[str, int, str]:
     return row
 
 
-# How many of all pictures have a text of a label: a short one, or else a long one
-_HAVING = (
-    "SELECT count(DISTINCT picture) FROM texts WHERE label = ?1 AND long = 0",
-    "SELECT count(DISTINCT picture) FROM texts t WHERE label = ?1 AND long = 1"
-    " AND NOT EXISTS (SELECT 1 FROM texts s WHERE s.label = ?1 AND s.long = 0 AND s.picture = t.picture)",
-)
-_UNREAD_WITHOUT = (
-    "SELECT count(*) FROM temp.unread u"
-    " WHERE NOT EXISTS (SELECT 1 FROM texts t WHERE t.label = ? AND t.long IN (0, 1) AND t.picture = u.picture)"
-)
 _COUNTED = (
     "DROP TABLE IF EXISTS temp.counted",
     "DROP TABLE IF EXISTS temp.alike",
@@ -413,9 +411,7 @@ class Answer:
         add_functions(catalogue)
         self._catalogue, self._in_words = catalogue, in_words
         fields = fields_in([*(labels_of(question) if question else []), *shown])
-        self._places: Places = {}
-        if fields:
-            self._places = add_fields(catalogue, fields, report)
+        self.places = add_fields(catalogue, fields, report)
         self.labels = labels_of(question) if question else []  # that are asked for
         self._finder = _Finder(catalogue)
         self._total = catalogue.count()
@@ -424,42 +420,31 @@ class Answer:
             self._scope &= catalogue.numbers(_SINCE, (since,))
         self._has_table = False
         self._lacking: Dict[str, Numbers] = {}
-        self._are_all = question is None and not ~self._scope
         sets = self._finder.of(question) if question else _Sets(self._scope, self._scope)
         self._sure, self._may = sets.sure & self._scope, sets.may & self._scope
         for condition in conditions_of(question) if question else ():
             self._refuse_impossible(condition)
 
-    def absent(self) -> List[str]:
-        """The words of fields that no picture has."""
-        return [word for word, places in self._places.items() if not places]
-
-    def ambiguous(self) -> Dict[str, List[str]]:
-        """The words that stand for several fields of the pictures, and the names of these; no patterns and groups, which are meant so."""
-        names = {word: sorted({group_name(*place) for place in places}) for word, places in self._places.items() if not is_of_several(word)}
-        return {word: of_word for word, of_word in names.items() if len(of_word) > 1}
-
     def _refuse_impossible(self, condition: Condition) -> None:
-        """Raises `WrongQuestion` if no text of a field can ever compare so: it is a number or a date in each picture, and the value is none, and
-        no word for a number either."""
-        word, value = condition.label, folded(condition.value)
-        if word in DATED and condition.comparison == "=" and not plain_date(value) and not self._finder.of(condition).may:
-            raise WrongQuestion(f"the {word} of no picture is {condition.value!r}; expected: {EXPECTED}")
-        places = self._places.get(word, set())
-        if not places or condition.comparison not in ("=", "is", *ORDERED) or self._finder.of(condition).sure:
+        """Raises `WrongQuestion` if no text of a field can ever compare so, or is such a date."""
+        word, value, finder = condition.label, condition.value, self._finder
+        is_equal = condition.comparison == "="
+        if word in DATED and is_equal and not plain_date(value) and not finder.of(condition).may:
+            raise WrongQuestion(f"the {word} of no picture is {value!r}; expected: {EXPECTED}")
+        is_one = condition.comparison in ("=", "is", *ORDERED) and not condition.others  # of several one may well be right
+        if is_one and self.places.get(word) and not has_order(value) and not finder.of(condition).sure:
+            self._refuse_unlike(word, value)
+
+    def _refuse_unlike(self, word: str, value: str) -> None:
+        """Raises `WrongQuestion` if a field is a number or a date in each picture, and a value, which is neither, no word for a number."""
+        words = {number: names for place in sorted(self.places[word]) for number, names in words_of(*place).items()}
+        is_word = any(folded(value) == folded(name) for names in words.values() for name in names)
+        if is_word or self._catalogue.number_of(_FREE, (SHOWN + word, NUMBER + word, FIELD_DATE + word)):
             return
-        if condition.others:  # one of several may well be right
-            return
-        if number_of(condition.value) or asked_date(condition.value) or clock_of(condition.value):
-            return
-        words = {number: names for place in sorted(places) for number, names in words_of(*place).items()}
-        if any(value == folded(name) for names in words.values() for name in names):
-            return
-        if self._catalogue.number_of(_FREE, (SHOWN + word, NUMBER + word, FIELD_DATE + word)):
-            return
-        examples = [row[0] for row in self._catalogue.rows(_EXAMPLES, (SHOWN + word,))]
-        known = "; ".join(f"{number} {names[0]}" for number, names in words.items()) or ", ".join(map(repr, examples))
-        raise WrongQuestion(f"{word} is never {condition.value!r}: {'it is one of ' if words else 'pictures have '}{known}")
+        known = [f"{number} {names[0]}" for number, names in words.items()]
+        examples = [repr(row[0]) for row in self._catalogue.rows(_EXAMPLES, (SHOWN + word,))]
+        others = f"it is one of {'; '.join(known)}" if known else f"pictures have {', '.join(examples)}"
+        raise WrongQuestion(f"{word} is never {value!r}: {others}")
 
     def count(self) -> int:
         """How many pictures the question is about."""
@@ -499,13 +484,8 @@ class Answer:
 
     def having(self, label: str) -> Tuple[int, int, int]:
         """Of the pictures that fit: how many have a text of a label, how many have none, and of how many that isn't known."""
-        if self._are_all:
-            having = sum(self._catalogue.number_of(query, (label,)) for query in _HAVING)
-            self._put("unread", self._sure & self._finder.unread([label]))
-            not_known = self._catalogue.number_of(_UNREAD_WITHOUT, (label,))
-        else:
-            having = (self._sure & self._finder.with_label(label)).count(self._total)
-            not_known = self.lacking([label])
+        having = (self._sure & self._finder.with_label(label)).count(self._total)
+        not_known = self.lacking([label])
         return having, self.fitting() - having - not_known, not_known
 
     def fitting(self) -> int:

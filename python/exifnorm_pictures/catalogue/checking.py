@@ -9,23 +9,22 @@ from dataclasses import replace
 from itertools import groupby
 from typing import Callable, Dict, Iterator, List, NamedTuple, Optional, Sequence, Tuple
 
-from ..fields.folding import compose, folded
+from ..fields.choosing import stands_for
+from ..fields.folding import compose
 from ..fields.labels import DATED, POSITION, UNCLEAR_POSITION
 from ..fields.plain_names import group_name
-from ..fields.questions import Condition, fields_in
+from ..fields.questions import Condition, fields_in, is_field
 from ..fields.rules import AFTER, AGREE, BEFORE, EQUAL, LENGTH, LIKE, NEEDS, NEVER, VALUES, Rule
 from ..model.records import has, has_short
 from ..model.texts import escaped, pictures_in_words, shown_path
-from .asking import IN_SCOPE, add_functions, forms_of_word, has_text, is_field, parts_of, pattern_of, put_wanted, unread
+from .asking import IN_SCOPE, add_functions, forms_of_word, has_text, parts_of, pattern_of, put_wanted, unread
 from .field_texts import DATE as FIELD_DATE
-from .field_texts import EACH, SHOWN, add_fields
+from .field_texts import EACH, SHOWN, add_fields, ambiguous_in
 from .kept_texts import Report, make_ready, say_nothing
-from .store import HEAD, Catalogue, root_of_row
+from .store import Catalogue, root_of_row
 
-_DATED = "head GLOB '[0-9][0-9][0-9][0-9]*'"
 _TEXTS = f"""SELECT p.path, p.root, t.text FROM texts t JOIN pictures p ON p.id = t.picture
     WHERE t.label = ? AND {{}} AND {IN_SCOPE}"""
-_LAST = "\U0010ffff"  # sorts after each other character
 _FEW = 20  # texts of a rule that are looked for; a list of words has many that no picture has
 _FREQUENT = 1000  # texts of pictures with which one of a rule is compared
 _SHORT = 100  # characters of a text that is compared with others
@@ -61,7 +60,7 @@ class Checked:
     def __init__(self, catalogue: Catalogue, rules: Sequence[Rule], contradictions: Contradictions, report: Report = say_nothing) -> None:
         make_ready(catalogue, report)
         fields = fields_in(label for rule in rules for label in rule.labels)
-        self._places = add_fields(catalogue, fields, report) if fields else {}
+        self._places = add_fields(catalogue, fields, report)
         self._catalogue = catalogue
         self.rules = rules
         base = catalogue.base
@@ -133,10 +132,10 @@ class Checked:
             return "composed(t.text) NOT GLOB ?", (pattern_of(compose(rule.values[0])),)
         if rule.kind == LENGTH:
             return "length(composed(t.text)) > ?", (int(rule.values[0]),)
-        if rule.kind == AFTER:
-            return f"{_DATED} AND t.head > ?", (rule.values[0] + _LAST,)
-        if rule.kind == BEFORE:
-            return f"{_DATED} AND t.head < ? AND substr(?, 1, length(t.head)) != t.head", (rule.values[0], rule.values[0])
+        if rule.kind in (AFTER, BEFORE):
+            later = Condition(label, ">" if rule.kind == AFTER else "<", rule.values[0])
+            (part,) = parts_of(later, self._label_of(rule, label))
+            return part
         assert rule.kind in (VALUES, EQUAL)
         condition = Condition(label, "=" if rule.kind == EQUAL else "is", rule.values[0])
         return self._unlike(condition, self._allowed.get(rule, 0))
@@ -216,7 +215,8 @@ class Checked:
         yield from self._catalogue.rows("SELECT path FROM temp.unknown ORDER BY path", (), root_of_row)
 
     def notes(self) -> List[str]:
-        """The rules whose folders have no picture, and the texts of rules that no picture has, each in a sentence."""
+        """The rules whose folders have no picture, the texts of rules that no picture has, and the names
+        that several fields have, each in a sentence."""
         notes = []
         for rule, inside in self.about_nothing():
             folders = self._catalogue.roots()
@@ -229,7 +229,7 @@ class Checked:
             notes.append(f'line {rule.line}: no picture {has} the {label} "{escaped(text)}"{perhaps}')
         if more:
             notes.append(f"no picture {has} {more:,} more of the texts that rules allow; which texts are near was not looked for")
-        return notes
+        return notes + [stands_for(*it) for it in ambiguous_in(self._places).items()]
 
     def fit_no_text(self) -> Tuple[List[Unused], int]:
         """The first texts of rules that no picture has, as if they were mistyped, and how many more there are.
@@ -250,17 +250,12 @@ class Checked:
         return named, 0
 
     def _unused(self, rule: Rule) -> Iterator[Unused]:
-        """The texts of a rule that no picture has. The texts of a label are read once for a rule, and only if its index lacks one."""
-        in_index = "SELECT 1 FROM texts WHERE label = ? AND long = 0 AND head = ? AND text = ? LIMIT 1"
-        allowed = "(SELECT a.text FROM temp.wanted a WHERE a.number = ?)"
-        in_label = f"SELECT DISTINCT composed(text) FROM texts WHERE label = ? AND (text IN {allowed} OR composed(text) IN {allowed})"
-        labels = [label for label in rule.labels if not is_field(label)]
-        for label in labels if rule.kind == VALUES and len(rule.values) <= _FEW else ():
-            heads = [(text, folded(text)[:HEAD]) for text in rule.values]
-            absent = [text for text, head in heads if next(self._catalogue.rows(in_index, (label, head, text)), None) is None]
-            known = (label, self._allowed[rule], self._allowed[rule])
-            present = {row[0] for row in self._catalogue.rows(in_label, known)} if absent else set()
-            yield from (Unused(rule, label, text) for text in absent if compose(text) not in present)
+        """The texts of a rule that no picture has."""
+        of_kind = "SELECT text FROM texts WHERE label = ? AND long = {} AND head IN (SELECT w.head FROM temp.wanted w WHERE w.number = ?)"
+        query = f"SELECT composed(text) FROM ({of_kind.format(0)} UNION {of_kind.format(1)})"
+        for label in rule.labels if rule.kind == VALUES and len(rule.values) <= _FEW else ():
+            present = {row[0] for row in self._catalogue.rows(query, (label, self._allowed[rule]) * 2)}
+            yield from (Unused(rule, label, text) for text in rule.values if not (is_field(label) or compose(text) in present))
 
     def _frequent(self, label: str) -> List[str]:
         """The most frequent texts of a label. One that is twice as long as another is none that looks like it."""

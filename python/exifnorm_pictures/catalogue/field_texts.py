@@ -11,21 +11,22 @@ from functools import partial
 from itertools import chain
 from typing import Any, Dict, Iterator, List, Sequence, Set, Tuple
 
-from ..fields.choosing import Choice
+from ..fields.choosing import Choice, ambiguous
 from ..fields.field import Field
 from ..fields.forms import Forms, forms_of, number_of
 from ..fields.labels import DAMAGE
 from ..fields.listing import LONGEST_TEXT, is_rest
 from ..fields.places import is_angle, signed_degrees
+from ..fields.plain_names import group_name
 from ..fields.plain_values import plain
 from ..fields.questions import Unsure
 from ..fields.structures import has_members, members_of
 from ..fields.typed import typed
 from ..model.found import NAMES
 from ..model.records import PictureRecord
-from .kept_texts import Report, fill, say_nothing, show_as_texts
+from .kept_texts import Report, fill, make_table, say_nothing, show_as_texts
 from .label_texts import kept_text
-from .store import Catalogue, put_text, texts_table
+from .store import Catalogue, put_text
 
 _FIELDS = "temp.field_texts"
 _TIME = ("gps", "0007")
@@ -47,13 +48,12 @@ def add_fields(catalogue: Catalogue, words: Sequence[str], report: Report = say_
     """Makes the name `texts` stand for the texts of these fields, too, each with its word as a label. The texts by label are ready. Of damage
     the fields of no picture are read. Returns the fields that were seen. Raises `WrongQuestion` for a name that may be one, if no picture has
     it."""
+    if not words:
+        return {}
     base = catalogue.base
     with catalogue.guarded():
-        has_others = base.execute("SELECT 1 FROM sqlite_temp_master WHERE name = 'other_texts'").fetchone()
-        for statement in ("DROP VIEW IF EXISTS temp.texts", f"DROP TABLE IF EXISTS {_FIELDS}", texts_table(_FIELDS)):
-            base.execute(statement)
-        base.execute("CREATE INDEX temp.field_short_texts ON field_texts (label, head, text) WHERE long = 0")
-        show_as_texts(catalogue, [*catalogue.texts, *["temp.other_texts"] * bool(has_others), _FIELDS])
+        make_table(catalogue, _FIELDS)
+        show_as_texts(catalogue, [*(it for it in catalogue.all_texts if it != _FIELDS), _FIELDS])
     if DAMAGE in words:
         with catalogue.guarded():
             damaged = catalogue.rows("SELECT id, damage FROM pictures WHERE damage != ''")
@@ -61,12 +61,17 @@ def add_fields(catalogue: Catalogue, words: Sequence[str], report: Report = say_
     choices = [(word, Choice(only=[word])) for word in words if word != DAMAGE]
     seen: Places = {word: set() for word, _ in choices}
     if choices:
-        due = catalogue.number_of("SELECT count(*) FROM pictures")
+        due = catalogue.count()
         fill(catalogue, _FIELDS, "SELECT id FROM pictures", due, partial(_rows, choices, seen), report)
     for word, _ in choices:
         if isinstance(word, Unsure) and not seen[word]:
             raise word.why
     return seen
+
+
+def ambiguous_in(places: Places) -> Dict[str, List[str]]:
+    """The names that several fields have, with the names of these."""
+    return ambiguous({word: [group_name(*it) for it in of_word] for word, of_word in places.items()})
 
 
 def _rows(choices: Sequence[Tuple[str, Choice]], seen: Places, catalogue: Catalogue, number: int) -> Iterator[Tuple[object, ...]]:
@@ -87,11 +92,10 @@ def _rows(choices: Sequence[Tuple[str, Choice]], seen: Places, catalogue: Catalo
                     yield (number, first * EACH + at, *kept_text(label + word, text))
 
 
-def _by_label(forms: Forms) -> Iterator[Tuple[str, Sequence[str]]]:
+def _by_label(forms: Forms) -> List[Tuple[str, Sequence[str]]]:
     """The forms of a value, by the labels that they have before the word."""
-    yield from (("", forms.texts), (SHOWN, forms.shown), (OTHER, forms.others), (DATE, forms.dates))
-    numbers = (number_of(text) for text in forms.numbers)
-    yield NUMBER, [repr(it.value) for it in numbers if it]
+    numbers = [repr(it.value) for it in map(number_of, forms.numbers) if it]
+    return [("", forms.texts), (SHOWN, forms.shown), (OTHER, forms.others), (DATE, forms.dates), (NUMBER, numbers)]
 
 
 def _chosen(choice: Choice, fields: Sequence[Field], block: str) -> List[Field]:

@@ -56,13 +56,16 @@ def make_ready(catalogue: Catalogue, report: Report = say_nothing) -> None:
     """Makes the name `texts` stand for the texts of all pictures: if the catalogue lacks some, these are in a temporary table."""
     due = lacking(catalogue)
     with catalogue.guarded():
-        for statement in ("DROP VIEW IF EXISTS temp.texts", f"DROP TABLE IF EXISTS {_OTHERS}"):
-            catalogue.base.execute(statement)
-        if due:
-            catalogue.base.execute(texts_table(_OTHERS))
-            catalogue.base.execute("CREATE INDEX temp.other_short_texts ON other_texts (label, head, text) WHERE long = 0")
+        make_table(catalogue, _OTHERS)
         show_as_texts(catalogue, [*catalogue.texts, *[_OTHERS] * bool(due)])
     fill(catalogue, _OTHERS, catalogue.without_texts(), due, _rows, report)
+
+
+def make_table(catalogue: Catalogue, table: str) -> None:
+    """Makes an empty temporary table of texts, with the index of short ones that a catalogue has. The name `texts` stands for nothing then."""
+    index = f"CREATE INDEX {table}_short ON {table.rpartition('.')[2]} (label, head, text) WHERE long = 0"
+    for statement in ("DROP VIEW IF EXISTS temp.texts", f"DROP TABLE IF EXISTS {table}", texts_table(table), index):
+        catalogue.base.execute(statement)
 
 
 def fill(catalogue: Catalogue, table: str, pictures: str, due: int, rows: Rows, report: Report) -> None:

@@ -8,10 +8,13 @@ import json
 import re
 import sys
 import time
+from contextlib import suppress
 from datetime import datetime, timezone
 from typing import List, NamedTuple, Optional, Sequence
 
 from ..catalogue.asking import Answer, Fitting, Texts, Unread
+from ..catalogue.field_texts import ambiguous_in
+from ..fields.choosing import stands_for
 from ..fields.labels import DAMAGE, POSITION
 from ..fields.places import place_of
 from ..fields.questions import Not, Question, With, WrongQuestion, all_of, given_label, labels_of, question_of
@@ -46,7 +49,6 @@ def run(arguments: argparse.Namespace) -> int:
         note_sidecars(catalogue, [os.fsencode(source)], run)
         shown = [*columns, *([] if counted is None else [counted])]
         answer = Answer(catalogue, question, since, Preparing(run).report, shown, not output.json)
-        not_known = 0
         if counted is not None:
             not_known = _print_counts(form, answer, counted)
         else:
@@ -83,11 +85,9 @@ def _columns(asked: Optional[str], question: Optional[Question], output: Output)
 def _since(text: str) -> str:
     """A day or a moment, in the local time, as a catalogue has it in UTC. Raises `WrongQuestion`."""
     if re.fullmatch(r"\d{4}-\d\d-\d\d([ T]\d\d:\d\d(:\d\d)?)?", text):
-        try:
+        with suppress(ValueError, OverflowError):
             moment = datetime.fromisoformat(text).timestamp()
             return datetime.fromtimestamp(moment, timezone.utc).strftime("%Y-%m-%dT%H:%M:%S")
-        except (ValueError, OverflowError):
-            pass
     raise WrongQuestion(f"--since {text}: expected a day, such as {time.strftime('%Y-%m-%d')}, or '2026-03-31 14:30'")
 
 
@@ -97,31 +97,28 @@ def _since(text: str) -> str:
 def _print_names(form: _Form, answer: Answer, columns: Sequence[str]) -> None:
     for paths in answer.paths():
         sys.stdout.buffer.write(b"".join(path + b"\0" for path in paths))
-    _print_end(form, answer, answer.fitting(), answer.damaged(), columns)
+    _print_end(form, answer, columns)
 
 
 def _print_pictures(form: _Form, answer: Answer, columns: Sequence[str]) -> None:
     output = form.output
     table = table_of(output, ["picture", *listed_texts.heads(columns)])
-    listed, damaged = 0, 0
     if output.geojson:
         print('{"type": "FeatureCollection", "features": [')
-    for picture, texts in answer.pictures([*columns, *[POSITION] * output.geojson]):
-        listed += 1
-        damaged += bool(picture.damage)
+    for before, (picture, texts) in enumerate(answer.pictures([*columns, *[POSITION] * output.geojson])):
         if table:
             table.row(picture.path, *listed_texts.cells(columns, texts))
         elif output.json:
             captions = listed_texts.member(columns, texts)
             print_object("list", "picture", {**path_members(picture.path), "texts": captions, "damage": picture.damage or None})
         elif output.geojson:
-            print("," * (listed > 1) + json.dumps(_feature(picture, columns, texts)))
+            print("," * bool(before) + json.dumps(_feature(picture, columns, texts)))
         else:
             fault = f"   (damaged: {picture.damage})" if picture.damage and DAMAGE not in columns else ""
             print_lines([shown_path(picture.path) + fault, *listed_texts.lines(columns, texts, "  ")])
     if output.geojson:
         print("]}")
-    _print_end(form, answer, listed, damaged, columns)
+    _print_end(form, answer, columns)
 
 
 def _feature(picture: Fitting, columns: Sequence[str], texts: Texts) -> Members:
@@ -132,12 +129,14 @@ def _feature(picture: Fitting, columns: Sequence[str], texts: Texts) -> Members:
     return {"type": "Feature", "geometry": geometry, "properties": properties}
 
 
-def _print_end(form: _Form, answer: Answer, listed: int, damaged: int, columns: Sequence[str]) -> None:
+def _print_end(form: _Form, answer: Answer, columns: Sequence[str]) -> None:
     """How many pictures were listed, how many of them are damaged or may have a text that was not read, and of how many more it isn't known
     whether they fit."""
+    listed, damaged = answer.fitting(), answer.damaged()
     if form.output.json:
         numbers: Members = {"pictures": answer.count(), "listed": listed, "not_known": answer.not_known(), "damaged": damaged}
-        print_object("list", "summary", {**numbers, "may_fit": list(map(path_members, answer.paths_not_known()))})
+        numbers["may_fit"] = list(map(path_members, answer.paths_not_known()))
+        print_object("list", "summary", {**numbers, "stands_for": ambiguous_in(answer.places)})
         return
     end = (
         f"{listed:,} of {pictures_in_words(answer.count())}"
@@ -145,15 +144,14 @@ def _print_end(form: _Form, answer: Answer, listed: int, damaged: int, columns: 
         + f", {damaged:,} of them cut off or damaged" * bool(damaged)
         + _of_unknown(answer)
         + "".join(_of_lacking(answer, label) for label in columns)
-        + "".join(f"; none has {escaped(word)}" for word in answer.absent())
-        + "".join(f"; {word} stands for {escaped(', '.join(names[:_FIELDS]))}" for word, names in answer.ambiguous().items())
+        + _of_names(answer)
     )
     lines = [*named("may fit:", answer.paths_not_known(), answer.not_known()), end]
     if not (form.output.csv or form.is_of_names or form.output.geojson):
         print_lines(lines)
         if form.since and listed:
             print_line(_WHAT_CHANGED)
-    elif answer.not_known() or damaged or answer.lacking(columns):
+    elif answer.not_known() or damaged or answer.lacking(columns) or _of_names(answer):
         say_notes(*lines)
 
 
@@ -165,6 +163,12 @@ def _since_then(since: Optional[str], pictures: int) -> str:
 def _of_unknown(answer: Answer) -> str:
     count = answer.not_known()
     return f"; {count:,} more may fit: {_unread(answer.why_not_known())}" if count else ""
+
+
+def _of_names(answer: Answer) -> str:
+    """Which names no field of the pictures has, and which several have."""
+    none = (f"; none has {escaped(word)}" for word, places in answer.places.items() if not places)
+    return "".join((*none, *(f"; {stands_for(*it)}" for it in ambiguous_in(answer.places).items())))
 
 
 def _of_lacking(answer: Answer, label: str) -> str:
@@ -183,9 +187,6 @@ _UNREAD = {
     Unread.POSITION: "their latitude or longitude makes no position, as without a direction or the other one",
     Unread.MAKER_NOTE: "they have a MakerNote, which index --maker-notes --again reads",
 }
-
-
-_FIELDS = 5  # that a word stands for
 
 
 # Counts
@@ -214,16 +215,17 @@ def _print_end_of_counts(form: _Form, answer: Answer, label: str) -> int:
     total = having + without + not_known
     if form.output.json:
         paths = {"may_have": answer.paths_not_known(label), "may_fit": answer.paths_not_known()}
-        names = {name: list(map(path_members, of_name)) for name, of_name in paths.items()}
-        print_object("list", "summary", {"pictures": total, "with": having, "not_known": not_known, **names})
+        names: Members = {name: list(map(path_members, of_name)) for name, of_name in paths.items()}
+        numbers = {"pictures": total, "with": having, "not_known": not_known, "stands_for": ambiguous_in(answer.places)}
+        print_object("list", "summary", {**numbers, **names})
         return not_known
     more = f"; {not_known:,} not known: {_unread(answer.why_not_known(label))}" if not_known else ""
     of_new = f", of {pictures_in_words(total)}{_since_then(form.since, total)}" * bool(form.since)
-    end = f"{pictures_in_words(having)} with a text of {label}, {without:,} without{of_new}{more}{_of_unknown(answer)}"
+    end = f"{pictures_in_words(having)} with a text of {label}, {without:,} without{of_new}{more}{_of_unknown(answer)}{_of_names(answer)}"
     lines = named(f"may have {label}:", answer.paths_not_known(label), not_known)
     lines += [*named("may fit:", answer.paths_not_known(), answer.not_known()), end]
     if not form.output.csv:
         print_lines(lines)
-    elif not_known or answer.not_known():
+    elif not_known or answer.not_known() or _of_names(answer):
         say_notes(*lines)
     return not_known

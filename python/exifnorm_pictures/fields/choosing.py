@@ -5,14 +5,16 @@ from __future__ import annotations
 import difflib
 import fnmatch
 import re
-from dataclasses import dataclass
-from typing import Callable, Dict, FrozenSet, Iterable, Iterator, List, Sequence, Tuple
+from dataclasses import dataclass, field
+from typing import Callable, Dict, FrozenSet, Iterable, Iterator, List, Mapping, Sequence, Set, Tuple
 
 from ..model.errors import WrongUse
 from ..model.found import EXIF, IPTC, NAMES, XMP
+from ..model.texts import escaped
 from .field_names import EXIF_GROUPS, XMP_GROUPS, Names, asked_name, dictionary, is_possible, names_and_groups
 from .field import Field
 from .listing import MAKER_NOTE, is_rest
+from .plain_names import group_name
 
 # What programs change whenever they save a picture, whatever was edited: the dates of the last change, and the identifiers of that state
 SAVES = tuple(
@@ -22,6 +24,7 @@ SAVES = tuple(
 SETS = {"saves": SAVES}
 CACHED, LONGEST_CACHED = 5000, 200  # fields whose decision is kept, and characters of such a field's key
 MOST_LISTED = 1000  # fields that are listed as left out
+MOST_NAMED = 20  # fields that a name is said to stand for
 
 Test = Callable[[Names, Names, Names], bool]  # of the names of a field, of its groups, and of its names in other programs
 
@@ -66,6 +69,22 @@ def is_of_several(pattern: str) -> bool:
     return bool(_WILD.search(pattern)) or pattern.casefold() in {"iptc", "xmp", *EXIF_GROUPS, *XMP_GROUPS}
 
 
+def ambiguous(named: Mapping[str, Iterable[str]]) -> Dict[str, List[str]]:
+    """The names that several fields of some pictures have, each with the names of these that no other
+    field has; no patterns and groups, which are meant for several."""
+    return {it: sorted({*fields}) for it, fields in named.items() if len({*fields}) > 1 and not is_of_several(it)}
+
+
+def stands_for(name: str, fields: Sequence[str]) -> str:
+    """What is said of a name that several fields have, or of a label.
+
+    >>> stands_for("FNumber", ["ExifIFD:FNumber", "XMP-exif:FNumber"])
+    'FNumber stands for ExifIFD:FNumber, XMP-exif:FNumber'
+    """
+    more = f" and {len(fields) - MOST_NAMED:,} more" if len(fields) > MOST_NAMED else ""
+    return escaped(f"{name} stands for {', '.join(fields[:MOST_NAMED])}{more}")
+
+
 def kinds_of(pattern: str) -> FrozenSet[str]:
     """The kinds of blocks that can have a field of a pattern.
 
@@ -102,7 +121,9 @@ def hint(pattern: str) -> str:
     from .labels import fields_by_label
 
     known = {it.casefold(): it for it in (*(it for it in of_group if it.casefold() in names), *printed, *SETS, *fields_by_label())}
-    near = difflib.get_close_matches(pattern.casefold(), known, 1, 0.75)
+    typed = pattern.casefold().replace(" ", "")  # in words, a field may be meant that begins so
+    begun = [it for it in known if it.startswith(typed)] if " " in pattern.strip() else []
+    near = begun or difflib.get_close_matches(typed, known, 1, 0.75)
     return f" (perhaps {known[near[0]]} is meant)" if near and near[0] != pattern.casefold() else ""
 
 
@@ -133,6 +154,7 @@ class Pattern:
     test: Test
     of_set: str = ""  # the set that it is of
     is_seen: bool = False
+    names: Set[str] = field(default_factory=set)  # of the fields that fit it
 
 
 def _patterns(words: Sequence[str]) -> List[Pattern]:
@@ -195,6 +217,8 @@ class Choice:
         ignored, wanted = ([it for it in some if it.test(*names)] for some in (self.ignore, self.only))
         for pattern in (*ignored, *wanted):
             pattern.is_seen = True
+            if not pattern.of_set and len(pattern.names) < MOST_LISTED:
+                pattern.names.add(group_name(where, key)[:LONGEST_CACHED])
         return is_rest(where, key) or (not ignored and (bool(wanted) or not self.only))
 
     def of(self, fields: Iterable[Field], block: str = "") -> List[Field]:
@@ -203,8 +227,8 @@ class Choice:
 
     def see(self, fields: Iterable[Field], block: str = "") -> None:
         """Notes which patterns fit these fields."""
-        for field in fields:
-            self.counts(field.directory, field.tag, block)
+        for it in fields:
+            self.counts(it.directory, it.tag, block)
 
     def see_kind(self, kind: str) -> None:
         """Notes that blocks of a kind are left out as wholes."""
@@ -221,6 +245,10 @@ class Choice:
         """The labels that were given, each with its fields."""
         given = dict.fromkeys(it.of_set for it in self._patterns if it.of_set and it.of_set not in SETS)
         return {it: tuple(dict.fromkeys(one.text for one in self._patterns if one.of_set == it)) for it in given}
+
+    def ambiguous(self) -> Dict[str, List[str]]:
+        """The names that were given and that several fields have, with the names of these."""
+        return ambiguous({it.text: it.names for it in self._patterns})
 
     def unseen(self) -> List[str]:
         """The patterns that fit no field, but for those of sets."""

@@ -53,36 +53,41 @@ def names_and_groups(where: str, key: str, block: str = "") -> Tuple[Names, Name
     if block:
         names += [f"{it} ({block})" for it in (printed, safe(printed))]
     own = frozenset(map(str.casefold, names))
-    return own, groups, frozenset(map(str.casefold, _others(where, key, bare))) - own
+    others = _others_of_property(key) if where == "xmp" else _others_of_tag(where, key, bare)
+    return own, groups, frozenset(map(str.casefold, others)) - own
 
 
-def _others(where: str, key: str, bare: Sequence[str]) -> Iterator[str]:
-    """The names of a field as `exiftool -G1`, `exiftool -G` and exiv2 print them, where they aren't those of this program.
+def _others_of_property(key: str) -> Iterator[str]:
+    """The names of a property as `exiftool -G1`, `exiftool -G` and exiv2 print them, where they aren't those of this program.
 
-    >>> set(_others("exif", "9004", _bare("exif", "9004"))) > {"DateTimeDigitized", "EXIF:CreateDate", "Exif.Photo.DateTimeDigitized"}
-    True
-    >>> set(_others("xmp", "exif:PixelXDimension", ["PixelXDimension"])) > {"XMP-exif:ExifImageWidth", "XMP:ExifImageWidth", "Xmp.exif.PixelXDimension"}
+    >>> names = set(_others_of_property("exif:PixelXDimension"))
+    >>> names > {"XMP-exif:ExifImageWidth", "XMP:ExifImageWidth", "Xmp.exif.PixelXDimension"}
     True
     """
-    if where == "xmp":
-        prefix, name = _parted(key)
-        names = [name, *_NAMES.get(f"{prefix}:{name}", ())]
-        yield from names
-        for other in (prefix, *_OTHER_PREFIXES.get(prefix, ())) if prefix else ():
-            yield from (
-                f"{form}{it}" for it in names for form in (f"XMP-{other}:", f"{other}:" * (other not in _DIRECTORIES), f"Xmp.{other}.")
-            )
-        yield from (f"XMP-?:{it}" for it in names if f"xmp-{prefix}".casefold() not in XMP_GROUPS)
-        # "xmp:" is the prefix of a namespace, too, whose own names come first
-        yield from (f"XMP:{it}" for it in names if prefix == "xmp" or f"xmp:{it}".casefold() not in _OF_XMP)
-        return
+    prefix, name = _parted(key)
+    names = [name, *_NAMES.get(f"{prefix}:{name}", ())]
+    yield from names
+    for other in (prefix, *_OTHER_PREFIXES.get(prefix, ())) if prefix else ():
+        forms = (f"XMP-{other}:", f"{other}:" * (other not in _DIRECTORIES), f"Xmp.{other}.")
+        yield from (f"{form}{it}" for it in names for form in forms)
+    yield from (f"XMP-?:{it}" for it in names if f"xmp-{prefix}".casefold() not in XMP_GROUPS)
+    # "xmp:" is the prefix of a namespace, too, whose own names come first
+    yield from (f"XMP:{it}" for it in names if prefix == "xmp" or f"xmp:{it}".casefold() not in _OF_XMP)
+
+
+def _others_of_tag(where: str, key: str, bare: Sequence[str]) -> Iterator[str]:
+    """The same of a tag or a DataSet.
+
+    >>> set(_others_of_tag("exif", "9004", _bare("exif", "9004"))) > {"DateTimeDigitized", "EXIF:CreateDate", "Exif.Photo.DateTimeDigitized"}
+    True
+    """
     if where not in _DIRECTORIES:
         return
-    table = "main:" if where in ("exif", "thumb") else "" if where == "iptc" else f"{where}:"
-    names = [*bare, *_NAMES.get(table + key, ())]
-    record = {"1": "Iptc.Envelope.", "2": "Iptc.Application2."}.get(key.partition(":")[0], "") if where == "iptc" else f"{_EXIV2[where]}."
-    for name in names:
-        yield from (name, f"{group_of(where)}:{name}", f"{'IPTC' if where == 'iptc' else 'EXIF'}:{name}", *[record + name] * bool(record))
+    family, record, table = "EXIF", f"{_EXIV2.get(where)}.", "main:" if where in ("exif", "thumb") else f"{where}:"
+    if where == "iptc":
+        family, record, table = "IPTC", {"1": "Iptc.Envelope.", "2": "Iptc.Application2."}.get(key.partition(":")[0], ""), ""
+    for name in (*bare, *_NAMES.get(table + key, ())):
+        yield from (name, f"{group_of(where)}:{name}", f"{family}:{name}", *[record + name] * bool(record))
 
 
 def asked_name(folded: str) -> str:
@@ -133,22 +138,33 @@ def _groups(where: str, key: str) -> Names:
 @functools.lru_cache(maxsize=1)
 def dictionary() -> Tuple[Names, Tuple[str, ...]]:
     """All names of the standards' fields and of their groups; and those of them that are printed and no numbers, as they are printed."""
-    fields = [(where, key) for where, tables in TABLES.items() for table in tables for key in table]
-    fields += [("thumb", "jpeg"), ("thumb", "strip"), *(("xmp", it) for it in (*_XMP, *other_names.PROPERTIES.split()))]
-    fields += [("xmp", f"{prefix}:{it}") for prefix, place in _TAGS_IN_XMP for table in TABLES[place] for it in table.values()]
-    groups = ((it.rpartition(":")[0], it.rpartition(":")[2], it) for it in _NAMES)
-    fields += [
-        place
-        for group, key, whole in groups
-        for place in ([(where, key) for where in ("main", "exif", "thumb")] if group == "main" else [_place_of(group, key, whole)])
-    ]
+    fields = _known_fields()
     names = frozenset(name for it in fields for some in names_and_groups(*it) for name in some)
     printed = [it for it in (group_name(*it) for it in fields) if not _NUMBER.fullmatch(it.partition(":")[2])]
     return names, tuple(dict.fromkeys([*printed, *(it.partition(":")[2] for it in printed)]))
 
 
-def _place_of(group: str, key: str, whole: str) -> Tuple[str, str]:
-    return ("iptc", whole) if group.isdigit() else (group, key) if group in _DIRECTORIES[:5] and len(key) == 4 else ("xmp", whole)
+def _known_fields() -> List[Tuple[str, str]]:
+    """The fields of the standards, and those for which other programs have a name."""
+    tags = [(where, key) for where, tables in TABLES.items() for table in tables for key in table]
+    mirrored = [("xmp", f"{prefix}:{it}") for prefix, place in _TAGS_IN_XMP for table in TABLES[place] for it in table.values()]
+    named = [field for name in _NAMES for field in _fields_named(name)]
+    properties = (("xmp", it) for it in (*_XMP, *other_names.PROPERTIES.split()))
+    return [*tags, ("thumb", "jpeg"), ("thumb", "strip"), *properties, *mirrored, *named]
+
+
+def _fields_named(name: str) -> List[Tuple[str, str]]:
+    """The fields that an entry of the other names is about: `main` stands for three directories.
+
+    >>> _fields_named("main:c612"), _fields_named("2:25"), _fields_named("exif:PixelXDimension")
+    ([('main', 'c612'), ('exif', 'c612'), ('thumb', 'c612')], [('iptc', '2:25')], [('xmp', 'exif:PixelXDimension')])
+    """
+    group, _, key = name.rpartition(":")
+    if group == "main":
+        return [(where, key) for where in ("main", "exif", "thumb")]
+    if group in _EXIV2 and len(key) == 4:
+        return [(group, key)]
+    return [("iptc" if group.isdigit() else "xmp", name)]
 
 
 _OF_XMP = frozenset(it.casefold() for it in _XMP if it.startswith("xmp:"))

@@ -5,7 +5,7 @@ from __future__ import annotations
 from typing import Iterator
 
 from ..model.texts import Members, escaped
-from .choosing import Choice, hint
+from .choosing import Choice, hint, stands_for
 
 
 BY_LISTING = "A result with fields left out is tested, and not proved."
@@ -26,9 +26,9 @@ def lines(choice: Choice, is_counted: bool = False) -> Iterator[str]:
 
 
 def of_labels(choice: Choice) -> Iterator[str]:
-    """Which fields a label stands for, which words fit no field of the pictures, and where else it may be that was asked for."""
-    for label, fields in choice.labels().items():
-        yield f"{label} stands for {', '.join(fields)}."
+    """Which fields a label or a name stands for, which words fit no field of the pictures, and where else it may be that was asked for."""
+    for word, fields in (*choice.labels().items(), *choice.ambiguous().items()):
+        yield f"{stands_for(word, fields)}."
     if choice.absent:
         names = [escaped(it) + hint(it) for it in choice.absent[:SHOWN]]
         names += [f"{len(choice.absent) - SHOWN:,} more"] * (len(choice.absent) > SHOWN)
@@ -38,8 +38,9 @@ def of_labels(choice: Choice) -> Iterator[str]:
 
 
 def members_of(choice: Choice) -> Members:
-    """The words that fit no field, and the number of pictures whose MakerNotes may have what was asked for, for an object."""
-    return {"fits_nothing": choice.absent, "maker_notes_not_read": choice.maker_notes}
+    """The words that fit no field, the names of several, and the number of pictures whose MakerNotes may
+    have what was asked for, for an object."""
+    return {"fits_nothing": choice.absent, "stands_for": choice.ambiguous(), "maker_notes_not_read": choice.maker_notes}
 
 
 def of_maker_notes(count: int) -> str:

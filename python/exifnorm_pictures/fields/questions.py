@@ -15,11 +15,12 @@ from __future__ import annotations
 import difflib
 import re
 from dataclasses import dataclass
-from typing import Callable, Iterable, Iterator, List, Optional, Sequence, Tuple, Union
+from typing import Callable, Iterable, Iterator, List, Optional, Sequence, Tuple, Type, Union
 
 from ..model.errors import WrongUse
 from ..model.texts import safe
 from . import dates
+from .choosing import hint, is_known
 from .forms import clock_of, number_of
 from .labels import CODED, DAMAGE, DATED, POSITION, fields_by_label, label_of
 from .places import place_of
@@ -147,9 +148,9 @@ def given_label(text: str) -> str:
 
 def _unsure(text: str, why: str, *lines: str) -> Unsure:
     """A name that is no known one. Raises `WrongQuestion` if it can be none, or looks like one that is mistyped."""
-    near = _nearest(text)
-    problem = WrongQuestion(why + near, *lines)
-    if not re.fullmatch(r"[A-Za-z_][\w:.-]*", text) or near.startswith(" ("):
+    near = nearest(text)
+    problem = WrongQuestion(why + (near or f". The labels are {', '.join((*fields_by_label(), DAMAGE))}"), *lines)
+    if near or not re.fullmatch(r"[A-Za-z_][\w:.-]*", text):
         raise problem
     label = Unsure(text)
     label.why = problem
@@ -166,8 +167,6 @@ def _label_or_field(text: str) -> Optional[str]:
     """A label, damage, or the name of a field as --only takes it; None if no field is named so."""
     label = DAMAGE if text.casefold() == DAMAGE else label_of(text)
     if label is None and text and not text.isspace():
-        from .choosing import is_known  # which few questions need
-
         return text if is_known(text) else None
     return label
 
@@ -178,12 +177,18 @@ def fields_in(words: Iterable[str]) -> List[str]:
     return [word for word in dict.fromkeys(words) if word not in labels]
 
 
-def _nearest(text: str) -> str:
-    from .choosing import hint
+def nearest(name: str) -> str:
+    """The label or the field that may be meant, in parentheses: a label that begins so, one with nearly these letters, one that stands for a field
+    of this name, or a field. Empty if there is none.
 
-    labels = [*fields_by_label(), DAMAGE]
-    near = difflib.get_close_matches(text.casefold(), labels, 1, 0.6)
-    return f" (perhaps {near[0]} is meant)" if near else hint(text) or f". The labels are {', '.join(labels)}"
+    >>> nearest("creatr"), nearest("license end"), nearest("x")
+    (' (perhaps creator is meant)', ' (perhaps LicenseEndDate is meant)', '')
+    """
+    folded, by_label = name.casefold(), fields_by_label()
+    labels = [*by_label, DAMAGE]
+    near = [label for label in labels if len(name) > 2 and label.startswith(folded)] or difflib.get_close_matches(folded, labels, 1, 0.6)
+    near += [label for label, fields in by_label.items() if any(folded in it.casefold().split(":") for it in fields)]
+    return f" (perhaps {near[0]} is meant)" if near else hint(name)
 
 
 _ENDS = ("and", "or", "(", ")")
@@ -204,18 +209,13 @@ class _Reader(Reader):
         return question
 
     def _read_any(self) -> Question:
-        questions = self._read_joined("or", self._read_all)
-        return questions[0] if len(questions) == 1 else Any(questions)
+        return self._read_joined("or", Any, lambda: self._read_joined("and", All, self._read_factor))
 
-    def _read_all(self) -> Question:
-        questions = self._read_joined("and", self._read_factor)
-        return questions[0] if len(questions) == 1 else All(questions)
-
-    def _read_joined(self, word: str, read: Callable[[], Question]) -> Tuple[Question, ...]:
+    def _read_joined(self, word: str, joined: "Type[Union[All, Any]]", read: Callable[[], Question]) -> Question:
         questions = [read()]
         while self._takes(word):
             questions.append(read())
-        return tuple(questions)
+        return questions[0] if len(questions) == 1 else joined(tuple(questions))
 
     def _read_factor(self) -> Question:
         self._depth += 1
@@ -306,15 +306,21 @@ def _check_form(comparison: str, value: Token) -> None:
         raise ValueError("* is a wildcard only after like; put a text that has this character in quotes")
 
 
+def is_field(word: str) -> bool:
+    """Whether a word of a question stands for fields, whose texts are made for it."""
+    return word not in fields_by_label() and word != DAMAGE
+
+
 def _check_ordered(label: str, text: str) -> None:
     """Raises `ValueError` for what is no number, nor of a field a date or a time."""
-    is_of_field = label not in fields_by_label() and label != DAMAGE
-    if is_of_field:
-        can_be = bool(number_of(text) or dates.asked_date(text) or clock_of(text))
-    else:
-        can_be = bool(re.fullmatch(r"[+-]?\d+(\.\d+)?", text))
-    if not can_be:
+    is_of_field = is_field(label)
+    if not (has_order(text) if is_of_field else re.fullmatch(r"[+-]?\d+(\.\d+)?", text)):
         raise ValueError("expected: a number" + f", or {dates.EXPECTED}" * is_of_field)
+
+
+def has_order(text: str) -> bool:
+    """Whether a text is a number, a date or a time, which come one after the other."""
+    return bool(number_of(text) or dates.asked_date(text) or clock_of(text))
 
 
 def _date(comparison: str, text: str) -> str:

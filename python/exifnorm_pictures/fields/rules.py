@@ -22,7 +22,6 @@ inside lies at the top of what was indexed, and any other one anywhere below it.
 from __future__ import annotations
 
 import contextlib
-import difflib
 import fnmatch
 import os
 import re
@@ -31,9 +30,8 @@ from typing import Callable, Dict, Iterable, List, NoReturn, Optional, Sequence,
 
 from ..model.errors import WrongUse
 from . import dates
-from .choosing import hint
 from .labels import DATED, LABELS, POSITION, fields_by_label, label_of
-from .questions import WrongQuestion, checked_value, exact_value, given_label
+from .questions import WrongQuestion, checked_value, exact_value, given_label, nearest
 from .tokens import EXACT, MOST_WORDS, Mistake, Reader, Token, tokens_of
 
 NEEDS, VALUES, EQUAL, LIKE, NEVER = "needs", "values", "equal", "like", "never"
@@ -143,18 +141,6 @@ def _rule(number: int, line: str, words_of: Callable[[str], List[str]]) -> Optio
     return _Reader(line, tokens, words_of).read(number) if tokens else None
 
 
-def _meant_label(name: str) -> str:
-    """The label that may be meant: one that begins so, one with nearly these letters, or one that stands for a field of this name.
-
-    >>> _meant_label("date"), _meant_label("creatr"), _meant_label("artist"), _meant_label("x")
-    ('date created', 'creator', 'creator', '')
-    """
-    fields = fields_by_label()
-    near = [label for label in fields if len(name) > 2 and label.startswith(name)] or difflib.get_close_matches(name, fields, 1, 0.6)
-    groups = ((label, one.casefold().partition(":")[::2]) for label, of_label in fields.items() for one in of_label)
-    return next(iter([*near, *(label for label, (group, field) in groups if name in (group, field))]), "")
-
-
 _ENDS = (",", *_PLACES)
 _VALUE = "expected: a text, in quotes if it has a comma, in or except"
 
@@ -216,8 +202,7 @@ class _Reader(Reader):
         for at, token in enumerate(tokens[1:], 1):
             if token.word in _MEANT and label_of(" ".join(before.text for before in tokens[:at])):
                 self._fail(f"{token.text!r} is no word of a rule (perhaps {_MEANT[token.word]} is meant)", token)
-        meant = _meant_label(name.casefold())
-        self._fail(f"{name!r} is no label and no field" + (f" (perhaps {meant} is meant)" if meant else hint(name)), *tokens)
+        self._fail(f"{name!r} is no label and no field{nearest(name)}", *tokens)
 
     def _predicate_words(self) -> Tuple[str, ...]:
         """The words of the predicate that is next; empty if none is."""
