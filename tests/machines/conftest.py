@@ -2,6 +2,7 @@
 
 from __future__ import annotations
 
+import hashlib
 import random
 import shutil
 import zipfile
@@ -11,8 +12,10 @@ from typing import Dict, Iterator
 import c_source
 import guard
 import pytest
+import wasm
 from lines_of_cases import lines
 from machines import HERE, VERSION, Builds
+from prove import locked
 
 from commands import TOP, run
 
@@ -20,13 +23,21 @@ CUTS, CHANGES = 40, 150  # of each picture
 
 
 @pytest.fixture(scope="session")
-def c_archive(library: Path, session_folder: Path) -> Path:
-    """The archive of the C source of the built library, with its folder beside it."""
+def c_archive(library: Path) -> Path:
+    """The archive of the C source of the built library, with its folder beside it. It takes a minute of a processor, so it is made once for
+    all processes, and kept beside the module that it is made of."""
     for tool, package in c_source.TOOLS.items():
         if not shutil.which(tool):
             pytest.skip(f"{tool} is not installed: `apt-get install {package}`")
     is_proved = not guard.refused(library / "libexifnorm.so.1")
-    return c_source.make(VERSION, 10**9, session_folder / "c", is_proved)
+    module = c_source.module_of(is_proved)
+    files = [module, Path(c_source.__file__), Path(wasm.__file__), *TOP.glob("LICENSE-*")]
+    files += sorted([*c_source.SOURCES.iterdir(), *c_source.HEADER.parent.iterdir()])
+    made_from = [file.read_bytes() for file in files] + [line.encode() for line in lines()]
+    folder = module.parent / f"c-{hashlib.sha256(b''.join(made_from)).hexdigest()[:16]}"
+    archive = folder / f"exifnorm-{VERSION}-c.tar.gz"
+    with locked(module.parent / "c-lock", "another process makes the C source: waiting for it"):
+        return archive if archive.exists() else c_source.make(VERSION, 10**9, folder, is_proved)
 
 
 @pytest.fixture(scope="session")

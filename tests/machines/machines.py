@@ -63,11 +63,11 @@ class Machine:
                 pytest.skip(f"{tool} is not installed: `apt-get install $(./test --packages)`")
 
 
+# With glibc and gcc the library is compiled by its Makefile, in test_make and for its own tests in test_suite.py.
 MACHINES = [
-    Machine("gcc", ["gcc", "-O2"]),
-    Machine("clang", ["clang", "-O2"]),
-    Machine("address sanitizer", ["clang", "-O1", "-fsanitize=address"]),
     Machine("musl", ["musl-gcc", "-O2", "-static"]),
+    Machine("clang", ["clang", "-O2"]),
+    Machine("address sanitizer", ["clang", "-O0", "-fsanitize=address"]),
     Machine("aarch64", [GCC, "-O2", "-static"], [QEMU]),
     Machine("windows", ["x86_64-w64-mingw32-gcc", "-O2"], [str(WINE / "wine64")]),
 ]

@@ -22,6 +22,20 @@ def both_builds(session_folder):
     return build_both(session_folder)
 
 
+@pytest.fixture(scope="session")
+def releases(session_folder):
+    """Two releases, from folders that differ in all that must not matter."""
+    from releases import two_releases
+
+    return two_releases(session_folder)
+
+
+@pytest.fixture(scope="session")
+def made(releases):
+    """The folder of a release."""
+    return releases[0]
+
+
 @pytest.fixture
 def user(both_builds):
     return both_builds[0]

@@ -48,10 +48,19 @@ class TestFiles:
     def test_files_and_modes_for_another_python_prefix_and_umask(self, other: Tree) -> None:
         assert tree(other.root) == other.expected()
 
-    def test_names_of_folders_may_have_spaces(self, folder: Path) -> None:
-        here = Tree(folder / "a folder", "/a prefix", DEBIAN_PYTHON)
-        here.make("install")
+    def test_names_with_spaces_no_headers_of_python_and_no_strip(self, folder: Path) -> None:
+        """Without Python.h the extension module is left out, and Python calls the library by ctypes. Without STRIP the library is installed
+        as it was linked."""
+        here = Tree(folder / "a folder", "/a prefix", DEBIAN_PYTHON, ["PYTHONINCLUDE=/no/headers", "STRIP="])
+        line = "exifnorm: there is no /no/headers/Python.h, so _native.abi3.so is left out: Python calls the library by ctypes"
+        assert [it for it in here.make("install").splitlines() if it.startswith("exifnorm:")] == [line]
         assert tree(here.root) == here.expected()
+        linked = (TOP / "out/lib/libexifnorm.so.1").read_bytes()
+        assert here.at("lib/libexifnorm.so").read_bytes() == linked and b".symtab" in linked
+        (folder / "block").write_bytes(BLOCK)
+        code = "import exifnorm, exifnorm._library as l; print(exifnorm.normal(open('block', 'rb').read()).hex(), l._native)"
+        said = run(DEBIAN_PYTHON, "-B", "-c", code, folder=folder, PYTHONPATH=str(here.module_folder), EXIFNORM_LIBRARY="")
+        assert said == f"{BLOCK.hex()} None\n"
         here.make("uninstall")
         assert tree(here.root) == {}
 
@@ -66,17 +75,6 @@ class TestFiles:
         wrong = {it: "wrong" for it in re.findall(r"^([A-Za-z_]+) =", text_of("Makefile"), re.MULTILINE)}
         assert {"DESTDIR", "INTERPRETER", "PREFIX", "PYTHON", "STRIP", "stage"} <= set(wrong)
         assert run("make", "-n", "stage", "uninstall", **wrong) == run("make", "-n", "stage", "uninstall")
-
-    def test_without_pythons_headers_the_extension_module_is_left_out(self, folder: Path) -> None:
-        for number, (include, header) in enumerate((("/no/headers", "/no/headers/Python.h"), ("", "Python.h"))):
-            here = Tree(folder / str(number), "/usr", DEBIAN_PYTHON, [f"PYTHONINCLUDE={include}"])
-            line = f"exifnorm: there is no {header}, so _native.abi3.so is left out: Python calls the library by ctypes"
-            assert [it for it in here.make("install").splitlines() if it.startswith("exifnorm:")] == [line]
-            assert tree(here.root) == here.expected()
-            code = "import exifnorm, exifnorm._library as l; print(exifnorm.normal(open('block', 'rb').read()).hex(), l._native)"
-            (folder / "block").write_bytes(BLOCK)
-            said = run(DEBIAN_PYTHON, "-B", "-c", code, folder=folder, PYTHONPATH=str(here.module_folder), EXIFNORM_LIBRARY="")
-            assert said == f"{BLOCK.hex()} None\n"
 
     def test_an_extension_module_that_cannot_be_compiled_ends_the_installation(self, folder: Path) -> None:
         need_headers(DEBIAN_PYTHON)
@@ -267,11 +265,11 @@ class TestLibraries:
         )
         assert moved.split() == ["-I/moved/include", "-L/moved/lib"]
 
-    def test_example_links_the_shared_library(self, usr: Tree, other: Tree) -> None:
-        for it in (usr, other):
-            run("cc", *STRICT, EXAMPLES / "compare.c", *self.pkg_config(it, "--cflags", "--libs"), "-o", "shared", folder=self.work)
-            assert run("./shared", folder=self.work, LD_LIBRARY_PATH=str(it.at("lib"))) == "same\n"
-            assert "[libexifnorm.so.1]" in run("readelf", "-dW", "shared", folder=self.work)
+    def test_example_links_the_shared_library(self, other: Tree) -> None:
+        run("cc", *STRICT, EXAMPLES / "compare.c", *self.pkg_config(other, "--cflags", "--libs"), "-o", "shared", folder=self.work)
+        assert run("./shared", folder=self.work, LD_LIBRARY_PATH=str(other.at("lib"))) == "same\n"
+        assert "[libexifnorm.so.1]" in run("readelf", "-dW", "shared", folder=self.work)
+        assert "exifnorm_compare@EXIFNORM_1" in run("readelf", "--dyn-syms", "-W", "shared", folder=self.work)
 
     def test_example_links_the_archive(self, usr: Tree) -> None:
         flags = self.pkg_config(usr, "--static", "--cflags", "--libs")
@@ -289,31 +287,28 @@ class TestLibraries:
         run("cmake", "--build", "build", folder=sources)
         assert run("build/compare", folder=sources, LD_LIBRARY_PATH=str(usr.at("lib"))) == "same\n"
 
-    @pytest.mark.parametrize("version, is_there", [(VERSION, 1), (f"{VERSION} EXACT", 1), ("1.0", 1), ("0.9", 0), ("2.0", 0), ("1.999", 0)])
-    def test_example_is_built_by_find_package(self, usr: Tree, version: str, is_there: int) -> None:
+    def test_example_is_built_by_find_package(self, usr: Tree) -> None:
+        """Only versions that this one is compatible with are found."""
         shutil.copy(EXAMPLES / "compare.c", self.work)
-        lines = ["cmake_minimum_required(VERSION 3.13)", "project(compare LANGUAGES C)", f"find_package(exifnorm {version} QUIET)"]
-        lines += ["add_executable(compare compare.c)", "if(exifnorm_FOUND)", "target_link_libraries(compare exifnorm::exifnorm)", "endif()"]
-        (self.work / "CMakeLists.txt").write_text("\n".join([*lines, 'message(STATUS "found: ${exifnorm_FOUND}")', ""]))
+        wanted = {VERSION: 1, f"{VERSION} EXACT": 1, "1.0": 1, "0.9": 0, "2.0": 0, "1.999": 0}
+        finds = [
+            f'unset(exifnorm_DIR CACHE)\nfind_package(exifnorm {it} QUIET)\nmessage(STATUS "{it}: ${{exifnorm_FOUND}}")' for it in wanted
+        ]
+        last = [f"find_package(exifnorm {VERSION} REQUIRED)", "add_executable(compare compare.c)"]
+        lines = ["cmake_minimum_required(VERSION 3.13)", "project(compare LANGUAGES C)", *finds, *last]
+        (self.work / "CMakeLists.txt").write_text("\n".join([*lines, "target_link_libraries(compare exifnorm::exifnorm)", ""]))
         said = run("cmake", "-S", ".", "-B", "build", f"-DCMAKE_PREFIX_PATH={usr.at()}", folder=self.work)
-        assert f"found: {is_there}" in said
-        if is_there:
-            run("cmake", "--build", "build", folder=self.work)
-            assert run("build/compare", folder=self.work) == "same\n"
+        assert re.findall(r"^-- (.*: [01])$", said, re.MULTILINE) == [f"{it}: {found}" for it, found in wanted.items()]
+        run("cmake", "--build", "build", folder=self.work)
+        assert run("build/compare", folder=self.work) == "same\n"
 
-    def test_header_can_be_included_twice(self, usr: Tree) -> None:
-        (self.work / "twice.c").write_text("#include <exifnorm.h>\n#include <exifnorm.h>\nint main(void) { return EXIFNORM_DONE; }\n")
-        for compiler, language in (("cc", "c"), ("c++", "c++")):
-            strict = ["-Wall", "-Wextra", "-pedantic", "-Werror"]
-            run(compiler, *strict, "-x", language, "twice.c", f"-I{usr.at('include')}", "-o", "twice", folder=self.work)
-            run("./twice", folder=self.work)
-
-    def test_header_links_in_cpp(self, usr: Tree) -> None:
+    def test_header_in_cpp_and_twice(self, usr: Tree) -> None:
         (self.work / "version.cc").write_text(
-            "#include <exifnorm.h>\n#include <cstdio>\nint main() { char it[EXIFNORM_NAME_ROOM]; size_t written;\n"
+            "#include <exifnorm.h>\n#include <exifnorm.h>\n#include <cstdio>\nint main() { char it[EXIFNORM_NAME_ROOM]; size_t written;\n"
             "exifnorm_version(it, sizeof it, &written); return std::puts(it) < 0; }\n"
         )
-        run("c++", "-Wall", "-Werror", "version.cc", *self.pkg_config(usr, "--cflags", "--libs"), "-o", "version", folder=self.work)
+        words = ["-Wall", "-Wextra", "-pedantic", "-Werror", "version.cc", *self.pkg_config(usr, "--cflags", "--libs"), "-o", "version"]
+        run("c++", *words, folder=self.work)
         assert run("./version", folder=self.work, LD_LIBRARY_PATH=str(usr.at("lib"))) == f"{VERSION}\n"
 
     def test_headers_are_those_of_the_sources(self, usr: Tree) -> None:
@@ -327,21 +322,13 @@ class TestLibraries:
         assert sorted(found) == [f"{it}@@EXIFNORM_1" for it in CALLS]
         assert set(re.findall(r"Name: (EXIFNORM\w*)", run("readelf", "-VW", usr.at("lib/libexifnorm.so")))) == {"EXIFNORM_1"}
 
-    def test_callers_want_the_version_of_the_symbols(self, usr: Tree) -> None:
-        run("cc", EXAMPLES / "compare.c", *self.pkg_config(usr, "--cflags", "--libs"), "-o", "shared", folder=self.work)
-        assert "exifnorm_compare@EXIFNORM_1" in run("readelf", "--dyn-syms", "-W", "shared", folder=self.work)
-
     def test_the_library_needs_only_functions_that_allocate_and_copy(self, usr: Tree) -> None:
         """So it opens no file, starts no process, and has no state of the C library."""
         needed = set(re.findall(r"\bU (\w+)", run("nm", "-D", "--undefined-only", usr.at("lib/libexifnorm.so"))))
         assert needed <= {"malloc", "calloc", "realloc", "free", "memcpy", "memmove", "memset"}
 
-    def test_shared_library_is_stripped_unless_it_is_not_to_be(self, usr: Tree, folder: Path) -> None:
+    def test_shared_library_is_stripped(self, usr: Tree) -> None:
         assert ".symtab" not in run("readelf", "-SW", usr.at("lib/libexifnorm.so"))
-        whole = Tree(folder / "whole", "/usr", DEBIAN_PYTHON, ["STRIP="])
-        whole.make("install")
-        assert ".symtab" in run("readelf", "-SW", whole.at("lib/libexifnorm.so"))
-        assert whole.at("lib/libexifnorm.so").read_bytes() == (TOP / "out/lib/libexifnorm.so.1").read_bytes()
 
     def test_shared_library_is_hardened(self, usr: Tree) -> None:
         dynamic = run("readelf", "-dW", usr.at("lib/libexifnorm.so"))
@@ -365,15 +352,17 @@ class TestPython:
         """Runs the Python of an installation with the installed packages."""
         return run(it.python, "-B", *words, folder=Path("/"), PYTHONPATH=str(it.module_folder), EXIFNORM_LIBRARY="")
 
-    def test_package_and_its_metadata_tell_the_version(self, usr: Tree, other: Tree) -> None:
-        code = "import exifnorm as e, importlib.metadata as m; print(e.__file__, e.__version__, m.version('exifnorm'), e.version())"
+    def test_package_its_metadata_and_the_installed_library(self, usr: Tree, other: Tree) -> None:
+        code = """import exifnorm as e, importlib.metadata as m
+print(e.__file__, e.__version__, m.version('exifnorm'), e.version())
+print(*(it.group + ' ' + it.name + ' ' + it.value for it in m.distribution('exifnorm').entry_points))
+print(open('/proc/self/maps').read())"""
         for it in (usr, other):
-            assert self.python(it, "-c", code).split(" ") == [f"{it.module_folder}/exifnorm/__init__.py", *[VERSION] * 2, f"{VERSION}\n"]
-
-    def test_package_loads_the_installed_library(self, usr: Tree, other: Tree) -> None:
-        code = "import exifnorm; exifnorm.version(); print(open('/proc/self/maps').read())"
-        for it in (usr, other):
-            assert str(it.at(f"lib/libexifnorm.so.{VERSION}")) in self.python(it, "-c", code)
+            first, second, rest = self.python(it, "-c", code).split("\n", 2)
+            assert first.split(" ") == [f"{it.module_folder}/exifnorm/__init__.py", *[VERSION] * 3]
+            assert second == "console_scripts exifnorm-pictures exifnorm_pictures.cli.main:main"
+            assert str(it.at(f"lib/libexifnorm.so.{VERSION}")) in rest
+            assert self.python(it, EXAMPLES / "compare.py") == "same\n"
 
     def test_package_uses_the_extension_module(self, usr: Tree, other: Tree) -> None:
         code = "import exifnorm._library as l; print(l._native.__file__, l.library().normalise(bytes.fromhex('1c02780004') + b'Vase'))"
@@ -386,10 +375,6 @@ class TestPython:
             assert "GNU_RELRO" in run("readelf", "-lW", path)
             assert re.search(r"GNU_STACK .* RW ", run("readelf", "-lW", path))
 
-    def test_package_runs_its_example(self, usr: Tree, other: Tree) -> None:
-        for it in (usr, other):
-            assert self.python(it, EXAMPLES / "compare.py") == "same\n"
-
     def test_metadata_is_that_of_the_golden_file(self, usr: Tree, golden: Callable[[str, str], None]) -> None:
         """It is printed from python/pyproject.toml, for pip and for `importlib.metadata`."""
         text = (usr.module_folder / f"exifnorm-{VERSION}.dist-info/METADATA").read_text(encoding="utf-8")
@@ -398,10 +383,6 @@ class TestPython:
     def test_other_installers_leave_the_package_alone(self, usr: Tree) -> None:
         """By PEP 376, because its installer is another program."""
         assert (usr.module_folder / f"exifnorm-{VERSION}.dist-info/INSTALLER").read_text(encoding="utf-8") == "make\n"
-
-    def test_metadata_lists_the_command(self, usr: Tree) -> None:
-        code = "import importlib.metadata as m; print(*(it.group + ' ' + it.name + ' ' + it.value for it in m.distribution('exifnorm').entry_points))"
-        assert self.python(usr, "-c", code) == "console_scripts exifnorm-pictures exifnorm_pictures.cli.main:main\n"
 
 
 class TestPicturesCommand:
@@ -417,23 +398,16 @@ class TestPicturesCommand:
         lines = other.at("bin/exifnorm-pictures").read_text(encoding="utf-8").split("\n")
         assert lines[:2] == ["#!/bin/sh", f"'''exec' '{other.python}' \"$0\" \"$@\""]
 
-    def test_judges_a_block(self, usr: Tree, other: Tree, folder: Path) -> None:
-        for it in (usr, other):
-            assert "Orientation" in self.call(it, "show", with_block(folder / "a.jpg", BLOCK))
-
-    def test_prints_its_version(self, usr: Tree, other: Tree) -> None:
+    def test_prints_its_version_judges_a_block_and_ends_with_its_status(self, usr: Tree, other: Tree, folder: Path) -> None:
         for it in (usr, other):
             assert self.call(it, "--version") == f"exifnorm-pictures {VERSION}\n"
+            assert "Orientation" in self.call(it, "show", with_block(folder / "a.jpg", BLOCK))
+            self.call(it, "no-such-command", status=3)
 
     def test_starts_through_a_link(self, other: Tree, folder: Path) -> None:
         link = folder / "linked-pictures"
         link.symlink_to(other.at("bin/exifnorm-pictures"))
         assert "--kind" in run(link, "same", "--help", folder=Path("/"), PYTHONPATH="", PYTHONDONTWRITEBYTECODE="1")
-
-    def test_a_refused_block_ends_with_its_status(self, usr: Tree, folder: Path) -> None:
-        assert "refused: Loop at 22" in self.call(
-            usr, "show", with_block(folder / "a.jpg", BLOCK[:-4] + bytes.fromhex("00000008")), status=2
-        )
 
     def test_takes_the_packages_that_were_installed_with_it(self, other: Tree, folder: Path) -> None:
         another = folder / "another"
@@ -443,9 +417,6 @@ class TestPicturesCommand:
         (another / "exifnorm_pictures/cli/main.py").write_text("def main():\n    print('another version')\n")
         said = run(other.at("bin/exifnorm-pictures"), "--version", PYTHONPATH=str(another), PYTHONDONTWRITEBYTECODE="1")
         assert said == f"exifnorm-pictures {VERSION}\n"
-
-    def test_wrong_arguments_end_with_status_three(self, other: Tree) -> None:
-        self.call(other, "no-such-command", status=3)
 
     def test_runs_where_it_is_installed_without_a_stage(self, folder: Path) -> None:
         prefix = folder / "venv"

@@ -3,12 +3,11 @@
 from __future__ import annotations
 
 import os
-import shutil
 from pathlib import Path
 
 import manifest
 import pytest
-from installed import DEBIAN_PYTHON, FILE, Tree, run, tree, with_folders
+from installed import DEBIAN_PYTHON, FILE, Tree, run, tree
 
 
 class TestManifest:
@@ -112,57 +111,25 @@ class TestManifest:
         assert self.names() == {"usr/lib/a.py/foreign"}
 
 
-class TestUninstall:
-    """`make uninstall`, and what a later installation removes."""
-
-    @pytest.fixture(autouse=True)
-    def set_up(self, folder: Path, program: Path, library: Path) -> None:
-        self.it = Tree(folder / "root", "/usr", DEBIAN_PYTHON)
-        self.it.root.mkdir()
-
-    def test_nothing_else_is_removed(self, folder: Path) -> None:
-        foreign = {f"{it}{name}": FILE for it in self.it.expected() if it.endswith("/") for name in ("foreign", "foreign folder/file")}
-        for name in foreign:
-            path = self.it.root / name
-            path.parent.mkdir(parents=True, exist_ok=True)
-            path.write_text("foreign")
-            path.chmod(FILE)
-        for path in self.it.root.rglob("*/"):
-            path.chmod(0o755)
-        before = tree(self.it.root)
-        self.it.make("install")
-        run(self.it.python, "-c", "import exifnorm", folder=folder, PYTHONPATH=str(self.it.module_folder), PYTHONDONTWRITEBYTECODE="")
-        assert (self.it.module_folder / "exifnorm/__pycache__").is_dir()
-        self.it.make("uninstall")
-        assert tree(self.it.root) == before
-        assert before == with_folders(foreign)
-
-    def test_empty_folders_that_were_there_stay(self) -> None:
-        """With the modes that they had."""
-        for name in ("share/man/man1", "share/exifnorm"):
-            self.it.at(name).mkdir(parents=True)
-        for path in self.it.root.rglob("*/"):
-            path.chmod(0o750)
-        self.it.make("install")
-        self.it.make("uninstall")
-        there = ("usr/", "usr/share/", "usr/share/exifnorm/", "usr/share/man/", "usr/share/man/man1/")
-        assert tree(self.it.root) == dict.fromkeys(there, 0o750)
-
-    def test_a_second_installation_is_removed_as_the_first(self) -> None:
-        self.it.make("install")
-        self.it.make("install")
-        assert tree(self.it.root) == self.it.expected()
-        self.it.make("uninstall")
-        assert tree(self.it.root) == {}
-
-    def test_nothing_of_an_older_version_stays(self, folder: Path) -> None:
-        self.it.make("install", "VERSION=0.9.9")
-        assert "usr/lib/libexifnorm.so.0.9.9" in tree(self.it.root)
-        run(self.it.python, "-c", "import exifnorm", folder=folder, PYTHONPATH=str(self.it.module_folder), PYTHONDONTWRITEBYTECODE="")
-        shutil.rmtree(self.it.module_folder / "exifnorm/__pycache__")
-        self.it.make("install")
-        assert tree(self.it.root) == self.it.expected()
-
-    def test_removal_where_nothing_is_installed_fails(self) -> None:
-        said = run("make", "uninstall", f"DESTDIR={self.it.root}", "PREFIX=/usr", status=2)
-        assert f"exifnorm: uninstall: nothing is installed there: there is no list {self.it.root}/usr/share/exifnorm/installed\n" in said
+def test_make_uninstall(folder: Path, program: Path, library: Path) -> None:
+    """It leaves what others have in its folders, and the folders that were there, empty ones too, with the modes that they had. Nothing of an
+    older version is left, nor of the modules that Python compiled."""
+    it = Tree(folder / "root", "/usr", DEBIAN_PYTHON)
+    shared = [name for name in it.expected() if name.endswith("/") and "/man/" not in name and "/fish/" not in name]
+    for name in (f"{at}{other}" for at in shared for other in ("foreign", "foreign folder/file")):
+        (it.root / name).parent.mkdir(parents=True, exist_ok=True)
+        (it.root / name).touch(FILE)
+    it.at("share/man/man1").mkdir(parents=True)
+    for path in it.root.rglob("*/"):
+        path.chmod(0o750)
+    before = tree(it.root)
+    it.make("install", "VERSION=0.9.9")
+    assert "usr/lib/libexifnorm.so.0.9.9" in tree(it.root)
+    run(it.python, "-c", "import exifnorm", folder=folder, PYTHONPATH=str(it.module_folder), PYTHONDONTWRITEBYTECODE="")
+    assert (it.module_folder / "exifnorm/__pycache__").is_dir()
+    it.make("install")
+    assert {name: mode for name, mode in tree(it.root).items() if "__pycache__" not in name} == {**it.expected(), **before}
+    it.make("uninstall")
+    assert tree(it.root) == before
+    said = run("make", "uninstall", f"DESTDIR={it.root}", "PREFIX=/usr", status=2)
+    assert f"exifnorm: uninstall: nothing is installed there: there is no list {it.root}/usr/share/exifnorm/installed\n" in said

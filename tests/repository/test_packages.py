@@ -1,7 +1,7 @@
-"""Builds the wheel, the Debian packages and the archive of `make dist`, and uses their content.
+"""The wheel and the Debian packages of a release, and the archive of `make dist`: what is in them, and that it is used.
 
-The program and the library have to be built: `make`. Nothing is proved here: the packages are built in copies of the built tree, and the
-Debian packages without the toolchain on the PATH. Each is built once, and the tests of one class share it.
+The program and the library have to be built: `make`. Nothing is proved here: what is built beside the release is built in copies of the
+built tree. Each form is built once, and the tests of one class share it.
 """
 
 from __future__ import annotations
@@ -17,7 +17,8 @@ import zipfile
 from pathlib import Path
 
 import pytest
-from installed import CALLS, DEBIAN_PYTHON, EXAMPLES, FILE, TOP, VERSION, Tree, has_headers, modules, need_headers, run, tree, with_block
+from installed import CALLS, DEBIAN_PYTHON, EXAMPLES, FILE, TOP, VERSION, Tree, has_headers, modules, need_headers, run, tree
+from releases import DEBS, uses
 
 BLOCK = bytes.fromhex("4d4d002a00000008 0001 0112 0003 00000001 00060000 00000000")
 SYSTEM_PATH = "/usr/sbin:/usr/bin:/sbin:/bin"
@@ -50,28 +51,26 @@ def python_of(folder: Path, *words: str | Path, **environment: str) -> str:
     return run(DEBIAN_PYTHON, "-B", *words, folder=Path("/"), PYTHONPATH=str(folder), EXIFNORM_LIBRARY="", **environment)
 
 
-@pytest.mark.xdist_group("wheel")
+@pytest.mark.xdist_group("release")
 class TestWheel:
-    """The wheel that `pip wheel` builds."""
+    """The wheel of a release, and others that `pip wheel` builds."""
 
     @pytest.fixture(scope="class", autouse=True)
-    def wheel(self, request: pytest.FixtureRequest, session_folder: Path, library: Path) -> None:
-        cls, before = request.cls, tree(TOP / "python")
-        cls.folder = session_folder / "wheel" / "built"
-        cls.folder.mkdir(parents=True)
-        cls.build(TOP / "python", cls.folder, SOURCE_DATE_EPOCH=date_of_version())
-        (cls.file,) = cls.folder.iterdir()
-        cls.left = {it for it in set(tree(TOP / "python")) ^ set(before) if "__pycache__" not in it}
-        cls.unpacked = session_folder / "wheel" / "unpacked"
+    def wheel(self, request: pytest.FixtureRequest, session_folder: Path, made: Path) -> None:
+        cls = request.cls
+        (cls.file,) = made.glob(f"*_{os.uname().machine}.whl")
+        cls.unpacked = session_folder / "wheel"
         with zipfile.ZipFile(cls.file) as it:
             it.extractall(cls.unpacked)
             cls.names = sorted(it.namelist())
         cls.info = cls.unpacked / f"exifnorm-{VERSION}.dist-info"
+        cls.other_name = f"exifnorm-{VERSION}-py3-none-linux_{os.uname().machine}.whl"
 
     @staticmethod
-    def build(project: Path, folder: Path, **environment: str) -> None:
+    def build(project: Path, folder: Path, status: int = 0, **environment: str) -> str:
+        folder.mkdir(exist_ok=True)
         words = ["--no-index", "--no-build-isolation", "--no-deps", "--disable-pip-version-check", "-w", folder, project]
-        run(DEBIAN_PYTHON, "-m", "pip", "wheel", *words, folder=folder, **environment)
+        return run(DEBIAN_PYTHON, "-m", "pip", "wheel", *words, folder=folder, status=status, **environment)
 
     def test_has_all_modules_the_library_and_the_licences(self) -> None:
         info = (*LICENCES, "METADATA", "RECORD", "WHEEL", "entry_points.txt", "top_level.txt")
@@ -94,32 +93,43 @@ class TestWheel:
         assert "-manylinux_%d_%d_" % max(needed) in self.file.name
         assert re.findall(r"\(NEEDED\).*\[(.*)\]", run("readelf", "-dW", self.unpacked / "exifnorm/libexifnorm.so.1")) == ["libc.so.6"]
 
-    def test_claims_no_manylinux_for_a_library_that_needs_more(self, folder: Path) -> None:
-        """Another library of glibc, whose symbols have versions, and one whose symbols have none."""
-        copy = copy_built(folder / "needs more")
-        (copy / "more.c").write_text("#include <math.h>\ndouble more(double x) { return pow(x, x); }\n")
-        (copy / "most.c").write_text(
-            'double more(double);\nint puts(const char *);\ndouble most(double x) { return puts("") + more(x); }\n'
-        )
-        for name, library in (("more", "-lm"), ("most", "./libmore.so")):
-            run("cc", "-shared", "-fPIC", f"{name}.c", library, "-o", f"lib{name}.so", folder=copy)
-            shutil.copy(copy / f"lib{name}.so", copy / "out/lib/libexifnorm.so.1")
-            (made := folder / name).mkdir()
-            self.build(copy / "python", made)
-            assert [it.name for it in made.iterdir()] == [f"exifnorm-{VERSION}-py3-none-linux_{os.uname().machine}.whl"], name
-
     def test_claims_no_manylinux_for_an_extension_module_that_needs_more(self, folder: Path) -> None:
         need_headers(DEBIAN_PYTHON)
         self.build(TOP / "python", folder, LDFLAGS="-Wl,--no-as-needed -lm")
-        assert [it.name for it in folder.iterdir()] == [f"exifnorm-{VERSION}-py3-none-linux_{os.uname().machine}.whl"]
+        assert [it.name for it in folder.iterdir()] == [self.other_name]
 
     def test_without_a_compiler_it_has_all_but_the_extension_module(self, folder: Path) -> None:
+        """And nothing is left in the sources."""
+        before = {it for it in tree(TOP / "python") if "__pycache__" not in it}
         self.build(TOP / "python", folder, CC="no-such-compiler -O2")
+        assert {it for it in tree(TOP / "python") if "__pycache__" not in it} == before
         with zipfile.ZipFile(folder / self.file.name) as it:
             assert sorted(it.namelist()) == [it for it in self.names if it != EXTENSION]
             it.extractall(folder / "by ctypes")
         said = python_of(folder / "by ctypes", "-c", "import exifnorm, exifnorm._library as l; print(l._native, exifnorm.version())")
         assert said == f"None {VERSION}\n"
+
+    def test_builds_in_a_copy(self, folder: Path) -> None:
+        """With a library that needs more, and a module that is gone at the next build; then as the release's, beside the wheel of an earlier
+        version, which goes; and without a library, where it says what to do."""
+        copy, made = copy_built(folder / "an other"), folder / "made"
+        library, stale, before = copy / "out/lib/libexifnorm.so.1", copy / "python/exifnorm/stale.py", set((copy / "out").iterdir())
+        stale.write_text('"""Gone."""\n')
+        (copy / "more.c").write_text("#include <math.h>\ndouble more(double x) { return pow(x, x); }\n")
+        whole = library.rename(folder / "whole")
+        run("cc", "-shared", "-fPIC", "more.c", "-lm", "-o", library, folder=copy)
+        self.build(copy / "python", made)
+        assert [it.name for it in made.iterdir()] == [self.other_name]
+        whole.rename(library)
+        stale.unlink()
+        (copy / "out/wheel/exifnorm-0.9-py3-none-any.whl").touch()
+        run("make", "wheel", f"PYTHON={DEBIAN_PYTHON}", folder=copy, mask=0o022)
+        (wheel,) = (copy / "out/wheel").glob("*.whl")
+        assert wheel.read_bytes() == self.file.read_bytes()
+        assert set((copy / "out").iterdir()) - before == {copy / "out/wheel"}, "it builds elsewhere"
+        library.unlink()
+        said = self.build(copy / "python", made, status=1)
+        assert f"{library.resolve()} is missing: run `make` first, which builds it\n" in said
 
     def test_package_runs_with_its_own_extension_module(self) -> None:
         need_headers(DEBIAN_PYTHON)
@@ -127,15 +137,6 @@ class TestWheel:
         code = f"import exifnorm, exifnorm._library as l; print(l._native.__file__, {results})"
         assert python_of(self.unpacked, "-c", code) == f"{self.unpacked / EXTENSION} True\n"
         assert ".symtab" not in run("readelf", "-SW", self.unpacked / EXTENSION)
-
-    def test_installer_of_packages_takes_it(self, folder: Path) -> None:
-        target = folder / "target"
-        words = ["--no-index", "--no-deps", "--disable-pip-version-check", "--root-user-action=ignore", "--target", target]
-        run(DEBIAN_PYTHON, "-m", "pip", "install", *words, self.file, folder=folder)
-        command = target / "bin" / "exifnorm-pictures"
-        assert "Orientation" in run(
-            command, "show", with_block(folder / "a.jpg", BLOCK), PYTHONPATH=str(target), PYTHONDONTWRITEBYTECODE="1"
-        )
 
     def test_metadata_is_that_of_an_installation(self, folder: Path) -> None:
         found = email.message_from_string((self.info / "METADATA").read_text(encoding="utf-8"))
@@ -157,54 +158,20 @@ class TestWheel:
     def test_library_is_stripped(self) -> None:
         assert ".symtab" not in run("readelf", "-SW", self.unpacked / "exifnorm/libexifnorm.so.1")
 
-    def test_leaves_nothing_in_the_sources(self) -> None:
-        assert self.left == set()
 
-    def test_has_no_module_of_an_earlier_build(self, folder: Path) -> None:
-        copy = copy_built(folder / "earlier")
-        stale, before = copy / "python/exifnorm/stale.py", set((copy / "out").iterdir())
-        stale.write_text('"""Gone."""\n')
-        (made := folder / "later").mkdir()
-        self.build(copy / "python", made)
-        stale.unlink()
-        self.build(copy / "python", made)
-        with zipfile.ZipFile(made / self.file.name) as it:
-            assert sorted(it.namelist()) == self.names
-        assert set((copy / "out").iterdir()) - before == {copy / "out/wheel"}, "it builds elsewhere"
-
-    def test_another_folder_gives_the_same_bytes(self, folder: Path) -> None:
-        """With files of another time, and beside the wheel of an earlier version, which goes."""
-        copy = copy_built(folder / "an other")
-        (copy / "python/exifnorm/_calls.py").touch()
-        (copy / "out/wheel").mkdir()
-        (copy / "out/wheel/exifnorm-0.9-py3-none-any.whl").touch()
-        run("make", "wheel", f"PYTHON={DEBIAN_PYTHON}", folder=copy, mask=0o022)
-        (wheel,) = (copy / "out/wheel").glob("*.whl")
-        assert wheel.read_bytes() == self.file.read_bytes()
-
-    def test_without_a_library_it_says_what_to_do(self, folder: Path) -> None:
-        copy = copy_built(folder / "unbuilt")
-        shutil.rmtree(copy / "out/lib")
-        words = ["--no-index", "--no-build-isolation", "--no-deps", "--disable-pip-version-check", "-w", folder, copy / "python"]
-        said = run(DEBIAN_PYTHON, "-m", "pip", "wheel", *words, folder=folder, status=1)
-        assert f"{copy.resolve()}/out/lib/libexifnorm.so.1 is missing: run `make` first, which builds it\n" in said
-
-
-@pytest.mark.xdist_group("debian")
+@pytest.mark.xdist_group("release")
 class TestDebian:
-    """The Debian packages."""
+    """The Debian packages of a release."""
 
     NAMES = ("exifnorm", "exifnorm-pictures", "libexifnorm-dev", "libexifnorm1", "python3-exifnorm")
 
     @pytest.fixture(scope="class", autouse=True)
-    def packages(self, request: pytest.FixtureRequest, session_folder: Path, library: Path) -> None:
-        """Builds the packages and installs them below a folder, whose package database is a copy of this machine's."""
+    def packages(self, request: pytest.FixtureRequest, session_folder: Path, made: Path) -> None:
+        """Installs the packages below a folder, whose package database is a copy of this machine's."""
         cls = request.cls
         cls.work = session_folder / "debian"
         cls.work.mkdir()
-        copy = copy_built(cls.work / "exifnorm")
-        run("dpkg-buildpackage", "-b", "-us", "-uc", folder=copy, PATH=SYSTEM_PATH, PYTHONDONTWRITEBYTECODE="")
-        cls.files = {it.name.partition("_")[0]: it for it in cls.work.glob("*.deb")}
+        cls.files = {it.name.partition("_")[0]: it for pattern in DEBS for it in made.glob(f"{pattern}.deb")}
         cls.libraries = f"usr/lib/{run('dpkg-architecture', '-qDEB_HOST_MULTIARCH').strip()}"
         cls.root = cls.work / "root"
         cls.tools = cls.make_tools()
@@ -244,17 +211,6 @@ class TestDebian:
     def field(self, package: str, name: str) -> list[str]:
         return [it.strip() for it in run("dpkg-deb", "-f", self.files[package], name).split(",")]
 
-    def used(self, program: str, *words: str | Path) -> str:
-        """Runs an installed program, with the library of the root."""
-        paths = {"LD_LIBRARY_PATH": str(self.root / self.libraries), "PYTHONPATH": "", "EXIFNORM_LIBRARY": ""}
-        return run(self.root / "usr/bin" / program, *words, folder=Path("/"), PYTHONDONTWRITEBYTECODE="1", **paths)
-
-    def test_packages_are_these(self) -> None:
-        assert sorted(self.files) == sorted(self.NAMES)
-        for name, file in self.files.items():
-            architecture = "all" if name in ("exifnorm-pictures", "python3-exifnorm") else run("dpkg", "--print-architecture").strip()
-            assert file.name == f"{name}_{VERSION}-1_{architecture}.deb"
-
     def test_files_and_modes(self) -> None:
         """All packages together have what install writes, but for the list of uninstall, the licences and the link of the Python package;
         and each has the papers that Debian requires."""
@@ -275,9 +231,8 @@ class TestDebian:
 
     def test_lintian_has_no_error_and_no_warning(self) -> None:
         """Except for the Debian bug that a first upload closes."""
-        (changes,) = self.work.glob("*.changes")
         words = ["--allow-root", "--fail-on", "error,warning", "--suppress-tags", "initial-upload-closes-no-bugs"]
-        said = run("lintian", *words, changes, PATH=SYSTEM_PATH)
+        said = run("lintian", *words, *self.files.values(), PATH=SYSTEM_PATH)
         assert re.findall(r"^[EW]: .*$", said, re.MULTILINE) == []
 
     def test_dependencies(self) -> None:
@@ -296,10 +251,9 @@ class TestDebian:
         (text,) = (it.read_text(encoding="utf-8") for it in symbols)
         assert set(re.findall(r"^ (\S+)@EXIFNORM_1 ", text, re.MULTILINE)) == {"EXIFNORM_1", *CALLS}
 
-    def test_program_and_pictures_run(self, folder: Path) -> None:
-        assert self.used("exifnorm", "--version") == f"exifnorm {VERSION}\n"
-        (folder / "block").write_bytes(BLOCK)
-        assert "Orientation" in self.used("exifnorm-pictures", "show", with_block(folder / "a.jpg", BLOCK))
+    def test_program_and_pictures_run(self) -> None:
+        libraries, samples = str(self.root / self.libraries), self.root / "usr/share/doc/exifnorm"
+        uses(self.root / "usr/bin/exifnorm", self.root / "usr/bin/exifnorm-pictures", samples, LD_LIBRARY_PATH=libraries)
         first = (self.root / "usr/bin/exifnorm-pictures").read_text(encoding="utf-8").split("\n")[0]
         assert first == f"#!{DEBIAN_PYTHON}"
 
@@ -408,14 +362,6 @@ class TestArchive:
         in_python = {it.removeprefix("lib/python3/site-packages/") for it in found if it.startswith("lib/python3/site-packages/exifnorm")}
         extension = {EXTENSION} if has_headers("python3") else set()
         assert {it for it in in_python if ".dist-info/" not in it} == {*modules(), "exifnorm/libexifnorm.so.1", *extension}
-
-    def test_runs_where_it_is_unpacked(self, folder: Path) -> None:
-        clean = {"PYTHONPATH": "", "EXIFNORM_LIBRARY": "", "PYTHONDONTWRITEBYTECODE": "1"}
-        assert run(self.top / "bin/exifnorm", "--version", folder=Path("/")) == f"exifnorm {VERSION}\n"
-        assert "Orientation" in run(self.top / "bin/exifnorm-pictures", "show", with_block(folder / "a.jpg", BLOCK), folder=folder, **clean)
-        flags = run("pkg-config", "--cflags", "--libs", "exifnorm", PKG_CONFIG_LIBDIR=str(self.top / "lib/pkgconfig")).split()
-        run("cc", EXAMPLES / "compare.c", *flags, "-o", folder / "example")
-        assert run(folder / "example", LD_LIBRARY_PATH=str(self.top / "lib")) == "same\n"
 
     def test_no_file_names_the_folder_that_it_was_built_in(self, session_folder: Path) -> None:
         for it in self.top.rglob("*"):

@@ -18,102 +18,12 @@ import guard
 import machines
 import next_steps
 import release
-
-TOP = Path(__file__).resolve().parents[2]
+from releases import DEBS, TOP, environment, one, run, uses
 
 PYTHON = "/usr/bin/python3"
 SYSTEM_PATH = "/usr/sbin:/usr/bin:/sbin:/bin"
-DEBS = ("exifnorm_*_amd64", "exifnorm-pictures_*_all", "libexifnorm-dev_*_amd64", "libexifnorm1_*_amd64", "python3-exifnorm_*_all")
 DEBS_OF_AARCH64 = ("exifnorm_*_arm64", "libexifnorm-dev_*_arm64", "libexifnorm1_*_arm64")
 pytestmark = pytest.mark.xdist_group("release")  # the releases are built once
-
-
-def run(*words, status=0, **more):
-    """What a command printed. It must end with this status."""
-    ran = subprocess.run(
-        list(map(str, words)), stdout=subprocess.PIPE, stderr=subprocess.STDOUT, encoding="utf-8", errors="replace", **more
-    )
-    assert ran.returncode == status, f"{words} ended with {ran.returncode}:\n{ran.stdout[-3000:]}"
-    return ran.stdout
-
-
-def environment(**more):
-    """The environment without what leads Python and programs to the library of the sources."""
-    kept = {name: it for name, it in os.environ.items() if name not in ("PYTHONPATH", "EXIFNORM_LIBRARY", "LD_LIBRARY_PATH")}
-    return {**kept, "PYTHONDONTWRITEBYTECODE": "1", **more}
-
-
-def listed():
-    """The files of the sources that git lists or would list."""
-    words = ["git", "ls-files", "-z", "--cached", "--others", "--exclude-standard"]
-    names = subprocess.run(words, cwd=TOP, stdout=subprocess.PIPE, check=True).stdout.split(b"\0")
-    return [it for it in map(os.fsdecode, names) if it and os.path.lexists(TOP / it)]
-
-
-def clone(folder):
-    """A repository with the sources as they are, and with the proofs."""
-    for name in listed():
-        (folder / name).parent.mkdir(parents=True, exist_ok=True)
-        shutil.copy2(TOP / name, folder / name, follow_symlinks=False)
-    machines.make("aarch64", "static")
-    release.copy_proofs(folder / "out")
-    release.copy_module(folder / "out")
-    run("git", "init", "-q", cwd=folder)
-    run("git", "add", "-A", cwd=folder)
-    return folder
-
-
-def other_times_and_modes(folder):
-    """Gives the sources the times and the modes of a clone that another user made at another time."""
-    for name in listed():
-        if not (folder / name).is_symlink():
-            os.utime(folder / name, (10**9, 10**9))
-            (folder / name).chmod((folder / name).stat().st_mode & 0o700)
-
-
-@pytest.fixture(scope="session")
-def releases(session_folder):
-    """Two releases, from folders with other names, times, modes, masks, time zones and locales, and a module that isn't in the repository.
-    The second one replaces that of an earlier version."""
-    if not shutil.which("rt"):
-        pytest.skip("there is no command rt, which the licences of the toolchain are found with")
-    one, other = clone(session_folder / "one"), session_folder / "an other"
-    shutil.copytree(one, other, symlinks=True)
-    other_times_and_modes(other)
-    (other / "out/release").mkdir()
-    (other / "out/release/exifnorm_0.9-1_all.deb").touch()
-    ways = ((one, 0o022, {}), (other, 0o077, {"TZ": "Asia/Tokyo", "LC_ALL": "C.UTF-8"}))
-    for folder, mask, _ in ways:
-        (folder / "python/exifnorm" / f"stray_{mask}.py").write_text('"""Not listed."""\n')
-    with ThreadPoolExecutor() as pool:  # each takes a minute of a processor
-        runs = [pool.submit(run, "make", "release", cwd=folder, umask=mask, env=environment(**more)) for folder, mask, more in ways]
-    for ended in runs:
-        ended.result()
-    return [one / "out/release", other / "out/release"]
-
-
-@pytest.fixture(scope="session")
-def made(releases):
-    return releases[0]
-
-
-def one(folder, pattern):
-    (found,) = folder.glob(pattern)
-    return found
-
-
-def changed_words(folder):
-    return ["changed", folder / "samples/before", folder / "samples/after"]
-
-
-def uses(program, pictures, samples, **more):
-    """Uses both programs of an installation on a block and on the samples."""
-    surroundings = environment(**more)
-    if program:
-        assert run(program, "compare", TOP / "README.md", "/dev/null", status=2, env=surroundings).startswith("refused")
-        assert run(program, "--version", env=surroundings).startswith("exifnorm ")
-    said = run(pictures, *changed_words(samples), status=1, env=surroundings)
-    assert "Riverside Museum" in said and "Anna Wirth" in said, said
 
 
 # ---- the files
@@ -169,25 +79,6 @@ def test_no_file_that_git_does_not_list_is_in_it(made, tmp_path):
 # ---- each form, installed
 
 
-def test_the_debian_packages_are_used(made, tmp_path):
-    for name in DEBS:
-        run("dpkg-deb", "-x", one(made, f"{name}.deb"), tmp_path)
-    libraries = one(tmp_path, "usr/lib/*/libexifnorm.so.1").parent
-    uses(
-        tmp_path / "usr/bin/exifnorm",
-        tmp_path / "usr/bin/exifnorm-pictures",
-        tmp_path / "usr/share/doc/exifnorm",
-        LD_LIBRARY_PATH=str(libraries),
-    )
-
-
-def test_the_packages_ask_for_what_exifnorm_pictures_uses(made):
-    package = one(made, "exifnorm-pictures_*_all.deb")
-    assert "libimage-exiftool-perl" in run("dpkg-deb", "-f", package, "Depends")
-    recommended = run("dpkg-deb", "-f", package, "Recommends")
-    assert "exiv2" in re.findall(r"[\w-]+", recommended), recommended
-
-
 def test_the_wheel_is_used_in_a_venv(made, tmp_path):
     run(PYTHON, "-m", "venv", "--without-pip", tmp_path / "venv")
     words = ["--no-index", "--no-deps", "--disable-pip-version-check", one(made, "*x86_64.whl")]
@@ -206,13 +97,6 @@ def test_pip_compiles_the_source_distribution(made, tmp_path):
     uses(None, tmp_path / "venv/bin/exifnorm-pictures", TOP)
     said = run(tmp_path / "venv/bin/python", "-c", "import exifnorm; print(exifnorm.version())", env=environment(), cwd=tmp_path)
     assert said == f"{version} (C)\n"
-
-
-def test_the_wheel_has_a_description_and_extras(made, tmp_path):
-    run(PYTHON, "-m", "zipfile", "-e", one(made, "*x86_64.whl"), tmp_path)
-    code = "import importlib.metadata as m, json; it = m.metadata('exifnorm'); print(it.get_all('Provides-Extra'), it.get_payload()[:10], m.requires('exifnorm'))"
-    said = run(PYTHON, "-c", code, env=environment(PYTHONPATH=str(tmp_path)))
-    assert "'cluster'" in said and "'all'" in said and "# exifnorm" in said and "distributed" in said
 
 
 def test_the_archive_is_used_where_it_is_unpacked(made, tmp_path):
