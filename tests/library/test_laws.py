@@ -20,7 +20,8 @@ from reading import CAUSES
 
 BLOCKS, SEED = int(os.environ.get("FUZZ_BLOCKS", 400_000)), int(os.environ.get("FUZZ_SEED", 1))
 PARTS = 4  # processes that share the blocks
-FOR_WRONG = 16_000  # blocks for each wrong library
+FOR_WRONG = 4000  # blocks for each wrong library
+RARE = ("SECOND_UNREAD_IS_SAME", "SECOND_UNREAD_IS_FIRST", "PICTURES_SAME_ONE_WAY")  # mistakes that few blocks show: four times as many
 CC = ["cc", "-std=c99", "-Wall", "-Wextra", "-Werror", "-O2", "-I", HEADERS, "-I", HERE]
 
 LAWS = dict(re.findall(r'^ +LAW\((\w+), "(.*)"\)', text_of("tests", "library", "fuzz", "laws.h"), re.M))
@@ -172,7 +173,7 @@ def test_a_library_in_front_without_a_mistake_breaks_no_law(fuzz):
 
 @pytest.mark.parametrize("name", MISTAKES)
 def test_a_wrong_library_is_found(fuzz, name):
-    report = fuzz.report(7, FOR_WRONG, name)
+    report = fuzz.report(7, 4 * FOR_WRONG if name in RARE else FOR_WRONG, name)
     if name in ("READS_BEHIND", "HEAD_READS_BEHIND"):  # after a block is a page that can't be read
         assert report.status == -signal.SIGSEGV or report.broken
     else:

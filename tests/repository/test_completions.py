@@ -209,9 +209,10 @@ source_it $1"""
         assert self.offers("move", "") == [*self.HELP, "--jobs[how many]:N: ", files]
 
     def test_an_autoloaded_file_runs_its_function(self) -> None:
-        """Zsh makes a function of the file, whose last line calls the function in it."""
-        code = '_describe() { : } ; _arguments() { print -rl -- "$@" }; fpath=($1); autoload -Uz _my-tool; words=(my-tool join "") CURRENT=3; _my-tool'
-        assert "*:file:_files\n" in run("zsh", "-f", "-c", code, "zsh", self.folder)
+        """Zsh makes a function of the file, whose last line calls the function in it. It counts the arguments from the command on."""
+        code = '_describe() { : } ; _arguments() { print -rl -- "at $CURRENT of $words" "$@" }; fpath=($1); autoload -Uz _my-tool; words=(my-tool join "") CURRENT=3; _my-tool'
+        said = run("zsh", "-f", "-c", code, "zsh", self.folder)
+        assert said.startswith("at 2 of join \n") and "*:file:_files\n" in said
 
 
 class TestFish:

@@ -155,7 +155,7 @@ def words_of_help(program: Path, *words: str) -> tuple[set[str], set[str]]:
 
 
 class TestCompletion:
-    """The shells offer what --help shows."""
+    """The shells offer what --help shows. test_completions.py has what they offer after an option, and where files and choices are offered."""
 
     @pytest.fixture(autouse=True)
     def set_up(self, usr: Tree, folder: Path) -> None:
@@ -201,31 +201,6 @@ autoload_and_run $1"""
                 assert self.bash(name, command, "-") == options, command
                 assert set(re.findall(r"^(?:\([^)]*\))?(-[\w-]+)\[", self.zsh(name, command, ""), re.MULTILINE)) == options, command
                 assert long <= self.fish(f"{name} {command} --"), command
-
-    def test_files_are_offered_where_a_command_takes_them(self) -> None:
-        for words in (
-            ("exifnorm", "show"),
-            ("exifnorm", "compare", "a"),
-            ("exifnorm-pictures", "show"),
-            ("exifnorm-pictures", "index", "--catalogue"),
-        ):
-            assert "compare.c" in self.bash(*words, "comp"), words
-            assert "compare.c" in self.fish(" ".join([*words, "comp"])), words
-        assert "_files" in self.zsh("exifnorm", "show", "")
-        assert self.bash("exifnorm", "show", "a", "comp") == set(), "a second file for show"
-        assert "compare.c" not in self.bash("exifnorm-pictures", "index", "--jobs", "comp")
-
-    def test_zsh_is_at_the_right_argument_of_a_command(self) -> None:
-        assert "at 3 of same --kind \n" in self.zsh("exifnorm-pictures", "same", "--kind", "")
-
-    def test_choices_are_offered(self) -> None:
-        text = run(self.programs["exifnorm-pictures"], "same", "--help", COLUMNS="500", PYTHONDONTWRITEBYTECODE="1")
-        choices = set(re.search(r"--kind \{([a-z,]+)\}", text)[1].split(","))
-        assert len(choices) >= 3
-        assert self.bash("exifnorm-pictures", "same", "--kind", "") == choices
-        assert self.fish("exifnorm-pictures same --kind ") == choices
-        zsh = self.zsh("exifnorm-pictures", "same", "")
-        assert set(re.search(r"^--kind\[.*:\(([a-z ]+)\)$", zsh, re.MULTILINE)[1].split()) == choices
 
 
 class TestLibraries:

@@ -208,10 +208,10 @@ def test_two_first_calls_at_once_compile_once(room):
     assert room.built() == ["quick-px_cli"]
 
 
-@pytest.mark.parametrize("how", (signal.SIGINT, signal.SIGTERM, signal.SIGHUP), ids=lambda how: how.name)
-def test_a_stopped_compilation_leaves_nothing_and_the_next_call_works(room, how):
+def test_a_stopped_compilation_leaves_nothing_and_the_next_call_works(room):
+    """By one signal: test_build_rules.py has all of them, for the same function."""
     started, working, below = room.begun("quick-px_cli", lambda: room.start("a"))
-    started.send_signal(how)
+    started.send_signal(signal.SIGTERM)
     out, why = started.communicate(timeout=800)
     assert (started.returncode, out, why) == (70, "", f"{OF_PROGRAM}exifnorm: the build was stopped\n")
     wait_until(lambda: not runs(working) and not runs(below), "the compiler runs on, or what it started")
@@ -219,20 +219,6 @@ def test_a_stopped_compilation_leaves_nothing_and_the_next_call_works(room, how)
     (room.folder / "holds-quick-px_cli").unlink()
     (room.folder / "starts-quick-px_cli").unlink()
     assert room.call("a").stdout == "quick one: a\n"
-
-
-def test_what_a_killed_compilation_left_is_waited_for_and_removed(room):
-    room.hold("quick-px_cli")
-    started = room.start("a")
-    room.until("begin", "quick-px_cli")
-    started.kill()
-    started.communicate(timeout=800)
-    said = room.folder / "said"
-    again = room.start("a", stderr=open(said, "w", encoding="utf-8"))
-    wait_until(lambda: "waiting for it" in said.read_text(), "it does not wait")
-    room.let_go("quick-px_cli")
-    assert again.communicate(timeout=800)[0] == "quick one: a\n"
-    assert not (room.top / "out/quick/making").exists()
 
 
 def test_no_product_is_left_beside_the_note_of_another(room):
