@@ -20,28 +20,6 @@ from exifnorm_pictures.scan.walk import FoundFile
 class Work(WithPictures):
     """How work is divided, and what a process makes of its part."""
 
-    def chunks(self, count, jobs):
-        taken = []
-
-        def by_processes(chunks, how, files, unfinished):
-            taken.extend((len(it), next(files)) for it in chunks)
-            return iter(())
-
-        with mock.patch.object(workers, "_by_processes", by_processes):
-            list(
-                workers.in_several_processes(
-                    [FoundFile(b"%d" % it, b"/", None) for it in range(count)], batches.How(jobs=jobs, room="/room")
-                )
-            )
-        self.assertEqual([it[1] for it in taken], [f"/room/rows-{number}" for number in range(len(taken))])
-        return [it[0] for it in taken]
-
-    def test_chunks(self):
-        """Each has a file for its rows."""
-        self.assertEqual(self.chunks(100, 4), [8] * 12 + [4])
-        self.assertEqual(sum(self.chunks(1000, 2)), 1000)
-        self.assertEqual(self.chunks(0, 1), [])
-
     def test_processes_begin_while_signals_are_held(self):
         """The first task starts them: one that starts later could miss a signal, or get one that it doesn't handle."""
         steps = []

@@ -132,14 +132,6 @@ class RowsOfCatalogues(WithPictures):
 
 
 class SingleBlocks(unittest.TestCase):
-    def test_blocks_of_a_kind(self):
-        some = found_.Blocks()
-        for kind, data, part in ((EXIF, b"1", ""), (found_.XMP, b"2", ""), (EXIF, b"3", ""), (EXIF, b"4", "page 2")):
-            some.add(kind, data, "somewhere", part)
-        self.assertEqual(
-            [[it.data for it in some.of_kind(kind)] for kind in (EXIF, found_.IPTC, found_.XMP)], [[b"1", b"3", b"4"], [], [b"2"]]
-        )
-
     def test_extensions_of_packets(self):
         """The first one of a name is read with its packet, which has the MD5 of its bytes; each further one in other bytes is reported."""
         more, plain = xmp("<dc:title>two</dc:title>"), xmp("<dc:format>one</dc:format>")
