@@ -11,7 +11,7 @@ from __future__ import annotations
 import functools
 import hashlib
 import re
-from collections import Counter
+from collections import Counter, defaultdict
 from datetime import timedelta
 from itertools import chain
 from typing import Dict, Iterator, List, NamedTuple, Optional, Sequence, Set, Tuple
@@ -22,7 +22,7 @@ from ..fields.labels import POSITION, label_of_fields
 from ..fields.listing import MAKER_NOTE
 from ..fields.plain_names import group_name
 from ..fields.plain_texts import xmp_texts
-from ..model.found import EXIF, IPTC, NAMES, XMP
+from ..model.found import EXIF, NAMES
 from .dates import in_words, shifts
 from .differing import FieldDifference
 from .marking import IN, KEPT, OUT, Marker, Step
@@ -118,8 +118,8 @@ def places_of(edit: Edit) -> List[str]:
         return []
     if edit.name == DATES:
         return list(dict.fromkeys(it.rpartition(":")[2] for it in edit.fields))
-    kinds = (IPTC, XMP, EXIF)  # the names of Exif begin otherwise
-    return sorted({NAMES[next(it for it in kinds if it == EXIF or name.startswith(NAMES[it]))] for name in edit.fields})
+    groups = {re.split("[:-]", it)[0] for it in edit.fields}
+    return sorted({NAMES.get(it.lower(), NAMES[EXIF]) for it in groups})
 
 
 def digest(text: str) -> bytes:
@@ -163,9 +163,7 @@ def _parts(changes: Sequence[FieldDifference]) -> Dict[_Part, str]:
     """The blocks and directories that came or went. A small one isn't an edit by itself: what
     counts are the texts that came with it, or the only one that went with it."""
     parted = [it for it in changes if it.part]
-    if not parted:
-        return {}
-    texts: Dict[_Part, Set[str]] = {(it.sign, it.part): set() for it in parted}
+    texts: Dict[_Part, Set[str]] = defaultdict(set)
     for change in parted:
         if _has_label(change):
             texts[change.sign, change.part].add(_name(change))
