@@ -28,11 +28,13 @@ from .comparison.origin import Origin
 from .extract.extraction import too_much
 from .fields.block_fields import fields_of
 from .fields.plain_names import spellings
+from .fields.shown import Shown
 from .judge.judge import judge_all
 from .model.budgets import TooMuch
 from .model.found import EXIF, IPTC, NAMES, STANDARDS, XMP, Blocks, cut, not_known
 from .model.records import BlockRecord, PictureRecord
 from .model.steps import loses
+from .model.texts import Members, path_members
 
 if TYPE_CHECKING:
     from datetime import datetime
@@ -137,8 +139,47 @@ class Block:
         """What the repair loses."""
         return tuple(loses(self.record.steps))
 
+    @property
+    def json(self) -> Members:
+        """The block with its fields as `show --json` prints it, for `json.dumps`."""
+        return self._members(ShownFields())
+
+    def _members(self, shown: ShownFields) -> Members:
+        fields = list(map(_field_members, shown.of(self)))
+        rest = {"repair": [step._asdict() for step in self.record.steps], "fields": fields, "has_more_fields": shown.has_more}
+        return {**self.record.members, "extractor": self.extractor, **rest}
+
     def __repr__(self) -> str:
         return f"Block(name={self.name!r}, status={self.status!r}, where={self.where!r})"
+
+
+def _field_members(field: Field) -> Members:
+    """A field: its name for people, what identifies it, and its value for people, exactly and for programs."""
+    name = {"name": field.name, "directory": field.directory, "key": field.key}
+    values = {"type": field.type, "count": field.count, "plain": field.text, "exact": field.exact, "value": field.json}
+    return {**name, **values}
+
+
+class ShownFields(Shown):
+    """The fields of a picture that are printed: all, or the first ones of very many."""
+
+    has_more = False  # whether a field of the last block is left out
+    left_out = False  # whether one of any block is
+
+    def of(self, block: Block) -> List[Field]:
+        """The fields of a block, or the first ones."""
+        first: List[Field] = []
+        if self.is_full:  # then no further fields are made
+            self.has_more = bool(block.is_accepted or block.repair)
+        else:
+            for field in block.fields:
+                if self.is_full:
+                    break
+                first.append(field)
+                self.add_fields([field], len(field.text) + len(field.exact))
+            self.has_more = len(first) < len(block.fields)
+        self.left_out = self.left_out or self.has_more
+        return first
 
 
 class Picture(Mapping[str, "Value"]):
@@ -250,6 +291,18 @@ class Picture(Mapping[str, "Value"]):
             path = os.path.abspath(self.origin.path) if self.origin.path else b""
             self._record = PictureRecord.of_blocks(path, b"", self.origin.stamp, self._read, self._records)
         return self._record
+
+    @property
+    def json(self) -> Members:
+        """What `show --json` prints of it, for `json.dumps`: docs/JSON.md describes the keys, which `schema` and `record` precede there."""
+        return self.members(ShownFields())
+
+    def members(self, shown: ShownFields) -> Members:
+        """The same, with the fields that are still shown."""
+        about = {**path_members(self.path), "problem": self.problem or None, "detail": self.detail or None, "type": self.type or None}
+        blocks = [it._members(shown) for it in self.blocks]
+        damaged = {"damage": self.damage or None, "not_known": list(self.not_known)}
+        return {**about, "blocks": blocks, "not_read": list(self.not_read), **damaged}
 
     def _of_blocks(self) -> List[Tuple[BlockRecord, List[Field]]]:
         """The blocks with their fields."""

@@ -481,13 +481,28 @@ def test_a_file_that_has_changed_is_not_identical(tmp_path):
     assert pictures.compare(*both).same is False
 
 
+@pytest.mark.parametrize("share", [1, 0.5, 0.9], ids=["whole", "half", "cut"])
 @pytest.mark.parametrize("path", SAMPLES, ids=lambda it: it.name)
-def test_the_commands_print_the_same(path, called):
-    them = json.loads(called("show", "--json", str(path))[1])
+def test_show_prints_the_json_of_a_picture(path, share, called, tmp_path):
+    """Also of one that is cut, or has a refused block, as some samples do."""
+    copy, data = tmp_path / path.name, path.read_bytes()
+    copy.write_bytes(data[: int(len(data) * share)])
+    them = json.loads(called("show", "--json", str(copy))[1])
+    if them["problem"]:
+        with pytest.raises((pictures.NoPicture, pictures.NotReadable)):
+            pictures.read(copy)
+        return
+    ours = pictures.read(copy)
+    members = json.loads(json.dumps(ours.json, allow_nan=False))
+    assert {"schema": "exifnorm-pictures/show/1", "record": "picture", **members} == them
+    assert [json.loads(json.dumps(it.json)) for it in ours.blocks] == them["blocks"]
+    fields = [(it["name"], it["key"], it["plain"], it["exact"], it["value"]) for block in them["blocks"] for it in block["fields"]]
+    assert fields == [(it.name, it.key, it.text, it.exact, json.loads(json.dumps(it.json))) for it in ours.fields]
+
+
+@pytest.mark.parametrize("path", SAMPLES, ids=lambda it: it.name)
+def test_show_captions_prints_the_texts_of_a_picture(path, called):
     ours = pictures.read(path)
-    assert [(it["name"], it["key"], it["plain"], it["exact"], it["value"]) for block in them["blocks"] for it in block["fields"]] == [
-        (it.name, it.key, it.text, it.exact, json.loads(json.dumps(it.json, allow_nan=False))) for it in ours.fields
-    ]
     them = json.loads(called("show", "--captions", "--json", str(path))[1])
     assert sorted((it["label"], it["field"], it["texts"]) for it in them["captions"]) == sorted(
         (it.label, it.field, list(it.texts)) for it in ours.captions

@@ -20,7 +20,7 @@ from ..refusals.causes import OVER_LIMITS
 from .each_block import each_block, each_picture, status_of
 from .exit_codes import SUCCESS
 from .not_read import damage_lines, damage_members, damage_remedy
-from .objects import block_object, picture_object, print_object
+from .objects import picture_object, print_object
 from .options import Files, Output, Run, group_of
 from .output import waiting
 
@@ -115,7 +115,7 @@ def _block_members(block: Block, mended: Union[mend.Mended, str]) -> Members:
     explained = {} if block.is_accepted else _explained(block, mended).members()
     words = {key: explained.get(key, value) for key, value in _WITHOUT.items()}
     tried = None if isinstance(mended, str) else {"step": mended.remedy, "lost": mended.lost, "gained": mended.gained}
-    return {**block_object(block.record), **words, "repair": [step._asdict() for step in block.record.steps], "mend": tried}
+    return {**block.record.members, **words, "repair": [step._asdict() for step in block.record.steps], "mend": tried}
 
 
 def _picture_members(picture: Picture) -> Members:

@@ -7,7 +7,7 @@ import sys
 from typing import Any, Dict, Iterator, List, Optional
 
 from ..model.budgets import ENCODED_CHARACTERS
-from ..model.records import BlockRecord, PictureRecord
+from ..model.records import PictureRecord
 from ..model.texts import Members, path_members
 
 # The versions of commands whose objects have another one than 1. A version grows if a key is renamed or removed, or gets another meaning; a new
@@ -84,21 +84,8 @@ def unread_members(picture: PictureRecord) -> Members:
     return {"not_read": parts, "damage": picture.damage or None, "not_known": picture.not_known}
 
 
-def block_object(block: BlockRecord) -> Members:
-    """A block."""
-    return {
-        "kind": block.kind,
-        "name": block.name,
-        "status": block.status,
-        "digest": block.digest,
-        "cause": block.cause,
-        "offset": block.place,
-        "length": block.length,
-    }
-
-
 def record_lines(picture: PictureRecord) -> List[str]:
     """The line for a picture that `index` looked at."""
     about = {**picture_object(picture.path, picture.problem, picture.detail), "type": picture.type or None}
-    blocks = [block_object(one) for one in picture.blocks]
+    blocks = [one.members for one in picture.blocks]
     return [line_of("index", "picture", {**about, "blocks": blocks, **unread_members(picture)})]

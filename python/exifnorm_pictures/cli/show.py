@@ -7,16 +7,16 @@ from typing import TYPE_CHECKING, Iterator, List
 
 from ..fields.field import Field
 from ..fields.listing import readable
-from ..fields.shown import LIMITS, Shown
+from ..fields.shown import LIMITS
 from ..model import steps
 from ..model.found import PROGRAMS
-from ..model.texts import Members, escaped
-from ..picture import Block, Picture
+from ..model.texts import escaped
+from ..picture import Block, Picture, ShownFields
 from .columns import width
 from .each_block import Describe, each_block, each_picture, status_of
 from .exit_codes import SUCCESS, UNKNOWN
-from .not_read import damage_members, no_block, picture_cut, unread
-from .objects import block_object, picture_object, print_object
+from .not_read import no_block, picture_cut, unread
+from .objects import print_object
 from .options import Files, Least, Output, Run, group_of
 from .output import table_of
 
@@ -36,42 +36,13 @@ def run(arguments: argparse.Namespace) -> int:
     worst = SUCCESS
     table = table_of(output, ["picture", "block", "field", "key", "type", "count", "value", "exact value", "note"])
     for picture in each_picture(files, run):
-        worst = max(worst, status_of(picture))
+        shown = ShownFields()
         if table:
-            _print_rows(table, picture, _Shown(run.least))
+            _print_rows(table, picture, shown)
         else:
-            print_object("show", "picture", _members(picture, _Shown(run.least)))
+            print_object("show", "picture", picture.members(shown))
+        worst = max(worst, status_of(picture), UNKNOWN if shown.left_out else SUCCESS)
     return worst
-
-
-class _Shown(Shown):
-    """The fields of a picture that are printed."""
-
-    has_more = False  # whether a field of the last block is left out
-
-    def __init__(self, least: Least) -> None:
-        super().__init__()
-        self._least = least
-
-    def of(self, block: Block) -> List[Field]:
-        """The fields of a block, or the first ones. If some are left out, the status says so."""
-        first = self._first(block)
-        if self.has_more:
-            self._least.status = UNKNOWN
-        return first
-
-    def _first(self, block: Block) -> List[Field]:
-        if self.is_full:  # then no further fields are made
-            self.has_more = bool(block.is_accepted or block.repair)
-            return []
-        first: List[Field] = []
-        for field in block.fields:
-            if self.is_full:
-                break
-            first.append(field)
-            self.add_fields([field], len(field.text) + len(field.exact))
-        self.has_more = len(first) < len(block.fields)
-        return first
 
 
 _MORE = f"further fields are not shown: more than {LIMITS}"
@@ -82,13 +53,15 @@ _MORE = f"further fields are not shown: more than {LIMITS}"
 
 def _describer(exact: bool, least: Least) -> Describe:
     """What makes the lines of each block of a picture."""
-    shown = _Shown(least)
+    shown = ShownFields()
 
     def lines_of(_: Picture, block: Block) -> List[str]:
         by = f", extracted by {PROGRAMS[block.extractor]}" if block.extractor in PROGRAMS else ""
         fields = shown.of(block)
         lines = list(readable(fields, block.name + by)) if exact else [f"{block.name}{by}:", *map(_plain_line, fields)]
-        lines += [f"  {_MORE}"] * shown.has_more
+        if shown.has_more:
+            lines.append(f"  {_MORE}")
+            least.status = UNKNOWN
         return lines if block.is_accepted else [*_repaired(block), *lines[1:]]
 
     return lines_of
@@ -112,7 +85,7 @@ def _repaired(block: Block) -> List[str]:
 # --csv
 
 
-def _print_rows(table: Table, picture: Picture, shown: _Shown) -> None:
+def _print_rows(table: Table, picture: Picture, shown: ShownFields) -> None:
     """A row for each field, and one for all that isn't one: a refused block, a part that was not read, a picture without a block."""
     for block in picture.blocks:
         note = "read after repair in memory" if block.repair else None
@@ -139,25 +112,3 @@ def _notes(picture: Picture) -> Iterator[str]:
         yield no_block(picture)
     yield from (f"not read: {what}" for what in unread(picture, picture.not_read))
     yield from picture_cut(picture)
-
-
-# --json
-
-
-def _members(picture: Picture, shown: _Shown) -> Members:
-    blocks = [{**block_object(block.record), **_block_members(block, shown)} for block in picture.blocks]
-    about = {**picture_object(picture.path, picture.problem, picture.detail), "type": picture.type or None}
-    return {**about, "blocks": blocks, "not_read": picture.not_read, **damage_members(picture)}
-
-
-def _block_members(block: Block, shown: _Shown) -> Members:
-    repair = [step._asdict() for step in block.record.steps]
-    fields = list(map(_field_members, shown.of(block)))
-    return {"extractor": block.extractor, "repair": repair, "fields": fields, "has_more_fields": shown.has_more}
-
-
-def _field_members(field: Field) -> Members:
-    """A field: its name for people, what identifies it, and its value for people, exactly and for programs."""
-    name = {"name": field.name, "directory": field.directory, "key": field.key}
-    values = {"type": field.type, "count": field.count, "plain": field.text, "exact": field.exact, "value": field.json}
-    return {**name, **values}

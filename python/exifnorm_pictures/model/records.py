@@ -12,6 +12,7 @@ from .budgets import ROW_BYTES
 from .columns import LONGEST, Columns, Damaged, Is, check
 from .found import EXIF, EXIFTOOL, KINDS, PROGRAMS, XMP, Blocks, NotRead, cut, not_known
 from .steps import Step, loses, unpacked
+from .texts import Members
 from .sides import REACHED, Side, Status, joined, side_of
 
 _PATH = 5000  # bytes: Linux opens paths of 4,095, and lists a name of 255 in such a folder
@@ -70,6 +71,12 @@ class BlockRecord(NamedTuple):
     def refusal(self) -> str:
         """The cause and byte offset of a refusal in a line."""
         return f"{self.cause} at {self.place}" if self.place is not None else str(self.cause)
+
+    @property
+    def members(self) -> Members:
+        """The block as JSON has it, without its fields."""
+        about = {"kind": self.kind, "name": self.name, "status": self.status, "digest": self.digest}
+        return {**about, "cause": self.cause, "offset": self.place, "length": self.length}
 
     @property
     def line(self) -> str:
