@@ -13,7 +13,7 @@ from typing import Deque, Iterable, Iterator, List, Optional, Sequence, Tuple, U
 from exifnorm import LibraryMissing
 
 from .api import NoPicture, NotReadable, PathLike, _Limits, _read
-from .files.session import Session
+from .files.session import Session, processors
 from .model.problems import Problem
 from .picture import Picture
 
@@ -31,7 +31,7 @@ def read_all(paths: Iterable[PathLike], *, jobs: Optional[int] = None) -> Iterat
     """
     if isinstance(paths, (str, bytes, os.PathLike)):  # whose letters would be taken for paths
         raise TypeError("several paths are expected: of one path read reads the picture")
-    count = len(os.sched_getaffinity(0)) if jobs is None else jobs
+    count = processors() if jobs is None else jobs
     if count < 1:
         raise ValueError("jobs must be at least 1")
     return _here(paths) if count == 1 else _in_processes(iter(paths), count)

@@ -205,7 +205,7 @@ class LookedAtAgain(unittest.TestCase):
 class Processors(unittest.TestCase):
     def test_how_many_processes_look_at_pictures(self):
         """As many as there are processors that this process may use, or as many as are asked for."""
-        with mock.patch.object(batches.os, "sched_getaffinity", lambda number: set(range(7)) if number == 0 else set()):
+        with mock.patch.object(os, "sched_getaffinity", lambda number: set(range(7)) if number == 0 else set()):
             self.assertEqual([batches.How(jobs).processes for jobs in (0, 1, 3, 100)], [7, 1, 3, 100])
 
     def test_processes_are_killed(self):

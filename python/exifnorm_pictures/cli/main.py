@@ -10,6 +10,7 @@ import argparse
 import ctypes
 import gc
 import importlib
+import os
 import sys
 from types import ModuleType
 from typing import Optional, Sequence
@@ -26,6 +27,7 @@ from .parser import parsed
 COLLECTED = 50_000  # objects after which Python looks for rings of objects: what a picture needs makes none, so mostly it looks in vain
 
 _TRIM_THRESHOLD, _MMAP_THRESHOLD = -1, -3  # of glibc's mallopt
+_OF_POSIX = ("fcntl", "resource")  # modules of Python that Windows hasn't
 _OTHERS = (("exifnorm", "LibraryMissing"), ("sqlite3", "OperationalError"))  # errors of other packages whose texts are for people
 
 
@@ -63,7 +65,7 @@ def _heeding(words: Optional[Sequence[str]]) -> int:
 def _give_memory_back() -> None:
     """From now on the system has the memory of a long value back as soon as that is freed. By itself glibc does so up to the first one: then it
     raises the length of those that get pages of their own to that one's, and keeps what is freed between others."""
-    mallopt = getattr(ctypes.CDLL(None), "mallopt", None)
+    mallopt = getattr(ctypes.CDLL(None), "mallopt", None) if hasattr(os, "fork") else None
     if mallopt:  # not in other C libraries
         mallopt(_MMAP_THRESHOLD, OWN_PAGES)
         mallopt(_TRIM_THRESHOLD, 2 * OWN_PAGES)
@@ -110,6 +112,8 @@ def _failed_by(error: Exception, debug: bool) -> int:
         for line in error.lines:
             signals.say(line)
         return status
+    if isinstance(error, ModuleNotFoundError) and error.name in _OF_POSIX:
+        return _failed("this command needs locks and signals as Linux and macOS have them, and this system has none")
     if _is_expected(error):
         return _failed(str(error))
     if not isinstance(error, OSError):

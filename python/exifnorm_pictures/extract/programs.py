@@ -10,7 +10,6 @@ import ctypes
 import functools
 import os
 import re
-import resource
 import select
 import shutil
 import signal
@@ -146,11 +145,14 @@ def start(words: List[str], folder: Optional[str] = None, is_asked: bool = False
 
 def _memory() -> Tuple[int, int]:
     """The limits of a program's memory, no higher than those of this process."""
+    import resource  # which Windows hasn't: there no program is started
+
     soft, hard = resource.getrlimit(resource.RLIMIT_AS)
     return (PROGRAM_BYTES if soft == resource.RLIM_INFINITY else min(soft, PROGRAM_BYTES)), hard
 
 
 def _started(words: List[str], folder: Optional[str], is_asked: bool, mask: Set[int]) -> "subprocess.Popen[bytes]":
+    import resource
     import subprocess
 
     memory = _memory()

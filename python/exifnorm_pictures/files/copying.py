@@ -7,6 +7,8 @@ import errno
 import os
 from typing import Iterator, Tuple
 
+from .opening import read_at
+
 PIECE = 1 << 20  # bytes that are copied at once
 
 
@@ -21,7 +23,7 @@ def copy_range(source: int, start: int, end: int, target: int, at: int) -> None:
         os.ftruncate(target, at + end - start)
     for first, last in _data(source, start, end):
         while first < last:
-            piece = os.pread(source, min(PIECE, last - first), first)
+            piece = read_at(source, min(PIECE, last - first), first)
             if not piece:
                 raise OSError(errno.EIO, "it became shorter while it was copied")
             first += put(target, piece, at + first - start)

@@ -15,6 +15,7 @@ if TYPE_CHECKING:
 Read = TypeVar("Read")
 
 IRREGULAR = "it is no regular file"
+_FLAGS = sum(getattr(os, name, 0) for name in ("O_RDONLY", "O_NONBLOCK", "O_NOCTTY", "O_CLOEXEC", "O_BINARY"))  # those that the system has
 
 
 _held: Dict[bytes, int] = {}  # the numbers of the files that are held open, by their names
@@ -46,12 +47,20 @@ def opened(path: Union[bytes, str]) -> Tuple[int, int]:
             raise OSError(errno.EINVAL, IRREGULAR, path)
     except ValueError:
         raise OSError(errno.EINVAL, "its name has a NUL", path) from None
-    number = os.open(path, os.O_RDONLY | os.O_NONBLOCK | os.O_NOCTTY | os.O_CLOEXEC)
+    number = os.open(path, _FLAGS)
     now = os.fstat(number)
     if not stat.S_ISREG(now.st_mode):
         os.close(number)
         raise OSError(errno.EINVAL, IRREGULAR, path)
     return number, now.st_size
+
+
+def read_at(number: int, length: int, at: int) -> bytes:
+    """Bytes of an open file, wherever it was read before."""
+    if hasattr(os, "pread"):
+        return os.pread(number, length, at)
+    os.lseek(number, at, os.SEEK_SET)
+    return os.read(number, length)
 
 
 class _Regular(io.FileIO):

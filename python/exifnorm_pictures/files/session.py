@@ -17,6 +17,11 @@ from ..model.budgets import PROGRAM_SECONDS
 _LEAST = 0.001  # seconds of a clock that a call has if the earlier ones took all: a program that answers nothing then was too slow
 
 
+def processors() -> int:
+    """The number of processors that this process may use, or, where a system doesn't tell, all."""
+    return len(os.sched_getaffinity(0)) if hasattr(os, "sched_getaffinity") else os.cpu_count() or 1
+
+
 class Closes(Protocol):
     """What is closed at the end of a session."""
 
@@ -30,7 +35,7 @@ class Session:
     def __init__(self, seconds: float = PROGRAM_SECONDS, debug: bool = False, room: Optional[str] = None, programs: bool = True) -> None:
         """How long a program may take for one file, whether tracebacks are printed, the folder of the run, and whether other programs may be
         started; without `room` the session makes a folder of its own, if it needs one."""
-        self.seconds, self.programs = seconds, programs
+        self.seconds, self.programs = seconds, programs and hasattr(os, "fork")  # Windows has no limits for them
         self.debug = debug or os.environ.get("EXIFNORM_DEBUG") == "1"
         self.pid = os.getpid()
         self.tool: Optional[Closes] = None  # ExifTool's process, which `exiftool` starts at the first call

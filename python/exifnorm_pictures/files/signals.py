@@ -12,7 +12,7 @@ from typing import IO, Iterator, List, Optional, Set
 from ..model.errors import Failure
 from ..model.texts import safe
 
-SIGNALS = (signal.SIGTERM, signal.SIGHUP)
+SIGNALS = tuple(getattr(signal, it) for it in ("SIGTERM", "SIGHUP") if hasattr(signal, it))
 _HEEDED = (*SIGNALS, signal.SIGINT)
 _SOON = 0.01  # seconds
 
@@ -67,7 +67,8 @@ def _stop_again(*_: object) -> None:
 
 def heed_signals() -> None:
     """From now on a signal unwinds the run, so that it removes folders and ends programs. Ignored signals stay ignored."""
-    sys.unraisablehook = _lost
+    if hasattr(signal, "setitimer"):
+        sys.unraisablehook = _lost
     for signum in _HEEDED:
         if signal.getsignal(signum) in (signal.SIG_DFL, signal.default_int_handler):
             signal.signal(signum, _stop)

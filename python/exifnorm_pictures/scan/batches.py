@@ -4,13 +4,13 @@ catalogue takes the rows over without any object for them. So several processes 
 from __future__ import annotations
 
 import contextlib
-import os
 import sqlite3
 from collections import Counter
 from typing import Callable, List, Mapping, NamedTuple, Optional, Sequence, Set, Union
 
 from ..catalogue.store import make_rows, put_rows
 from ..extract import programs
+from ..files.session import processors
 from ..model.budgets import PROGRAM_SECONDS
 from ..model.problems import NO_BYTES
 from ..model.records import PictureRecord
@@ -38,7 +38,7 @@ class How(NamedTuple):
     @property
     def processes(self) -> int:
         """The number of processes."""
-        return self.jobs or len(os.sched_getaffinity(0))
+        return self.jobs or processors()
 
 
 class Batch(NamedTuple):

@@ -82,7 +82,7 @@ class File(Parts):
             raise
 
     def _part(self, at: int, length: int) -> bytes:
-        return os.pread(self.number, length, at)
+        return opening.read_at(self.number, length, at)
 
     def as_file(self, name: bytes) -> bytes:
         """Its own path."""
