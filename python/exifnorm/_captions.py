@@ -9,11 +9,13 @@ from typing import List, NamedTuple, Optional
 
 from ._calls import Octets, captions_text
 from ._reading import fields
+from ._words import documented
 
 _ESCAPE = re.compile(rb"\\([0-9a-f]{2})")
 _UTF8 = 129  # the number of the Exif type
 
 
+@documented
 class BlockCaption(NamedTuple):
     """A labelled text of a block.
 

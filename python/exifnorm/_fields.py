@@ -4,9 +4,16 @@ from __future__ import annotations
 
 from typing import NamedTuple, Tuple, Union
 
+from ._words import documented
 
+
+@documented
 class Ratio(NamedTuple):
-    """A fraction as it is in the block: it isn't reduced, and its denominator may be 0."""
+    """A fraction as it is in the block: it isn't reduced.
+
+    - `numerator`: the number above
+    - `denominator`: the number below, which may be 0
+    """
 
     numerator: int
     denominator: int
@@ -15,6 +22,7 @@ class Ratio(NamedTuple):
 Values = Union[bytes, Tuple[int, ...], Tuple[Ratio, ...], Tuple[bytes, ...]]
 
 
+@documented
 class BlockField(NamedTuple):
     """A field of a directory, a DataSet, or a part of the thumbnail.
 

@@ -8,7 +8,7 @@ from typing import Any, Dict, Iterable, Iterator, List, Literal, NamedTuple, NoR
 from ._calls import Octets, view_of
 from ._errors import HeadRefused, PictureRefused, TooMany, XmpNotRead
 from ._library import PART, PLACE, RESOURCE, PictureFailure, Status, library
-from ._words import EXIF, IPTC
+from ._words import EXIF, IPTC, documented
 
 PART_KINDS = ("", "exif", "photoshop", "xmp", "extended xmp")  # of parts, by the library's numbers
 BLOCK_KINDS = ("", EXIF, IPTC)  # the same of blocks
@@ -17,6 +17,7 @@ _IPTC = 0x0404  # the number of the resource
 CAUSES: Dict[int, str] = {101: "JpegNoStart", 102: "JpegNoMarker", 103: "JpegLength", 104: "JpegCut", 105: "JpegTooLong"}
 
 
+@documented
 class JpegPart(NamedTuple):
     """A part of a JPEG's head: a marker, and where the data of its segment are.
 
@@ -34,16 +35,27 @@ class JpegPart(NamedTuple):
     size: int
 
 
+@documented
 class Resource(NamedTuple):
-    """One of Photoshop's image resources: its `number`, the offset `start` of its data, and the `size` of these in bytes."""
+    """One of Photoshop's image resources.
+
+    - `number`: its number, such as 0x0404 of IPTC
+    - `start`: the offset of its data
+    - `size`: the number of their bytes
+    """
 
     number: int
     start: int
     size: int
 
 
+@documented
 class JpegBlock(NamedTuple):
-    """A block of a JPEG: its `kind`, "exif" or "iptc", and its bytes `data`."""
+    """A block of a JPEG.
+
+    - `kind`: "exif" or "iptc"
+    - `data`: its bytes
+    """
 
     kind: Literal["exif", "iptc"]
     data: bytes
@@ -206,18 +218,25 @@ def _raise_for_pair(failure: PictureFailure) -> NoReturn:
     raise AssertionError(f"libexifnorm answered the status {status}")
 
 
+@documented
 class Unread(NamedTuple):
-    """A place in a JPEG that isn't read."""
+    """A place in a JPEG that isn't read.
+
+    - `joined`: whether the offset is one in the blocks in several pieces, one after another, and not in the JPEG
+    - `start`: the offset
+    """
 
     joined: bool
-    """Whether the offset is one in the blocks in several pieces, one after another, and not in the JPEG."""
     start: int
-    """The offset."""
 
 
+@documented
 class NotRead(NamedTuple):
     """Two JPEGs have the same metadata as far as both are read, and one has a place that isn't read. It is neither true nor false, so a test
     of it raises TypeError.
+
+    - `side`: the number of the JPEG, 1 or 2; 2 only if all of the first is read
+    - `unread`: the place
 
     >>> if NotRead(1, Unread(False, 6)):
     ...     print("the same")
@@ -226,9 +245,7 @@ class NotRead(NamedTuple):
     """
 
     side: int
-    """The number of the JPEG, 1 or 2; 2 only if all of the first is read."""
     unread: Unread
-    """The place."""
 
     def __bool__(self) -> bool:
         place = f"{self.unread.start}{' of its joined blocks' * self.unread.joined}"

@@ -6,7 +6,10 @@ import functools
 import re
 from typing import Any, Callable, List, NamedTuple, Tuple, Union
 
+from ._words import documented
 
+
+@documented
 class XmpText(NamedTuple):
     """A text of XMP.
 
@@ -18,6 +21,7 @@ class XmpText(NamedTuple):
     language: str = ""
 
 
+@documented
 class XmpResource(NamedTuple):
     """A resource of XMP.
 
@@ -27,6 +31,7 @@ class XmpResource(NamedTuple):
     uri: str
 
 
+@documented
 class XmpContainer(NamedTuple):
     """A container of XMP.
 
@@ -39,6 +44,7 @@ class XmpContainer(NamedTuple):
     members: "Tuple[XmpValue, ...]"
 
 
+@documented
 class XmpStructure(NamedTuple):
     """A structure of XMP, or a text with qualifiers, of which the property `value` of RDF is the text.
 
@@ -51,6 +57,7 @@ class XmpStructure(NamedTuple):
 XmpValue = Union[XmpText, XmpResource, XmpContainer, XmpStructure]
 
 
+@documented
 class XmpProperty(NamedTuple):
     """A property of a packet of XMP, or of a structure in it.
 

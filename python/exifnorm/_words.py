@@ -1,9 +1,11 @@
-"""Words that had another spelling before, which programs may still compare with."""
+"""Words that had another spelling before, which programs may still compare with; and the words of members in help()."""
 
 from __future__ import annotations
 
 import warnings
-from typing import Literal, Tuple, Type, cast
+from typing import Literal, Tuple, Type, TypeVar, cast
+
+T = TypeVar("T")
 
 
 class Word(str):
@@ -34,6 +36,26 @@ class Word(str):
 
     def __reduce__(self) -> Tuple[Type["Word"], Tuple[str, str]]:
         return Word, (str(self), self.old)
+
+
+def documented(of: Type[T]) -> Type[T]:
+    """A class of named tuples, in which help() has words for each member: those after "- `member`: " in the class's own words.
+
+    >>> from typing import NamedTuple
+    >>> class Place(NamedTuple):
+    ...     '''A place.
+    ...
+    ...     - `start`: the offset
+    ...     '''
+    ...     start: int
+    >>> documented(Place).start.__doc__
+    'the offset'
+    """
+    lines = "\n".join(map(str.strip, (of.__doc__ or "").splitlines()))
+    for part in lines.split("\n- `")[1:]:
+        name, _, words = part.partition("`: ")
+        getattr(of, name).__doc__ = words.partition("\n\n")[0].strip().replace("\n", " ")
+    return of
 
 
 EXIF: Literal["exif"] = "exif"

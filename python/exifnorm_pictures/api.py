@@ -10,6 +10,8 @@ import re
 import threading
 from typing import TYPE_CHECKING, Callable, Iterator, NamedTuple, Optional, Tuple, Union
 
+from exifnorm._words import documented
+
 from .comparison.origin import Origin, Whole
 from .extract import extraction
 from .extract.file_objects import BinaryFile, FileObject, own_errors, seekable
@@ -247,11 +249,15 @@ def _of_program(error: Exception) -> Optional[Problem]:
 # Comparing
 
 
+@documented
 class Difference(NamedTuple):
     """A field that differs between two pictures.
 
-    `before` and `after` are its fields, several of a DataSet that is repeated, and None where there is no such field. `note` is a sentence
-    in place of the values, as for a MakerNote. `is_equal_number` is whether both have equal numbers that are only written otherwise.
+    - `name`: its name with its group
+    - `before`: its fields in the first picture, several of a DataSet that is repeated; None if there is no such field
+    - `after`: the same in the second picture
+    - `is_equal_number`: whether both have equal numbers that are only written otherwise
+    - `note`: a sentence in place of the values, as for a MakerNote
     """
 
     name: str
@@ -269,6 +275,7 @@ class Difference(NamedTuple):
         return f"{self.name}: {both[0]} -> {both[1]}"
 
 
+@documented
 class Comparison(NamedTuple):
     """Two pictures compared.
 

@@ -24,6 +24,8 @@ from typing import (
     overload,
 )
 
+from exifnorm._words import documented
+
 from .comparison.origin import Origin
 from .extract.extraction import too_much
 from .fields.block_fields import fields_of
@@ -66,11 +68,17 @@ D = TypeVar("D")
 T = TypeVar("T")
 
 
+@documented
 class Refusal(NamedTuple):
     """Why a block has no meaning: its first fault.
 
-    `block` is its name, `cause` a word such as "EmptyDirectory", `offset` the byte of the fault in the block or None, `sentence` the fault
-    for people, and `remedy` what helps. `str` makes a line of it.
+    - `block`: the name of the block
+    - `cause`: a word such as "EmptyDirectory"
+    - `offset`: the byte of the fault in the block, or None
+    - `sentence`: the fault for people
+    - `remedy`: what helps
+
+    `str` makes a line of it.
     """
 
     block: str
@@ -84,8 +92,14 @@ class Refusal(NamedTuple):
         return f"{self.block}: {self.sentence.rstrip('.')}{at}."
 
 
+@documented
 class Position(NamedTuple):
-    """Where a picture was taken, in degrees (north and east are positive) and metres above the sea, or None."""
+    """Where a picture was taken.
+
+    - `latitude`: in degrees, above zero in the north
+    - `longitude`: in degrees, above zero in the east
+    - `altitude`: in metres above the sea, or None
+    """
 
     latitude: float
     longitude: float
@@ -168,18 +182,20 @@ class ShownFields(Shown):
 
     def of(self, block: Block) -> List[Field]:
         """The fields of a block, or the first ones."""
-        first: List[Field] = []
         if self.is_full:  # then no further fields are made
-            self.has_more = bool(block.is_accepted or block.repair)
+            first, self.has_more = [], bool(block.is_accepted or block.repair)
         else:
-            for field in block.fields:
-                if self.is_full:
-                    break
-                first.append(field)
-                self.add_fields([field], len(field.text) + len(field.exact))
+            first = [it for it in block.fields if self._counts(it)]
             self.has_more = len(first) < len(block.fields)
-        self.left_out = self.left_out or self.has_more
+        self.left_out |= self.has_more
         return first
+
+    def _counts(self, field: Field) -> bool:
+        """Counts a field, if something may still be printed."""
+        if not self.is_full:
+            self.add_fields([field], len(field.text) + len(field.exact))
+            return True
+        return False
 
 
 class Picture(Mapping[str, "Value"]):
@@ -276,10 +292,10 @@ class Picture(Mapping[str, "Value"]):
         return not self._read.not_read and all(it.is_accepted for it in self._records)
 
     @property
-    def key(self) -> Optional[str]:
+    def meaning(self) -> Optional[str]:
         """A text that two pictures share exactly if their Exif, IPTC and XMP mean the same. None if there is no metadata, a block is refused or a
         part was not read, so that two such pictures never seem to be equal."""
-        meanings = self._meaning
+        meanings = self._meanings
         if meanings is None or not any(meanings):
             return None
         return "+".join(it or "-" for it in meanings)
@@ -348,11 +364,7 @@ class Picture(Mapping[str, "Value"]):
         return tuple([field.in_block(record.name) for record, fields in self._named(name) for field in fields])
 
     @overload
-    def get(self, name: str) -> Value:
-        ...
-
-    @overload
-    def get(self, name: str, default: Union[Value, D]) -> Union[Value, D]:
+    def get(self, name: str, default: Union[Value, D] = None) -> Union[Value, D]:
         ...
 
     @overload
@@ -409,13 +421,13 @@ class Picture(Mapping[str, "Value"]):
     def __eq__(self, other: object) -> bool:
         if not isinstance(other, Picture):
             return NotImplemented
-        return self is other or (self._meaning is not None and self._meaning == other._meaning)
+        return self is other or (self._meanings is not None and self._meanings == other._meanings)
 
     def __hash__(self) -> int:
-        return object.__hash__(self) if self._meaning is None else hash(self._meaning)
+        return object.__hash__(self) if self._meanings is None else hash(self._meanings)
 
     @property
-    def _meaning(self) -> Optional[Tuple[Optional[str], ...]]:
+    def _meanings(self) -> Optional[Tuple[Optional[str], ...]]:
         """What equal pictures share; None of one that is equal to no other."""
         meanings = tuple(self.record.meanings)
         return meanings if self.is_whole and None not in meanings else None
@@ -464,7 +476,17 @@ class Picture(Mapping[str, "Value"]):
 
     @property
     def taken(self) -> Optional[datetime]:
-        """When it was taken: DateTimeOriginal, with its part of a second and its zone if they are there."""
+        """When it was taken: DateTimeOriginal of Exif, with its part of a second and its zone if they are there; or else the date in XMP, or the
+        date and the time in IPTC, in the order of `texts`."""
+        from datetime import date, datetime, time
+
+        of_xmp = list(map(self._first, ("XMP-exif:DateTimeOriginal", "XMP-photoshop:DateCreated")))
+        day, clock = map(self._first, ("IPTC:DateCreated", "IPTC:TimeCreated"))
+        of_iptc = [datetime.combine(day, clock)] if isinstance(day, date) and isinstance(clock, time) else []
+        others = [*of_iptc, *of_xmp] if self._read.is_iptc_changed() else [*of_xmp, *of_iptc]
+        return next((it for it in (self._taken_by_exif(), *others) if isinstance(it, datetime)), None)
+
+    def _taken_by_exif(self) -> Optional[datetime]:
         from datetime import datetime, timedelta, timezone
 
         when, part, zone = map(self._first, ("ExifIFD:DateTimeOriginal", "ExifIFD:SubSecTimeOriginal", "ExifIFD:OffsetTimeOriginal"))

@@ -58,7 +58,7 @@ def models_in_archive(path: str) -> Iterator[str]:
         data = raw.readall()
         raw.seek(0), copy.write(data), copy.seek(0)
         with gzip.open(io.BytesIO(gzip.compress(data))) as packed:
-            keys = {pictures.read(raw).key, pictures.read(copy).key, pictures.read(packed).key}
+            keys = {pictures.read(raw).meaning, pictures.read(copy).meaning, pictures.read(packed).meaning}
     assert len(keys) == 1 and None not in keys
 
 

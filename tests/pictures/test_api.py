@@ -176,7 +176,7 @@ def test_structures_are_those_of_exiftool(tmp_path):
     ask = ["exiftool", "-q", "-config", "", "-json", "-struct", "-n", "-XMP:all", tmp_path / "a.jpg"]
     (theirs,) = json.loads(subprocess.run(ask, stdout=subprocess.PIPE, check=True).stdout)
     ours = pictures.read(tmp_path / "a.jpg")
-    assert theirs["LocationCreated"][0].pop("LocationName-de") == "Kirche auf dem Berg"
+    assert theirs["LocationCreated"][0]["LocationName-de"] == "Kirche auf dem Berg"
     for name, word in (*zip(*[("DerivedFrom", "History", "LocationCreated")] * 2), ("Regions", "RegionInfo")):
         (key,) = (it for it in ours.names if it.endswith(f":{name}"))
         expected = json.loads(json.dumps(theirs[word]), object_hook=lambda it: {one.casefold(): value for one, value in it.items()})
@@ -367,7 +367,7 @@ def test_a_path_bytes_and_a_file_are_read_alike(ending, tmp_path):
             *map(pictures.read, sources),
             *(pictures.read_bytes(it, name=path.name) for it in (data, bytearray(data), memoryview(data))),
         ]
-    assert len({(it.type, it.key, it.not_read, tuple(it.fields), it.captions) for it in found}) == 1
+    assert len({(it.type, it.meaning, it.not_read, tuple(it.fields), it.captions) for it in found}) == 1
     assert list(found[0].fields)
 
 
@@ -409,7 +409,7 @@ def test_a_record_that_declares_utf_8_has_no_guess():
 def test_a_broken_block_is_a_sentence_and_no_key():
     broken = pictures.read(BEFORE / PHONE)
     assert [str(it) for it in broken.refusals] == ["Exif: A directory has no entry (byte 442)."]
-    assert broken.key is None and not broken.is_whole
+    assert broken.meaning is None and not broken.is_whole
     assert broken.blocks[0].repair == ("an empty directory left out",) and broken["IFD0:Model"] == "Redmi Note 4"
     assert "mend" in broken.refusals[0].remedy
 
@@ -597,6 +597,23 @@ def test_where_and_when(tmp_path):
     assert found["GPS:GPSAltitudeRef"] == 1
 
 
+@needs("exiftool")
+def test_a_date_of_xmp_or_iptc(tmp_path):
+    """If Exif has none: the guidelines of the Metadata Working Group name these fields. A date without its time isn't when it was taken."""
+    path = tmp_path / "a.jpg"
+    path.write_bytes(jpeg())
+    iptc = ["-IPTC:DateCreated=2017:02:03", "-IPTC:TimeCreated=04:05:06+01:00"]
+    xmp, of_xmp = "-XMP-photoshop:DateCreated", datetime(2018, 1, 2, 3, 4, 5, tzinfo=timezone(timedelta(hours=6)))
+    of_iptc = datetime(2017, 2, 3, 4, 5, 6, tzinfo=timezone(timedelta(hours=1)))
+    for words, expected in (
+        ([*iptc, f"{xmp}=2018:01:02 03:04:05+06:00"], of_xmp),
+        ([f"{xmp}=2018:01"], of_iptc),
+        (["-IPTC:TimeCreated="], None),
+    ):
+        tool(tmp_path, "exiftool", "-q", "-overwrite_original", *words, "a.jpg")
+        assert pictures.read(path).taken == expected
+
+
 @pytest.mark.parametrize("reference, sign", [("0", 1), ("1", -1), ("2", 1), ("3", -1)])
 def test_a_position_of_xmp(reference, sign):
     """By XMP part 2 (8.7.5), and the four references of Exif 3.0: above and below the ellipsoid, above and below the sea."""
@@ -609,7 +626,7 @@ def test_a_position_of_xmp(reference, sign):
 
 
 def facts(it):
-    return (it.key, tuple(it.fields), it.captions, it.refusals, it.not_read) if isinstance(it, pictures.Picture) else type(it)
+    return (it.meaning, tuple(it.fields), it.captions, it.refusals, it.not_read) if isinstance(it, pictures.Picture) else type(it)
 
 
 def test_many_in_processes_and_threads():
@@ -697,9 +714,9 @@ def test_a_typed_client():
 
 
 def test_equal_keys_are_equal_metadata():
-    assert pictures.read(BEFORE / VASE).key == pictures.read(AFTER / VASE).key != pictures.read(BEFORE / BOWL).key
+    assert pictures.read(BEFORE / VASE).meaning == pictures.read(AFTER / VASE).meaning != pictures.read(BEFORE / BOWL).meaning
     plain = pictures.read_bytes(SMALL_JPEG)
-    assert plain.key is None and plain.is_whole and not list(plain.fields)
+    assert plain.meaning is None and plain.is_whole and not list(plain.fields)
 
 
 def test_blocks_are_read_once(monkeypatch):
@@ -712,7 +729,7 @@ def test_blocks_are_read_once(monkeypatch):
     of_form = normal_form.fields_of_form
     monkeypatch.setattr(normal_form, "fields_of_form", lambda form: made.append(form) or of_form(form))
     bowl = pictures.read(BEFORE / BOWL)
-    assert (bowl.key is not None, bowl.refusals, len(calls), len(made)) == (True, (), 2, 0)
+    assert (bowl.meaning is not None, bowl.refusals, len(calls), len(made)) == (True, (), 2, 0)
     assert bowl.captions and bowl["IFD0:Model"] and list(bowl.fields) and len(calls) == 2 and len(made) == 2
     assert pictures.compare(bowl, pictures.read(BEFORE / BOWL)).same and (len(calls), len(made)) == (4, 2)
 
@@ -738,12 +755,14 @@ def test_reading_loads_no_more_than_it_needs():
 
 
 def test_each_name_has_words():
-    """help() shows them."""
-    for name in pictures.__all__:
-        it = getattr(pictures, name)
-        assert it.__doc__ and not it.__doc__.startswith(f"{name}("), name
+    """help() shows them, and doesn't say "Alias for field number 3" of a member of a tuple."""
+    classes = [it for it in (getattr(exifnorm, name) for name in exifnorm.__all__) if isinstance(it, type)]
+    assert {pictures.Refusal, exifnorm.JpegPart} <= {*classes}
+    for it in (*classes, *(getattr(pictures, name) for name in pictures.__all__)):
+        assert it.__doc__ and not it.__doc__.startswith(f"{it.__name__}("), it
         for member, one in vars(it).items() if isinstance(it, type) else ():
-            assert member.startswith("_") or not isinstance(one, property) or one.__doc__, (name, member)
+            if isinstance(one, property) or (issubclass(it, tuple) and member in it._fields):
+                assert one.__doc__ and not one.__doc__.startswith("Alias for field"), (it, member)
     assert [name for name in dir(pictures) if not name.startswith("_")] == sorted(pictures.__all__)
     assert callable(pictures.compare)
 

@@ -44,7 +44,7 @@ class Unseekable:
 
 
 def facts(picture):
-    return picture.type, picture.key, picture.not_read, tuple(picture.fields), picture.captions, picture.refusals
+    return picture.type, picture.meaning, picture.not_read, tuple(picture.fields), picture.captions, picture.refusals
 
 
 @pytest.fixture
@@ -160,7 +160,7 @@ def test_a_copy_has_a_limit(times, whole, temporary, monkeypatch):
         with pytest.raises(pictures.NotReadable, match="bytes of a temporary copy") as error:
             pictures.read(source, whole=whole)
         assert error.value.problem == "TooMuch"
-    assert pictures.read(io.BytesIO(data), whole=whole).key
+    assert pictures.read(io.BytesIO(data), whole=whole).meaning
 
 
 def test_what_a_file_object_raises(temporary):

@@ -118,7 +118,7 @@ def test_a_limit_of_time(source, monkeypatch):
         assert raised.value.problem == "TooMuch"
         picture = reader.read(BEFORE / BOWL)
         time.sleep(0.15)
-        assert list(picture.fields) and picture.key and reader.read(BEFORE / BOWL) is not None  # the time is that of each picture
+        assert list(picture.fields) and picture.meaning and reader.read(BEFORE / BOWL) is not None  # the time is that of each picture
 
 
 @needs("exiftool")
@@ -153,9 +153,9 @@ def test_a_name_tells_the_ending(tmp_path):
     with pictures.Reader(programs=False) as reader:
         for source in (tmp_path / "upload-7", io.BytesIO(b" " + packet)):
             picture = reader.read(source, name="a.xmp")
-            assert (picture.type, picture.name) == ("XMP", "a.xmp") and picture.key
-        assert reader.read_bytes(b" " + packet, name="a.xmp").key == picture.key
-    assert pictures.read(tmp_path / "upload-7", name="a.xmp").key == picture.key
+            assert (picture.type, picture.name) == ("XMP", "a.xmp") and picture.meaning
+        assert reader.read_bytes(b" " + packet, name="a.xmp").meaning == picture.meaning
+    assert pictures.read(tmp_path / "upload-7", name="a.xmp").meaning == picture.meaning
     assert pictures.compare(pictures.read(BEFORE / BOWL, name="b"), BEFORE / BOWL).result == "same"
 
 

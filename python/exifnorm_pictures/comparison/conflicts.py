@@ -10,6 +10,8 @@ from collections import Counter
 from datetime import datetime
 from typing import Dict, Iterator, List, NamedTuple, Optional, Sequence, Tuple
 
+from exifnorm._words import documented
+
 from ..fields.labels import DATE, LABELS, POSITION, Caption, Label
 from ..fields.places import Located, is_same_place, metres_apart
 from ..model.found import EXIF, IPTC, NAMES, STANDARDS, XMP
@@ -44,11 +46,15 @@ _CHARACTER_SETS = dict(
 _CLEAREST = (NAMES[XMP], NAMES[IPTC], NAMES[EXIF])  # the order in which two texts are compared: that which is least often cut first
 
 
+@documented
 class Conflict(NamedTuple):
     """A label with texts in two standards at least, and how these differ.
 
-    `kind` is a word: "alike", "another order", "empty", "camera's text", "joined", "cut", "character set" or "different". `detail` says more,
-    `texts` are those of each field, and `worse` the fields whose text is cut or in a wrong character set.
+    - `label`: the label
+    - `kind`: a word: "alike", "another order", "empty", "camera's text", "joined", "cut", "character set" or "different"
+    - `detail`: more about it
+    - `texts`: those of each field
+    - `worse`: the fields whose text is cut or in a wrong character set
     """
 
     label: str

@@ -9,6 +9,8 @@ import functools
 import re
 from typing import Dict, Iterable, Iterator, List, NamedTuple, Optional, Sequence, Set, Tuple
 
+from exifnorm._words import documented
+
 from ..model.found import EXIF, IPTC, NAMES, SIDECAR, XMP
 from ..model.xmp_values import Long, texts_in
 from .field import Field
@@ -140,13 +142,21 @@ def _typed(word: str) -> str:
     return re.sub(r"[-_ ]+", " ", word.casefold().replace("'", ""))
 
 
+@documented
 class Caption(NamedTuple):
     """The texts of one field for a label, such as "title" or "keywords".
 
-    `standard` is "Exif", "IPTC" or "XMP", `field` the field's name, such as "IFD0:Artist", and `texts` are several of a list. `octets` are those
-    of Exif and IPTC as they are in the file, and `guess` is how the character set was found if it isn't declared. `block` is empty for the first
-    block of a kind. `is_extra` is whether nothing is compared with it, as with what Windows writes, and `is_own` whether a camera or a program
-    writes it by itself. `str` joins the texts.
+    - `label`: the label
+    - `standard`: "Exif", "IPTC" or "XMP"
+    - `field`: the name of the field, such as "IFD0:Artist"
+    - `texts`: the texts, several of a list
+    - `octets`: those of Exif and IPTC as they are in the file
+    - `guess`: how the character set was found if it isn't declared
+    - `block`: empty for the first block of a kind
+    - `is_extra`: whether nothing is compared with it, as with what Windows writes
+    - `is_own`: whether a camera or a program writes it by itself
+
+    `str` joins the texts.
     """
 
     label: str

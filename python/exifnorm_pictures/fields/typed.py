@@ -6,7 +6,7 @@ import math
 import struct
 from datetime import date, datetime, time
 from fractions import Fraction
-from typing import Any, Dict, List, Optional, Sequence, Tuple, Union
+from typing import Any, Dict, Iterator, List, Optional, Sequence, Tuple, Union
 
 from ..model.xmp_values import Array, Literal, Long, LongStructure, Structure, Uri, XmpValue, exact
 from .field import Field
@@ -179,7 +179,7 @@ def _one_of_xmp(name: str, value: XmpValue) -> Value:
     if isinstance(value, LongStructure):
         return _one_of_xmp(name, value.value)
     if isinstance(value, Structure):
-        return {member_name: _of_xmp(member_name, values) for member_name, values in _by_name(value).items()}
+        return dict(_members_of(value))
     if not isinstance(value, Array):
         return None
     members = value.members
@@ -189,6 +189,18 @@ def _one_of_xmp(name: str, value: XmpValue) -> Value:
     return _one_of_xmp(name, default[0]) if default else ()
 
 
+def _members_of(structure: Structure) -> Iterator[Tuple[str, Value]]:
+    """The members of a structure. A text in another language than the default one has this after its name, as ExifTool prints it.
+
+    >>> alternatives = Array("Alt", (Literal("Krug", "de"), Literal("Vase", "x-default")))
+    >>> dict(_members_of(Structure((("Iptc4xmpExt:AOTitle", alternatives),))))
+    {'Iptc4xmpExt:AOTitle': 'Vase', 'Iptc4xmpExt:AOTitle-de': 'Krug'}
+    """
+    for name, values in _by_name(structure).items():
+        yield name, _of_xmp(name, values)
+        yield from ((f"{name}-{word}", text) for word, text in _languages(values).items() if word.lower() != "x-default")
+
+
 def languages_of(field: Field) -> Dict[str, str]:
     """The texts of alternatives by their languages, the default one first.
 
@@ -196,7 +208,11 @@ def languages_of(field: Field) -> Dict[str, str]:
     >>> languages_of(Field("xmp", "dc:title", "Alt", 2, (alternatives,)))
     {'x-default': 'Vase', 'de': 'Krug'}
     """
-    arrays = [it for it in field.content if isinstance(it, Array) and it.kind == "Alt"] if field.directory == "xmp" else []
+    return _languages(field.content) if field.directory == "xmp" and isinstance(field.content, tuple) else {}
+
+
+def _languages(values: Sequence[object]) -> Dict[str, str]:
+    arrays = [it for it in values if isinstance(it, Array) and it.kind == "Alt"]
     texts = [it for array in arrays for it in array.members if isinstance(it, Literal) and it.language]
     languages: Dict[str, str] = {}
     for text in sorted(texts, key=lambda it: it.language.lower() != "x-default"):
