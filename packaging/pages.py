@@ -16,19 +16,19 @@ from typing import Any, Callable, Dict, Iterator, List, Tuple
 
 import crates_page
 import drawings
+import formats_page
+import refusals_page
 
 TOP = Path(__file__).resolve().parent.parent
 sys.path.insert(0, str(TOP / "python"))
 
 from exifnorm_pictures.cli import parser, statuses  # noqa: E402
 from exifnorm_pictures.export.tables import SCHEMA as TABLES  # noqa: E402
-from exifnorm_pictures.extract import readers  # noqa: E402
-from exifnorm_pictures.refusals import causes  # noqa: E402
 
 OBJECTS = TOP / "python" / "exifnorm_pictures" / "output.schema.json"
 PAGES: Dict[str, Callable[[], str]] = {
     "crates/README.md": crates_page.page,
-    "docs/REFUSALS.md": causes.page,
+    "docs/REFUSALS.md": refusals_page.page,
     "docs/exifnorm-pictures.1": lambda: manual(),
     "docs/catalogue.svg": drawings.catalogue,
     "docs/letter.svg": drawings.letter,
@@ -132,22 +132,12 @@ def of_tables() -> Dict[str, str]:
     return {name: table("Column", columns(lines)) for name, lines in found}
 
 
-def matrix() -> str:
-    """What is read of each format, as signs."""
-    titles = ("Format", "Exif", "IPTC", "XMP", "Other parts", "Parts that are not read")
-    lines = [f"| {' | '.join(titles)} |", "|" + "---|" * len(titles)]
-    for it in readers.FORMATS:
-        cells = (it.exif, it.iptc, it.xmp, it.by_bytes, it.not_read)
-        lines.append(f"| {it.name} | {' | '.join('●' if cell else '–' for cell in cells)} |")
-    return "\n".join([*lines, ""])
-
-
 def printed(page: str) -> str:
     """What a page is to have."""
     if page in PAGES:
         return PAGES[page]()
-    of_formats = {"formats": readers.table(), "parts": readers.table_of_parts()}
-    known = {"matrix": matrix(), **of_formats, **of_objects(), **of_tables()}
+    of_formats = {"formats": formats_page.blocks(), "parts": formats_page.parts(), "matrix": formats_page.matrix()}
+    known = {**of_formats, **of_objects(), **of_tables()}
     text = (TOP / page).read_text(encoding="utf-8")
     return MARKED.sub(lambda it: it[1] + known[it[2]], text)
 

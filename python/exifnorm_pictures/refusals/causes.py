@@ -1,18 +1,14 @@
-"""The causes of refusals in sentences: one source for `explain`, `report` and docs/REFUSALS.md (see `page`)."""
+"""The causes of refusals in sentences: one source for `explain`, `report` and docs/REFUSALS.md."""
 
 from __future__ import annotations
 
 from dataclasses import dataclass
 from typing import Dict, Optional, Tuple
 
-from exifnorm import LIMIT
-from exifnorm._causes import OF_BLOCKS, OF_HEADS
+from exifnorm._causes import OF_BLOCKS
 
 from .. import xmp
 from ..model.found import XMP
-
-MEASURED = "measured on 419 JPEG files of Debian source packages, 2026"
-READERS = "ExifTool 12.57, exiv2 0.27.6, exif 0.6.22 (libexif), Pillow 9.4 and piexif 1.1.3 of Debian 12"
 
 
 @dataclass(frozen=True)
@@ -21,7 +17,6 @@ class Cause:
 
     name: str
     meaning: str
-    diagram: str  # a picture of bytes; `!` is below the byte at the reported offset
     writers: Tuple[Tuple[str, str], ...]  # who wrote such blocks, and how many were met
     readers: str
     cost: str
@@ -42,7 +37,6 @@ _CAUSES = (
         "TooLong",
         "A block in a JPEG has fewer than 65,536 bytes; other formats seldom have more than a megabyte. A longer block is"
         " usually a whole picture, or another file.",
-        f"0 .................... {LIMIT - 1} | {LIMIT} ...\n                                   !",
         (),
         "Not tried: no JPEG can contain such a block.",
         "None.",
@@ -52,7 +46,6 @@ _CAUSES = (
         "An Exif block begins with `II*\\0` or `MM\\0*`, an IPTC record with the octet 1C. An empty block, a whole JPEG, XMP and"
         " Photoshop resources begin otherwise. So does a BigTIFF (`II+\\0` or `MM\\0+`), whose offsets have eight bytes; as"
         " a picture `exifnorm-pictures` reads it. A picture without metadata gives an empty block.",
-        "3C 78 3A 78 6D 70 ..      <x:xmp .. is XMP\nFF D8 FF E1 ..            a whole JPEG\n!",
         (("pictures without metadata, extracted by a tool that gives an empty block with status 0", "many"),),
         "ExifTool: `Malformed APP1 EXIF segment`. exiv2: `This does not look like a TIFF image`. exif: `Corrupt data`. Pillow:"
         " no field. piexif: an exception.",
@@ -61,7 +54,6 @@ _CAUSES = (
     Cause(
         "HeaderCut",
         "The header of an Exif block has eight bytes: the byte order, the number 42, and the offset of the main directory.",
-        "4D 4D 00 2A 00 00 | the end; 8 bytes are required\n                  !",
         (),
         "ExifTool: `Malformed APP1 EXIF segment`. exiv2: `This does not look like a TIFF image`. exif prints nothing. Pillow 9.4"
         " can't open the whole picture. piexif: an exception. ExifTool extracts no block from such a picture, so `index` counts it"
@@ -72,7 +64,6 @@ _CAUSES = (
         "Loop",
         "The main directory, the Exif, Interoperability, GPS and thumbnail directories are read once each. Here a pointer leads"
         " back to one of them.",
-        "[main directory] at 8 ... next offset: 8\n      ^                                 !\n      +---------------------------------+",
         (),
         "ExifTool: `IFD1 pointer references previous IFD0 directory`, and all other fields. exiv2 ignores the pointer with a"
         " message. exif and Pillow read the rest silently. piexif takes the fields a second time as those of the thumbnail.",
@@ -82,8 +73,6 @@ _CAUSES = (
         "DirectoryOutside",
         "A directory is a number of entries, the entries of 12 bytes each, and four bytes for the offset of the next directory."
         " Usually only these last four bytes are missing, because a program that writes the directory at the end left them out.",
-        "00 02 | entry 1 | entry 2 | .. .. .. ..\n                          ^ the block ends here,\n"
-        "                            and four bytes are missing",
         (("Canon S100, saved by jhead", "2"), ("piexif, any picture", "139 of 142, together with Overlap and Unsorted")),
         "ExifTool and exif read the fields silently, exiv2 with `IFD exceeds data buffer, cannot read next pointer`, Pillow with a"
         " warning. piexif: an exception, also for blocks that piexif wrote.",
@@ -93,7 +82,6 @@ _CAUSES = (
         "EmptyDirectory",
         "TIFF 6.0 asks for at least one entry in a directory. Some phones always write a GPS pointer, even if they don't know"
         " the location.",
-        "GPS pointer --> 00 00 | 00 00 00 00\n                !  no entries",
         (("Xiaomi phones (an empty GPS directory), Apple iPhone 7, Nikon E995, digiKam", "6 in all"),),
         "ExifTool, exiv2, exif, Pillow and piexif report nothing; exiv2, Pillow and piexif show the pointer as a number.",
         "None by the touch (4 of 4); a rebuild changed printed values.",
@@ -102,7 +90,6 @@ _CAUSES = (
         "Overlap",
         "TIFF 6.0 forbids two pointers to the same data. If two values share bytes, an edit of one changes the other, and nobody"
         " knows which of them was meant. Usually a count is too large. exiv2 also extends a MakerNote into the values after it.",
-        "Model    -> M o d e l   1 _\nSoftware ->         l   1 _ P r o g\n                    ^^^^^^^ whose bytes are these?",
         (
             (
                 "Olympus C8080WZ; Ricoh Caplio (PrintIM too long); 'DIGITAL CAMERA' (Copyright too long); GoPro HERO6;"
@@ -118,7 +105,6 @@ _CAUSES = (
     Cause(
         "Unsorted",
         "TIFF 6.0 requires ascending tags. Otherwise readers that use binary search miss fields.",
-        "0110 Model | 010F Make | 0112 Orientation\n             !  below the one before it",
         (
             ("Fujifilm DS-7, LG VX-9700, Nokia 6350, HTC phones, InfiRay, Zoner Photo Studio 14", "10 in all"),
             ("piexif, any picture", "139 of 142, together with Overlap and DirectoryOutside"),
@@ -129,7 +115,6 @@ _CAUSES = (
     Cause(
         "Doubled",
         "A directory has one value for each tag. If it has a tag twice, readers differ in which value they use.",
-        "0112 Orientation: 1 | 0112 Orientation: 6\n                      !  which is it?",
         (("QuickTime 6 and 7 (Orientation), Pentax Optio (UserComment)", "4 in all"),),
         "ExifTool and exiv2 print both, exif only the first, Pillow and piexif only the second.",
         "One of the two values, and what else a rebuild changes (4 of 4 lost some printed value).",
@@ -138,7 +123,6 @@ _CAUSES = (
         "UnknownType",
         "The types are those of TIFF 6.0 and Exif 3.0. Type 13 (IFD) is for offsets that would have to be followed; other numbers"
         " occur in damaged blocks.",
-        "01 10 | 00 0D | 00 00 00 01 | 00 00 00 08\n!       type 13",
         (),
         "ExifTool: `IFD format not handled`. exiv2, Pillow: a number. exif leaves the field out. piexif: an exception.",
         "The field, if it is left out.",
@@ -148,7 +132,6 @@ _CAUSES = (
         "Offsets of strips (StripOffsets) and of tiles (TileOffsets) lead to the pixels of a TIFF picture, SubIFDs to further"
         " directories, such as the smaller copies of a pyramid. A normal form moves data, so these offsets would be wrong in it."
         " So a whole TIFF picture, with strips or with tiles, is no block; each of its pages without these entries is one.",
-        "0111 StripOffsets: 8  in the main directory --> pixels?\n!",
         (("every TIFF and raw picture, tiled and pyramid TIFFs too, if the whole file is given as a block", "all"),),
         "ExifTool, exiv2, exif, Pillow and piexif show the offsets as numbers.",
         "None for a TIFF: the offsets of its pixels are no metadata. For a raw picture exiv2 also leaves out other tags of its pixels.",
@@ -156,7 +139,6 @@ _CAUSES = (
     Cause(
         "PointerForm",
         "The standard defines one form of pointers. Others occur in damaged files and in those of few cameras.",
-        "88 25 | 00 09 | 00 00 00 01 | 00 00 00 26\n!       type 9, SLONG; required is 4, LONG",
         (("Canon S5 IS (a GPS pointer as SLONG)", "1"),),
         "ExifTool, exiv2, exif and piexif follow the pointer and report nothing; Pillow shows a number.",
         "No printed value was lost.",
@@ -164,7 +146,6 @@ _CAUSES = (
     Cause(
         "ValueOutside",
         "The offset or the count of a field is wrong, or the block was cut. The value can't be known.",
-        "0110 Model, 40 bytes at 50 --> M o d e l 0 | the block ends\n!                                            34 bytes are missing",
         (("Adobe Photoshop CC 2017", "1"),),
         "ExifTool leaves the field out with `Bad offset`. exiv2 makes it empty with a message. exif leaves it out. Pillow leaves"
         " out this and all later fields. piexif gives the bytes that are there.",
@@ -173,7 +154,6 @@ _CAUSES = (
     Cause(
         "ThumbnailPair",
         "Two entries describe a thumbnail: where it begins and how long it is.",
-        "0201 JPEGInterchangeFormat: 44   (no 0202: how long?)\n!",
         (),
         "ExifTool and exiv2 show the offset alone; exif, Pillow and piexif have no thumbnail. None reports anything.",
         "The thumbnail, which couldn't be read.",
@@ -181,7 +161,6 @@ _CAUSES = (
     Cause(
         "ExtraDirectory",
         "Exif has two directories in a row. A normal form would lose the fields of a third.",
-        "[main] -> [thumbnail] -> [a third one]\n                      !",
         (),
         "exiv2 shows the third directory's fields. ExifTool, exif, Pillow and piexif read two and report nothing.",
         "The fields of the third directory, if a tool leaves it out.",
@@ -189,7 +168,6 @@ _CAUSES = (
     Cause(
         "ThumbnailOutside",
         "The picture was cut, or the thumbnail was removed without its two entries.",
-        "0201: at 56, 0202: 4000 bytes --> FF D8 FF D9 | the block ends\n!",
         (("Adobe Photoshop CS and CS4", "2"),),
         "ExifTool and piexif give the bytes that are there as a thumbnail. exiv2 ignores it with a message, Pillow without one. exif:"
         " `Corrupt data`, no field at all.",
@@ -199,7 +177,6 @@ _CAUSES = (
         "NoMarker",
         "An IPTC record is a sequence of DataSets, each of which begins with 1C. Other octets between two of them, or more than"
         " three zeros after the last, show that a length is wrong or that something else was appended.",
-        "1C 02 19 00 03 o n e | 3F | 1C 02 19 00 03 t w o\n                       !",
         (("none of 91 IPTC records from cameras or editors; those found were made to break readers", "0"),),
         "ExifTool reads up to there and prints `Bad IPTC data tag`; exiv2 continues at the next 1C and reports nothing. exif,"
         " Pillow and piexif don't read IPTC records of JPEG pictures.",
@@ -208,7 +185,6 @@ _CAUSES = (
     Cause(
         "LengthForm",
         "A DataSet of more than 32,767 octets has the number of octets of its length. Four are enough for every accepted" " block.",
-        "1C 02 19 80 05 | 00 00 00 00 03 | o n e\n!          five octets of length",
         (("none of 91 IPTC records from cameras or editors; those found were made to break readers", "0"),),
         "ExifTool reads the DataSet. exiv2: `Failed to decode IPTC metadata`, no DataSet at all.",
         "None, if ExifTool reads the DataSet.",
@@ -216,7 +192,6 @@ _CAUSES = (
     Cause(
         "DataSetCut",
         "A length is wrong, or the record was cut.",
-        "1C 02 19 00 09 | o n e | the block ends\n!        nine octets required",
         (("none of 91 IPTC records from cameras or editors; those found were made to break readers", "0"),),
         "ExifTool leaves the DataSet out and reports nothing; exiv2 leaves it out with `has invalid size`.",
         "The DataSet; a part of it is lost in any case.",
@@ -273,97 +248,3 @@ def words_of(cause: str, kind: str = "") -> Optional[Tuple[str, str]]:
     if cause in XMP_REMEDIES:
         return xmp.CAUSES[cause], XMP_REMEDIES[cause]
     return OTHER_REMEDIES.get(cause)
-
-
-_INTRODUCTION = f"""# Refusals
-
-Find out here why a block was refused, and what to do. `exifnorm-pictures explain PICTURE` prints the same texts with the bytes of the
-picture. A block that breaks the rules (`FORMAT.md`, section 5) is refused with its first fault and the byte offset of that fault, and its
-file is never changed. `show`, `changed` and `same` also read it after a repair in memory, which is tested, and not proved.
-
-![The bytes of a refused block, in which the GPS pointer leads to a directory without entries](refusal.svg)
-
-Counts of cameras and programs, by the pictures' own Make and Software, were {MEASURED}: 232 of them have an Exif block, and 35 real
-pictures had a refused one. Readers were tried on the smallest block that has the fault: {READERS}.
-
-## What helps, the least invasive first
-
-Keep the original: each remedy writes another block, and every tool that writes one may move a MakerNote.
-
-```sh
-exifnorm-pictures explain refused.jpg || test $? -eq 2
-exifnorm-pictures mend refused.jpg mended.jpg
-```
-
-`mend` tries four steps on a copy, and uses the first whose block is accepted and that changes no printed value, otherwise the one that
-loses fewest values; it lists what was lost. The first step repairs an Exif block of a JPEG, PNG or WebP file, and leaves the rest of the
-file as it is. The others let programs write the block again. They mended 32 of the 35 refused blocks, 24 of them without loss. By hand:
-
-*Touch*: ExifTool adds a field and removes it, and so lays the block out again.
-
-```sh
-cp refused.jpg touched.jpg
-exiftool -m -overwrite_original -IFD0:PageName=zz touched.jpg
-exiftool -m -overwrite_original -IFD0:PageName= touched.jpg
-```
-
-*exiv2*: the same with exiv2.
-
-```sh
-cp refused.jpg by-exiv2.jpg
-exiv2 -M'set Exif.Image.PageName Ascii zz' by-exiv2.jpg
-exiv2 -M'del Exif.Image.PageName' by-exiv2.jpg
-```
-
-*Rebuild*: ExifTool writes all tags that it knows into a new block. This helps with most blocks (30 of 35), but only 10 of them kept all
-printed values: fractions are reduced, mandatory tags added, unknown fields dropped. Try it last.
-
-```sh
-cp refused.jpg rebuilt.jpg
-exiftool -m -overwrite_original -all= -tagsfromfile @ -all:all -unsafe rebuilt.jpg
-```
-"""
-
-
-def section(cause: Cause) -> str:
-    """The section of the page on one cause."""
-    lines = [f"## {cause.name}", "", _filled(f"**{cause.sentence}** {cause.meaning}"), "", "```text", cause.diagram, "```", ""]
-    if cause.writers:
-        lines += ["| Written by | Found |", "|---|---|"] + [f"| {who} | {count} |" for who, count in cause.writers] + [""]
-    else:
-        lines += ["No camera or program was found that writes it.", ""]
-    for label, text in (("Other readers", cause.readers), ("Remedy", cause.remedy), ("Cost", cause.cost)):
-        lines += [_filled(f"*{label}.* {text.rstrip('.')}."), ""]
-    return "\n".join(lines)
-
-
-def page() -> str:
-    """The whole of docs/REFUSALS.md."""
-    return _wrapped(_INTRODUCTION) + "\n\n" + "\n".join(section(it) for it in _CAUSES) + "\n" + _heads()
-
-
-def _heads() -> str:
-    """The section on the head of a JPEG."""
-    lines = ["## The head of a JPEG", "", _filled(_OF_HEADS), "", "| Cause | Meaning | Remedy |", "|---|---|---|"]
-    return "\n".join([*lines, *(f"| {name} | {sentence} | {remedy} |" for name, (sentence, remedy) in OF_HEADS.items())]) + "\n"
-
-
-_OF_HEADS = """The head of a JPEG is all before its first scan, and its metadata are there (ITU-T T.81, B.1.1 and B.2). `exifnorm.jpeg_blocks`,
-`jpeg_parts`, `jpeg_same` and the calls of the C library for JPEGs refuse a head that is damaged, with its first fault and the byte offset
-from the picture's first byte. `exifnorm-pictures` reads the blocks before the fault, and says that the picture was not wholly read."""
-
-
-def _wrapped(text: str) -> str:
-    """Each paragraph in one line; fenced blocks, headings and tables are unchanged."""
-    pieces = []
-    for index, fenced in enumerate(text.strip().split("```")):
-        if index % 2:
-            pieces.append(fenced)
-            continue
-        kept = [it if it.startswith(("#", "|")) else _filled(it) for it in fenced.split("\n\n")]
-        pieces.append("\n\n".join(kept))
-    return "```".join(pieces)
-
-
-def _filled(paragraph: str) -> str:
-    return " ".join(paragraph.split())
