@@ -14,7 +14,7 @@ from ..model.budgets import Budget
 from ..model.found import CUT, IN_PICTURE, Blocks, Broken
 from .coded_tiff import NotFollowed
 from .formats import heif, jxl
-from .formats.boxes import XMP_UUID, Box, Fields, boxes, content, credentials_in
+from .formats.boxes import XMP_UUID, Box, Fields, boxes, boxes_to_fault, content, credentials_in
 from .formats.heif_items import PICTURES
 from .formats.packet_start import begins_packet
 from .formats.parts import CREDENTIALS, METADATA, PICTURE, PROFILE, REST, STRUCTURE, Joined, Part, Range
@@ -25,7 +25,7 @@ _EXIF_HEAD = 10  # bytes before a block of Exif, as most programs write them
 
 def add_heif(stream: Stream, coded: "hashlib.blake2b") -> List[Part]:
     """Adds the coded pictures of a HEIF to a digest. Returns claims to the parts of the file. Raises `Broken` and `TooMuch`."""
-    every = _whole_boxes(stream)
+    every, _ = boxes_to_fault(stream)  # after which is a trailer, or the reader of the blocks says that the file is cut
     meta = [it for it in every if it.kind == b"meta"]
     file = _Heif(stream, heif.Reader(stream, Blocks(budget=Budget())))  # all this was counted when it was read
     try:
@@ -42,17 +42,6 @@ def add_heif(stream: Stream, coded: "hashlib.blake2b") -> List[Part]:
     for box in every:
         claims += file.of_meta(box) if box is meta[0] else _of_box(stream, box)
     return claims
-
-
-def _whole_boxes(stream: Stream) -> List[Box]:
-    """The boxes up to the first fault."""
-    every: List[Box] = []
-    try:
-        for box in boxes(stream, 0, size_of(stream), is_file=True):
-            every.append(box)
-    except Broken:  # what follows is a trailer, or the reader of the blocks says that the file is cut
-        pass
-    return every
 
 
 _PLAIN = frozenset((b"ftyp", b"JXL ", b"hdlr", b"pitm", b"iinf", b"iloc", b"iref", b"ipma", b"dinf"))  # of the structure alone
@@ -187,7 +176,7 @@ def add_jxl(stream: Stream, coded: "hashlib.blake2b") -> List[Part]:
     if read_at(stream, 0, len(jxl.BARE)) == jxl.BARE:
         codestream, claims = [(0, size_of(stream))], []  # type: List[Range], List[Part]
     else:
-        every = _whole_boxes(stream)
+        every, _ = boxes_to_fault(stream)
         codestream = [(it.start + 4 * (it.kind == b"jxlp"), it.end) for it in every if it.kind in (b"jxlc", b"jxlp")]
         claims = [it for box in every for it in _of_jxl(stream, box)]
     if not codestream:

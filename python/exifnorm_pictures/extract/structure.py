@@ -267,8 +267,7 @@ def gaps(block: bytes, covered: List[Tuple[int, int]]) -> List[Gap]:
 
 def may_have_notes(block: bytes) -> bool:
     """Whether a block has the tag of a MakerNote or of another private pointer anywhere: a quick test, which is true of some blocks without one."""
-    note, global_parameters, kodak, leaf, kodak_too, adobe = _LITTLE if block[:1] == b"I" else _BIG  # a loop takes twice as long
-    return note in block or global_parameters in block or kodak in block or leaf in block or kodak_too in block or adobe in block
+    return any([tag in block for tag in (_LITTLE if block[:1] == b"I" else _BIG)])
 
 
 _LITTLE, _BIG = (tuple(struct.pack(order + "H", tag) for tag in PRIVATE) for order in "<>")

@@ -9,6 +9,7 @@ from typing import Dict, Iterable, List, NamedTuple, Optional, Sequence, Tuple
 from .budgets import BLOCKS, NOT_READ, Budget
 
 SIX = b"Exif\0\0"  # the bytes that many formats and programs put in front of a block of Exif
+XMP_HEAD = b"http://ns.adobe.com/xap/1.0/\0"  # the same of a packet of XMP
 COMPRESSED = b"brob"  # how a block begins that is compressed by Brotli, as a box of JPEG XL: no block of a kind begins like this
 FEW = 8  # blocks or parts of a usual picture at most; more are counted, which takes time
 EXIF, IPTC, XMP = KINDS = ("exif", "iptc", "xmp")  # the kinds of blocks, as catalogues and JSON call them; the engine says iim

@@ -6,7 +6,7 @@ last box of a file may have the length 0. No reader follows boxes in boxes of un
 
 from __future__ import annotations
 
-from typing import Callable, Iterator, List, NamedTuple, Optional, Set
+from typing import Callable, Iterator, List, NamedTuple, Optional, Set, Tuple
 
 from ...model.budgets import BOXES, BOX_BYTES, budget_of
 from ...model.found import CUT, REST, SIX, XMP, Blocks, Broken, NotRead, damage
@@ -65,18 +65,27 @@ def boxes(stream: Stream, start: int, end: int, is_file: bool = False) -> Iterat
         at += length
 
 
-def boxes_of_file(blocks: Blocks, stream: Stream, is_whole: Callable[[Set[bytes]], bool]) -> List[Box]:
-    """The boxes of a file. `is_whole` says of the kinds of some boxes whether they are a whole picture, after which anything may follow.
-    Raises `Broken` and `TooMuch`."""
+def boxes_to_fault(stream: Stream) -> Tuple[List[Box], Optional[Broken]]:
+    """The boxes of a file up to the first fault, and that. Raises `TooMuch`."""
     every: List[Box] = []
     try:
         for box in boxes(stream, 0, size_of(stream), is_file=True):
             every.append(box)
-    except Broken as why:
-        if not is_whole({it.kind for it in every}):
-            raise
-        _leave_rest(blocks, stream, every[-1].end, str(why))
-    if not is_whole({it.kind for it in every}):
+    except Broken as fault:
+        return every, fault
+    return every, None
+
+
+def boxes_of_file(blocks: Blocks, stream: Stream, is_whole: Callable[[Set[bytes]], bool]) -> List[Box]:
+    """The boxes of a file. `is_whole` says of the kinds of some boxes whether they are a whole picture, after which anything may follow.
+    Raises `Broken` and `TooMuch`."""
+    every, fault = boxes_to_fault(stream)
+    is_picture = is_whole({it.kind for it in every})
+    if fault and not is_picture:
+        raise fault
+    if fault:
+        _leave_rest(blocks, stream, every[-1].end, str(fault))
+    elif not is_picture:
         raise Broken("the file has no picture" if any(it.kind in _PIXELS for it in every) else f"{CUT}before its picture")
     return every
 

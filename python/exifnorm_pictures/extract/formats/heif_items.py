@@ -61,8 +61,6 @@ class Items:
         self.references: List[Tuple[bytes, int, List[int]]] = []  # each with its kind, its item and the items that it names
         self._described: Dict[int, List[int]] = {}  # the pictures that an item describes
         self._tiles: Set[int] = set()
-        self._auxiliary: List[int] = []
-        self._thumbnails: List[int] = []
 
     def read(self, box: Box) -> None:
         """Reads a box of `READERS`. Raises `Broken` and `TooMuch`."""
@@ -149,10 +147,6 @@ class Items:
                 self._described.setdefault(item, []).extend(others)
             elif box.kind == b"dimg":
                 self._tiles.update(others)
-            elif box.kind == b"auxl":
-                self._auxiliary.append(item)
-            elif box.kind == b"thmb":
-                self._thumbnails.append(item)
 
     def check(self) -> None:
         """Raises `Broken` if the main picture is no item."""
@@ -167,8 +161,9 @@ class Items:
     def pictures(self) -> Dict[int, str]:
         """The names of the pictures that are neither the main one nor parts of others, by their numbers."""
         names = {}
-        for word, numbers in (("auxiliary picture", self._auxiliary), ("thumbnail", self._thumbnails)):
-            names.update({number: f"{word} {count}" for count, number in enumerate(dict.fromkeys(numbers), 1)})
+        for word, kind in (("auxiliary picture", b"auxl"), ("thumbnail", b"thmb")):
+            numbers = dict.fromkeys(item for it, item, _ in self.references if it == kind)
+            names.update({number: f"{word} {count}" for count, number in enumerate(numbers, 1)})
         count = 0
         for item in self.items:
             if item.kind in PICTURES and item.number not in names and (item.number == self.primary or item.number not in self._tiles):

@@ -12,7 +12,7 @@ import re
 from typing import Iterator, List, Set, Tuple
 
 from ...model.budgets import RESOURCES, Budget, budget_of
-from ...model.found import CUT, EXIF, REST, SIX, XMP, Blocks, Broken, NotRead
+from ...model.found import CUT, EXIF, REST, SIX, XMP, XMP_HEAD, Blocks, Broken, NotRead
 from ...model.texts import in_words
 from . import mpf, photoshop
 from .extended_xmp import HEAD as EXTENDED, Pieces
@@ -25,7 +25,6 @@ from .trailers import add_blocks, known_trailer
 
 START = b"\xff\xd8\xff"
 NO_END_MARK = f"{CUT}before the end mark of its picture"  # which a decoder may still read wholly
-_XMP = b"http://ns.adobe.com/xap/1.0/\0"
 # Some writers put up to four bytes before the word, or write it in another way; ExifTool reads these as well.
 _EXIF_LIKE = re.compile(rb".{0,4}?Exif\0.", re.I | re.S)
 # ExifTool also reads a packet under a mark that only begins like that of XMP.
@@ -106,7 +105,7 @@ class _Head:
         elif kind == PHOTOSHOP_PIECE:
             self._runs.append((f"APP13 segment at {at - len(photoshop.HEAD)}", data))
         elif kind == XMP_PACKET:
-            self.blocks.add(XMP, data, f"APP1 segment at {at - len(_XMP)}", self.part)
+            self.blocks.add(XMP, data, f"APP1 segment at {at - len(XMP_HEAD)}", self.part)
         elif not self._pieces.add(data, f"APP1 segment at {at - len(EXTENDED)}"):
             self._leave("piece of extended XMP that does not fit the others", EXTENDED + data)
 

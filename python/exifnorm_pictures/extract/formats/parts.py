@@ -11,7 +11,7 @@ import hashlib
 from bisect import bisect_right
 from heapq import heappop, heappush
 from itertools import accumulate
-from typing import Dict, Iterable, Iterator, List, NamedTuple, Sequence, Tuple
+from typing import Callable, Dict, Iterable, Iterator, List, NamedTuple, Sequence, Tuple
 
 from ...model.budgets import BYTES_READ, budget_of
 from .streams import Stream, is_blank, pieces, size_of
@@ -76,6 +76,19 @@ def _disjoint(claims: Iterable[Part], size: int) -> List[Part]:
             taken.append(claim._replace(start=at, end=end))
         last = number
     return taken
+
+
+Chunk = Tuple[int, bytes, int]  # its offset, its kind and its length; its content begins after eight bytes
+
+
+def of_chunks(found: Iterable[Chunk], kind_of: Callable[[Chunk], Tuple[str, str]], behind: Callable[[int], int]) -> Iterator[Part]:
+    """Claims to some chunks, of which one function tells the class and the name, and another the bytes behind a content."""
+    for chunk in found:
+        at, _, length = chunk
+        start, end = at + 8, at + 8 + length
+        kind, name = kind_of(chunk)
+        yield from (Part(STRUCTURE, at, start), Part(kind, start, end, name))
+        yield Part(STRUCTURE, end, end + behind(length))
 
 
 class Joined:

@@ -7,17 +7,17 @@ Not compared, because they contain no Exif, IPTC or XMP: text chunks with other 
 from __future__ import annotations
 
 import zlib
+from functools import partial
 from typing import Iterable, Iterator, Tuple
 
 from ...model.budgets import CHUNKS, CHUNK_BYTES, Budget, budget_of
-from ...model.found import EXIF, IPTC, SIX, XMP, Blocks, Broken
+from ...model.found import EXIF, IPTC, SIX, XMP, XMP_HEAD, Blocks, Broken
 from . import photoshop
-from .parts import CREDENTIALS, METADATA, PICTURE, PROFILE, REST, STRUCTURE, Part, word
+from .parts import CREDENTIALS, METADATA, PICTURE, PROFILE, REST, STRUCTURE, Chunk, Part, of_chunks, word
 from .streams import Stream, leave_rest, read_at, size_of
 
 START = b"\x89PNG\r\n\x1a\n"
 _XMP_KEYWORD = b"xml:com.adobe.xmp"
-_XMP_HEAD = b"http://ns.adobe.com/xap/1.0/\0"
 _PROFILE = b"raw profile type "
 TEXTS = (b"tEXt", b"zTXt", b"iTXt")
 PIXELS = frozenset((b"IHDR", b"PLTE", b"tRNS", b"IDAT", b"acTL", b"fcTL", b"fdAT"))  # chunks of the coded picture
@@ -37,7 +37,7 @@ def read(stream: Stream, whole: bool = False) -> Blocks:
     return reader.blocks
 
 
-def chunks(stream: Stream, budget: Budget) -> Iterator[Tuple[int, bytes, int]]:
+def chunks(stream: Stream, budget: Budget) -> Iterator[Chunk]:
     """The offset, the kind and the length of each chunk, up to IEND. Raises `Broken` and `TooMuch`."""
     at, size, kind = len(START), size_of(stream), b""
     while kind != b"IEND":
@@ -50,20 +50,21 @@ def chunks(stream: Stream, budget: Budget) -> Iterator[Tuple[int, bytes, int]]:
         at += 12 + length
 
 
-def parts(stream: Stream, found: Iterable[Tuple[int, bytes, int]]) -> Iterator[Part]:
+def parts(stream: Stream, found: Iterable[Chunk]) -> Iterator[Part]:
     """Claims to the parts of a PNG with these chunks, in their order. Raises `TooMuch`."""
     yield Part(STRUCTURE, 0, len(START))
-    for at, kind, length in found:
-        start, end = at + 8, at + 8 + length
-        yield Part(STRUCTURE, at, start)
-        if kind in PIXELS:
-            yield Part(PICTURE, start, end)
-        elif kind == b"eXIf" or (kind in TEXTS and _is_metadata(stream, at, kind, length)):
-            yield Part(METADATA, start, end)
-        else:
-            keyword = word(read_at(stream, start, min(length, 12))) if kind in TEXTS else ""
-            yield Part(REST, start, end, _NAMES.get(kind) or f"{word(kind)} chunk {keyword}".strip())
-        yield Part(STRUCTURE, end, end + 4)
+    yield from of_chunks(found, partial(_class_of, stream), lambda _: 4)  # the check sum
+
+
+def _class_of(stream: Stream, chunk: Chunk) -> Tuple[str, str]:
+    """The class of a chunk's content, and the name of a rest."""
+    at, kind, length = chunk
+    if kind in PIXELS:
+        return PICTURE, ""
+    if kind == b"eXIf" or (kind in TEXTS and _is_metadata(stream, *chunk)):
+        return METADATA, ""
+    keyword = word(read_at(stream, at + 8, min(length, 12))) if kind in TEXTS else ""
+    return REST, _NAMES.get(kind) or f"{word(kind)} chunk {keyword}".strip()
 
 
 def _is_metadata(stream: Stream, at: int, kind: bytes, length: int) -> bool:
@@ -142,8 +143,8 @@ class _Reader:
 
     def _profile(self, kind: bytes, data: bytes, where: str) -> None:
         if kind in (b"exif", b"app1"):
-            if data.startswith(_XMP_HEAD):
-                self.blocks.add(XMP, data[len(_XMP_HEAD) :], where)
+            if data.startswith(XMP_HEAD):
+                self.blocks.add(XMP, data.removeprefix(XMP_HEAD), where)
             else:
                 self.blocks.add(EXIF, data.removeprefix(SIX), where)
         elif kind in (b"iptc", b"8bim"):

@@ -8,7 +8,7 @@ from typing import Iterable, Iterator, Tuple
 
 from ...model.budgets import CHUNKS, CHUNK_BYTES, Budget, budget_of
 from ...model.found import EXIF, SIX, XMP, Blocks, Broken
-from .parts import CREDENTIALS, METADATA, PICTURE, PROFILE, REST, STRUCTURE, Part, word
+from .parts import CREDENTIALS, METADATA, PICTURE, PROFILE, REST, STRUCTURE, Chunk, Part, of_chunks, word
 from .streams import Stream, leave_rest, read_at, size_of
 
 _FIRST = 12  # the offset of the first chunk
@@ -48,7 +48,7 @@ def end_of(stream: Stream) -> int:
     return end
 
 
-def chunks(stream: Stream, end: int, budget: Budget) -> Iterator[Tuple[int, bytes, int]]:
+def chunks(stream: Stream, end: int, budget: Budget) -> Iterator[Chunk]:
     """The offset, the kind and the length of each chunk. Raises `Broken` and `TooMuch`."""
     at = _FIRST
     while True:
@@ -71,18 +71,16 @@ def _add(blocks: Blocks, kind: bytes, data: bytes, at: int) -> None:
         blocks.leave(_NAMES.get(kind, "chunk of an unknown kind"), data)
 
 
-def parts(found: Iterable[Tuple[int, bytes, int]]) -> Iterator[Part]:
+def parts(found: Iterable[Chunk]) -> Iterator[Part]:
     """Claims to the parts of a WebP with these chunks, in their order."""
     yield Part(STRUCTURE, 0, _FIRST)
-    for at, kind, length in found:
-        start, end = at + 8, at + 8 + length
-        yield Part(STRUCTURE, at, start)
-        if kind in PIXELS:
-            yield Part(PICTURE, start, end)
-        elif kind in (*_XMP, b"EXIF"):
-            yield Part(METADATA, start, end)
-        elif kind == b"VP8X":
-            yield Part(STRUCTURE, start, end)
-        else:
-            yield Part(REST, start, end, _NAMES.get(kind) or f"{word(kind)} chunk")
-        yield Part(STRUCTURE, end, end + length % 2)
+    yield from of_chunks(found, _class_of, lambda length: length % 2)  # the padding
+
+
+_CLASSES = {**dict.fromkeys(PIXELS, PICTURE), **dict.fromkeys((*_XMP, b"EXIF"), METADATA), b"VP8X": STRUCTURE}
+
+
+def _class_of(chunk: Chunk) -> Tuple[str, str]:
+    """The class of a chunk's content, and the name of a rest."""
+    kind = chunk[1]
+    return _CLASSES.get(kind, REST), "" if kind in _CLASSES else _NAMES.get(kind) or f"{word(kind)} chunk"
