@@ -26,7 +26,7 @@ from packets import PACKET as USUAL
 
 # What a packet goes through in Python.
 STEPS = {
-    "the library, and statements in Python": "usual.statements(packet)",
+    "the library, and statements in Python": "reading.by_library(packet)",
     "expat, statements and their digest, in Python": "digest_of_statements(reader.statements(packet))",
     "expat and statements": "reader.statements(packet)",
     "expat, as xml.etree.ElementTree": "ElementTree.fromstring(packet.strip(b'\\0 \\t\\r\\n'))",
@@ -34,7 +34,7 @@ STEPS = {
 READ = """
 import gc, sys
 from xml.etree import ElementTree
-from exifnorm_pictures.xmp import reader, usual
+from exifnorm_pictures.xmp import reader, reading
 from exifnorm_pictures.xmp.tree import digest_of_statements
 packets = [open(path, "rb").read() for path in sys.argv[2:]]
 gc.disable()

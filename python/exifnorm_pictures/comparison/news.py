@@ -134,8 +134,8 @@ class Between:
         catalogue = self._sides[side]
         texts: Dict[str, Set[str]] = {}
         with catalogue.guarded():
-            for row in rows_of(catalogue.blocks_with_fields(self._picture(side, name))):
-                texts.setdefault(row.label, set()).add(row.text)
+            for label, text, *_ in rows_of(catalogue.blocks_with_fields(self._picture(side, name))):
+                texts.setdefault(label, set()).add(text)
         texts.pop("", None)
         return texts
 

@@ -14,6 +14,7 @@ from ..catalogue.store import BLOCK_COLUMNS, PICTURE_COLUMNS, Catalogue, NoCatal
 from ..fields.field import Field
 from ..fields.block_fields import fields_of, with_kept_fields
 from ..files import signals
+from ..judge.sides import Sides
 from ..model.columns import Damaged
 from ..model.found import NotRead
 from ..model.problems import NOT_THERE
@@ -113,7 +114,7 @@ def heads_of(catalogues: Sequence[Catalogue]) -> List[bytes]:
     return [(it[0].rstrip(b"/") + b"/" if by_root and it else b"") for it in roots]
 
 
-class Pairs:
+class Pairs(Sides):
     """Two catalogues, and how their pictures are paired. Close it.
 
     If each catalogue has one folder, pictures are matched by path relative to it; otherwise by full path. All is read of one moment.

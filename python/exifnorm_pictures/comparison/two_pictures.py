@@ -16,7 +16,7 @@ from ..fields.plain_values import POSITION_TAGS, position
 from ..fields.shown import LIMITS, Shown
 from ..files.opening import held
 from ..files.session import Session
-from ..judge.sides import Fresh
+from ..judge.sides import Sides
 from ..model.found import EXIF, IPTC, KINDS, NAMES
 from ..model.problems import Problem
 from ..model.records import PictureRecord, Stamp
@@ -99,7 +99,7 @@ def compare(
 ) -> ComparedPair:
     """Compares two pictures that were read with the digests of their files, by the fields that count. In a session ExifTool is asked for the
     values of MakerNotes. `heads` are the heads of two JPEGs, for the proved comparisons."""
-    by_metadata = compared(Pair(os.path.basename(picture.path), picture, other, None), Fresh(), session, choice)
+    by_metadata = compared(Pair(os.path.basename(picture.path), picture, other, None), Sides(), session, choice)
     is_identical = bool(picture.sha256) and picture.sha256 == other.sha256
     answers = NO_ANSWERS if choice else _proved(by_metadata, heads)
     return ComparedPair((picture, other), by_metadata, is_identical, bool(choice.only), answers)

@@ -20,6 +20,7 @@ from ..files.session import Session
 from ..model.budgets import OUTPUT, WHOLE_FILE, budget_of
 from ..model.found import EXIF, EXIFTOOL, EXIV2, IPTC, UNREAD_TRAILER, XMP, Blocks, NotRead
 from ..model.problems import Problem
+from ..model.texts import ending_of
 from . import programs, raw_files
 from .formats.streams import Stream, digest_of, size_of
 from .programs import Failed, TooSlow
@@ -38,7 +39,6 @@ _TIFF_TYPES = frozenset(["TIFF", *(ending.upper() for ending in (*raw_files.READ
 _OPTIONS = ("-q", "-q", "-m", "-json", "-a", "-G4", "-b", "-api", "Filter=s/^(base64|text):/text:$1:/")
 
 _PLAIN = rb"/[A-Za-z0-9_./+,@%~()=-]*"
-_EXTENSION = rb"\.[A-Za-z0-9]{1,8}\Z"
 
 
 class Process:
@@ -71,8 +71,7 @@ class Process:
         whole = os.path.abspath(path)
         if re.fullmatch(_PLAIN, whole):
             return whole
-        extension = re.search(_EXTENSION, path)
-        link = f"./link{number or ''}{extension[0].decode('ascii') if extension else ''}"
+        link = f"./link{number or ''}{ending_of(path)}"
         there = os.path.join(self.room, link)
         with contextlib.suppress(FileNotFoundError):
             os.unlink(there)

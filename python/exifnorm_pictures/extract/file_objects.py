@@ -5,12 +5,11 @@ from __future__ import annotations
 import contextlib
 import errno
 import os
-import re
 import sys
 from typing import IO, Iterator, List, Optional, Protocol, cast
 
 from ..model.budgets import COPIED_BYTES, Budget
-from ..model.texts import described
+from ..model.texts import described, ending_of
 from .formats.streams import CHUNK, Parts
 
 # Classes of the standard library that decompress: to go back, they begin anew
@@ -71,9 +70,8 @@ class FileObject(Parts):
         self.budget.spend(COPIED_BYTES, self.size)
         import tempfile
 
-        ending = re.search(rb"\.[A-Za-z0-9]{1,8}\Z", name)
-        suffix = ending[0].decode("ascii") if ending else ""
-        copy = self._copies.enter_context(tempfile.NamedTemporaryFile(prefix="exifnorm-picture-", suffix=suffix))
+        new = tempfile.NamedTemporaryFile(prefix="exifnorm-picture-", suffix=ending_of(name))
+        copy = self._copies.enter_context(new)
         at = 0
         while piece := self._part(at, min(CHUNK, self.size - at)):  # no more than its size, however much there is now
             copy.write(piece)

@@ -42,12 +42,8 @@ def judge(kind: str, block: bytes, packs: bool = False, at: FoundBlock = _BY_ITS
     except MemoryError:
         return BlockRecord(kind, *at[2:5], Status.FAILED, None, "OutOfMemory", None, len(block), octets)
     digest = octets if form == block else hashlib.sha256(form).hexdigest()
-    accepted = (kind, *at[2:5], Status.ACCEPTED, digest, None, None, len(block), octets)
-    if not packs:
-        return _with_form(BlockRecord(*accepted), form, packs, budget)
-    if budget is not None:
-        normal_form.count(form, budget)
-    return BlockRecord(*accepted, None, None, None, *packed_contents(normal_form.contents(form)))
+    accepted = BlockRecord(kind, *at[2:5], Status.ACCEPTED, digest, None, None, len(block), octets)
+    return _with_form(accepted, form, packs, budget)
 
 
 def _misplaced(kind: str, block: bytes) -> str:

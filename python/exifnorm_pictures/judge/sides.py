@@ -2,7 +2,7 @@
 
 from __future__ import annotations
 
-from typing import Callable, List, Optional, Protocol, Sequence, TypeVar
+from typing import Callable, List, Optional, Sequence, TypeVar
 
 from ..fields.field import Field
 from ..fields.block_fields import fields_of
@@ -13,33 +13,21 @@ from ..model.records import BlockRecord, PictureRecord
 Made = TypeVar("Made")
 
 
-class Sides(Protocol):
-    """The pictures of two sides, numbered 0 and 1."""
+class Sides:
+    """The pictures of two sides, numbered 0 and 1. These were looked at just now, and so have all that there is of them."""
 
     def blocks(self, side: int, picture: PictureRecord) -> Sequence[BlockRecord]:
         """A picture's blocks."""
+        return picture.blocks
 
     def fields(self, side: int, block: Optional[BlockRecord]) -> List[Field]:
         """The fields of a block; none if they aren't kept, or if there is no block."""
+        return fields_of(block) if block else []
 
     def not_read(self, side: int, picture: PictureRecord) -> Sequence[NotRead]:
         """The parts of a picture that were not read."""
+        return picture.unread
 
     def maker_notes(self, side: int, picture: PictureRecord, unpack: Callable[[bytes], Made]) -> Optional[Made]:
         """The result of `unpack` for ExifTool's readings of its MakerNotes; None if they aren't kept."""
-
-
-class Fresh:
-    """Pictures that were looked at just now, and so have all that there is of them."""
-
-    def blocks(self, _: int, picture: PictureRecord) -> Sequence[BlockRecord]:
-        return picture.blocks
-
-    def fields(self, _: int, block: Optional[BlockRecord]) -> List[Field]:
-        return fields_of(block) if block else []
-
-    def not_read(self, _: int, picture: PictureRecord) -> Sequence[NotRead]:
-        return picture.unread
-
-    def maker_notes(self, _: int, picture: PictureRecord, unpack: Callable[[bytes], Made]) -> Optional[Made]:
         return unpack(picture.notes) if picture.notes else None

@@ -112,6 +112,16 @@ def described(error: BaseException) -> str:
     return f"{type(error).__name__}: {error}{line}"
 
 
+def ending_of(path: bytes) -> str:
+    """The ending of a file's name, by which programs know its format; none if it is long or rare.
+
+    >>> ending_of(b"a/b.JPG"), ending_of(b"a.b/c")
+    ('.JPG', '')
+    """
+    ending = re.search(rb"\.[A-Za-z0-9]{1,8}\Z", path)
+    return ending[0].decode("ascii") if ending else ""
+
+
 def path_members(path: bytes) -> Members:
     """The members of a JSON object for a path: `path`, and `path_hex` if the name is no UTF-8."""
     try:

@@ -10,9 +10,8 @@ from typing import Dict, List, NamedTuple, Optional, Tuple
 
 from ..extract.structure import HEADER, Directory, directories, order_of, two_at
 from ..fields.names import DIRECTORIES, name_of
+from ..model.found import SIX
 from ..model.tiff_types import EXIF, SHORT
-
-PREFIX = b"Exif\0\0"
 
 
 class Part(NamedTuple):
@@ -57,7 +56,7 @@ class Layout:
     """The parts and entries of an Exif block in the order in which they are judged."""
 
     def __init__(self, block: bytes) -> None:
-        self.block = block[6:] if block.startswith(PREFIX) else block
+        self.block = block.removeprefix(SIX)
         self.order = order_of(self.block)
         self.parts: List[Part] = [Part(0, HEADER, "the header", 0)]
         self.entries: Dict[int, EntryAt] = {}

@@ -21,7 +21,7 @@ from ..judge.judge import judge_all
 from ..model.budgets import MENDED_BYTES, Budget, TooMuch
 from ..model.found import EXIF, REST, Blocks, Broken, cut, damage
 from ..model.steps import Step, loses
-from ..model.texts import reason, shown_path
+from ..model.texts import ending_of, reason, shown_path
 from ..model.words import Word
 from . import repaired_file
 from .repaired_file import REPAIRED_TYPES
@@ -93,7 +93,7 @@ def mend(picture: bytes, out: bytes, session: Session, folder: Optional[bytes] =
             _make_folders(out, folder)
 
         def check(copy: bytes) -> None:
-            name = os.path.join(os.fsencode(own), b"copy" + os.fsencode(_suffix(picture)))
+            name = os.path.join(os.fsencode(own), b"copy" + os.fsencode(ending_of(picture)))
             os.symlink(copy, name)
             written = blocks_of_file(name, session=session)
             if written.problem or _refusals(written) or (file == picture and damage(it.what for it in written.not_read) != result.damage):
@@ -153,7 +153,7 @@ class _Repair(NamedTuple):
 
 def _repaired(session: Session, picture: bytes, taken: Blocks, room: str) -> Optional[_Repair]:
     """A copy whose Exif blocks are repaired; none if that isn't enough, or changes anything else that is read of the file."""
-    name = os.path.join(room, "repair" + _suffix(picture))
+    name = os.path.join(room, "repair" + ending_of(picture))
     with opening.reading(picture) as given:
         repair = repaired_file.changes(given, taken.type, taken.blocks)
         if repair is None:
@@ -188,11 +188,6 @@ def _refusals(taken: Blocks) -> Dict[str, str]:
 Attempt = Tuple[Remedy, str, List[str], List[str]]
 
 
-def _suffix(picture: bytes) -> str:
-    extension = re.search(rb"\.[A-Za-z0-9]{1,8}\Z", picture)
-    return extension[0].decode("ascii") if extension else ""
-
-
 def _copy(source: Union[bytes, str], name: str) -> None:
     with opening.reading(source) as given, open(name, "xb") as copy:
         copying.copy(given.fileno(), copy.fileno())
@@ -219,7 +214,7 @@ def _others(name: str, taken: Blocks) -> Dict[str, str]:
 def _best(session: Session, picture: bytes, taken: Blocks, repair: Optional[_Repair], room: str) -> Optional[Attempt]:
     """The remedy that loses the least. A repair that loses nothing is the best one, whatever can be read again by it; what can be read of one
     that loses something is lost if the file of another remedy doesn't have it. All that is no metadata must stay as it is."""
-    suffix = _suffix(picture)
+    suffix = ending_of(picture)
     first = os.path.join(room, "first" + suffix)
     _copy(picture, first)
     before, others = _printed(session, first), _others(first, taken)

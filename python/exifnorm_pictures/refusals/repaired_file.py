@@ -9,10 +9,9 @@ from typing import BinaryIO, Callable, Dict, List, NamedTuple, Optional, Sequenc
 
 from ..files import copying
 from ..judge import repairs
-from ..model.found import EXIF, FoundBlock
+from ..model.found import EXIF, SIX, FoundBlock
 from ..model.steps import Step
 
-_HEAD = b"Exif\0\0"  # which JPEG puts before a block, and some programs in WebP too
 _PIECE = 1 << 20  # bytes that are searched at once
 
 
@@ -64,7 +63,7 @@ def write(picture: BinaryIO, replaced: Sequence[Change], copy: BinaryIO) -> None
 
 def _change(picture: BinaryIO, wrap: Callable[[bytes], bytes], old: bytes, new: bytes) -> Optional[Change]:
     """The place of a block and what replaces it. None unless it is in the file exactly once, in a segment or chunk of its own."""
-    for head in (b"", _HEAD):
+    for head in (b"", SIX):  # which JPEG puts before a block, and some programs in WebP too
         try:
             before, after = wrap(head + old), wrap(head + new)
         except struct.error:  # the new block is too long for a segment

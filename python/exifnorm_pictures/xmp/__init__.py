@@ -12,7 +12,7 @@ Dates and identifiers that programs renew at each saving are statements like all
 digest. A packet that is not well-formed, that has a document type declaration, that is too long or nested too deep is unreadable: no
 entity is expanded and nothing is fetched.
 
-`usual` reads packets by the library, and `reader` those that it calls rare.
+`reading` reads packets by the library, and `reader` those that it calls rare.
 """
 
 from .packets import CAUSES, Unreadable

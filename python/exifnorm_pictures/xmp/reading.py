@@ -5,10 +5,13 @@ from __future__ import annotations
 import hashlib
 from typing import Dict, Mapping, Optional, Set, Tuple
 
+from exifnorm import XmpRefused
+from exifnorm._properties import Makers, made_of_form
+from exifnorm._xmp import form_of
+
 from ..model.budgets import Budget
-from . import usual
 from .packets import Unreadable, spend
-from .tree import Literal, Statements
+from .tree import CONTAINERS, RDF, TYPE, Literal, Node, Statement, Statements, Uri, Value
 
 NOTE = "http://ns.adobe.com/xmp/note/HasExtendedXMP"
 
@@ -63,8 +66,8 @@ def statements(packet: bytes, extensions: Extensions, used: Set[str]) -> Stateme
 
 def _parsed(packet: bytes) -> Statements:
     try:
-        return usual.statements(packet)
-    except usual.NotUsual:
+        return by_library(packet)
+    except XmpRefused:
         from . import reader  # which imports a parser of XML, and few packets are rare
 
         return reader.statements(packet)
@@ -73,3 +76,23 @@ def _parsed(packet: bytes) -> Statements:
 def _named(statements: Statements) -> Tuple[str, ...]:
     """The digests of the extended XMP that some statements refer to."""
     return tuple(dict.fromkeys(it.value.text.upper() for it in statements if it.predicate == NOTE and isinstance(it.value, Literal)))
+
+
+_TYPES = {word: Statement(TYPE, Uri(uri)) for uri, word in CONTAINERS.items()}
+
+
+def by_library(packet: bytes) -> Statements:
+    """The statements of a packet in a usual form of RDF/XML, as XMP writers use them (XMP part 1, 7), in which the members of a Bag are in the packet's order. Raises `XmpRefused`.
+
+    >>> rdf = b"<r:RDF xmlns:r='http://www.w3.org/1999/02/22-rdf-syntax-ns#' xmlns:d='http://d/'>"
+    >>> by_library(rdf + b"<r:Description r:about='' d:a='1'/></r:RDF>")
+    (Statement(predicate='http://d/a', value=Literal(text='1', language='', datatype='')),)
+    """
+    return tuple(made_of_form(form_of(packet, sort=False), _STATEMENTS))
+
+
+def _container(kind: str, members: Tuple[Value, ...]) -> Node:
+    return Node((_TYPES[kind], *[Statement(f"{RDF}_{number}", it) for number, it in enumerate(members, 1)]))
+
+
+_STATEMENTS = Makers(Literal, Uri, _container, Node, lambda namespace, name, value: Statement(namespace + name, value))
