@@ -3,7 +3,7 @@
 from __future__ import annotations
 
 from itertools import chain
-from typing import Dict, Iterator, List, Mapping, NamedTuple, Optional, Sequence, Tuple
+from typing import Dict, Iterator, List, Mapping, Optional, Sequence, Tuple
 
 from ..fields.folding import folded
 from ..fields.dates import plain_date
@@ -19,28 +19,24 @@ from .store import HEAD
 from .texts import PictureTexts, texts_of
 
 
-class KeptText(NamedTuple):
-    """A text of a picture by its label, as questions compare it."""
-
-    label: str  # empty: some texts are too many or too long to be kept
-    text: str
-    head: str  # its beginning in small letters, composed, with single spaces
-    folded: Optional[str]  # all of it so; None: `head` is all, or SQLite's `lower`, which knows ASCII alone, gives it
+# A text of a picture as questions compare it: its label, which is empty if some texts are too many or too long to be kept, the text, its
+# beginning in small letters, composed, with single spaces, and all of it so; None: the beginning is all, or SQLite's `lower` gives it
+KeptText = Tuple[str, str, str, Optional[str]]
 
 
 def kept_text(label: str, text: str) -> KeptText:
     """A text as a catalogue keeps it. NUL, at which many functions of SQLite end a text, is as an export has it.
 
     >>> kept_text("creator", "Otto  Wei\u00df")
-    KeptText(label='creator', text='Otto  Weiß', head='otto weiss', folded=None)
+    ('creator', 'Otto  Weiß', 'otto weiss', None)
     """
     text = text.replace("\0", "\\x00")
     compared = folded(text)
     is_derived = len(compared) < HEAD or (text.isascii() and compared == text.lower())
-    return KeptText(label, text, compared[:HEAD], None if is_derived else compared)
+    return label, text, compared[:HEAD], None if is_derived else compared
 
 
-MORE = KeptText("", "", "", None)  # in place of texts that aren't kept
+MORE: KeptText = ("", "", "", None)  # in place of texts that aren't kept
 _MOST_CHARACTERS = 1 << 20  # of the texts of a picture
 
 

@@ -721,9 +721,7 @@ class Catalogue:
     def known(self, path: bytes) -> Optional[Known]:
         """The record of one picture."""
         query = "SELECT id, size, modified, changed, inode, device, problem, coded_picture, sidecars FROM pictures WHERE path = ?"
-        with self.guarded():
-            row = self.base.execute(query, (path,)).fetchone()
-        return None if row is None else _known(row)
+        return next(self.rows(query, (path,), _known), None)
 
     def picture(self, path: bytes) -> Optional[PictureRecord]:
         """The picture with this path."""

@@ -156,8 +156,7 @@ class Told:
         self._output, self._list = output, listed
         self.counts: "Counter[State]" = Counter()
         self.old = 0  # files that were damaged before, and in which nothing else is damaged now
-        self._names: Dict[State, List[str]] = {}
-        self._old_names: List[str] = []
+        self._names: Dict[Optional[State], List[str]] = {}  # None: of files that were damaged before
 
     def add(self, file: verified.Verified) -> None:
         """Counts a file, and prints it or keeps its name."""
@@ -179,8 +178,9 @@ class Told:
         words = [] if is_old and file.place is None else _words(file)
         if file.state != State.AS_IT_WAS and len(names) <= SHOWN:
             names.append(shown_path(file.path) + (f" ({', '.join(words)})" if words else ""))
-        if is_old and len(self._old_names) <= SHOWN:
-            self._old_names.append(f"{shown_path(file.path)} ({file.damage})")
+        old = self._names.setdefault(None, [])
+        if is_old and len(old) <= SHOWN:
+            old.append(f"{shown_path(file.path)} ({file.damage})")
 
     def lines(self) -> Iterator[str]:
         """The states and the names, for people. Damage that isn't new is no state, and is said so, because the status is 0."""
@@ -190,7 +190,7 @@ class Told:
                 yield from _first(self._names.get(state, []))
         if self.old:
             yield f"{self.old:>11,} of these {'was' if self.old == 1 else 'were'} already damaged before"
-            yield from _first(self._old_names)
+            yield from _first(self._names.get(None, []))
 
 
 def _lines(told: Told, sums: _Sums, what: str) -> Iterator[str]:

@@ -140,13 +140,8 @@ class FieldRow(NamedTuple):
     angle: Optional[Field]  # the same of its position
 
 
-class _About(NamedTuple):
-    """What the row of a field has by its directory and its tag."""
-
-    name: str
-    key: str
-    is_text: bool  # whether the texts of a picture are made of such fields
-    is_angle: bool  # the same of its position
+# What the row of a field has by its directory and its tag: its name, its key, whether the texts of a picture are made of such fields, and its position
+_About = Tuple[str, str, bool, bool]
 
 
 class FieldRows:
@@ -177,19 +172,19 @@ class FieldRows:
         return row
 
     def _row_of(self, field: Field) -> FieldRow:
-        about = self._about.get((field.directory, field.tag)) or self._about_of(field)
-        texts = [about.name, field.directory, about.key, field.type, *plain_and_exact(field)]
+        name, key, is_text, is_angle = self._about.get((field.directory, field.tag)) or self._about_of(field)
+        texts = [name, field.directory, key, field.type, *plain_and_exact(field)]
         all_of_them = "".join(texts)
         if "\0" in all_of_them:
             texts = list(map(without_nul, texts))
         number = number_of(field)
         cells = (*texts[:4], field.count, *texts[4:], "" if number is None else number)
-        return FieldRow(cells, len(all_of_them), field if about.is_text else None, field if about.is_angle else None)
+        return FieldRow(cells, len(all_of_them), field if is_text else None, field if is_angle else None)
 
     def _about_of(self, field: Field) -> _About:
         directory, tag = field.directory, field.tag
         is_text = word_of(field) is not None or names_camera(field) or is_rest(directory, tag)
-        about = _About(group_name(directory, tag), exact_key(directory, tag), is_text, is_of_position(field))
+        about = (group_name(directory, tag), exact_key(directory, tag), is_text, is_of_position(field))
         if len(directory) + len(tag) <= SHORT:
             if len(self._about) >= KEPT_ROWS:
                 self._about.clear()

@@ -9,12 +9,12 @@ from concurrent.futures import Future, ThreadPoolExecutor
 from itertools import chain, islice
 from typing import Deque, Iterable, Iterator, List, Optional, Tuple
 
-from ..catalogue.store import PICTURE_COLUMNS, Catalogue
+from ..catalogue.store import Catalogue
 from ..files import opening
 from ..files.copying import is_hollow
 from ..model.budgets import HOLES
 from ..model.problems import NOT_THERE
-from ..model.records import PictureRecord, picture_of_row
+from ..model.records import PictureRecord
 from .batches import How, Result
 from .index import Look, looked
 from .walk import FoundFile
@@ -30,7 +30,7 @@ def looker(before: Catalogue) -> Look:
     def look(work: Iterable[FoundFile], how: How) -> Iterator[Result]:
         others: List[FoundFile] = []
         for file, digest in _hashed(iter(work), how.processes):
-            known = _known(before, file.path)
+            known = before.picture(file.path) or PictureRecord()
             if digest and known.sha256 == digest and known.problem not in NOT_THERE:
                 yield known.stamped(file.stamp)._replace(path=file.path, root=file.root)
             else:
@@ -41,11 +41,6 @@ def looker(before: Catalogue) -> Look:
         yield from looked(others, how)
 
     return look
-
-
-def _known(catalogue: Catalogue, path: bytes) -> PictureRecord:
-    query = f"SELECT {PICTURE_COLUMNS} FROM pictures WHERE path = ?"
-    return next(catalogue.rows(query, (path,), picture_of_row), PictureRecord())
 
 
 def _hashed(work: Iterator[FoundFile], threads: int) -> Iterator[Tuple[FoundFile, str]]:

@@ -5,7 +5,7 @@ from __future__ import annotations
 import time
 from collections import Counter
 from itertools import islice
-from typing import Iterator, List, NamedTuple, Tuple
+from typing import Iterator, List, Tuple
 
 from ..catalogue.store import Catalogue
 from ..extract.sidecars import marks_elsewhere
@@ -17,18 +17,6 @@ COARSE = 2_000_000_000  # nanoseconds in which a file may be changed again witho
 _AT_ONCE = 1000  # rows
 
 _UPDATE = "UPDATE OR REPLACE pictures SET path = ?, root = ?, changed = ?, inode = ?, device = ?, sidecars = ? WHERE id = ?"
-
-
-class _Row(NamedTuple):
-    """What is changed of a picture."""
-
-    path: bytes
-    root: bytes
-    changed: int
-    inode: int
-    device: int
-    sidecars: str
-    id: int
 
 
 def relocated(catalogue: Catalogue, old: bytes, new: bytes) -> "Counter[str]":
@@ -53,7 +41,8 @@ def relocated(catalogue: Catalogue, old: bytes, new: bytes) -> "Counter[str]":
     return counts
 
 
-def _rows(catalogue: Catalogue, old: bytes, new: bytes, began: int, counts: "Counter[str]") -> Iterator[_Row]:
+def _rows(catalogue: Catalogue, old: bytes, new: bytes, began: int, counts: "Counter[str]") -> Iterator[Tuple[object, ...]]:
+    """The values of `_UPDATE` for each picture."""
     for number, path, root, sidecars, problem, *marks in catalogue.rows("SELECT * FROM temp.moving"):
         has(bytes, path, root)
         has(str, sidecars)
@@ -64,7 +53,7 @@ def _rows(catalogue: Catalogue, old: bytes, new: bytes, began: int, counts: "Cou
             state, sidecars = (AS_BEFORE, now) if now is not None else (CHANGED, sidecars)
         if problem not in GONE:
             counts[state] += 1
-        yield _Row(place, _root(root, old, new), *stamp, sidecars, number)
+        yield place, _root(root, old, new), *stamp, sidecars, number
 
 
 def _root(root: bytes, old: bytes, new: bytes) -> bytes:
