@@ -34,7 +34,9 @@ BOWL, BOWL_AFTER = (SAMPLES / side / "ceramics/2003-12-bowl.jpg" for side in ("b
 VASE, VASE_AFTER = (SAMPLES / side / "ceramics/1998-7-vase.jpg" for side in ("before", "after"))
 REFUSED, PLAN = SAMPLES / "before/arrivals/IMG_20240502.jpg", SAMPLES / "before/prints/1931-4-plan.png"
 SEED, PAIRS, MADE, MANY = 3, 120, 15, 5000
-CHANGED = re.compile("ERR_UPLOAD_FILE_CHANGED|ERR_FILE_NOT_FOUND|ERR_FAILED")  # of a picture that a test has replaced or removed while it was shown
+CHANGED = re.compile(
+    "ERR_UPLOAD_FILE_CHANGED|ERR_FILE_NOT_FOUND|ERR_FAILED"
+)  # of a picture that a test has replaced or removed while it was shown
 MOST_MEMORY = 150 << 20  # bytes of JavaScript's heap, for two folders of MANY pictures
 ONE = bytes.fromhex("4d4d002a00000008 0001 0112 0003 00000001 00060000 00000000")
 
