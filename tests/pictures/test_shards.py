@@ -14,7 +14,7 @@ from made_files import A, app1, app1_xmp, jpeg, xmp
 from test_groups import FILES, with_short_note
 from test_query_steps import SIZES, TIMES, make
 
-from exifnorm_pictures.catalogue import shards, store
+from exifnorm_pictures.catalogue import shards
 from exifnorm_pictures.catalogue.store import NUMBERS, Catalogue
 from exifnorm_pictures.cli import main
 
@@ -246,12 +246,6 @@ def test_a_catalogue_that_is_listed_twice_is_read_once(archive, called_lines):
     once = called_lines("list", "shards")
     shards.put_list(str(archive / "shards"), ["one.catalogue", "two.catalogue", "one.catalogue", "./two.catalogue"])
     assert called_lines("list", "shards") == once and once[0] == 0
-
-
-def test_a_list_that_is_too_long_is_not_cut(archive, called_lines, monkeypatch):
-    monkeypatch.setattr(store, "_LONGEST_LIST", 20)
-    status, _, messages = called_lines("list", "shards")
-    assert status == 4 and messages == "exifnorm-pictures: shards/catalogues: file too large\n"
 
 
 @pytest.mark.parametrize("way", ("../v", "sub/v", "{folder}/v", "link", "the list"))

@@ -39,10 +39,9 @@ def keep(name: str, report: Report = say_nothing) -> None:
         while done < due:
             with catalogue.transaction():
                 numbers = _add(catalogue, "main.texts", catalogue.without_texts(), 0, _rows)  # another run may have added some meanwhile
-                if numbers:
-                    catalogue.set_prepared(numbers[-1])
-            if not numbers:
-                break
+                if not numbers:
+                    break
+                catalogue.set_prepared(numbers[-1])
             done += len(numbers)
             report(done, due)
 

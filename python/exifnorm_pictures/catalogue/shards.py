@@ -12,7 +12,7 @@ import io
 import itertools
 import os
 import tempfile
-from typing import BinaryIO, Container, Dict, Iterator, List, NamedTuple, Optional, Sequence, Tuple
+from typing import BinaryIO, Container, Iterator, List, NamedTuple, Optional, Sequence, Tuple
 
 from ..files import atomic
 from ..model.errors import Failure, WrongUse
@@ -42,8 +42,7 @@ def _notes(names: Iterator[str], what: str, others: str) -> Iterator[str]:
     """What is said of catalogues that an answer is without. They may be a million, of which no more are in memory than are named."""
     for name in itertools.islice(names, _NAMED):
         yield f"the answer is without the catalogue {shown_path(os.fsencode(name))}, {what}"
-    more = sum(1 for _ in names)
-    if more:
+    if more := sum(1 for _ in names):
         yield f"the answer is without {in_words(more, 'more catalogue')}, {others}"
 
 
@@ -60,21 +59,19 @@ def is_of_folder(name: str) -> bool:
 
 def shards_of(folder: str) -> Shards:
     """The catalogues of a folder. Raises `NoCatalogue` if none is there."""
-    there: Dict[Optional[Tuple[int, int]], str] = {}
-
-    def missing() -> Iterator[str]:
-        for name in _listed(folder):
-            path = os.path.join(folder, name)
-            if is_made(path):
-                there.setdefault(identity(path), path)
-            else:
-                yield path
-
-    notes = list(_notes(missing(), "which isn't there", "not there either"))
+    there = {identity(path): path for path in (os.path.join(folder, it) for it in _listed(folder)) if is_made(path)}
     if not there:
         raise NoCatalogue(f"{folder}: none of its {in_words(sum(1 for _ in _listed(folder)), 'catalogue')} is there")
-    unlisted = _notes(_unlisted(folder, there), "which its list doesn't name", "not in its list either")
-    return Shards(folder, list(there.values()), [*notes, *unlisted])
+    missing = _notes(
+        (it for it in (os.path.join(folder, name) for name in _listed(folder)) if identity(it) not in there),
+        "which isn't there",
+        "not there either",
+    )
+    return Shards(
+        folder,
+        list(there.values()),
+        [*missing, *_notes(_unlisted(folder, there), "which its list doesn't name", "not in its list either")],
+    )
 
 
 def is_made(name: str) -> bool:
@@ -88,8 +85,7 @@ def listed(folder: str) -> List[str]:
 
 
 def _listed(folder: str) -> Iterator[str]:
-    lines = io.BytesIO(list_of(folder) or b"")  # of which one at a time is in memory
-    return (os.fsdecode(line.rstrip(b"\n")) for line in lines if line != b"\n")
+    return (os.fsdecode(line.rstrip(b"\n")) for line in io.BytesIO(list_of(folder) or b"") if line != b"\n")
 
 
 @contextlib.contextmanager
@@ -115,8 +111,7 @@ def _lock(folder: str, lock: int) -> None:
 
 def elsewhere(folder: str) -> Iterator[str]:
     """The names in a folder of catalogues that lead out of it, of which each may be a stranger's word: no command writes to what they name."""
-    names = itertools.chain([LIST], _listed(folder))
-    return (it for it in names if os.path.basename(it) != it or os.path.islink(os.path.join(folder, it)))
+    return (it for it in itertools.chain([LIST], _listed(folder)) if os.path.basename(it) != it or os.path.islink(os.path.join(folder, it)))
 
 
 def put_list(folder: str, names: Sequence[str]) -> None:

@@ -7,7 +7,6 @@ stay if the program is killed. Any SQLite tool can read the tables. A file is on
 from __future__ import annotations
 
 import contextlib
-import errno
 import functools
 import os
 import re
@@ -325,12 +324,8 @@ def list_of(folder: str) -> Optional[bytes]:
     if not os.path.isfile(name):  # a folder of pictures may have a folder of that name
         return None
     with files.reading(name) as file:
-        if file.read(len(LIST_HEAD)) != LIST_HEAD:
-            return None
-        size = os.fstat(file.fileno()).st_size
-        if size > _LONGEST_LIST:  # an answer without the rest would seem to be one about all
-            raise OSError(errno.EFBIG, os.strerror(errno.EFBIG), name)
-        return file.read(size)
+        octets = file.read(min(os.fstat(file.fileno()).st_size, _LONGEST_LIST))  # which takes no more memory than there are bytes
+    return octets[len(LIST_HEAD) :] if octets.startswith(LIST_HEAD) else None
 
 
 def of_day(name: str) -> str:

@@ -19,7 +19,7 @@ from ..model.texts import reason, shown_path
 from . import copying, opening, rights, signals
 
 Write = Callable[[BinaryIO], None]
-_LEFT = re.compile(rb"\.exifnorm-[0-9a-f]{12}-[0-9a-f]{8}\.part")  # as `_part` makes it
+_LEFT = re.compile(rb"\.exifnorm-[0-9a-f]{12}-[0-9a-f]{8}\.part")  # as `_free_name` makes it
 _HEAD = 100  # bytes by which the kind of a file is known
 
 
@@ -126,11 +126,9 @@ def sweep(folder: AnyStr, names: "Pattern[AnyStr]", remove: "Callable[[os.DirEnt
 
 def _remove_dead(entry: "os.DirEntry[bytes]") -> None:
     """Removes a file that a killed run of this user has left, which nobody has locked."""
-    if entry.name != _part(entry.name[10:22]):
-        return
     with open(os.open(entry.path, os.O_RDONLY | os.O_NOFOLLOW | os.O_NONBLOCK | os.O_CLOEXEC), "rb") as file:
         now = os.fstat(file.fileno())
-        if stat.S_ISREG(now.st_mode) and now.st_uid == os.geteuid():
+        if zlib.crc32(entry.name[10:22]) == int(entry.name[23:31], 16) and stat.S_ISREG(now.st_mode) and now.st_uid == os.geteuid():
             fcntl.flock(file, fcntl.LOCK_SH | fcntl.LOCK_NB)  # NFS has no other lock of a file that is only read
             os.unlink(entry.path)
 
@@ -174,17 +172,10 @@ def locked(number: int) -> int:
 
 
 def _free_name(out: bytes) -> bytes:
-    """A name beside `out` that isn't taken."""
-    return os.path.join(os.path.dirname(out), _part(os.urandom(6).hex().encode("ascii")))
-
-
-def _part(word: bytes) -> bytes:
-    """A name with a sum of itself, which a file of another program doesn't have by accident, so that whatever is in it can be removed.
-
-    >>> _part(b"0123456789ab")
-    b'.exifnorm-0123456789ab-0623c932.part'
-    """
-    return b".exifnorm-%s-%08x.part" % (word, zlib.crc32(word))
+    """A name beside `out` that isn't taken. It has a sum of itself, which a file of another program doesn't have by accident, so that whatever is
+    in it can be removed."""
+    word = os.urandom(6).hex().encode("ascii")
+    return os.path.join(os.path.dirname(out), b".exifnorm-%s-%08x.part" % (word, zlib.crc32(word)))
 
 
 def _link(file: BinaryIO, name: Optional[bytes], out: bytes) -> None:

@@ -77,9 +77,7 @@ def heed_signals() -> None:
 def heed_no_more() -> None:
     """From now on a signal ends the process at once: nothing is left to be removed, and while Python ends it would print a traceback. So it
     would if what a signal raised had a pool of processes with it, whose functions call modules that are gone by then."""
-    global _stopped
-    signal.setitimer(signal.ITIMER_REAL, 0)
-    _stopped = None
+    (_stopped or Stopped(0)).with_traceback(None)
     for signum in _HEEDED:
         if signal.getsignal(signum) == _stop:
             signal.signal(signum, signal.SIG_DFL)
