@@ -47,7 +47,7 @@ WAYS = {"here": SMALL, "on a share": SMALL + SHARE}
 KILLS = {"here": 4, "on a share": 4}  # of each command in the short form, spread over a run, and here the first of each call
 READS = 3  # of so many kills one is followed by a command that reads
 
-STAYS = re.compile(r"(^|/)\.exifnorm-[0-9a-f]{12}-[0-9a-f]{8}\.part$|^state/")  # where there was nothing left to write
+STAYS = re.compile(r"(^|/)\.exifnorm-[0-9a-f]{12}-[0-9a-f]{8}\.part$|-(wal|shm|journal)$|^state/")  # where there was nothing left to write
 PYTHONS = re.compile("[a-z0-9_]{8}")  # a file by which Python tries whether it can write to TMPDIR
 CALLS = (
     "write pwrite64 fsync fdatasync ftruncate rename renameat renameat2 link linkat unlink unlinkat rmdir mkdir mkdirat symlink fchmod fchown"

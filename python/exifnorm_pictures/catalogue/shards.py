@@ -62,15 +62,14 @@ def shards_of(folder: str) -> Shards:
     there = {identity(path): path for path in (os.path.join(folder, it) for it in _listed(folder)) if is_made(path)}
     if not there:
         raise NoCatalogue(f"{folder}: none of its {in_words(sum(1 for _ in _listed(folder)), 'catalogue')} is there")
-    missing = _notes(
-        (it for it in (os.path.join(folder, name) for name in _listed(folder)) if identity(it) not in there),
-        "which isn't there",
-        "not there either",
-    )
+    missing = (it for it in (os.path.join(folder, name) for name in _listed(folder)) if identity(it) not in there)
     return Shards(
         folder,
         list(there.values()),
-        [*missing, *_notes(_unlisted(folder, there), "which its list doesn't name", "not in its list either")],
+        [
+            *_notes(missing, "which isn't there", "not there either"),
+            *_notes(_unlisted(folder, there), "which its list doesn't name", "not in its list either"),
+        ],
     )
 
 

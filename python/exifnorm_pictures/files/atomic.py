@@ -174,8 +174,7 @@ def locked(number: int) -> int:
 def _free_name(out: bytes) -> bytes:
     """A name beside `out` that isn't taken. It has a sum of itself, which a file of another program doesn't have by accident, so that whatever is
     in it can be removed."""
-    word = os.urandom(6).hex().encode("ascii")
-    return os.path.join(os.path.dirname(out), b".exifnorm-%s-%08x.part" % (word, zlib.crc32(word)))
+    return os.path.join(os.path.dirname(out), b".exifnorm-%s-%08x.part" % (word := os.urandom(6).hex().encode("ascii"), zlib.crc32(word)))
 
 
 def _link(file: BinaryIO, name: Optional[bytes], out: bytes) -> None:
