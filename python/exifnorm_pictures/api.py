@@ -8,7 +8,7 @@ import io
 import os
 import re
 import threading
-from typing import TYPE_CHECKING, Callable, Iterator, NamedTuple, Optional, Tuple, Union
+from typing import TYPE_CHECKING, Callable, Iterator, NamedTuple, Optional, Union
 
 from exifnorm._words import documented
 
@@ -261,8 +261,8 @@ class Difference(NamedTuple):
     """
 
     name: str
-    before: Optional[Tuple[Field, ...]]
-    after: Optional[Tuple[Field, ...]]
+    before: Optional[tuple[Field, ...]]
+    after: Optional[tuple[Field, ...]]
     is_equal_number: bool
     note: str
 
@@ -299,7 +299,7 @@ class Comparison(NamedTuple):
     same: Optional[bool]
     result: str
     note: str
-    differences: Tuple[Difference, ...]
+    differences: tuple[Difference, ...]
     picture: str
     proved: Optional[str]
     proved_with_xmp: Optional[str] = None

@@ -8,7 +8,7 @@ from collections import deque
 from concurrent.futures import Future, ProcessPoolExecutor
 from concurrent.futures.process import BrokenProcessPool
 from itertools import islice
-from typing import Deque, Iterable, Iterator, List, Optional, Sequence, Tuple, Union
+from typing import Deque, Iterable, Iterator, Optional, Sequence, Union
 
 from exifnorm import LibraryMissing
 
@@ -23,7 +23,7 @@ AHEAD = 4  # such chunks of each process that are given out before the first res
 Result = Union[Picture, OSError, NoPicture, NotReadable]
 
 
-def read_all(paths: Iterable[PathLike], *, jobs: Optional[int] = None) -> Iterator[Tuple[PathLike, Result]]:
+def read_all(paths: Iterable[PathLike], *, jobs: Optional[int] = None) -> Iterator[tuple[PathLike, Result]]:
     """Reads many pictures in several processes, in their order: each path with its picture, or with the exception that `read` raises.
 
     `jobs` is the number of processes, by default that of processors; with 1 this process reads. At most 32 paths a process are taken ahead, so
@@ -37,7 +37,7 @@ def read_all(paths: Iterable[PathLike], *, jobs: Optional[int] = None) -> Iterat
     return _here(paths) if count == 1 else _in_processes(iter(paths), count)
 
 
-def _here(paths: Iterable[PathLike]) -> Iterator[Tuple[PathLike, Result]]:
+def _here(paths: Iterable[PathLike]) -> Iterator[tuple[PathLike, Result]]:
     with Session() as session:
         for path in paths:
             yield path, _result(path, session)
@@ -54,7 +54,7 @@ def _result(path: PathLike, session: Session) -> Result:
         return NotReadable(Problem.TOOL_FAILED, "out of memory", os.fsdecode(path))
 
 
-def _results(paths: Sequence[PathLike]) -> List[Result]:
+def _results(paths: Sequence[PathLike]) -> list[Result]:
     with Session() as session:  # one ExifTool for all of them, if they need it
         return [_result(path, session) for path in paths]
 
@@ -64,13 +64,13 @@ class _Task:
 
     def __init__(self, paths: Sequence[PathLike], pool: ProcessPoolExecutor) -> None:
         self.paths = paths
-        self.future: "Optional[Future[List[Result]]]" = None
+        self.future: "Optional[Future[list[Result]]]" = None
         try:
             self.future = pool.submit(_results, paths)
         except BrokenProcessPool:  # whose process died meanwhile
             pass
 
-    def results(self) -> Optional[List[Result]]:
+    def results(self) -> Optional[list[Result]]:
         """The results, in their order; None if a process died before they were there."""
         try:
             return self.future.result() if self.future else None
@@ -78,7 +78,7 @@ class _Task:
             return None
 
 
-def _in_processes(paths: Iterator[PathLike], count: int) -> Iterator[Tuple[PathLike, Result]]:
+def _in_processes(paths: Iterator[PathLike], count: int) -> Iterator[tuple[PathLike, Result]]:
     tasks: Deque[_Task] = deque()
     pool = _pool(count)
     try:

@@ -6,23 +6,7 @@ from __future__ import annotations
 import os
 import re
 import warnings
-from typing import (
-    TYPE_CHECKING,
-    Any,
-    Dict,
-    Iterable,
-    Iterator,
-    List,
-    Mapping,
-    NamedTuple,
-    Optional,
-    Sequence,
-    Tuple,
-    Type,
-    TypeVar,
-    Union,
-    overload,
-)
+from typing import TYPE_CHECKING, Any, Iterable, Iterator, Mapping, NamedTuple, Optional, Sequence, Type, TypeVar, Union, overload
 
 from exifnorm._words import documented
 
@@ -128,7 +112,7 @@ class Block:
         self.status, self.is_accepted, self.digest = str(record.status), record.is_accepted, record.digest
 
     @property
-    def fields(self) -> Tuple[Field, ...]:
+    def fields(self) -> tuple[Field, ...]:
         """Its fields, which are made when they are first asked for; of a refused block those after a repair in memory, if one is known."""
         return tuple([field.in_block(self.name) for field in fields_of(self.record)])
 
@@ -144,12 +128,12 @@ class Block:
         return Refusal(self.name, cause, self.record.place, *words)
 
     @property
-    def repair(self) -> Tuple[str, ...]:
+    def repair(self) -> tuple[str, ...]:
         """The steps of the repair after which its fields were read. The file is as it was."""
         return tuple(it.what for it in self.record.steps)
 
     @property
-    def loses(self) -> Tuple[str, ...]:
+    def loses(self) -> tuple[str, ...]:
         """What the repair loses."""
         return tuple(loses(self.record.steps))
 
@@ -180,7 +164,7 @@ class ShownFields(Shown):
     has_more = False  # whether a field of the last block is left out
     left_out = False  # whether one of any block is
 
-    def of(self, block: Block) -> List[Field]:
+    def of(self, block: Block) -> list[Field]:
         """The fields of a block, or the first ones."""
         if self.is_full:  # then no further fields are made
             first, self.has_more = [], bool(block.is_accepted or block.repair)
@@ -227,9 +211,9 @@ class Picture(Mapping[str, "Value"]):
         self.path, self.name, self.origin = name, os.fsdecode(name), origin or Origin()
         self.type, self.problem, self.detail = read.type, read.problem or "", read.detail
         self._read, self._records, self._texts = read, records, texts
-        self._blocks: Optional[Tuple[Block, ...]] = None
-        self._fields: Optional[List[Tuple[BlockRecord, List[Field]]]] = None
-        self._names: Optional[List[Dict[str, List[Field]]]] = None  # of each block
+        self._blocks: Optional[tuple[Block, ...]] = None
+        self._fields: Optional[list[tuple[BlockRecord, list[Field]]]] = None
+        self._names: Optional[list[dict[str, list[Field]]]] = None  # of each block
         self._record: Optional[PictureRecord] = None
 
     @classmethod
@@ -241,12 +225,12 @@ class Picture(Mapping[str, "Value"]):
             return cls(name, too_much(why), [])
 
     @property
-    def not_read(self) -> Tuple[str, ...]:
+    def not_read(self) -> tuple[str, ...]:
         """The parts of the file that may have metadata and were not read."""
         return tuple([it.what for it in self._read.not_read])
 
     @property
-    def too_many(self) -> Tuple[str, ...]:
+    def too_many(self) -> tuple[str, ...]:
         """The fields that were not read because their block has too many, such as "the fields of IPTC after the first 100,000": a text may be
         among them."""
         return tuple(self.labelled.rests)
@@ -263,12 +247,12 @@ class Picture(Mapping[str, "Value"]):
         return "" if self.problem else self._read.damage
 
     @property
-    def not_known(self) -> Tuple[str, ...]:
+    def not_known(self) -> tuple[str, ...]:
         """The kinds of which no block is left in a damaged file, and one may be missing: "exif", "iptc", "xmp"."""
         return tuple(not_known(self.type, self.not_read, (it.kind for it in self._records)))
 
     @property
-    def blocks(self) -> Tuple[Block, ...]:
+    def blocks(self) -> tuple[Block, ...]:
         """The blocks, in the order of the file."""
         if self._blocks is None:
             data = {it.name: it.data for it in self._read.blocks}
@@ -282,7 +266,7 @@ class Picture(Mapping[str, "Value"]):
             yield from block.fields
 
     @property
-    def refusals(self) -> Tuple[Refusal, ...]:
+    def refusals(self) -> tuple[Refusal, ...]:
         """Why blocks have no meaning, one for each that isn't accepted."""
         return tuple(it.refusal for it in self.blocks if it.refusal)
 
@@ -320,22 +304,22 @@ class Picture(Mapping[str, "Value"]):
         damaged = {"damage": self.damage or None, "not_known": list(self.not_known)}
         return {**about, "blocks": blocks, "not_read": list(self.not_read), **damaged}
 
-    def _of_blocks(self) -> List[Tuple[BlockRecord, List[Field]]]:
+    def _of_blocks(self) -> list[tuple[BlockRecord, list[Field]]]:
         """The blocks with their fields."""
         if self._fields is None:
             self._fields = [(record, fields_of(record)) for record in self._records]
         return self._fields
 
-    def _lists(self) -> Iterable[List[Field]]:
+    def _lists(self) -> Iterable[list[Field]]:
         """The fields of the blocks, once of those that have the same: pages of a TIFF may share a block of many fields."""
         return {id(fields): fields for _, fields in self._of_blocks()}.values()
 
     @property
-    def names(self) -> Tuple[str, ...]:
+    def names(self) -> tuple[str, ...]:
         """The names of all fields, each once, in the order of the file."""
         return tuple(dict.fromkeys([field.name for fields in self._lists() for field in fields]))
 
-    def _own(self, name: str) -> Iterator[Tuple[BlockRecord, List[Field]]]:
+    def _own(self, name: str) -> Iterator[tuple[BlockRecord, list[Field]]]:
         """The fields with a name of this program, of each block that has some."""
         if self._names is None:
             known = {id(fields): _by_name(fields) for fields in self._lists()}
@@ -345,7 +329,7 @@ class Picture(Mapping[str, "Value"]):
             if folded in names:
                 yield record, names[folded]
 
-    def _named(self, name: str) -> Iterator[Tuple[BlockRecord, List[Field]]]:
+    def _named(self, name: str) -> Iterator[tuple[BlockRecord, list[Field]]]:
         """The same, or else the fields that other programs name so."""
         own = list(self._own(name))
         yield from own
@@ -357,7 +341,7 @@ class Picture(Mapping[str, "Value"]):
                 if named:
                     yield record, named
 
-    def find(self, name: str) -> Tuple[Field, ...]:
+    def find(self, name: str) -> tuple[Field, ...]:
         """All fields with a name, of all blocks: with its group or without, or the field's key, such as "dc:title", in capital or small letters.
         If none has it, those that ExifTool, exiv2 or the standard name so ("EXIF:Model", "Exif.Photo.FNumber", "DateTimeDigitized"), and the
         members of structures as ExifTool has them ("XMP-iptcExt:LocationCreatedCity")."""
@@ -384,7 +368,7 @@ class Picture(Mapping[str, "Value"]):
 
     def _value(self, name: str, default: Any) -> Any:
         """The value of the first field with a name. A warning is for the caller of what calls this."""
-        named: Dict[str, List[Field]] = {}
+        named: dict[str, list[Field]] = {}
         for _, fields in self._named(name):
             known = frozenset(named)
             for field in fields:
@@ -427,13 +411,13 @@ class Picture(Mapping[str, "Value"]):
         return object.__hash__(self) if self._meanings is None else hash(self._meanings)
 
     @property
-    def _meanings(self) -> Optional[Tuple[Optional[str], ...]]:
+    def _meanings(self) -> Optional[tuple[Optional[str], ...]]:
         """What equal pictures share; None of one that is equal to no other."""
         meanings = tuple(self.record.meanings)
         return meanings if self.is_whole and None not in meanings else None
 
     @property
-    def captions(self) -> Tuple[Caption, ...]:
+    def captions(self) -> tuple[Caption, ...]:
         """The texts by label, such as "title" and "keywords", with the field of each."""
         from .fields.labels import LABEL_WORDS
 
@@ -448,7 +432,7 @@ class Picture(Mapping[str, "Value"]):
             self._texts = texts_of(self._of_blocks())
         return self._texts
 
-    def texts(self, label: str) -> Tuple[str, ...]:
+    def texts(self, label: str) -> tuple[str, ...]:
         """The texts of a label. Of several fields those that are whole, on which two standards agree, and that no camera wrote; of such the first in
         the order Exif, XMP, IPTC, by the guidelines of the Metadata Working Group. IPTC comes before XMP if it was changed after Photoshop noted
         its digest (resource 0425). `conflicts` has the others. Raises `ValueError` for a word that is no label."""
@@ -468,7 +452,7 @@ class Picture(Mapping[str, "Value"]):
         return best.texts if best else ()
 
     @property
-    def conflicts(self) -> Tuple[Conflict, ...]:
+    def conflicts(self) -> tuple[Conflict, ...]:
         """The labels for which Exif, IPTC and XMP have different texts, and the position if it differs: how, and all texts with their fields."""
         from .comparison.conflicts import conflicts
 
@@ -518,9 +502,9 @@ def _value_of(fields: Sequence[Field]) -> Value:
     return fields[0].value if len(fields) == 1 else tuple([it.value for it in fields])
 
 
-def _by_name(fields: Sequence[Field]) -> Dict[str, List[Field]]:
+def _by_name(fields: Sequence[Field]) -> dict[str, list[Field]]:
     """Fields by all spellings of their names."""
-    names: Dict[str, List[Field]] = {}
+    names: dict[str, list[Field]] = {}
     for field in fields:
         for spelling in spellings(field.directory, field.tag):
             names.setdefault(spelling, []).append(field)

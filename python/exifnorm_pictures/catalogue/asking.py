@@ -11,7 +11,7 @@ import functools
 from dataclasses import replace
 from itertools import groupby, repeat
 from operator import and_, itemgetter, or_
-from typing import Callable, Dict, Iterable, Iterator, List, NamedTuple, Optional, Sequence, Tuple, Union
+from typing import Callable, Iterable, Iterator, NamedTuple, Optional, Sequence, Union
 
 from ..fields.folding import bare, compose, folded
 from ..fields.forms import clock_of, number_of, words_of
@@ -84,7 +84,7 @@ _UNREAD = {
 }
 
 
-def _reasons(labels: Sequence[str]) -> List[Unread]:
+def _reasons(labels: Sequence[str]) -> list[Unread]:
     """What can make it unknown whether a picture has a text of some labels."""
     kinds = {kind for label in labels if label != DAMAGE for name in fields_by_label().get(label, (label,)) for kind in kinds_of(name)}
     reasons = [Unread.PICTURE] * (DAMAGE in labels) + [Unread.PARTS] * bool(kinds)
@@ -102,7 +102,7 @@ class Part(NamedTuple):
     """A condition of SQL, and its values."""
 
     sql: str
-    values: Tuple[object, ...] = ()
+    values: tuple[object, ...] = ()
 
 
 class _Sets(NamedTuple):
@@ -117,7 +117,7 @@ class _Finder:
 
     def __init__(self, catalogue: Catalogue) -> None:
         self._catalogue = catalogue
-        self._unread: Dict[Unread, Numbers] = {}
+        self._unread: dict[Unread, Numbers] = {}
 
     def of(self, question: Question) -> _Sets:
         """The pictures that fit."""
@@ -200,7 +200,7 @@ _DIFFERENT = """WITH RECURSIVE heads (head) AS (
 _TESTS = {"has": "instr({}, ?2)", "like": "{} GLOB ?2"}
 
 
-def _test_of(question: Condition) -> Tuple[str, str]:
+def _test_of(question: Condition) -> tuple[str, str]:
     """A test of a text in SQL, and its value."""
     value = folded(question.value)
     return _TESTS[question.comparison], pattern_of(value) if question.comparison == "like" else value
@@ -215,7 +215,7 @@ def pattern_of(text: str) -> str:
     return text.replace("[", "[[]").replace("#", "[0-9]")
 
 
-def forms_of_word(word: str) -> List[str]:
+def forms_of_word(word: str) -> list[str]:
     """The labels that have the texts of a word in all their forms."""
     return [before + word for before in ("", SHOWN, OTHER, NUMBER, FIELD_DATE)] if is_field(word) else [word]
 
@@ -236,7 +236,7 @@ _WANTED = """CREATE TEMP TABLE IF NOT EXISTS wanted
     (number INTEGER, text TEXT, head TEXT, PRIMARY KEY (number, text)) WITHOUT ROWID"""
 
 
-def parts_of(question: Condition, label: str, known: int = 0) -> List[Part]:
+def parts_of(question: Condition, label: str, known: int = 0) -> list[Part]:
     """The texts of a comparison, as conditions that the index can answer; one of them has to hold. `known` is the number of the texts of `is`."""
     if question.comparison == "is":
         if label.startswith((NUMBER, FIELD_DATE)) and is_field(question.label):
@@ -260,7 +260,7 @@ def parts_of(question: Condition, label: str, known: int = 0) -> List[Part]:
 _YEAR, _CLOCK = "head GLOB '[0-9][0-9][0-9][0-9]*'", "head GLOB '[0-9][0-9]:*'"
 
 
-def _compared_field(question: Condition, label: str) -> List[Part]:
+def _compared_field(question: Condition, label: str) -> list[Part]:
     """The same of a field: numbers with numbers, dates with dates, times with times, and if they are to be equal also texts with texts."""
     value = question.value
     if label.startswith(FIELD_DATE):
@@ -292,27 +292,27 @@ def _of_text(function: Callable[[str], Union[str, bool]], text: object) -> Union
     return function(text) if isinstance(text, str) else None
 
 
-def _equal(value: str) -> List[Part]:
+def _equal(value: str) -> list[Part]:
     if len(value) < HEAD:
         return [Part("long = 0 AND head = ?", (value,))]
     return [Part(f"long = 1 AND head = ? AND {_WHOLE} = ?", (value[:HEAD], value))]
 
 
-def _within(value: str) -> List[Part]:
+def _within(value: str) -> list[Part]:
     return [Part("long = 0 AND head >= ? AND head < ?", (value, value + _LAST))]
 
 
-def _before(value: str) -> List[Part]:
+def _before(value: str) -> list[Part]:
     # a date that is known less exactly, as 1950 for 1950-03, is neither before nor after it
     return [Part("long = 0 AND head < ? AND substr(?, 1, length(head)) != head", (value, value))]
 
 
-def _after(value: str) -> List[Part]:
+def _after(value: str) -> list[Part]:
     return [Part("long = 0 AND head > ?", (value + _LAST,))]
 
 
 # Dates are compared as far as the given one goes: 1950-03-21 is in 1950, and not after it
-_DATES: Dict[str, Callable[[str], List[Part]]] = {
+_DATES: dict[str, Callable[[str], list[Part]]] = {
     "=": _within,
     "<": _before,
     "<=": lambda value: [*_before(value), *_within(value)],
@@ -335,7 +335,7 @@ class Fitting(NamedTuple):
     damage: str  # where its file is cut off or damaged; empty: nowhere, or not known
 
 
-def _fitting(row: Tuple[int, bytes, str]) -> Fitting:
+def _fitting(row: tuple[int, bytes, str]) -> Fitting:
     _, path, damage = row
     if type(path) is not bytes or damage != "":
         has(bytes, path)
@@ -351,12 +351,12 @@ def has_text(text: object) -> None:
         raise Damaged("a text is too long")
 
 
-def _text(row: Tuple[str]) -> str:
+def _text(row: tuple[str]) -> str:
     has_text(row[0])
     return row[0]
 
 
-def _counted(row: Tuple[str, int, str]) -> Tuple[str, int, str]:
+def _counted(row: tuple[str, int, str]) -> tuple[str, int, str]:
     has_text(row[0])
     return row
 
@@ -382,12 +382,12 @@ _FREQUENT = (
 _SINGLE = "SELECT text, pictures, bare FROM temp.counted WHERE pictures = 1 AND bare NOT IN (SELECT bare FROM temp.alike) ORDER BY text"
 
 
-Texts = Sequence[Optional[Tuple[str, ...]]]  # of a picture, for each of some labels; None: it isn't known whether it has one
+Texts = Sequence[Optional[tuple[str, ...]]]  # of a picture, for each of some labels; None: it isn't known whether it has one
 # A row without a text for a picture that has none
 _SHOWN = "SELECT place, number, text FROM temp.shown LEFT JOIN {} t ON t.label = ?1 AND long IN (0, 1) AND t.picture = shown.picture"
 
 
-def _numbered_text(row: Tuple[int, Optional[int], str]) -> Tuple[int, Optional[int], str]:
+def _numbered_text(row: tuple[int, Optional[int], str]) -> tuple[int, Optional[int], str]:
     if row[1] is not None:
         has_text(row[2])
     return row
@@ -419,7 +419,7 @@ class Answer:
         if since is not None:
             self._scope &= catalogue.numbers(_SINCE, (since,))
         self._has_table = False
-        self._lacking: Dict[str, Numbers] = {}
+        self._lacking: dict[str, Numbers] = {}
         sets = self._finder.of(question) if question else _Sets(self._scope, self._scope)
         self._sure, self._may = sets.sure & self._scope, sets.may & self._scope
         for condition in conditions_of(question) if question else ():
@@ -463,7 +463,7 @@ class Answer:
     def _not_known(self) -> Numbers:
         return self._finder.unread(self.labels) & self._may & ~self._sure if self.labels else Numbers()
 
-    def why_not_known(self, label: Optional[str] = None) -> List[Unread]:
+    def why_not_known(self, label: Optional[str] = None) -> list[Unread]:
         """Why it isn't known of some pictures whether they fit; or of those that fit, whether they have a text of a label."""
         if label is None:
             numbers, labels = self._not_known(), self.labels
@@ -482,7 +482,7 @@ class Answer:
             self._lacking[label] = unread_ & ~self._finder.with_label(label) if unread_ else unread_
         return self._lacking[label]
 
-    def having(self, label: str) -> Tuple[int, int, int]:
+    def having(self, label: str) -> tuple[int, int, int]:
         """Of the pictures that fit: how many have a text of a label, how many have none, and of how many that isn't known."""
         having = (self._sure & self._finder.with_label(label)).count(self._total)
         not_known = self.lacking([label])
@@ -520,7 +520,7 @@ class Answer:
             self._catalogue.base.execute(f"CREATE TEMP TABLE {name} (picture INTEGER PRIMARY KEY)")
             self._catalogue.base.executemany(f"INSERT INTO temp.{name} VALUES (?)", ((number,) for number in numbers))
 
-    def pictures(self, labels: Sequence[str] = ()) -> Iterator[Tuple[Fitting, Texts]]:
+    def pictures(self, labels: Sequence[str] = ()) -> Iterator[tuple[Fitting, Texts]]:
         """The pictures that fit, by path, each with its texts for some labels."""
         damaged = self._damaged()
         for rows in self._rows():
@@ -531,7 +531,7 @@ class Answer:
                 else:
                     yield Fitting(number, path, ""), texts
 
-    def _texts_in_order(self, rows: Sequence[Tuple[int, bytes]], labels: Sequence[str]) -> Iterator[Texts]:
+    def _texts_in_order(self, rows: Sequence[tuple[int, bytes]], labels: Sequence[str]) -> Iterator[Texts]:
         """The texts of some pictures, in their order. A query of each label has those of all these pictures, of which one is in memory."""
         if not labels:
             return repeat(())
@@ -541,7 +541,7 @@ class Answer:
             self._catalogue.base.executemany("INSERT INTO temp.shown (picture) VALUES (?)", ((number,) for number, _ in rows))
         return zip(*(self._shown_texts(label, rows) for label in labels))
 
-    def _shown_texts(self, label: str, pictures: Sequence[Tuple[int, bytes]]) -> Iterator[Optional[Tuple[str, ...]]]:
+    def _shown_texts(self, label: str, pictures: Sequence[tuple[int, bytes]]) -> Iterator[Optional[tuple[str, ...]]]:
         """The texts of a label of each picture in the table of those that are shown next."""
         query = " UNION ALL ".join(_SHOWN.format(table) for table in self._catalogue.all_texts)
         rows = self._catalogue.rows(f"{query} ORDER BY place, number", (self._printed(label),), _numbered_text)
@@ -552,15 +552,15 @@ class Answer:
         """The label of the texts that are printed for a label or a field."""
         return SHOWN + label if self._in_words and is_field(label) else label
 
-    def _or_not_known(self, number: int, label: str, texts: Sequence[str]) -> Optional[Tuple[str, ...]]:
+    def _or_not_known(self, number: int, label: str, texts: Sequence[str]) -> Optional[tuple[str, ...]]:
         return None if not texts and number in self._lacking_of(label) else tuple(texts)
 
-    def paths(self) -> Iterator[List[bytes]]:
+    def paths(self) -> Iterator[list[bytes]]:
         """The paths of the pictures that fit, in their order, some at once."""
         for rows in self._rows():
             yield [path for _, path in rows]
 
-    def _rows(self) -> Iterator[List[Tuple[int, bytes]]]:
+    def _rows(self) -> Iterator[list[tuple[int, bytes]]]:
         """The number and the path of each picture that fits, by path, some at once.
 
         An index has the paths of all pictures in their order, so that no row is read. If few pictures fit, their paths are sorted.
@@ -594,7 +594,7 @@ class Answer:
             return "TRUE"
         return f"picture {'NOT ' * self._sure.is_rest}IN (SELECT picture FROM {self._table()})"
 
-    def counted(self, label: str) -> "Iterator[Tuple[str, int, str]]":
+    def counted(self, label: str) -> "Iterator[tuple[str, int, str]]":
         """The texts of a label with the number of pictures that have each, the most frequent first, and beside it those that are spelled
         otherwise; and what is common to these."""
         base = self._catalogue.base

@@ -7,7 +7,7 @@ import os
 import re
 from dataclasses import replace
 from itertools import groupby
-from typing import Callable, Dict, Iterator, List, NamedTuple, Optional, Sequence, Tuple
+from typing import Callable, Iterator, NamedTuple, Optional, Sequence
 
 from ..fields.choosing import stands_for
 from ..fields.folding import compose
@@ -51,7 +51,7 @@ class Unused(NamedTuple):
     near: str = ""  # the one that pictures have and that most looks like it; empty if none does
 
 
-Contradictions = Callable[[Catalogue], Iterator[Tuple[bytes, bytes, str, str]]]  # path, root, label, and its texts
+Contradictions = Callable[[Catalogue], Iterator[tuple[bytes, bytes, str, str]]]  # path, root, label, and its texts
 
 
 class Checked:
@@ -65,7 +65,7 @@ class Checked:
         self.rules = rules
         base = catalogue.base
         add_functions(catalogue)
-        self._allowed: Dict[Rule, int] = {}  # the numbers of the texts that rules allow
+        self._allowed: dict[Rule, int] = {}  # the numbers of the texts that rules allow
         with catalogue.guarded():
             base.execute("CREATE TEMP TABLE broken (path BLOB, number INTEGER, label TEXT, text TEXT)")
         for number, rule in enumerate(rules):
@@ -77,11 +77,11 @@ class Checked:
             self._put(self._disagreeing(contradictions))
         self._put_not_known()
 
-    def _put(self, rows: Iterator[Tuple[bytes, Optional[str], int, str]]) -> None:
+    def _put(self, rows: Iterator[tuple[bytes, Optional[str], int, str]]) -> None:
         with self._catalogue.guarded():
             self._catalogue.base.executemany("INSERT INTO temp.broken (path, text, number, label) VALUES (?, ?, ?, ?)", rows)
 
-    def _disagreeing(self, contradictions: Contradictions) -> Iterator[Tuple[bytes, Optional[str], int, str]]:
+    def _disagreeing(self, contradictions: Contradictions) -> Iterator[tuple[bytes, Optional[str], int, str]]:
         """The pictures that break a rule by texts that differ between Exif, IPTC and XMP."""
         rules = [(number, rule) for number, rule in enumerate(self.rules) if rule.kind == AGREE]
         for path, root, label, texts in contradictions(self._catalogue):
@@ -89,7 +89,7 @@ class Checked:
                 (path, texts, number, label) for number, rule in rules if label in rule.labels and rule.is_about(_below(path, root))
             )
 
-    def _rows(self, rule: Rule, label: str) -> Iterator[Tuple[bytes, Optional[str]]]:
+    def _rows(self, rule: Rule, label: str) -> Iterator[tuple[bytes, Optional[str]]]:
         """The pictures that break a rule by one label, each with the text that does."""
         for query, values in self._queries(rule, label):
             for path, root, text in self._catalogue.rows(query, values):
@@ -99,7 +99,7 @@ class Checked:
                 if rule.is_about(_below(path, root)):
                     yield path, text
 
-    def _queries(self, rule: Rule, label: str) -> Iterator[Tuple[str, Tuple[object, ...]]]:
+    def _queries(self, rule: Rule, label: str) -> Iterator[tuple[str, tuple[object, ...]]]:
         """The pictures that break a rule in SQL, with the text that does, and its values. A date that no calendar has breaks each rule."""
         if rule.kind == NEEDS:
             # a picture that was not wholly read may have the text
@@ -124,7 +124,7 @@ class Checked:
         """The label of the texts that a rule is about: of a field those that `show` prints, or its dates."""
         return label if not is_field(label) else (FIELD_DATE if rule.kind in (AFTER, BEFORE) else SHOWN) + label
 
-    def _test(self, rule: Rule, label: str) -> Tuple[str, Tuple[object, ...]]:
+    def _test(self, rule: Rule, label: str) -> tuple[str, tuple[object, ...]]:
         """What a text has to be in SQL to break a rule, and its values."""
         if rule.kind == NEVER:
             return "1", ()
@@ -140,9 +140,9 @@ class Checked:
         condition = Condition(label, "=" if rule.kind == EQUAL else "is", rule.values[0])
         return self._unlike(condition, self._allowed.get(rule, 0))
 
-    def _unlike(self, condition: Condition, allowed: int) -> Tuple[str, Tuple[object, ...]]:
+    def _unlike(self, condition: Condition, allowed: int) -> tuple[str, tuple[object, ...]]:
         """That a text doesn't compare as a condition has it, in none of the forms of its value."""
-        tests, values = [], []  # type: List[str], List[object]
+        tests, values = [], []  # type: list[str], list[object]
         for label in forms_of_word(condition.label):
             for part in parts_of(condition, label, allowed):
                 tests.append(f"f.label = ? AND {part.sql}")
@@ -214,7 +214,7 @@ class Checked:
         """These pictures, by path."""
         yield from self._catalogue.rows("SELECT path FROM temp.unknown ORDER BY path", (), root_of_row)
 
-    def notes(self) -> List[str]:
+    def notes(self) -> list[str]:
         """The rules whose folders have no picture, the texts of rules that no picture has, and the names
         that several fields have, each in a sentence."""
         notes = []
@@ -231,12 +231,12 @@ class Checked:
             notes.append(f"no picture {has} {more:,} more of the texts that rules allow; which texts are near was not looked for")
         return notes + [stands_for(*it) for it in ambiguous_in(self._places).items()]
 
-    def fit_no_text(self) -> Tuple[List[Unused], int]:
+    def fit_no_text(self) -> tuple[list[Unused], int]:
         """The first texts of rules that no picture has, as if they were mistyped, and how many more there are.
         One of several texts that a rule allows may well be new: it is named only if a text is near."""
         missing = [unused for rule in self.rules for unused in self._unused(rule)]
-        frequent: Dict[str, List[str]] = {}
-        named: List[Unused] = []
+        frequent: dict[str, list[str]] = {}
+        named: list[Unused] = []
         compared = 0
         for at, unused in enumerate(missing):
             if compared > _COMPARED or len(named) == _NAMED:
@@ -257,12 +257,12 @@ class Checked:
             present = {row[0] for row in self._catalogue.rows(query, (label, self._allowed[rule]) * 2)}
             yield from (Unused(rule, label, text) for text in rule.values if not (is_field(label) or compose(text) in present))
 
-    def _frequent(self, label: str) -> List[str]:
+    def _frequent(self, label: str) -> list[str]:
         """The most frequent texts of a label. One that is twice as long as another is none that looks like it."""
         query = "SELECT text FROM texts WHERE label = ? AND length(text) <= ? GROUP BY text ORDER BY count(*) DESC, text LIMIT ?"
         return [row[0] for row in self._catalogue.rows(query, (label, 2 * _SHORT, _FREQUENT)) if isinstance(row[0], str)]
 
-    def about_nothing(self) -> List[Tuple[Rule, List[str]]]:
+    def about_nothing(self) -> list[tuple[Rule, list[str]]]:
         """The rules with folders that have no picture, and these folders: a folder may be mistyped."""
         left = [(rule, folder, replace(rule, inside=(folder,))) for rule in self.rules for folder in rule.inside]
         for path, root in self._catalogue.rows(f"SELECT p.path, p.root FROM pictures p WHERE {IN_SCOPE}") if left else ():
@@ -286,7 +286,7 @@ def _below(path: bytes, root: bytes) -> str:
     return os.fsdecode(path[len(root) :].lstrip(b"/") if path.startswith(root.rstrip(b"/") + b"/") else os.path.basename(path))
 
 
-def _broken(row: Tuple[bytes, int, str, Optional[str], str]) -> Broken:
+def _broken(row: tuple[bytes, int, str, Optional[str], str]) -> Broken:
     has(bytes, row[0])
     has_short(str, row[4])
     return Broken(*row)

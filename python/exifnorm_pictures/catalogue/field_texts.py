@@ -9,7 +9,7 @@ from __future__ import annotations
 from decimal import Decimal
 from functools import partial
 from itertools import chain
-from typing import Any, Dict, Iterator, List, Sequence, Set, Tuple
+from typing import Any, Iterator, Sequence
 
 from ..fields.choosing import Choice, ambiguous
 from ..fields.field import Field
@@ -41,7 +41,7 @@ _GREATEST = 100  # of the logarithm of a time that ExifTool reads; others are 0 
 
 SHOWN, OTHER, NUMBER, DATE = "show ", "other ", "number ", "date "  # before the word of a field: labels of its forms
 EACH = 1_000_000  # numbers of texts for each value of a field
-Places = Dict[str, Set[Tuple[str, str]]]  # the fields that some words stand for, by their directories and tags
+Places = dict[str, set[tuple[str, str]]]  # the fields that some words stand for, by their directories and tags
 
 
 def add_fields(catalogue: Catalogue, words: Sequence[str], report: Report = say_nothing) -> Places:
@@ -69,16 +69,16 @@ def add_fields(catalogue: Catalogue, words: Sequence[str], report: Report = say_
     return seen
 
 
-def ambiguous_in(places: Places) -> Dict[str, List[str]]:
+def ambiguous_in(places: Places) -> dict[str, list[str]]:
     """The names that several fields have, with the names of these."""
     return ambiguous({word: [group_name(*it) for it in of_word] for word, of_word in places.items()})
 
 
-def _rows(choices: Sequence[Tuple[str, Choice]], seen: Places, catalogue: Catalogue, number: int) -> Iterator[Tuple[object, ...]]:
+def _rows(choices: Sequence[tuple[str, Choice]], seen: Places, catalogue: Catalogue, number: int) -> Iterator[tuple[object, ...]]:
     """The texts of a picture as rows. Of fields with the same texts one counts; a field may have a text twice, as 16 bits for each colour."""
     blocks = catalogue.blocks_with_fields(PictureRecord(number))
     for word, choice in choices:
-        values: Dict[Tuple[str, ...], List[Forms]] = {}
+        values: dict[tuple[str, ...], list[Forms]] = {}
         for block, fields in blocks:
             name = "" if block.name == NAMES[block.kind] else block.name
             for field in _chosen(choice, fields, name):
@@ -92,19 +92,19 @@ def _rows(choices: Sequence[Tuple[str, Choice]], seen: Places, catalogue: Catalo
                     yield (number, first * EACH + at, *kept_text(label + word, text))
 
 
-def _by_label(forms: Forms) -> List[Tuple[str, Sequence[str]]]:
+def _by_label(forms: Forms) -> list[tuple[str, Sequence[str]]]:
     """The forms of a value, by the labels that they have before the word."""
     numbers = [repr(it.value) for it in map(number_of, forms.numbers) if it]
     return [("", forms.texts), (SHOWN, forms.shown), (OTHER, forms.others), (DATE, forms.dates), (NUMBER, numbers)]
 
 
-def _chosen(choice: Choice, fields: Sequence[Field], block: str) -> List[Field]:
+def _chosen(choice: Choice, fields: Sequence[Field], block: str) -> list[Field]:
     """The fields of a block that a word stands for, or else the members of structures."""
     chosen = [it for it in choice.of(fields, block) if not is_rest(it.directory, it.tag)]
     return chosen or choice.of([one for it in fields if it.directory == "xmp" and has_members(it) for one in members_of(it)], block)
 
 
-def texts_of_field(field: Field, fields: Sequence[Field] = ()) -> List[str]:
+def texts_of_field(field: Field, fields: Sequence[Field] = ()) -> list[str]:
     """The values of a field as texts: numbers as `exiftool -n` has them, and what is no text or number in plain words. An angle of GPS is one
     number, with the sign that another of the fields of its block gives it; an APEX value is in seconds, or an f-number.
 

@@ -8,14 +8,14 @@ from __future__ import annotations
 
 import os
 from contextlib import suppress
-from typing import Callable, Iterator, List, Sequence, Tuple
+from typing import Callable, Iterator, Sequence
 
 from ..model.records import PictureRecord
 from .label_texts import rows_of
 from .store import Catalogue, NoCatalogue, is_left_open, put_text, roll_back, texts_table
 
 Report = Callable[[int, int], None]  # of how many pictures the texts were added, and how many had none
-Rows = Callable[[Catalogue, int], Iterator[Tuple[object, ...]]]  # the texts of a picture, by its number
+Rows = Callable[[Catalogue, int], Iterator[tuple[object, ...]]]  # the texts of a picture, by its number
 
 AT_ONCE = 1000  # pictures of a transaction
 _OTHERS = "temp.other_texts"
@@ -83,7 +83,7 @@ def show_as_texts(catalogue: Catalogue, tables: Sequence[str]) -> None:
         catalogue.base.execute(f"CREATE TEMP VIEW texts AS {' UNION ALL '.join(f'SELECT * FROM {table}' for table in tables)}")
 
 
-def _add(catalogue: Catalogue, table: str, pictures: str, after: int, rows: Rows) -> List[int]:
+def _add(catalogue: Catalogue, table: str, pictures: str, after: int, rows: Rows) -> list[int]:
     """Adds the texts of some pictures to a table: of the next ones after a number. Returns their numbers."""
     query = f"SELECT id FROM ({pictures}) WHERE id > ? ORDER BY id LIMIT ?"
     numbers = [row[0] for row in catalogue.rows(query, (after, AT_ONCE))]
@@ -92,7 +92,7 @@ def _add(catalogue: Catalogue, table: str, pictures: str, after: int, rows: Rows
     return numbers
 
 
-def _rows(catalogue: Catalogue, number: int) -> Iterator[Tuple[object, ...]]:
+def _rows(catalogue: Catalogue, number: int) -> Iterator[tuple[object, ...]]:
     """The texts of a picture as rows."""
     picture = PictureRecord(number)
     blocks = catalogue.blocks_with_fields(picture)

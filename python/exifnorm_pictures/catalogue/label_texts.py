@@ -3,7 +3,7 @@
 from __future__ import annotations
 
 from itertools import chain
-from typing import Dict, Iterator, List, Mapping, Optional, Sequence, Tuple
+from typing import Iterator, Mapping, Optional, Sequence
 
 from ..fields.folding import folded
 from ..fields.dates import plain_date
@@ -21,7 +21,7 @@ from .texts import PictureTexts, texts_of
 
 # A text of a picture as questions compare it: its label, which is empty if some texts are too many or too long to be kept, the text, its
 # beginning in small letters, composed, with single spaces, and all of it so; None: the beginning is all, or SQLite's `lower` gives it
-KeptText = Tuple[str, str, str, Optional[str]]
+KeptText = tuple[str, str, str, Optional[str]]
 
 
 def kept_text(label: str, text: str) -> KeptText:
@@ -40,14 +40,14 @@ MORE: KeptText = ("", "", "", None)  # in place of texts that aren't kept
 _MOST_CHARACTERS = 1 << 20  # of the texts of a picture
 
 
-def rows_of(blocks: Sequence[Tuple[BlockRecord, List[Field]]], maker_notes: Mapping[str, str] = {}) -> Tuple[KeptText, ...]:
+def rows_of(blocks: Sequence[tuple[BlockRecord, list[Field]]], maker_notes: Mapping[str, str] = {}) -> tuple[KeptText, ...]:
     """The texts of a picture by its blocks, each with its fields, and by what ExifTool reads of its MakerNotes: a text that several fields
     have once.
 
     A camera's own caption is none of the picture's. The position is in degrees, north and east positive. `MORE` stands for texts that are
     too many or too long.
     """
-    known: Dict[Tuple[str, str], KeptText] = {}
+    known: dict[tuple[str, str], KeptText] = {}
     left = _MOST_CHARACTERS
     labelled = texts_of(blocks)
     fields = [field for _, of_block in blocks for field in of_block]
@@ -65,7 +65,7 @@ def rows_of(blocks: Sequence[Tuple[BlockRecord, List[Field]]], maker_notes: Mapp
     return (*known.values(), MORE) if has_more else tuple(known.values())
 
 
-def _texts(labelled: PictureTexts, fields: Sequence[Field]) -> Iterator[Tuple[str, str]]:
+def _texts(labelled: PictureTexts, fields: Sequence[Field]) -> Iterator[tuple[str, str]]:
     for texts in labelled.texts:
         if not texts.is_own:
             yield from ((texts.label, text) for text in texts.texts)
@@ -90,7 +90,7 @@ def _in_form(text: str, label: str, field: Field, fields: Sequence[Field]) -> st
     return text.rstrip("/").rpartition("/")[2] if label in CODED else text
 
 
-def _of_maker_notes(values: Mapping[str, str]) -> Iterator[Tuple[str, str]]:
+def _of_maker_notes(values: Mapping[str, str]) -> Iterator[tuple[str, str]]:
     """Serial numbers and owners, of which ExifTool's names for all makers end alike: `Canon:SerialNumber`, `Canon:OwnerName`."""
     for name, text in values.items():
         for end, label in (("SerialNumber", "serial"), ("OwnerName", "owner")):

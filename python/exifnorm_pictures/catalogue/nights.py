@@ -20,7 +20,7 @@ import re
 import shutil
 import stat
 import time
-from typing import IO, List, Optional, Tuple
+from typing import IO, Optional
 
 from ..files import atomic
 from ..model.errors import Failure
@@ -56,18 +56,18 @@ class Nights:
         self._mark = ""
 
     @property
-    def names(self) -> Tuple[str, ...]:
+    def names(self) -> tuple[str, ...]:
         """The names of all files, also of those that SQLite makes."""
         catalogues = (self.last, self.before, self.tonight, *self._of_days(), *[self.of_today] * bool(self.of_today))
         return (*(name + ending for name in catalogues for ending in ("", *_SQLITES)), self._lock_name, *[self.kept] * bool(self.kept))
 
     @property
-    def compared(self) -> Tuple[str, str]:
+    def compared(self) -> tuple[str, str]:
         """The names under which the catalogues of the last night and of tonight stay the longest."""
         same = (it for it in self._of_days() if it != self.of_today and os.path.samefile(it, self.last))
         return next(same, self.before), self.of_today or self.last
 
-    def _of_days(self) -> List[str]:
+    def _of_days(self) -> list[str]:
         """The catalogues with a date in their names, the last one first."""
         folder, name = os.path.split(self.last)
         dated = re.compile(re.escape(name) + r"\.\d{4}-\d\d-\d\d", re.A)
@@ -193,7 +193,7 @@ def _opened_lock(name: str) -> IO[str]:
     return file
 
 
-def _mark(name: str) -> Optional[List[int]]:
+def _mark(name: str) -> Optional[list[int]]:
     """What shows that a file was written or replaced; None if there is none."""
     now = Stamp.at(os.fsencode(name))
     return now and [now.inode, now.size, now.modified]

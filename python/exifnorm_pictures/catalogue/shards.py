@@ -12,7 +12,7 @@ import io
 import itertools
 import os
 import tempfile
-from typing import BinaryIO, Container, Iterator, List, NamedTuple, Optional, Sequence, Tuple
+from typing import BinaryIO, Container, Iterator, NamedTuple, Optional, Sequence
 
 from ..files import atomic
 from ..model.errors import Failure, WrongUse
@@ -34,8 +34,8 @@ class Shards(NamedTuple):
     """The catalogues of a folder."""
 
     folder: str
-    there: List[str]  # those that are listed, in the order of the list, each once
-    notes: List[str]  # what makes that an answer isn't about the whole archive
+    there: list[str]  # those that are listed, in the order of the list, each once
+    notes: list[str]  # what makes that an answer isn't about the whole archive
 
 
 def _notes(names: Iterator[str], what: str, others: str) -> Iterator[str]:
@@ -78,7 +78,7 @@ def is_made(name: str) -> bool:
     return os.path.exists(name) and os.path.getsize(name) > 0
 
 
-def listed(folder: str) -> List[str]:
+def listed(folder: str) -> list[str]:
     """The names of the catalogues of a folder, relative to it."""
     return list(_listed(folder))
 
@@ -123,7 +123,7 @@ def put_list(folder: str, names: Sequence[str]) -> None:
     atomic.replace(os.fsencode(os.path.join(folder, LIST)), write, lambda head: head.startswith(LIST_HEAD))
 
 
-def _unlisted(folder: str, known: Container[Optional[Tuple[int, int]]]) -> Iterator[str]:
+def _unlisted(folder: str, known: Container[Optional[tuple[int, int]]]) -> Iterator[str]:
     """The catalogues in a folder that its list doesn't name."""
     with os.scandir(folder) as entries:
         for entry in sorted(entries, key=lambda entry: entry.name):
@@ -148,9 +148,9 @@ class About(NamedTuple):
     """What has to be known of a catalogue before it is read with others."""
 
     name: str
-    numbers: Tuple[int, int]  # the least and the greatest of its pictures
-    runs: Tuple[int, int]
-    paths: Tuple[bytes, bytes]  # the first one and the last one
+    numbers: tuple[int, int]  # the least and the greatest of its pictures
+    runs: tuple[int, int]
+    paths: tuple[bytes, bytes]  # the first one and the last one
     sidecars: Optional[bool]  # None if it has no picture
 
 
@@ -172,7 +172,7 @@ def _refuse_unlike(about: Sequence[About]) -> None:
             raise unlike(catalogue, other)
 
 
-def _are_apart(ranges: Sequence[Tuple[int, int]]) -> bool:
+def _are_apart(ranges: Sequence[tuple[int, int]]) -> bool:
     """Whether each range begins after the one before it.
 
     >>> _are_apart([(1, 3), (0, 0), (4, 4)]), _are_apart([(1, 3), (3, 5)])

@@ -17,7 +17,7 @@ import stat
 import time
 from itertools import groupby
 from operator import itemgetter
-from typing import Any, Callable, Iterable, Iterator, List, NamedTuple, Optional, Sequence, Tuple, Type, TypeVar, overload
+from typing import Any, Callable, Iterable, Iterator, NamedTuple, Optional, Sequence, Type, TypeVar, overload
 
 from ..fields.block_fields import fields_of, with_kept_fields
 from ..fields.field import Field
@@ -146,7 +146,7 @@ _ROWS = (
 )
 
 # when it began and ended, the library's version, ExifTool's, exiv2's
-Run = Tuple[str, Optional[str], Optional[str], Optional[str], Optional[str]]
+Run = tuple[str, Optional[str], Optional[str], Optional[str], Optional[str]]
 Made = TypeVar("Made")
 
 
@@ -173,13 +173,13 @@ _OPEN = b"\2\2"  # of one that has a log
 _CLOSED = b"\1\1"  # at offset 18 of a SQLite file that has no log: a catalogue is closed like this, and a log is removed before
 
 
-def _mark(name: str) -> Optional[Tuple[int, int]]:
+def _mark(name: str) -> Optional[tuple[int, int]]:
     """What identifies a file that isn't empty, and its last change."""
     now = Stamp.at(os.fsencode(name))
     return (now.inode, now.changed) if now and now.size else None
 
 
-def identity(name: str) -> Optional[Tuple[int, int]]:
+def identity(name: str) -> Optional[tuple[int, int]]:
     """What identifies the file of a name; None if there is none."""
     now = Stamp.at(os.fsencode(name))
     return now and (now.device, now.inode)
@@ -190,7 +190,7 @@ def _size_of(name: str) -> int:
     return os.path.getsize(name) if os.path.isfile(name) else 0
 
 
-def head_of(name: str) -> Tuple[bytes, int]:
+def head_of(name: str) -> tuple[bytes, int]:
     """The first 100 bytes of a file, and its length. Raises `OSError` with its name."""
     try:
         with files.reading(name) as file:
@@ -371,7 +371,7 @@ def _pause() -> int:
     return 0
 
 
-Part = Tuple[str, str, str]  # of a schema: its kind, its name, and how it was made
+Part = tuple[str, str, str]  # of a schema: its kind, its name, and how it was made
 
 
 @functools.lru_cache(maxsize=None)
@@ -382,7 +382,7 @@ def _own_parts() -> "frozenset[Part]":
         return frozenset(map(_part, base.execute("SELECT type, name, sql FROM sqlite_master")))
 
 
-def _part(row: Tuple[object, ...]) -> Part:
+def _part(row: tuple[object, ...]) -> Part:
     """A part of a schema without comments and spaces."""
     kind, name, sql = map(str, row)
     return kind, name, re.sub(r"\s+", "", re.sub(r"--[^\n]*", "", sql))
@@ -419,7 +419,7 @@ class _Guard:
         error: Optional[BaseException],
         *_: object,
         # bound here, because a query can be open until Python has removed the names of this module
-        damaged: Tuple[Type[Exception], ...] = (sqlite3.DatabaseError, Damaged, UnicodeDecodeError),
+        damaged: tuple[Type[Exception], ...] = (sqlite3.DatabaseError, Damaged, UnicodeDecodeError),
         wrong_call: Type[Exception] = sqlite3.ProgrammingError,  # of SQLite, which says nothing about the catalogue
     ) -> None:
         if error is not None and isinstance(error, damaged) and not isinstance(error, wrong_call):
@@ -430,9 +430,9 @@ class Catalogue:
     """A catalogue that is open. Use it in a `with`."""
 
     _schemas: Sequence[str] = ("main",)  # the names of its files on the connection
-    texts: Tuple[str, ...] = ("main.texts",)  # the tables of texts by label
-    all_texts: Tuple[str, ...] = ()  # the same with those that are made for a question, once they are
-    _roots: Optional[Tuple[List[int], List[bytes]]] = None  # what `roots` returned last, with the state that it was of
+    texts: tuple[str, ...] = ("main.texts",)  # the tables of texts by label
+    all_texts: tuple[str, ...] = ()  # the same with those that are made for a question, once they are
+    _roots: Optional[tuple[list[int], list[bytes]]] = None  # what `roots` returned last, with the state that it was of
 
     def __init__(self, name: str, make: bool = False, there: bool = False, adds: bool = False) -> None:
         """Opens a catalogue to read it, or to write to it: with `make` a missing one is made, with `there` it isn't, and `adds` is as `there` if
@@ -599,13 +599,13 @@ class Catalogue:
         """Whether a picture of another run may be known. In a first run none is looked for."""
         return self.base.execute("SELECT 1 FROM runs WHERE id != ? LIMIT 1", (run,)).fetchone() is not None and not self.is_empty()
 
-    def _unchanged(self, other: str) -> "List[Tuple[int, bytes]]":
+    def _unchanged(self, other: str) -> "list[tuple[int, bytes]]":
         """The pictures of an attached file that are as they were, as after `index --again`: each with the run in which it was new or changed."""
         same = " AND ".join(f"o.{column} IS m.{column}" for column in _SAME)
         query = f"SELECT m.run, m.path FROM {other}.pictures o CROSS JOIN main.pictures m ON m.path = o.path WHERE {same}"
         return self.base.execute(query).fetchall()
 
-    def _earlier(self, picture: PictureRecord) -> "Optional[Tuple[int, bytes]]":
+    def _earlier(self, picture: PictureRecord) -> "Optional[tuple[int, bytes]]":
         """The same of a picture that was looked at."""
         same = " AND ".join(f"{column} IS ?" for column in _SAME)
         values = (picture.path, *(getattr(picture, column) for column in _SAME))
@@ -709,7 +709,7 @@ class Catalogue:
             except TypeError:
                 raise Damaged("a number of a picture is none") from None
 
-    def runs(self) -> List[Run]:
+    def runs(self) -> list[Run]:
         """Each run, the first one first."""
         return list(self.rows("SELECT started, ended, exifnorm, exiftool, exiv2 FROM runs ORDER BY id", (), _run_of_row))
 
@@ -734,7 +734,7 @@ class Catalogue:
         """Whether no picture is known, as in a first run."""
         return not self.number_of("SELECT EXISTS (SELECT 1 FROM pictures)")
 
-    def below(self, folder: bytes, run: int = 0) -> Iterator[Tuple[int, bytes, Optional[str]]]:
+    def below(self, folder: bytes, run: int = 0) -> Iterator[tuple[int, bytes, Optional[str]]]:
         """The number, path and problem of each picture below a folder, by path, without those that a run has looked at."""
         start = folder.rstrip(b"/") + b"/"
         query = "SELECT id, path, problem FROM pictures WHERE path > ? AND path < ? AND run != ? ORDER BY path"
@@ -765,22 +765,22 @@ class Catalogue:
                     raise Damaged("the paths of pictures are in no order")
             after = last = paths[-1]
 
-    def not_read_of(self, picture: PictureRecord) -> List[NotRead]:
+    def not_read_of(self, picture: PictureRecord) -> list[NotRead]:
         """The parts of a picture that were not read."""
         query = "SELECT what, digest FROM not_read WHERE picture = ? ORDER BY number"
         return list(self.rows(query, (picture.id,), _bounded(not_read_of_row)))
 
-    def blocks_of(self, picture: PictureRecord) -> List[BlockRecord]:
+    def blocks_of(self, picture: PictureRecord) -> list[BlockRecord]:
         """The blocks of a picture. Their fields are unpacked when they are asked for."""
         query = f"SELECT {BLOCK_COLUMNS} FROM blocks WHERE picture = ? ORDER BY number"
         return with_kept_fields(list(self.rows(query, (picture.id,), _bounded(block_of_row))))
 
-    def blocks_with_fields(self, picture: PictureRecord) -> List[Tuple[BlockRecord, List[Field]]]:
+    def blocks_with_fields(self, picture: PictureRecord) -> list[tuple[BlockRecord, list[Field]]]:
         """The blocks of a picture, each with its fields."""
         with self.guarded():
             return [(block, fields_of(block)) for block in self.blocks_of(picture)]
 
-    def packed_fields(self, columns: str) -> Iterator[Tuple[int, List[Tuple[Any, ...]]]]:
+    def packed_fields(self, columns: str) -> Iterator[tuple[int, list[tuple[Any, ...]]]]:
         """Each picture's number, and for each of its blocks some columns and its packed fields."""
         rows = self.rows(f"SELECT picture, {columns}, fields FROM blocks ORDER BY picture, number")
         for picture, ours in groupby(rows, key=itemgetter(0)):
@@ -796,14 +796,14 @@ class Catalogue:
             self.base.executemany("INSERT OR IGNORE INTO chosen VALUES (?)", ((it,) for it in paths))
         return "temp.chosen"
 
-    def roots(self) -> List[bytes]:
+    def roots(self) -> list[bytes]:
         """Each folder that was indexed. No index has them, so all pictures are gone through: once, and again after somebody has written."""
         state = self._state()
         if self._roots is None or self._roots[0] != state:
             self._roots = state, list(self.rows("SELECT DISTINCT root FROM pictures ORDER BY root", (), root_of_row))
         return list(self._roots[1])
 
-    def _state(self) -> List[int]:
+    def _state(self) -> list[int]:
         """What is other once anybody has written, also another program."""
         return [*(next(self.rows(f"PRAGMA {schema}.data_version"))[0] for schema in self._schemas), self.base.total_changes]
 
@@ -822,7 +822,7 @@ class Catalogue:
         with self.transaction():
             self.base.executemany("DELETE FROM pictures WHERE id = ?", ((it,) for it in numbers))
 
-    def set_devices(self, devices: Iterable[Tuple[int, int]]) -> None:
+    def set_devices(self, devices: Iterable[tuple[int, int]]) -> None:
         """Keeps on which file system some pictures are now: each a device and a picture's number."""
         with self.transaction():
             self.base.executemany("UPDATE pictures SET device = ? WHERE id = ?", devices)
@@ -842,11 +842,11 @@ class Catalogue:
                 other.close()
 
 
-def _bounded(factory: Callable[[Tuple[Any, ...]], Made]) -> Callable[[Tuple[Any, ...]], Made]:
+def _bounded(factory: Callable[[tuple[Any, ...]], Made]) -> Callable[[tuple[Any, ...]], Made]:
     """The same function of rows, which raises `Damaged` once all of them have too many bytes: in a crafted file they can share them."""
     left = ROW_BYTES
 
-    def bounded(row: Tuple[Any, ...]) -> Made:
+    def bounded(row: tuple[Any, ...]) -> Made:
         nonlocal left
         left -= sum([len(cell) for cell in row if isinstance(cell, (str, bytes))])
         if left < 0:
@@ -878,14 +878,14 @@ def put_rows(base: sqlite3.Connection, run: int, first: int, entries: Iterable[P
     base.executemany("INSERT INTO not_read VALUES (?, ?, ?, ?)", parts)
 
 
-def _rows_of_blocks(blocks: Sequence[BlockRecord]) -> Iterator[Tuple[object, ...]]:
+def _rows_of_blocks(blocks: Sequence[BlockRecord]) -> Iterator[tuple[object, ...]]:
     """The number of each block of a picture, and its columns, of which the fields are the last one."""
     cells = joined([block.fields for block in blocks])
     for number, (block, cell) in enumerate(zip(blocks, cells)):
         yield (number, *block[: BLOCKS.width - 1], cell)
 
 
-def root_of_row(row: Tuple[bytes]) -> bytes:
+def root_of_row(row: tuple[bytes]) -> bytes:
     """The folder of a row `root`, or the path of one `path`."""
     has_short(bytes, row[0])
     return row[0]
@@ -896,6 +896,6 @@ def _run_of_row(row: Run) -> Run:
     return row
 
 
-def _known(row: Tuple[int, Optional[int], int, int, int, int, Optional[str], Optional[str], str]) -> Known:
+def _known(row: tuple[int, Optional[int], int, int, int, int, Optional[str], Optional[str], str]) -> Known:
     number, size, modified, changed, inode, device, problem, coded, sidecars = row
     return Known(number, None if size is None else Stamp(size, modified, changed, inode, device), problem, coded, sidecars)

@@ -2,7 +2,7 @@
 
 from __future__ import annotations
 
-from typing import Dict, List, NamedTuple, Optional, Sequence, Set, Tuple
+from typing import NamedTuple, Optional, Sequence
 
 from ..fields.labels import LABEL_WORDS, LABELLED, Caption, camera_of, not_kept, of_labelled, with_own
 from ..fields.block_fields import rests_of
@@ -16,22 +16,22 @@ from ..model.records import BlockRecord
 class PictureTexts(NamedTuple):
     """The texts of a picture, and what is known of those that aren't kept."""
 
-    texts: List[Caption]
-    long: Set[str]  # labels of which a text is too long
-    behind: Set[str]  # labels of which a text may be among fields that are too many
-    rests: List[str]  # which fields these are
-    located: Tuple[Optional[Located], Optional[Located]] = (None, None)  # where Exif and XMP have that it was taken
+    texts: list[Caption]
+    long: set[str]  # labels of which a text is too long
+    behind: set[str]  # labels of which a text may be among fields that are too many
+    rests: list[str]  # which fields these are
+    located: tuple[Optional[Located], Optional[Located]] = (None, None)  # where Exif and XMP have that it was taken
 
     @property
-    def missing(self) -> Set[str]:
+    def missing(self) -> set[str]:
         """The labels of which a text isn't kept, or may not be."""
         return self.long | self.behind
 
 
-_BlockTexts = Tuple[List[Caption], Set[str]]  # the texts of a block, and the labels of those that are too long
+_BlockTexts = tuple[list[Caption], set[str]]  # the texts of a block, and the labels of those that are too long
 
 
-def _texts_of_block(fields: List[Field]) -> _BlockTexts:
+def _texts_of_block(fields: list[Field]) -> _BlockTexts:
     labelled = [it for it in fields if (it.directory, it.tag) in LABELLED]
     left = not_kept(labelled) if labelled else set()
     return [it for it in of_labelled(labelled) if it.label not in left] if labelled else [], left
@@ -40,13 +40,13 @@ def _texts_of_block(fields: List[Field]) -> _BlockTexts:
 _DIRECTORIES = {EXIF: ("main", "exif"), IPTC: ("iptc",), XMP: ("xmp",)}
 
 
-def texts_of(blocks: Sequence[Tuple[BlockRecord, List[Field]]], wanted: Sequence[str] = LABEL_WORDS) -> PictureTexts:
+def texts_of(blocks: Sequence[tuple[BlockRecord, list[Field]]], wanted: Sequence[str] = LABEL_WORDS) -> PictureTexts:
     """The texts of a picture by its blocks, each with its fields. Those that have the same list of fields have the same texts."""
-    texts: List[Caption] = []
-    long: Set[str] = set()
-    behind: Set[str] = set()
+    texts: list[Caption] = []
+    long: set[str] = set()
+    behind: set[str] = set()
     camera = ("", "")
-    known: Dict[int, _BlockTexts] = {}  # pages of a TIFF may share a block of many fields
+    known: dict[int, _BlockTexts] = {}  # pages of a TIFF may share a block of many fields
     for block, fields in blocks:
         if id(fields) not in known:
             known[id(fields)] = _texts_of_block(fields)

@@ -2,9 +2,8 @@
 
 from __future__ import annotations
 
-import argparse
 import os
-from typing import TYPE_CHECKING, Iterator, List, Optional, Sequence
+from typing import TYPE_CHECKING, Iterator, Optional, Sequence
 
 from ..comparison.conflicts import Conflict, best, conflicts, own_texts
 from ..comparison.wording import tell_apart
@@ -19,7 +18,7 @@ from .labelled import is_open, members, not_read, origins, pictures, refused, to
 from .names import is_list
 from .not_read import no_block, not_found, picture_cut, unread
 from .objects import print_object
-from .options import Files, Output, Run, group_of
+from .options import Files, Output, Run
 from .output import print_lines, table_of
 
 if TYPE_CHECKING:
@@ -29,12 +28,12 @@ _OWN = "a camera's or a program's own text"
 _WIDTH = max(map(len, LABEL_WORDS)) + 1
 
 
-def run(arguments: argparse.Namespace) -> int:
+def run(files: Files, run: Run, output: Output) -> int:
     """Lists captions of Exif, IPTC and XMP."""
-    files, output, worst = group_of(Files, arguments), group_of(Output, arguments), SUCCESS
+    worst = SUCCESS
     table = table_of(output, ["picture", *LABEL_WORDS, "latitude", "longitude", "camera's text", "contradicts itself", "not read"])
     alone = None if is_list(files) else {*map(os.fsencode, files.names)}
-    for picture in pictures(files, group_of(Run, arguments)):
+    for picture in pictures(files, run):
         worst = max(worst, UNKNOWN if is_open(picture) else SUCCESS)
         if table:
             table.row(*_row(picture))
@@ -47,7 +46,7 @@ def run(arguments: argparse.Namespace) -> int:
     return worst
 
 
-def _row(picture: Picture) -> List[Cell]:
+def _row(picture: Picture) -> list[Cell]:
     """A row of a table: the text of each label, of several standards one that is whole, and no camera's."""
     known = conflicts(picture.labelled.texts, picture.labelled.located)
     texts = [best([one for one in picture.labelled.texts if one.label == word], known) for word in LABEL_WORDS]
@@ -63,7 +62,7 @@ def _row(picture: Picture) -> List[Cell]:
     ]
 
 
-def _position(picture: Picture) -> List[float]:
+def _position(picture: Picture) -> list[float]:
     """The degrees, north and east positive; empty without a position."""
     place = picture.position
     return [] if place is None else [round(place.latitude, 6), round(place.longitude, 6)]
@@ -104,7 +103,7 @@ def _padded(word: str) -> str:
 
 def _members(picture: Picture) -> Members:
     texts, shown = [text for text in picture.labelled.texts if not text.is_empty], Shown()
-    captions: List[Members] = []
+    captions: list[Members] = []
     for text in texts:
         if shown.is_full:
             break

@@ -9,7 +9,7 @@ import os
 import shutil
 import sys
 from collections import Counter
-from typing import Callable, Iterable, Iterator, List, Optional, Sequence, Set, Tuple
+from typing import Callable, Iterable, Iterator, NamedTuple, Optional, Sequence
 
 from ..catalogue.store import Catalogue, NoCatalogue, of_day
 from ..comparison import changed as changes
@@ -41,7 +41,8 @@ def run(arguments: argparse.Namespace) -> int:
     if arguments.picture is not None:
         from . import history  # which few runs need
 
-        return history.run(arguments)
+        names = [arguments.before, arguments.after, *arguments.more]
+        return history.run(os.fsencode(arguments.picture), names, group_of(Run, arguments), group_of(Output, arguments))
     if arguments.more:
         refuse("changed", "two catalogues or folders are compared; --picture takes more")
     sides = (arguments.before, arguments.after)
@@ -49,11 +50,12 @@ def run(arguments: argparse.Namespace) -> int:
     _refuse_missing(*sides)
     refuse_pictures(*sides)
     _refuse_for_catalogues(run, *sides)
-    names = from_list(group_of(Files, arguments))
+    listed = from_list(group_of(Files, arguments))
     with contextlib.ExitStack() as open_:
         run = _with_sidecars(run, *sides)
         before, after = (open_.enter_context(catalogue_of(it, run, True)) for it in sides)
-        work = _Work(arguments, group_of(Fields, arguments), run, before, after, names)
+        asked = _Asked(*sides, arguments.each, arguments.all, arguments.edit, arguments.null, arguments.match)
+        work = _Work(asked, group_of(Fields, arguments), run, before, after, listed)
         output = group_of(Output, arguments)
         if arguments.undo:
             work.undo = Undo(open_.enter_context(open(os.path.join(run.session.room, "undo"), "w+b")))
@@ -62,12 +64,24 @@ def run(arguments: argparse.Namespace) -> int:
             kept = [file for side in sides for file in files_of(side)]
             said = work.undo.put(arguments.undo, heads_of((before, after))[AFTER], kept)
             say_notes(*said) if output.csv or output.json or arguments.null else print_lines(said)
-        if names:
-            say_unknown(names, _knows(before, after))
+        if listed:
+            say_unknown(listed, _knows(before, after))
     return max(status_of_results(work.counts), UNKNOWN * bool(work.undo and work.undo.left))
 
 
 Comparisons = Iterable[changes.Compared]
+
+
+class _Asked(NamedTuple):
+    """The options of this command alone."""
+
+    before: str
+    after: str
+    each: bool
+    all: bool
+    edit: int
+    null: bool
+    match: str
 
 
 class _Work:
@@ -75,7 +89,7 @@ class _Work:
 
     def __init__(
         self,
-        asked: argparse.Namespace,
+        asked: _Asked,
         fields: Fields,
         run: Run,
         before: Catalogue,
@@ -141,7 +155,7 @@ class _Work:
         """The comparisons, whose earlier texts are noted if they are to be put back."""
         return self.undo.seen(comparisons) if self.undo else comparisons
 
-    def _kinds(self, number: int) -> Set[int]:
+    def _kinds(self, number: int) -> set[int]:
         """The numbers that the pictures of a group have. Raises `WrongUse` without such a one."""
         summary = Summary(self.choice, 1)
         for comparison in self._compared():
@@ -167,7 +181,7 @@ class _Work:
         sys.stdout.buffer.flush()
 
 
-def _places(name: bytes) -> Tuple[bytes, bytes]:
+def _places(name: bytes) -> tuple[bytes, bytes]:
     return os.path.normpath(name), os.path.abspath(name)
 
 
@@ -176,7 +190,7 @@ class _Notes:
 
     def __init__(
         self,
-        asked: argparse.Namespace,
+        asked: _Asked,
         fields: Fields,
         counts: "Counter[Coded]",
         has_pixels: bool,
@@ -192,7 +206,7 @@ class _Notes:
         """Whether a picture may look otherwise, though what was compared is the same."""
         return self.is_asked and (comparison.picture == Coded.BESIDE or comparison.is_unseen)
 
-    def of_pictures(self) -> List[str]:
+    def of_pictures(self) -> list[str]:
         """A sentence, if there are pictures on both sides."""
         return list(filter(None, [sentence_of_coded(self.counts, self.pixels)])) if self.is_asked else []
 
@@ -271,7 +285,7 @@ def _with_sidecars(run: Run, *names: str) -> Run:
     return run._replace(sidecars=run.sidecars or has_sidecars)
 
 
-def _parts_of(comparison: changes.Compared, exact: bool) -> List[object]:
+def _parts_of(comparison: changes.Compared, exact: bool) -> list[object]:
     """The changes of a picture, without its name."""
     note = f" ({comparison.note})" if comparison.note else ""
     to = "" if comparison.moved_to is None else f" to {tell_apart([shown_path(comparison.name), shown_path(comparison.moved_to)])[1]}"

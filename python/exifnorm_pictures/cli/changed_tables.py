@@ -3,7 +3,7 @@
 from __future__ import annotations
 
 from collections import Counter
-from typing import TYPE_CHECKING, Iterable, Optional, Sequence, Tuple
+from typing import TYPE_CHECKING, Iterable, Optional, Sequence
 
 from ..comparison.changed import Compared
 from ..comparison.coded import Coded
@@ -153,5 +153,5 @@ def field_members(difference: FieldDifference) -> Members:
     return {**name, **sides, "equal_number": difference.is_equal_number, "note": difference.note or None}
 
 
-def _side_members(plain: Optional[str], fields: Tuple[Field, ...]) -> Optional[Members]:
+def _side_members(plain: Optional[str], fields: tuple[Field, ...]) -> Optional[Members]:
     return {"plain": plain, "exact": exact_side(fields), "value": together(fields)} if fields else None

@@ -5,7 +5,7 @@ from __future__ import annotations
 import argparse
 import os
 from itertools import groupby
-from typing import TYPE_CHECKING, Dict, List, Tuple
+from typing import TYPE_CHECKING
 
 from ..catalogue.checking import Broken, Checked
 from ..comparison.agreeing import checked as checked_by
@@ -52,7 +52,7 @@ def run(arguments: argparse.Namespace) -> int:
         return UNKNOWN if checked.not_known() else status
 
 
-def rules_of_file(name: str) -> List[Rule]:
+def rules_of_file(name: str) -> list[Rule]:
     """The rules of a file, one at least. Raises `OSError` and `WrongRules`."""
     rules = rules_of(text_of_file(name), lambda words: words_of_file(os.path.join(os.path.dirname(name), words)))
     if not rules:
@@ -60,7 +60,7 @@ def rules_of_file(name: str) -> List[Rule]:
     return rules
 
 
-def _file_of(broken: Broken) -> Tuple[bytes, str]:
+def _file_of(broken: Broken) -> tuple[bytes, str]:
     """The path of a picture, and where its file is cut off or damaged, for people."""
     return broken.path, f"   (damaged: {broken.damage})" if broken.damage else ""
 
@@ -98,7 +98,7 @@ def _members(checked: Checked, broken: Broken) -> Members:
 def _print_end(output: Output, checked: Checked) -> None:
     """How many rules are broken, and by how many pictures; which rules are about no picture, and how many pictures may break more."""
     nowhere = checked.notes()
-    numbers: Dict[str, object] = {
+    numbers: dict[str, object] = {
         "rules": len(checked.rules),
         "broken_rules": checked.rules_broken(),
         "pictures": checked.pictures(),

@@ -2,7 +2,7 @@
 
 from __future__ import annotations
 
-from typing import Iterable, Iterator, Sequence, Tuple
+from typing import Iterable, Iterator, Sequence
 
 from ..catalogue.store import Catalogue
 from ..fields.choosing import Choice, UnknownField, hint
@@ -40,7 +40,7 @@ def _named(words: Sequence[str]) -> Iterator[str]:
             raise UnknownField(f"{escaped(word[1:])}: {reason(error)}") from None
 
 
-Listed = Tuple[str, Sequence[Field]]  # the fields of a block, with its name if it isn't the first one of its kind
+Listed = tuple[str, Sequence[Field]]  # the fields of a block, with its name if it isn't the first one of its kind
 
 
 def refuse_unknown(choice: Choice, listings: Iterable[Listed]) -> None:

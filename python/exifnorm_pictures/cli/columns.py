@@ -5,7 +5,7 @@ from __future__ import annotations
 import functools
 import re
 import unicodedata
-from typing import Iterator, List, Sequence
+from typing import Iterator, Sequence
 
 LONGEST_NAME, NARROWEST, WIDEST = 34, 20, 60  # in columns of a terminal
 
@@ -52,13 +52,13 @@ def _padded(text: str, wanted: int) -> str:
     return text + " " * (wanted - width(text))
 
 
-def wrapped(text: str, wanted: int) -> List[str]:
+def wrapped(text: str, wanted: int) -> list[str]:
     """The text in lines of so many columns, broken at blanks where it can be.
 
     >>> wrapped("a vase of 1880", 8), wrapped("abcdefghij", 4)
     (['a vase', 'of 1880'], ['abcd', 'efgh', 'ij'])
     """
-    lines: List[str] = []
+    lines: list[str] = []
     line = ""
     for word in text.split(" "):
         joined = f"{line} {word}" if line else word
@@ -77,7 +77,7 @@ def wrapped(text: str, wanted: int) -> List[str]:
 _BREAK = re.compile(r"(?<! ) (?! )")  # single blanks: more than one align a table
 
 
-def folded(text: str, screen: int) -> List[str]:
+def folded(text: str, screen: int) -> list[str]:
     """A line in lines of so many columns, broken between words. A name at the beginning, which ends with a colon, and a command stay whole, so
     that they can be copied.
 

@@ -5,7 +5,7 @@ from __future__ import annotations
 import argparse
 import os
 import shutil
-from typing import TYPE_CHECKING, Dict, Iterator, List, Optional, Sequence
+from typing import TYPE_CHECKING, Iterator, Optional, Sequence
 
 from ..comparison.coded import Coded, coded_result
 from ..comparison.two_pictures import MORE, ComparedPair, FieldRow, compare, read, rows_of, with_position
@@ -76,7 +76,7 @@ def _choice(fields: Fields, *records: PictureRecord) -> Choice:
 def _sees_all(choice: Choice, blocks: Sequence[BlockRecord]) -> bool:
     """Lets a choice see the fields of blocks until all its words fit one. Whether it has seen all that matter: pages of a TIFF can share a block
     of many fields, of which only a word with a bracket or a wildcard can tell them apart."""
-    names: Dict[int, List[Field]] = {}
+    names: dict[int, list[Field]] = {}
     left = COMPARED_FIELDS
     for block in blocks:
         if id(block.fresh) in names and not any(set("(*?") & set(word) for word in choice.unseen_words()):
@@ -156,7 +156,7 @@ def _of_pictures(comparison: ComparedPair, names: Sequence[bytes]) -> str:
     return " ".join(damages) or f"{comparison.compared.picture.sentence}{parts}"
 
 
-def _heads(names: Sequence[bytes]) -> List[str]:
+def _heads(names: Sequence[bytes]) -> list[str]:
     """The names of the two files, and if these are equal, the part of their paths that differs."""
     parts = [it.split(b"/") for it in names]
     short = [it[-1] for it in parts]
@@ -170,7 +170,7 @@ def _heads(names: Sequence[bytes]) -> List[str]:
 
 def _table(heads: Sequence[str], rows: Sequence[FieldRow], exact: bool) -> Iterator[str]:
     """The fields and their values in two columns."""
-    table: List[Sequence[str]] = [("", *heads)]
+    table: list[Sequence[str]] = [("", *heads)]
     for equal in (False, True):
         shown = [it for it in rows if it.is_equal_number == equal]
         if equal and shown:

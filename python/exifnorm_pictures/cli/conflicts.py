@@ -4,7 +4,7 @@ from __future__ import annotations
 
 from collections import Counter
 from dataclasses import dataclass, field
-from typing import TYPE_CHECKING, Dict, Iterator, List, Optional, Sequence, Set
+from typing import TYPE_CHECKING, Iterator, Optional, Sequence
 
 from ..comparison.conflicts import Conflict, ConflictKind, conflicts
 from ..comparison.wording import tell_apart
@@ -42,7 +42,7 @@ class _Counts:
     sidecars: int = 0  # pictures with texts of an XMP sidecar, which are compared, too
 
 
-def run(files: Files, run: Run, output: Output, every: bool, chosen: Set[str]) -> int:
+def run(files: Files, run: Run, output: Output, every: bool, chosen: set[str]) -> int:
     """Lists contradictions inside pictures, in some labels; or also differences of form."""
     counts = _Counts()
     table = table_of(output, ["picture", "label", "kind", "detail", *STANDARDS])
@@ -100,14 +100,14 @@ def _print_rows(table: Table, picture: Picture, conflicts: Sequence[Conflict]) -
         table.row(picture.path, None, "not read", what, *(None for _ in STANDARDS))
 
 
-def _unread(picture: Picture) -> List[str]:
+def _unread(picture: Picture) -> list[str]:
     """What is left of a damaged file, and fields that are too many. Other parts, which each raw picture may have, are counted at the end."""
     left = damage(picture.not_read)
     return [", ".join([*(unread(picture, left) if left else []), *picture.too_many])] if left or picture.too_many else []
 
 
-def _texts(conflict: Conflict) -> List[Cell]:
-    texts: Dict[str, List[str]] = {}
+def _texts(conflict: Conflict) -> list[Cell]:
+    texts: dict[str, list[str]] = {}
     for text in conflict.texts:
         texts.setdefault(text.standard, []).append(text.line + f" ({text.block})" * bool(text.block))
     return ["; ".join(texts.get(standard, [])) for standard in STANDARDS]

@@ -3,7 +3,7 @@
 from __future__ import annotations
 
 import os
-from typing import Callable, Iterator, List
+from typing import Callable, Iterator
 
 from ..extract.named import blocks_of_named
 from ..files.opening import held
@@ -17,7 +17,7 @@ from .options import Files, Run
 from .output import note_sidecar, print_lines
 
 
-Describe = Callable[[Picture, Block], List[str]]
+Describe = Callable[[Picture, Block], list[str]]
 
 
 def status_of(picture: Picture, is_about_file: bool = False) -> int:
@@ -38,7 +38,7 @@ def each_block(
     run: Run,
     describer: Callable[[], Describe],
     refused_too: bool = False,
-    of_rest: Callable[[Picture], List[str]] = picture_cut,
+    of_rest: Callable[[Picture], list[str]] = picture_cut,
 ) -> int:
     """Prints something about each block of each picture, for which `describer` is called once, and what `of_rest` says of one that is damaged. Returns the greatest status."""
     worst = SUCCESS
@@ -57,7 +57,7 @@ _OF_CATALOGUE = (
 )
 
 
-def _print(command: str, picture: Picture, head: List[str], describe: Describe, refused_too: bool) -> None:
+def _print(command: str, picture: Picture, head: list[str], describe: Describe, refused_too: bool) -> None:
     if picture.problem:
         line = f"{picture.problem}: {picture.detail}"
         if os.path.isdir(picture.path):

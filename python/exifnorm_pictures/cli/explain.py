@@ -5,7 +5,7 @@ from __future__ import annotations
 import argparse
 import functools
 import tempfile
-from typing import Callable, List, Union
+from typing import Callable, Union
 
 from ..extract import programs
 from ..files.session import Session
@@ -34,7 +34,7 @@ def run(arguments: argparse.Namespace) -> int:
     if group_of(Output, arguments).json:
         return _print_objects(files, run, tried)
 
-    def describe(picture: Picture, block: Block) -> List[str]:
+    def describe(picture: Picture, block: Block) -> list[str]:
         if block.is_accepted:
             return [f"{block.name}: ok"]
         mended = _tried_of(picture, tried)
@@ -73,7 +73,7 @@ def _tried(session: Session, name: bytes) -> Union[mend.Mended, str]:
         return reason(error)
 
 
-def _lines(tried: Union[mend.Mended, str]) -> List[str]:
+def _lines(tried: Union[mend.Mended, str]) -> list[str]:
     if isinstance(tried, str):
         return [f"  Tried: what mend does isn't known: {tried}"] if tried else []
     if tried.remedy == mend.Remedy.NONE:
@@ -82,7 +82,7 @@ def _lines(tried: Union[mend.Mended, str]) -> List[str]:
     return [f"  Tried: mend makes a copy: {tried.remedy.text}; {values}"]
 
 
-def _repair(block: Block) -> List[str]:
+def _repair(block: Block) -> list[str]:
     """The repair in memory of a refused Exif block, and what it loses."""
     if not block.repair:
         return ["  Repair in memory: none is known"] if block.status == Status.REFUSED and block.kind == EXIF else []

@@ -2,10 +2,8 @@
 
 from __future__ import annotations
 
-import argparse
 import contextlib
-import os
-from typing import Iterator
+from typing import Iterator, Sequence
 
 from ..comparison.changed import Compared
 from ..comparison.history import State, history
@@ -15,19 +13,18 @@ from .changed_tables import field_members
 from .exit_codes import SUCCESS, UNKNOWN, status_of_results
 from .looking import opened
 from .objects import print_object
-from .options import Output, Run, group_of
+from .options import Output, Run
 from .output import local_time, print_lines
 
 
-def run(arguments: argparse.Namespace) -> int:
-    """Prints the history of a picture."""
+def run(path: bytes, names: Sequence[str], run: Run, output: Output) -> int:
+    """Prints the history of the picture with this path in some catalogues."""
     status = SUCCESS
-    names = [arguments.before, arguments.after, *arguments.more]
     with contextlib.ExitStack() as open_:
-        catalogues = [open_.enter_context(opened(name, group_of(Run, arguments), in_one_file=True)) for name in names]
-        for state in history(os.fsencode(arguments.picture), catalogues):
+        catalogues = [open_.enter_context(opened(name, run, in_one_file=True)) for name in names]
+        for state in history(path, catalogues):
             status = max(status, _status(state))
-            if group_of(Output, arguments).json:
+            if output.json:
                 print_object("history", "state", _members(state))
             else:
                 print_lines(_lines(state))

@@ -6,7 +6,7 @@ import argparse
 import os
 import shlex
 from collections import Counter
-from typing import Iterable, Iterator, List, Sequence
+from typing import Iterable, Iterator, Sequence
 
 from ..catalogue import shards
 from ..catalogue.nights import copy_over
@@ -92,7 +92,7 @@ def say_unused(patterns: Iterable[str]) -> None:
     say_notes(*(f"--exclude {pattern} fits no file and no folder" for pattern in patterns))
 
 
-def _names(catalogue: str, files: Files, run: Run) -> List[bytes]:
+def _names(catalogue: str, files: Files, run: Run) -> list[bytes]:
     """The names that are given. Raises `WrongUse`."""
     names = named(files)
     if run.scheduler:
@@ -130,7 +130,7 @@ def _next_steps(catalogue: Catalogue, name: str, excluded: int) -> Iterator[str]
         yield f"{excluded:,} excluded, and in the catalogue from an earlier run: exifnorm-pictures catalogue forget {word} FOLDER"
 
 
-def _parts(catalogue: Catalogue) -> List[str]:
+def _parts(catalogue: Catalogue) -> list[str]:
     """The parts that were not read of the pictures of this run, a line for each kind of part, the most frequent first."""
     query = f"SELECT picture, what FROM not_read JOIN pictures ON id = picture WHERE {OF_LAST_RUN} ORDER BY picture"
     kinds: "Counter[str]" = Counter()

@@ -3,7 +3,7 @@
 from __future__ import annotations
 
 import shlex
-from typing import Iterator, List, Optional, Sequence
+from typing import Iterator, Optional, Sequence
 
 from ..model.errors import WrongUse
 from ..model.problems import NOT_READABLE
@@ -38,7 +38,7 @@ def _going_on(where: str, run: Run, planned: Plan) -> Run:
     return run._replace(sidecars=run.sidecars or planned.has_sidecars, pixels=run.pixels or planned.has_digests)
 
 
-def _here(where: str, names: Sequence[bytes], run: Run, output: Output) -> "tuple[Plan, List[Outcome]]":
+def _here(where: str, names: Sequence[bytes], run: Run, output: Output) -> "tuple[Plan, list[Outcome]]":
     """By this process, one part after another."""
     planned = plan(where, names, run.exclude)
     options = printing_options(_going_on(where, run, planned), output, [])
@@ -49,7 +49,7 @@ def _here(where: str, names: Sequence[bytes], run: Run, output: Output) -> "tupl
     return planned, outcomes
 
 
-def _on_cluster(where: str, names: Sequence[bytes], run: Run, output: Output) -> "tuple[Plan, List[Outcome]]":
+def _on_cluster(where: str, names: Sequence[bytes], run: Run, output: Output) -> "tuple[Plan, list[Outcome]]":
     """By the workers of a cluster, of which each has some parts. A line is printed for each that is done."""
     from ..scan.shard_tasks import Parts  # only this needs Dask
 

@@ -3,7 +3,7 @@
 from __future__ import annotations
 
 import os
-from typing import TYPE_CHECKING, Dict, Iterator, List, Sequence
+from typing import TYPE_CHECKING, Iterator, Sequence
 
 from ..extract.named import blocks_of_named
 from ..fields.labels import Caption
@@ -92,7 +92,7 @@ def of_catalogue(catalogue: Catalogue) -> Iterator[Picture]:
 
 
 def _in_folder(run: Run, folder: bytes) -> Iterator[Picture]:
-    closed: List[Unlisted] = []
+    closed: list[Unlisted] = []
     top, count = os.path.abspath(folder), 0
     for file in below([folder], closed.append):
         picture = _reading(run, os.path.join(folder, os.path.relpath(file.path, top)))
@@ -110,7 +110,7 @@ def _reading(run: Run, name: bytes) -> Picture:
     return Picture.of(name, blocks_of_named(name, run.session, run.whole))
 
 
-def refused(picture: Picture) -> List[str]:
+def refused(picture: Picture) -> list[str]:
     """The blocks that aren't accepted, in a line each."""
     return [
         f"{block.name}: {block.record.line}" + (f"; read after repair in memory: {steps.words(block.record.steps)}" if block.repair else "")
@@ -119,7 +119,7 @@ def refused(picture: Picture) -> List[str]:
     ]
 
 
-def not_read(picture: Picture) -> List[str]:
+def not_read(picture: Picture) -> list[str]:
     """The parts and fields that were not read and can have texts: a MakerNote has none."""
     return [*(what for what in picture.not_read if REACHED not in what), *picture.too_many]
 
@@ -147,10 +147,10 @@ def origins(texts: Sequence[Caption]) -> str:
     return ", ".join(words)
 
 
-def together(texts: Sequence[Caption]) -> List[List[Caption]]:
+def together(texts: Sequence[Caption]) -> list[list[Caption]]:
     """Fields with equal texts together, without those that are empty."""
-    by_text: Dict[str, List[Caption]] = {}
-    lines: Dict[int, str] = {}  # pages of a TIFF may share a long list
+    by_text: dict[str, list[Caption]] = {}
+    lines: dict[int, str] = {}  # pages of a TIFF may share a long list
     for text in texts:
         if not text.is_empty:
             if id(text.texts) not in lines:

@@ -3,7 +3,7 @@
 from __future__ import annotations
 
 from itertools import groupby
-from typing import Iterator, List, Sequence
+from typing import Iterator, Sequence
 
 from ..comparison.edit_groups import Group
 from ..comparison.edit_words import line_of
@@ -61,7 +61,7 @@ def letter(head: str, news: Sequence[News], end: Sequence[str], groups: Sequence
         yield from end
 
 
-def _of_edits(group: Group) -> List[str]:
+def _of_edits(group: Group) -> list[str]:
     """Pictures that were edited alike, in a line; of one that changed like no other each edit."""
     edits = [safe(line_of(it)) for it in group.edits]
     if group.is_odd:
@@ -147,7 +147,7 @@ def _from_behind(text: str, columns: int) -> str:
     return f"..{text}"
 
 
-def command(before: str, last: str) -> List[str]:
+def command(before: str, last: str) -> list[str]:
     """The command that shows all, in as few lines as have room for the names."""
     words = "exifnorm-pictures changed --each"
     for lines in ([f"All changes: {words} {before} {last}"], ["All changes:", f"  {words} {before} {last}"]):

@@ -10,7 +10,7 @@ import sys
 import time
 from contextlib import suppress
 from datetime import datetime, timezone
-from typing import List, NamedTuple, Optional, Sequence
+from typing import NamedTuple, Optional, Sequence
 
 from ..catalogue.asking import Answer, Fitting, Texts, Unread
 from ..catalogue.field_texts import ambiguous_in
@@ -68,13 +68,13 @@ class _Form(NamedTuple):
 
 def _question(having: Sequence[str], without: Sequence[str], where: Sequence[str], more: Sequence[Question]) -> Optional[Question]:
     """All that the options ask, together; None if they ask nothing."""
-    questions: List[Question] = [With(given_label(word)) for word in having]
+    questions: list[Question] = [With(given_label(word)) for word in having]
     questions += [Not(With(given_label(word))) for word in without]
     questions += [question_of(text, words_of_file) for text in where]
     return all_of([*questions, *more]) if questions or more else None
 
 
-def _columns(asked: Optional[str], question: Optional[Question], output: Output) -> List[str]:
+def _columns(asked: Optional[str], question: Optional[Question], output: Output) -> list[str]:
     """The labels whose texts are printed: those that are asked for, in a table at least those of the question."""
     if asked is not None:
         return listed_texts.labels_in(asked)

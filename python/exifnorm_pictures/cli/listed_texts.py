@@ -2,7 +2,7 @@
 
 from __future__ import annotations
 
-from typing import TYPE_CHECKING, Dict, Iterator, List, Optional, Sequence
+from typing import TYPE_CHECKING, Iterator, Optional, Sequence
 
 from ..fields.labels import LABEL_WORDS, POSITION
 from ..fields.places import place_of
@@ -14,14 +14,14 @@ if TYPE_CHECKING:
     from .tables import Cell
 
 
-def labels_in(words: str) -> List[str]:
+def labels_in(words: str) -> list[str]:
     """The labels of --columns, each once; `all` are those of captions. Raises `WrongQuestion`."""
     if words == "all":
         return [*LABEL_WORDS, POSITION]
     return list(dict.fromkeys(given_label(word) for word in words.split(",")))
 
 
-def heads(labels: Sequence[str]) -> List[str]:
+def heads(labels: Sequence[str]) -> list[str]:
     """The heads of a table, in which a position is two numbers, as maps take them. The last one is of the labels of which a text may be unread."""
     return [head for label in labels for head in (("latitude", "longitude") if label == POSITION else (label,))] + [_NOT_KNOWN] * bool(
         labels
@@ -48,6 +48,6 @@ def lines(labels: Sequence[str], texts: Texts, indent: str) -> Iterator[str]:
 _NOT_KNOWN = "not known"
 
 
-def member(labels: Sequence[str], texts: Texts) -> Dict[str, Optional[List[str]]]:
+def member(labels: Sequence[str], texts: Texts) -> dict[str, Optional[list[str]]]:
     """The texts for a JSON object: a list for each label, or null if it isn't known whether there is one."""
     return {label: None if of_label is None else list(of_label) for label, of_label in zip(labels, texts)}

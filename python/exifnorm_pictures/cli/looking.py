@@ -6,7 +6,7 @@ import contextlib
 import os
 import sys
 import tempfile
-from typing import ContextManager, Iterator, List, Optional, Sequence
+from typing import ContextManager, Iterator, Optional, Sequence
 
 from ..catalogue import shards
 from ..catalogue.store import Catalogue, NoCatalogue
@@ -52,12 +52,12 @@ def say_missing(known: shards.Shards, run: Run) -> None:
         run.least.status = UNKNOWN
 
 
-def files_of(name: str) -> List[str]:
+def files_of(name: str) -> list[str]:
     """The file of a catalogue, or those of a folder of catalogues; none of a folder of pictures."""
     return shards.shards_of(name).there if shards.is_folder(name) else [name] * (not os.path.isdir(name))
 
 
-def written_files_of(name: str) -> List[str]:
+def written_files_of(name: str) -> list[str]:
     """The same of a command that writes to them. Raises `NoCatalogue` if the folder names one that lies elsewhere."""
     for other in shards.elsewhere(name):
         raise NoCatalogue(f"{name} isn't written to: {shown_path(os.fsencode(os.path.join(name, other)))} lies elsewhere")
@@ -85,7 +85,7 @@ def _made(names: Sequence[bytes], run: Run) -> Iterator[Catalogue]:
     """A new catalogue of folders and pictures, which is removed with the session. Raises `NoCatalogue` for a file that isn't one of these."""
     room = tempfile.mkdtemp(dir=run.session.room)
     with Catalogue(os.path.join(room, "catalogue"), make=True) as catalogue:
-        closed: List[str] = []
+        closed: list[str] = []
         how = how_of(run, room, closed_folder)
         index(IndexOptions(names, quiet=_is_quiet(run), how=how, print_line=closed.append), catalogue)
         if closed:  # its pictures would seem to be missing

@@ -6,7 +6,7 @@ import argparse
 import os
 import shlex
 from collections import Counter
-from typing import Dict, Iterator, List, Optional, Sequence, Set, Tuple, Type
+from typing import Iterator, Optional, Sequence, Type
 
 from ..extract import programs
 from ..files import atomic
@@ -69,12 +69,12 @@ def _counted(counts: "Counter[str]") -> str:
 
 def _mend_one(
     output: Output, session: Session, picture: bytes, out: bytes, folder: Optional[bytes] = None, lossless: bool = False
-) -> Tuple[int, str, bool]:
+) -> tuple[int, str, bool]:
     """The status of a picture, by what it is counted, and whether its file is cut off or damaged."""
     try:
         mended = mend.mend(picture, out, session, folder, lossless)
     except (mend.NotWritten, programs.Failed, programs.Missing, TooMuch) as error:
-        names: Dict[Type[Exception], str] = {mend.NotWritten: "NotWritten", TooMuch: Problem.TOO_MUCH, programs.TooSlow: Problem.TOO_SLOW}
+        names: dict[Type[Exception], str] = {mend.NotWritten: "NotWritten", TooMuch: Problem.TOO_MUCH, programs.TooSlow: Problem.TOO_SLOW}
         names.update({programs.Missing: Problem.NEEDS_EXIFTOOL, mend.NeedsExifTool: Problem.NEEDS_EXIFTOOL})
         problem = names.get(type(error), Problem.TOOL_FAILED)
         line = f"{shown_path(picture)}: {atomic.not_written(shown_path(out), error)}"
@@ -117,7 +117,7 @@ def _folder(files: Files) -> Optional[bytes]:
     return os.fsencode(names[0])
 
 
-def _pairs(files: Files, run: Run, folder: Optional[bytes]) -> Iterator[Tuple[bytes, bytes]]:
+def _pairs(files: Files, run: Run, folder: Optional[bytes]) -> Iterator[tuple[bytes, bytes]]:
     """The pictures and their copies. Of a catalogue those with a block that isn't accepted."""
     if folder is None:
         picture, out = map(os.fsencode, files.names)
@@ -128,7 +128,7 @@ def _pairs(files: Files, run: Run, folder: Optional[bytes]) -> Iterator[Tuple[by
     yield from ((picture, os.path.join(folder, below)) for picture, below in listed)
 
 
-def _refused(name: str, run: Run, only: Optional[Set[bytes]]) -> Iterator[Tuple[bytes, bytes]]:
+def _refused(name: str, run: Run, only: Optional[set[bytes]]) -> Iterator[tuple[bytes, bytes]]:
     """The pictures of a catalogue with a block that isn't accepted, and the names of their copies: below the folder that was indexed, if that
     is one alone; of `only` some, if it is no None."""
     with opened(name, run) as catalogue:
@@ -149,7 +149,7 @@ def _below(name: bytes) -> bytes:
     return (os.path.abspath(name) if plain.startswith(b"..") else plain).lstrip(b"/")
 
 
-def _mended_lines(picture: bytes, mended: mend.Mended) -> List[str]:
+def _mended_lines(picture: bytes, mended: mend.Mended) -> list[str]:
     name = shown_path(picture)
     if mended.problem:
         return [f"{name}: {mended.problem}"]

@@ -5,7 +5,7 @@ from __future__ import annotations
 import os
 import sys
 from itertools import chain
-from typing import Callable, Iterable, Iterator, List, Optional, Set
+from typing import Callable, Iterable, Iterator, Optional
 
 from ..files.opening import reading
 from ..model.errors import WrongUse
@@ -22,13 +22,13 @@ def each_of_list(files: Files) -> Iterator[bytes]:
         yield from names_in_list(files.files_from, files.null, sys.stdout.flush)
 
 
-def from_list(files: Files) -> Optional[List[bytes]]:
+def from_list(files: Files) -> Optional[list[bytes]]:
     """All names of --files-from; None without a list."""
     names = list(each_of_list(files))
     return names if files.files_from else None
 
 
-def chosen_paths(files: Files) -> Optional[Set[bytes]]:
+def chosen_paths(files: Files) -> Optional[set[bytes]]:
     """The names of --files-from as absolute paths."""
     names = from_list(files)
     return None if names is None else {os.path.abspath(it) for it in names}
@@ -46,7 +46,7 @@ def say_unknown(names: Iterable[bytes], is_known: Callable[[bytes], bool]) -> No
         say_notes(f"{have}: {', '.join(shown)}")
 
 
-def named(files: Files) -> List[bytes]:
+def named(files: Files) -> list[bytes]:
     """The names of the arguments and of the list together, each once; at least one."""
     return list(dict.fromkeys(each_name(files)))
 

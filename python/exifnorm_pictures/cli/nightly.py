@@ -8,7 +8,7 @@ import os
 import shlex
 import sys
 from collections import Counter
-from typing import List, Optional, Sequence, Tuple
+from typing import Optional, Sequence
 
 from ..catalogue import kept_texts, shards
 from ..catalogue.nights import Nights
@@ -37,23 +37,23 @@ from .output import local_time, print_lines, say_notes
 from .page_file import write_report
 from .sources import settle_first
 
-Broken = Optional[Tuple[int, int]]  # how many pictures break a rule tonight, and how many did at the last night
+Broken = Optional[tuple[int, int]]  # how many pictures break a rule tonight, and how many did at the last night
 
 
 class Night:
     """A run, and what it has found."""
 
-    def __init__(self, run: Run, output: Output, nights: Nights, folders: List[bytes], rules: Sequence[Rule]) -> None:
+    def __init__(self, run: Run, output: Output, nights: Nights, folders: list[bytes], rules: Sequence[Rule]) -> None:
         self.run, self.output, self.nights, self.folders, self.rules = run, output, nights, folders, rules
         self.is_first = nights.is_first
         self.excluded = Excluded(run.exclude)
-        self.closed: List[PictureRecord] = []  # folders that can't be read
+        self.closed: list[PictureRecord] = []  # folders that can't be read
         self.since = ""
         self.pictures = self.with_news = 0
-        self.news: List[News] = []
-        self.groups: List[Group] = []
+        self.news: list[News] = []
+        self.groups: list[Group] = []
         self.broken: Broken = None
-        self.notes: List[str] = []
+        self.notes: list[str] = []
         self.unread: "Counter[str]" = Counter()  # pictures that lack what an option reads
 
     @property
@@ -77,7 +77,7 @@ class Night:
             index(options, tonight)
             self.unread = lacking(options, tonight)
 
-    def _note(self, picture: PictureRecord) -> List[str]:
+    def _note(self, picture: PictureRecord) -> list[str]:
         self.closed.append(picture)
         return []
 
@@ -185,7 +185,7 @@ def _refuse_unknown(folders: Sequence[bytes], name: str) -> None:
                     raise WrongUse(f"{shown_path(folder)} isn't there, and {name} has no picture below it: is its name right?")
 
 
-def _of_earlier(nights: Nights) -> List[str]:
+def _of_earlier(nights: Nights) -> list[str]:
     """What is said once of a catalogue of an earlier release."""
     assert nights.earlier
     last, kept = (shown_path(os.path.basename(os.fsencode(name))) for name in (nights.last, nights.kept))
@@ -235,7 +235,7 @@ def _head(night: Night) -> str:
     return f"{where} since {local_time(night.since)}: {many}, {night.with_news:,} with news"
 
 
-def _end(night: Night) -> List[str]:
+def _end(night: Night) -> list[str]:
     """The lines below the news."""
     lines = []
     if night.broken:

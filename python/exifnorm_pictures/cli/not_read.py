@@ -2,7 +2,7 @@
 
 from __future__ import annotations
 
-from typing import List, Optional, Sequence
+from typing import Optional, Sequence
 
 from ..model.found import CUT, NAMES, damage, each_kind
 from ..model.texts import Members
@@ -12,13 +12,13 @@ from ..picture import Picture
 REMEDY = "another copy of the file, as from a backup. The missing part can't be restored from this one."
 
 
-def unread(picture: Picture, parts: Sequence[str]) -> List[str]:
+def unread(picture: Picture, parts: Sequence[str]) -> list[str]:
     """Parts that were not read, and the kinds of blocks that may be missing of a damaged file."""
     kinds = [NAMES[kind] for kind in picture.not_known]
     return [*each_kind(parts), *([f"so {with_verb(kinds)} not known"] if kinds else [])]
 
 
-def picture_cut(picture: Picture) -> List[str]:
+def picture_cut(picture: Picture) -> list[str]:
     """Where a file is cut off or damaged whose metadata were read."""
     fault = picture.damage_behind
     return [f"{'cut off' if fault.startswith(CUT) else 'damaged'} behind its metadata: {fault}"] if fault else []
@@ -48,7 +48,7 @@ def lacks_some(picture: Picture, parts: Sequence[str]) -> bool:
     return bool(picture.problem or parts) or any(not it.is_accepted for it in picture.blocks)
 
 
-def damage_lines(picture: Picture) -> List[str]:
+def damage_lines(picture: Picture) -> list[str]:
     """What may be missing of a file that is cut off or damaged, and the remedy; nothing for a whole file."""
     if picture.problem and picture.damage:
         return [f"The file is cut off: {picture.damage}.", f"  Remedy: {REMEDY}"]

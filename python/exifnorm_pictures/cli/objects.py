@@ -4,7 +4,7 @@ from __future__ import annotations
 
 import json
 import sys
-from typing import Any, Dict, Iterator, List, Optional
+from typing import Any, Iterator, Optional
 
 from ..model.budgets import ENCODED_CHARACTERS
 from ..model.records import PictureRecord
@@ -12,7 +12,7 @@ from ..model.texts import Members, path_members
 
 # The versions of commands whose objects have another one than 1. A version grows if a key is renamed or removed, or gets another meaning; a new
 # key alone doesn't count.
-_VERSIONS: Dict[str, int] = {"changed": 2}
+_VERSIONS: dict[str, int] = {"changed": 2}
 
 
 _ENCODER = json.JSONEncoder(allow_nan=False)
@@ -84,7 +84,7 @@ def unread_members(picture: PictureRecord) -> Members:
     return {"not_read": parts, "damage": picture.damage or None, "not_known": picture.not_known}
 
 
-def record_lines(picture: PictureRecord) -> List[str]:
+def record_lines(picture: PictureRecord) -> list[str]:
     """The line for a picture that `index` looked at."""
     about = {**picture_object(picture.path, picture.problem, picture.detail), "type": picture.type or None}
     blocks = [one.members for one in picture.blocks]

@@ -9,7 +9,7 @@ import sys
 from collections import Counter
 from datetime import datetime, timezone
 from itertools import islice
-from typing import TYPE_CHECKING, Iterable, Iterator, List, Optional, Sequence
+from typing import TYPE_CHECKING, Iterable, Iterator, Optional, Sequence
 
 from ..files import signals
 from ..model.found import cut, damage
@@ -42,7 +42,7 @@ def print_lines(lines: Iterable[str]) -> None:
 MOST_NAMED = 20  # pictures below an answer, of which it isn't known whether they belong to it
 
 
-def named(head: str, paths: Iterable[bytes], count: int) -> List[str]:
+def named(head: str, paths: Iterable[bytes], count: int) -> list[str]:
     """The first pictures of some, and how many more there are; no line if there are none."""
     if not count:
         return []
@@ -98,7 +98,7 @@ def table_of(output: Output, heads: Sequence[str]) -> Optional[Table]:
 DAMAGED = {"File is empty": "the file is empty", "Entire file is binary zeros": "the file has only zeros"}
 
 
-def record_lines(picture: PictureRecord) -> List[str]:
+def record_lines(picture: PictureRecord) -> list[str]:
     """Lines for a picture with a problem: the problem, the refusal of a block, or what is left of a damaged file. None if the
     problem was there at the last run, which the counts say."""
     if picture.is_known or not (picture.problem or picture.unread or picture.damage or any(not one.is_accepted for one in picture.blocks)):
@@ -117,7 +117,7 @@ def record_lines(picture: PictureRecord) -> List[str]:
     return lines
 
 
-def closed_folder(picture: PictureRecord) -> List[str]:
+def closed_folder(picture: PictureRecord) -> list[str]:
     """A line for a folder that can't be read, which has no row in a catalogue and so no folder above it."""
     return [] if picture.root else [f"the folder {shown_path(picture.path)} can't be read: {picture.detail}"]
 

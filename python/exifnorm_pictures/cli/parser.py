@@ -6,7 +6,7 @@ import argparse
 import itertools
 import shlex
 import sys
-from typing import IO, Any, Callable, Dict, Iterable, NoReturn, Optional, Sequence, Tuple
+from typing import IO, Any, Callable, Iterable, NoReturn, Optional, Sequence
 
 from ..model.found import KINDS
 from ..model.budgets import PROGRAM_SECONDS
@@ -125,7 +125,7 @@ def _refuse_apart(parser: _Parser, arguments: argparse.Namespace) -> None:
             parser.error(f"argument {option}: not allowed without argument {' or '.join(there)}")
 
 
-def _refuse_unknown(whole: _Parser, commands: "Dict[str, _Parser]", words: Sequence[str]) -> None:
+def _refuse_unknown(whole: _Parser, commands: "dict[str, _Parser]", words: Sequence[str]) -> None:
     """Refuses a command or an option that isn't there, and names the one that may be meant."""
     first = words[0] if words else "--help"
     if first in WENT:
@@ -158,7 +158,7 @@ def refuse(command: str, message: str) -> NoReturn:
     parsers(command)[1][command].error(message)
 
 
-def parsers(only: Optional[str] = None) -> "Tuple[_Parser, Dict[str, _Parser]]":
+def parsers(only: Optional[str] = None) -> "tuple[_Parser, dict[str, _Parser]]":
     """The parser of the arguments, and those of each command, or of one alone: to make all of them takes longer than to read a picture."""
     whole = _Parser(
         prog="exifnorm-pictures",
@@ -176,7 +176,7 @@ def parsers(only: Optional[str] = None) -> "Tuple[_Parser, Dict[str, _Parser]]":
     )
     whole.add_argument("--version", action=_Version, nargs=0, help="the version")
     commands = whole.add_subparsers(prog=whole.prog, dest="command", metavar="COMMAND", required=True, help=argparse.SUPPRESS)
-    each: Dict[str, _Parser] = {}
+    each: dict[str, _Parser] = {}
     for name, words, build in COMMANDS:
         if only not in (None, name):
             continue
@@ -205,7 +205,7 @@ def _operand(action: argparse.Action) -> str:
     return {"?": f"[{name}]", "*": f"[{name} ...]", "+": f"{name} ..."}.get(str(action.nargs), name)
 
 
-def _listed(heading: str, commands: Iterable[Tuple[str, str]]) -> str:
+def _listed(heading: str, commands: Iterable[tuple[str, str]]) -> str:
     return "\n".join([f"{heading}:", *(f"  {name:<10} {about}" for name, about in commands)])
 
 
@@ -545,7 +545,7 @@ _NOT_OF_ONE = (
     *("--sidecars", "--pixels", "--whole", "--jobs", "--csv", "--xlsx", "--files-from"),
 )
 # Options of which one may be given, beside those that argparse knows, and why two exclude each other
-_APART: Dict[str, Tuple[Tuple[str, ...], ...]] = {
+_APART: dict[str, tuple[tuple[str, ...], ...]] = {
     "index": (("--shards", "--catalogue"), ("--shards", "--keep-old"), ("--maker-notes", "--no-programs")),
     "nightly": (("--maker-notes", "--no-programs"),),
     "list": (("-0", "--geojson", "--csv", "--xlsx", "--json"), ("-0", "--count"), ("--geojson", "--count"), ("-0", "--columns")),
@@ -571,7 +571,7 @@ _WHY = {
     **{(option, form): f": {form} has that always" for option in ("--each", "--exact", "--all") for form in ("--csv", "--xlsx", "--json")},
 }
 
-_Commands = Tuple[Tuple[str, str, Callable[[argparse.ArgumentParser], None]], ...]
+_Commands = tuple[tuple[str, str, Callable[[argparse.ArgumentParser], None]], ...]
 _DAILY: _Commands = (
     ("index", "read new and changed pictures into a catalogue", _index_arguments),
     ("changed", "list what changed between two catalogues or folders, field by field", _changed_arguments),

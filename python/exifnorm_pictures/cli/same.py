@@ -6,7 +6,7 @@ import argparse
 import contextlib
 import json
 from collections import Counter
-from typing import TYPE_CHECKING, Dict, Iterator, List, NamedTuple, Optional, Sequence, Tuple
+from typing import TYPE_CHECKING, Iterator, NamedTuple, Optional, Sequence
 
 from ..catalogue.store import Catalogue
 from ..comparison.group import Basis, Group, Link
@@ -196,7 +196,7 @@ def _asked(groups: Groups, kind: str, kinds: Sequence[str], choice: Choice, leas
 
 # Lines
 
-Keeps = Dict[int, Keep]  # by the number of a picture; empty if no file was looked at, or fields are left out
+Keeps = dict[int, Keep]  # by the number of a picture; empty if no file was looked at, or fields are left out
 
 
 def _totals(listed: _Listed, groups: Groups, left: _Left, least_fields: int) -> Iterator[str]:
@@ -278,7 +278,7 @@ def _print_lines(group: Group, number: int, keeps: Keeps, texts: _Texts) -> None
     if number > 1:
         print_line("")
     print_line(f"{group.count} {'pictures' if group.are_pictures else 'files'}: {sentence_of(group)}:")
-    links: Dict[bytes, List[Link]] = {}
+    links: dict[bytes, list[Link]] = {}
     for link in group.files.links:
         links.setdefault(link.of, []).append(link)
     reasons = set(group.reasons.values())
@@ -348,7 +348,7 @@ def _note(group: Group, picture: PictureRecord, keep: Keep) -> str:
     return "; ".join(filter(None, [group.reasons.get(picture.id), more, keep.note]))
 
 
-def _not_counted(group: Group) -> Iterator[Tuple[bytes, str]]:
+def _not_counted(group: Group) -> Iterator[tuple[bytes, str]]:
     """Further names of files, and files that are gone or have changed, each with the reason."""
     yield from ((link.path, f"not counted, {link.how}: {shown_path(link.of)}") for link in group.files.links)
     yield from ((path, "not counted, gone") for path in group.files.gone)

@@ -3,7 +3,7 @@
 from __future__ import annotations
 
 import argparse
-from typing import TYPE_CHECKING, Iterator, List
+from typing import TYPE_CHECKING, Iterator
 
 from ..fields.field import Field
 from ..fields.listing import readable
@@ -26,11 +26,11 @@ if TYPE_CHECKING:
 
 def run(arguments: argparse.Namespace) -> int:
     """Lists the fields of pictures."""
+    files, run, output = group_of(Files, arguments), group_of(Run, arguments), group_of(Output, arguments)
     if arguments.captions:
         from . import captions  # which few runs need
 
-        return captions.run(arguments)
-    files, run, output = group_of(Files, arguments), group_of(Run, arguments), group_of(Output, arguments)
+        return captions.run(files, run, output)
     if not output.json and not output.csv:
         return each_block(files, run, lambda: _describer(output.exact, run.least))
     worst = SUCCESS
@@ -55,7 +55,7 @@ def _describer(exact: bool, least: Least) -> Describe:
     """What makes the lines of each block of a picture."""
     shown = ShownFields()
 
-    def lines_of(_: Picture, block: Block) -> List[str]:
+    def lines_of(_: Picture, block: Block) -> list[str]:
         by = f", extracted by {PROGRAMS[block.extractor]}" if block.extractor in PROGRAMS else ""
         fields = shown.of(block)
         lines = list(readable(fields, block.name + by)) if exact else [f"{block.name}{by}:", *map(_plain_line, fields)]
@@ -75,7 +75,7 @@ def _plain_line(field: Field) -> str:
 _COLUMN = 30  # characters of a name, of which few have more
 
 
-def _repaired(block: Block) -> List[str]:
+def _repaired(block: Block) -> list[str]:
     """The lines before fields that are read after a repair."""
     text = f"  read after repair in memory ({steps.words(block.record.steps)}), which is tested, and not proved; the file is as it was"
     lost = [f"  the repair loses {' and '.join(block.loses)}: nothing is called the same by it"] * bool(block.loses)

@@ -4,7 +4,7 @@ from __future__ import annotations
 
 import os
 import shlex
-from typing import Sequence, Tuple
+from typing import Sequence
 
 from ..model.errors import WrongUse
 from ..model.texts import escaped
@@ -20,7 +20,7 @@ def with_first(files: Files) -> Files:
     return files if files.source is None else files._replace(source=None, names=[files.source, *files.names])
 
 
-def settle_first(files: Files) -> Tuple[str, Files]:
+def settle_first(files: Files) -> tuple[str, Files]:
     """The catalogue of --catalogue, or the first name, and the other names. Raises `WrongUse`: a name alone is never taken for a new catalogue,
     because it may be that of a folder which isn't mounted."""
     files = with_first(files)

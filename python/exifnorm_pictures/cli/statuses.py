@@ -3,13 +3,13 @@
 from __future__ import annotations
 
 import textwrap
-from typing import Dict, Iterator, Mapping
+from typing import Iterator, Mapping
 
 _NOT_READ = "or a file or a part of it wasn't read"
 _NOT_COMPARED = "something can't be wholly compared"
 
 # Of each command its statuses below 3
-STATUSES: Dict[str, Dict[int, str]] = {
+STATUSES: dict[str, dict[int, str]] = {
     "index": {
         0: "the catalogue has what could be read, refused metadata too",
         2: "a picture can't be read, or a program failed at it, and this is new since the last run; or a folder of --shards isn't there",

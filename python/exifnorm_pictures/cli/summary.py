@@ -5,7 +5,7 @@ from __future__ import annotations
 
 from collections import Counter
 from itertools import chain, islice
-from typing import Iterator, List, NamedTuple, Optional, Sequence
+from typing import Iterator, NamedTuple, Optional, Sequence
 
 from ..comparison.edit_groups import KINDS, Group
 from ..comparison.edit_words import BRACKETS, head_of, steps_of
@@ -72,7 +72,7 @@ def _further(count: int) -> Iterator[str]:
         yield f"More than {KINDS:,} kinds of edit: {many} more, which aren't grouped"
 
 
-def _odd(texts: Sequence[List[str]], count: int) -> Iterator[str]:
+def _odd(texts: Sequence[list[str]], count: int) -> Iterator[str]:
     """The pictures that changed like no other, as far as there is room."""
     if count:
         yield from ["", f"{pictures_in_words(count)} changed like no other:", *chain(*texts)]
@@ -93,7 +93,7 @@ def _smaller(groups: Sequence[Group]) -> Iterator[str]:
         yield f"{len(groups):,} more group{'s' * (len(groups) > 1)} of {sizes} pictures"
 
 
-def _fitting(texts: Sequence[List[str]], least: int, room: int) -> int:
+def _fitting(texts: Sequence[list[str]], least: int, room: int) -> int:
     """How many of some texts there is room for."""
     taken = 0
     for number, text in enumerate(texts):
@@ -142,9 +142,9 @@ def _edit(head: str, edit: Edit, is_one: bool, style: Style) -> Iterator[str]:
     yield line
 
 
-def _words(steps: Sequence[Step], style: Style) -> List[List[Step]]:
+def _words(steps: Sequence[Step], style: Style) -> list[list[Step]]:
     """Each word of a terminal's line, in pieces; all in one if lines aren't broken."""
-    words: List[List[Step]] = [[]]
+    words: list[list[Step]] = [[]]
     for sign, text in steps:
         shown = safe(text if sign == KEPT or style.colours else text.join(BRACKETS[sign]))
         first, *others = shown.split(" ") if style.screen else [shown]

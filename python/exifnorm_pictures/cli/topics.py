@@ -3,7 +3,7 @@
 from __future__ import annotations
 
 import textwrap
-from typing import Dict, Callable
+from typing import Callable
 
 from ..model.budgets import PROGRAM_SECONDS
 from . import statuses
@@ -83,7 +83,7 @@ def _options() -> str:
     return "\n".join(["Options of several commands:", *lines, "", _ALL])
 
 
-TOPICS: Dict[str, Callable[[], str]] = {
+TOPICS: dict[str, Callable[[], str]] = {
     "options": _options,
     "statuses": statuses.text,
     "fields": lambda: _FIELDS,

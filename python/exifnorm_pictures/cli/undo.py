@@ -6,7 +6,7 @@ import functools
 import os
 import shlex
 import shutil
-from typing import IO, Iterable, Iterator, List, Sequence
+from typing import IO, Iterable, Iterator, Sequence
 
 from ..comparison.changed import Compared
 from ..comparison.undo import arguments
@@ -26,7 +26,7 @@ class Undo:
     def __init__(self, file: IO[bytes]) -> None:
         self._file = file
         self.pictures = 0  # whose texts are put back
-        self.left: List[str] = []  # the first lines about those that aren't
+        self.left: list[str] = []  # the first lines about those that aren't
         self._count = 0
         file.write(_HEAD)
 
@@ -62,7 +62,7 @@ class Undo:
             yield f"  and {self._count - MOST_NAMED:,} more, which the file names"
 
 
-def _not_compared(comparison: Compared) -> List[str]:
+def _not_compared(comparison: Compared) -> list[str]:
     """What nobody can put back, or knows to be the same."""
     is_open = comparison.result.is_open and comparison.result not in _HAVE_TEXTS
     if comparison.result == Result.MISSING_AFTER:

@@ -8,7 +8,7 @@ import os
 import sys
 from collections import Counter
 from datetime import datetime, timezone
-from typing import BinaryIO, Callable, Dict, Iterable, Iterator, List, NamedTuple, Optional, Sequence, Tuple
+from typing import BinaryIO, Callable, Iterable, Iterator, NamedTuple, Optional, Sequence
 
 from ..catalogue import bags
 from ..catalogue.store import Catalogue, NoCatalogue
@@ -90,7 +90,7 @@ class _Sums(NamedTuple):
     earlier: int  # files that a run has read which was stopped
 
 
-def _folders(files: Files, bag: Optional[str], catalogue: Catalogue) -> List[bytes]:
+def _folders(files: Files, bag: Optional[str], catalogue: Catalogue) -> list[bytes]:
     """The folders to read. Raises `WrongUse`."""
     names = named(files) if files.names or files.files_from else [bags.payload(bag)] if bag else []
     folders = [os.path.abspath(it) for it in names] or catalogue.roots()
@@ -109,7 +109,7 @@ def _of_bag(bag: str, run: Run) -> Iterator[Catalogue]:
 
 
 @contextlib.contextmanager
-def _read_again(folders: Sequence[bytes], run: Run, state: Optional[str], before: Catalogue) -> Iterator[Tuple[Catalogue, int]]:
+def _read_again(folders: Sequence[bytes], run: Run, state: Optional[str], before: Catalogue) -> Iterator[tuple[Catalogue, int]]:
     """A new catalogue of the files that are there now, each read once if it is as the catalogue has it; and how many a run has read which was
     stopped. With --state that run has left its catalogue for this one."""
     name = os.path.join(run.session.room, "catalogue")
@@ -119,7 +119,7 @@ def _read_again(folders: Sequence[bytes], run: Run, state: Optional[str], before
             os.mkdir(state)
         name = os.path.join(state, _KEPT)
     with Catalogue(name, make=True) as catalogue:
-        closed: List[str] = []
+        closed: list[str] = []
         # sidecars are files like all others here, each with its own digest
         how = How(run.jobs, False, False, True, False, run.limit, run.session.room, run.session.debug, closed_folder, run.session.programs)
         options = IndexOptions(folders, quiet=run.quiet or not sys.stderr.isatty(), how=how, print_line=closed.append, look=looker(before))
@@ -156,7 +156,7 @@ class Told:
         self._output, self._list = output, listed
         self.counts: "Counter[State]" = Counter()
         self.old = 0  # files that were damaged before, and in which nothing else is damaged now
-        self._names: Dict[Optional[State], List[str]] = {}  # None: of files that were damaged before
+        self._names: dict[Optional[State], list[str]] = {}  # None: of files that were damaged before
 
     def add(self, file: verified.Verified) -> None:
         """Counts a file, and prints it or keeps its name."""
@@ -217,7 +217,7 @@ def _print_one(output: Output, result: verified.Verified) -> None:
         print_line(f"{shown_path(result.path)}: {', '.join([*state, *_words(result)])}")
 
 
-def _words(result: verified.Verified) -> List[str]:
+def _words(result: verified.Verified) -> list[str]:
     """What more is known of a file than its state."""
     if result.place is None:
         return [result.note] * bool(result.note)
@@ -255,7 +255,7 @@ def _write_evidence(name: str, form: str, now: Catalogue) -> None:
     atomic.put(name, write, lambda _: False)
 
 
-_Files = Iterable[Tuple[bytes, str, int]]  # each with its SHA-256 and its bytes
+_Files = Iterable[tuple[bytes, str, int]]  # each with its SHA-256 and its bytes
 
 
 def _sums(files: _Files, _folder: bytes) -> Iterator[bytes]:
@@ -288,7 +288,7 @@ def _bag(files: _Files, folder: bytes) -> Iterator[bytes]:
         yield digest.encode("ascii") + b"  " + encoded + b"\n"
 
 
-_FORMS: Dict[str, Callable[[_Files, bytes], Iterator[bytes]]] = {"sha256sum": _sums, "hashdeep": _hashdeep, "bagit": _bag}
+_FORMS: dict[str, Callable[[_Files, bytes], Iterator[bytes]]] = {"sha256sum": _sums, "hashdeep": _hashdeep, "bagit": _bag}
 _READERS = {"sha256sum": "for sha256sum -c", "hashdeep": "for hashdeep -a -k", "bagit": "as the manifest of a bag"}
 
 

@@ -3,7 +3,7 @@
 from __future__ import annotations
 
 import os
-from typing import BinaryIO, List
+from typing import BinaryIO
 
 from ..fields.tokens import MOST_WORDS
 from ..files import opening
@@ -24,7 +24,7 @@ def text_of(file: BinaryIO, name: str) -> str:
         raise WrongUse(f"{escaped(name)} is no text in UTF-8") from None
 
 
-def words_in(text: str, name: str) -> List[str]:
+def words_in(text: str, name: str) -> list[str]:
     """The words of a file, one each line; lines that begin with # are comments."""
     if text.count("\n") > MOST_WORDS:
         raise WrongUse(f"{escaped(name)} has more than {MOST_WORDS:,} lines")
@@ -38,6 +38,6 @@ def text_of_file(name: str) -> str:
         return text_of(file, name)
 
 
-def words_of_file(name: str) -> List[str]:
+def words_of_file(name: str) -> list[str]:
     """The words of a regular file."""
     return words_in(text_of_file(name), name)

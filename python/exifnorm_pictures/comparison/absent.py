@@ -4,7 +4,7 @@ from __future__ import annotations
 
 import os
 from dataclasses import dataclass, field
-from typing import Dict, Iterable, List, Optional, Set
+from typing import Iterable, Optional
 
 from ..catalogue.store import Catalogue
 from ..model.records import Stamp
@@ -18,7 +18,7 @@ class Folder:
 
     path: bytes
     count: int = 0
-    names: List[bytes] = field(default_factory=list)  # of the first ones
+    names: list[bytes] = field(default_factory=list)  # of the first ones
     is_held: bool = True  # False: a picture of it was found elsewhere, so somebody has emptied it
 
 
@@ -27,9 +27,9 @@ class Absent:
 
     def __init__(self, tops: Iterable[bytes]) -> None:
         self._tops = [os.path.abspath(it) for it in tops]
-        self._have_files: Dict[bytes, bool] = {}
-        self._folders: Dict[bytes, Folder] = {}
-        self._left: Set[bytes] = set()  # absent folders that a picture has left for another place
+        self._have_files: dict[bytes, bool] = {}
+        self._folders: dict[bytes, Folder] = {}
+        self._left: set[bytes] = set()  # absent folders that a picture has left for another place
 
     def add(self, path: bytes, name: bytes, device: Optional[int]) -> bool:
         """Counts a picture that is gone with its folder; False if its folder is there: also an empty one on the device that the picture was on,
@@ -49,7 +49,7 @@ class Absent:
         if place is not None:
             self._left.add(place)
 
-    def settled(self) -> List[Folder]:
+    def settled(self) -> list[Folder]:
         """The folders, once all pictures are known."""
         for folder in self._folders.values():
             folder.is_held = folder.path not in self._left

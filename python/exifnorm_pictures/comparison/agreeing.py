@@ -2,7 +2,7 @@
 
 from __future__ import annotations
 
-from typing import Iterator, Sequence, Tuple
+from typing import Iterator, Sequence
 
 from ..catalogue.checking import Checked
 from ..catalogue.kept_texts import Report, say_nothing
@@ -19,7 +19,7 @@ def checked(catalogue: Catalogue, rules: Sequence[Rule], report: Report = say_no
     return Checked(catalogue, rules, _contradictions, report)
 
 
-def _contradictions(catalogue: Catalogue) -> Iterator[Tuple[bytes, bytes, str, str]]:
+def _contradictions(catalogue: Catalogue) -> Iterator[tuple[bytes, bytes, str, str]]:
     """The pictures with a label that differs, each with the folder that was indexed, the label and its texts."""
     for picture in catalogue.pictures():
         if not picture.problem:

@@ -3,7 +3,7 @@
 from __future__ import annotations
 
 from enum import IntEnum
-from typing import Dict, Iterable, List, NamedTuple, Optional, Sequence, Tuple
+from typing import Iterable, NamedTuple, Optional, Sequence
 
 from ..fields.choosing import Choice
 from ..fields.listing import MAKER_NOTE
@@ -19,7 +19,7 @@ from ..model.verdicts import Turns
 from .differing import FieldDifference, differences
 
 Block = Optional[BlockRecord]
-Repair = Tuple[str, Tuple[Step, ...], Tuple[Step, ...]]  # the name of a block, and the steps before and after
+Repair = tuple[str, tuple[Step, ...], tuple[Step, ...]]  # the name of a block, and the steps before and after
 Lost = Sequence[Sequence[str]]  # the kinds of blocks that may be missing of each of two damaged files
 NOTHING: Lost = ((), ())
 
@@ -34,7 +34,7 @@ class Weight(IntEnum):
 
 
 # What the heaviest difference of a kind makes of the verdict on the kind
-_TURNS: Dict[Weight, Dict[Result, Result]] = {
+_TURNS: dict[Weight, dict[Result, Result]] = {
     Weight.MAY_BE_MISSING: {Result.DIFFERENT: Result.NOT_KNOWN, Result.DIFFERENT_REPAIRED: Result.NOT_KNOWN},
     Weight.EQUAL_NUMBER: {Result.DIFFERENT: Result.SAME_NUMBERS, Result.DIFFERENT_REPAIRED: Result.SAME_REPAIRED},
     Weight.LEFT_OUT: {Result.DIFFERENT: Result.SAME_BUT, Result.DIFFERENT_REPAIRED: Result.SAME_REPAIRED},
@@ -61,12 +61,12 @@ class Details(NamedTuple):
     has_more: bool = False  # whether further fields weren't compared
 
     @property
-    def changes(self) -> List[FieldDifference]:
+    def changes(self) -> list[FieldDifference]:
         """The fields that differ and count."""
         return [change for seen in self.every for change in seen.changes]
 
     @property
-    def clauses(self) -> List[str]:
+    def clauses(self) -> list[str]:
         """What the sentence says of the blocks."""
         more = [f"after {COMPARED_FIELDS:,} fields no further ones were compared"] * self.has_more
         return [clause for seen in self.every for clause in seen.clauses] + more
@@ -74,7 +74,7 @@ class Details(NamedTuple):
     @property
     def turns(self) -> Turns:
         """What becomes of the verdict on each kind."""
-        heaviest: Dict[str, Weight] = {}
+        heaviest: dict[str, Weight] = {}
         for kind, weight in ((seen.kind, weight) for seen in self.every for weight in seen.weights):
             heaviest[kind] = max(weight, heaviest.get(kind, weight))
         return {kind: _TURNS[weight] for kind, weight in heaviest.items()}
@@ -118,7 +118,7 @@ def _may_lack(is_lost: bool, block: Block) -> bool:
 
 def _with_fields(seen: Seen, every: Sequence[FieldDifference], is_equal: bool, part: str) -> Seen:
     """With the fields that differ. `part` is the name of a block that only one picture has."""
-    by_weight: Dict[Weight, List[FieldDifference]] = {weight: [] for weight in Weight}
+    by_weight: dict[Weight, list[FieldDifference]] = {weight: [] for weight in Weight}
     for difference, weight in zip(every, seen.weights):
         by_weight[weight].append(difference._replace(part=part) if part else difference)
     changes = by_weight[Weight.COUNTS]
@@ -127,7 +127,7 @@ def _with_fields(seen: Seen, every: Sequence[FieldDifference], is_equal: bool, p
     return seen._replace(changes=changes, left_out=left_out, is_only_note=is_note or (is_equal and not changes))
 
 
-def weights_of(every: Sequence[FieldDifference], is_equal: bool, choice: Choice, lost: Sequence[bool] = (False, False)) -> List[Weight]:
+def weights_of(every: Sequence[FieldDifference], is_equal: bool, choice: Choice, lost: Sequence[bool] = (False, False)) -> list[Weight]:
     """How much each difference of two blocks weighs. If no field differs, and the blocks aren't equal, something else does, which counts.
     `lost` is of which of them another program may not have found a field of a damaged file."""
     return [_weight(it, choice, lost) for it in every] or [Weight.COUNTS] * (not is_equal)
@@ -146,14 +146,14 @@ class _Fields:
 
     def __init__(self, sides: Sides) -> None:
         self._sides, self._left = sides, COMPARED_FIELDS
-        self._known: Dict[Tuple[object, ...], List[FieldDifference]] = {}
+        self._known: dict[tuple[object, ...], list[FieldDifference]] = {}
 
     @property
     def is_full(self) -> bool:
         """Whether so many fields were compared that no further ones are."""
         return self._left < 0
 
-    def differences(self, name: str, old: Block, new: Block) -> List[FieldDifference]:
+    def differences(self, name: str, old: Block, new: Block) -> list[FieldDifference]:
         """The fields that differ, with the name of a block that isn't the first one of its kind; none if too many were compared."""
         if self.is_full:
             return []
@@ -168,7 +168,7 @@ class _Fields:
         return [difference._replace(block=name) for difference in known] if name else known
 
 
-def _known(every: List[FieldDifference], old: Block, new: Block) -> Tuple[List[FieldDifference], List[str]]:
+def _known(every: list[FieldDifference], old: Block, new: Block) -> tuple[list[FieldDifference], list[str]]:
     """The differences without those fields that one block has, and that the repair of the other one may have lost; and a clause about these."""
     lost = [steps.lost_fields(block.steps) if block else frozenset() for block in (old, new)]
     unknown = [it for it in every if _is_lost(it, lost[0], it.before) or _is_lost(it, lost[1], it.after)]
@@ -207,14 +207,14 @@ def _repair(name: str, old: Block, new: Block) -> Optional[Repair]:
     return (name, old.steps if old else (), new.steps if new else ())
 
 
-def _readings(name: str, *blocks: Block) -> List[str]:
+def _readings(name: str, *blocks: Block) -> list[str]:
     """Clauses that say that only one side has a block, or why one is refused, and by which repairs its fields are read."""
     if not any(block and block.repair for block in blocks):
         return _refused(name, *blocks)
     return _repaired(name, *blocks) if _are_readable(*blocks) else []
 
 
-def _refused(name: str, old: Block, new: Block) -> List[str]:
+def _refused(name: str, old: Block, new: Block) -> list[str]:
     """The same without any repair."""
     if _are_readable(old, new):
         return [f"no {name} {word}" for word, block in (("before", old), ("after", new)) if block is None]
@@ -224,7 +224,7 @@ def _refused(name: str, old: Block, new: Block) -> List[str]:
     return [f"{name}: " + ", ".join(f"{word} {text}" for word, text in texts.items())]
 
 
-def _repaired(name: str, old: Block, new: Block) -> List[str]:
+def _repaired(name: str, old: Block, new: Block) -> list[str]:
     """What was repaired, and what is lost by it."""
     if old and _have(old, new, "octets"):
         return [f"{name}: {old.refusal}"]

@@ -7,7 +7,7 @@ import hashlib
 import heapq
 import sqlite3
 from collections import Counter
-from typing import TYPE_CHECKING, Dict, Iterator, List, NamedTuple, Optional, Sequence, Set, Tuple
+from typing import TYPE_CHECKING, Iterator, NamedTuple, Optional, Sequence
 
 from ..catalogue.store import Catalogue
 from ..fields.choosing import EVERYTHING, Choice
@@ -44,13 +44,13 @@ class Compared(NamedTuple):
     verdicts: Sequence[Verdict] = ()
     moved_to: Optional[bytes] = None
     partner: Optional[bytes] = None  # the picture with the same stem with which it was compared
-    maker_note: "Optional[List[maker_notes.NoteDifference]]" = None  # the values that ExifTool reads otherwise, if it was asked
-    repairs: Sequence[Tuple[str, Tuple[Step, ...], Tuple[Step, ...]]] = ()  # of each block, before and after
+    maker_note: "Optional[list[maker_notes.NoteDifference]]" = None  # the values that ExifTool reads otherwise, if it was asked
+    repairs: Sequence[tuple[str, tuple[Step, ...], tuple[Step, ...]]] = ()  # of each block, before and after
     left_out: Sequence[str] = ()  # fields and kinds that differ and don't count
     picture: Coded = Coded.UNKNOWN  # what is known of the coded picture
     parts: Sequence[str] = ()  # what has come, gone or changed of the rest of the file
     is_unseen: bool = False  # whether its file has other bytes and the same metadata, and its picture can't be compared
-    damage: Tuple[str, str] = ("", "")  # of the file before and after
+    damage: tuple[str, str] = ("", "")  # of the file before and after
     is_new: bool = False  # only there afterwards
     has_more: bool = False  # whether further fields weren't compared, of pages that share blocks of many fields
 
@@ -59,7 +59,7 @@ def changed(
     before: Catalogue,
     after: Catalogue,
     counts: "Counter[Result]",
-    only: Optional[Set[bytes]] = None,
+    only: Optional[set[bytes]] = None,
     every: bool = False,
     session: Optional[Session] = None,
     choice: Choice = EVERYTHING,
@@ -210,7 +210,7 @@ def _unread(name: bytes, picture: PictureRecord, other: PictureRecord) -> Compar
 _UNREAD = {str(Problem.NO_PICTURE): (Result.NO_PICTURE_SAME, Result.NO_PICTURE_DIFFERENT, "")}
 
 
-def _by_digests(old: PictureRecord, new: PictureRecord, sides: Sides) -> Tuple[Judged, Lost]:
+def _by_digests(old: PictureRecord, new: PictureRecord, sides: Sides) -> tuple[Judged, Lost]:
     """What the digests say, and the kinds of which a block may be in what wasn't read of each file."""
     by_kind = tuple(verdicts(old.sides(), new.sides()))
     is_alike = old.not_read is not None and old.not_read == new.not_read
@@ -225,7 +225,7 @@ def _by_digests(old: PictureRecord, new: PictureRecord, sides: Sides) -> Tuple[J
     return Judged(tuple(_not_known(it, missing, is_alike) for it in by_kind), tuple(left_open(*unread))), lost
 
 
-def _absent(picture: PictureRecord, kinds: Sequence[str]) -> List[str]:
+def _absent(picture: PictureRecord, kinds: Sequence[str]) -> list[str]:
     return [kind for kind, side in picture.sides().items() if kind in kinds and side.status == Status.ABSENT]
 
 
@@ -235,7 +235,7 @@ def _not_known(verdict: Verdict, missing: Lost, is_alike: bool) -> Verdict:
     return Verdict(verdict.kind, Result.NOT_KNOWN, all(is_open) and is_alike) if any(is_open) else verdict
 
 
-def _chosen(judged: Judged, old: PictureRecord, new: PictureRecord, choice: Choice) -> Tuple[Judged, List[str]]:
+def _chosen(judged: Judged, old: PictureRecord, new: PictureRecord, choice: Choice) -> tuple[Judged, list[str]]:
     """Leaves out whole kinds of blocks, and what only MakerNotes lead to. Returns their names, too."""
     out = {it.kind: it.result for it in judged.verdicts if it.may_differ and it.kind not in choice.kinds}
     judged = judged.turned({kind: {result: Result.LEFT_OUT} for kind, result in out.items()})
@@ -257,7 +257,7 @@ def _without_notes(judged: Judged, old: PictureRecord, new: PictureRecord) -> Ju
 _LOOKED_AT = frozenset((Result.DIFFERENT, Result.REFUSED, Result.UNREADABLE, Result.SAME_REPAIRED, Result.DIFFERENT_REPAIRED))
 
 
-def _details(judged: Judged, old: PictureRecord, new: PictureRecord, sides: Sides, choice: Choice, lost: Lost) -> Tuple[Details, List[str]]:
+def _details(judged: Judged, old: PictureRecord, new: PictureRecord, sides: Sides, choice: Choice, lost: Lost) -> tuple[Details, list[str]]:
     """What is seen of the blocks, if there is anything to see, and which programs extracted blocks that no reader here reads."""
     looked_at = not _LOOKED_AT.isdisjoint(it.result for it in judged.verdicts)
     if not looked_at and old.extractor == new.extractor == OWN:
@@ -267,7 +267,7 @@ def _details(judged: Judged, old: PictureRecord, new: PictureRecord, sides: Side
     return details_of(blocks, kinds, sides, choice, lost) if looked_at else Details(), _programs(blocks)
 
 
-def _programs(blocks: Sequence[Sequence[BlockRecord]]) -> List[str]:
+def _programs(blocks: Sequence[Sequence[BlockRecord]]) -> list[str]:
     return [f"extracted by {PROGRAMS[it]}" for it in PROGRAMS if any(block.extractor == it for side in blocks for block in side)]
 
 
@@ -294,9 +294,9 @@ class Equal:
     def __init__(self) -> None:
         self.base = sqlite3.connect("", isolation_level=None)
         self.base.executescript(_EQUAL)
-        self._known: Dict[bytes, int] = {}
-        self._heads: List[Tuple[int, Optional[bytes], str, int]] = []
-        self._names: List[Tuple[int, bytes]] = []
+        self._known: dict[bytes, int] = {}
+        self._heads: list[tuple[int, Optional[bytes], str, int]] = []
+        self._names: list[tuple[int, bytes]] = []
         self._size = 0  # of what waits
         self._count = 0
 
@@ -334,7 +334,7 @@ class Equal:
         self._known.clear()
         self._size = 0
 
-    def all(self, by_rank: bool = False) -> Iterator[Tuple[str, int, Iterator[bytes]]]:
+    def all(self, by_rank: bool = False) -> Iterator[tuple[str, int, Iterator[bytes]]]:
         """The changes, each with its number of pictures and their names, in the order in which they were first added, or by rank and number of
         pictures."""
         self._write()

@@ -3,7 +3,7 @@
 from __future__ import annotations
 
 from collections import Counter
-from typing import Optional, Sequence, Tuple
+from typing import Optional, Sequence
 
 from ..model import rest
 from ..model.found import CUT
@@ -45,7 +45,7 @@ SQL = f"""CASE WHEN new.damage != '' AND old.damage = '' THEN '{Coded.DAMAGED}' 
     WHEN old.sha256 != '' AND old.sha256 = new.sha256 THEN '{Coded.SAME}' ELSE '{Coded.UNKNOWN}' END"""
 
 
-def coded_result(picture: PictureRecord, other: PictureRecord) -> Tuple[Coded, str]:
+def coded_result(picture: PictureRecord, other: PictureRecord) -> tuple[Coded, str]:
     """Whether two files have the same coded picture, and a note. One that is damaged is no other picture than a whole one, and isn't the same either."""
     if picture.damage or other.damage:
         return _damaged(picture, other)
@@ -63,7 +63,7 @@ def _by_digests(picture: PictureRecord, other: PictureRecord) -> Coded:
     return Coded.SAME if is_same or not rest.changes(picture.beside, other.beside) else Coded.BESIDE
 
 
-def _damaged(picture: PictureRecord, other: PictureRecord) -> Tuple[Coded, str]:
+def _damaged(picture: PictureRecord, other: PictureRecord) -> tuple[Coded, str]:
     if not other.damage:
         return Coded.DAMAGED_BEFORE, f"{Coded.DAMAGED_BEFORE}: {picture.damage}"
     if picture.damage:
@@ -84,7 +84,7 @@ _RESULTS = {
 _NOTHING = (None, None, None)
 
 
-def result_with(coded: Coded, result: Result, parts: Sequence[str]) -> Tuple[Result, str]:
+def result_with(coded: Coded, result: Result, parts: Sequence[str]) -> tuple[Result, str]:
     """The result of the metadata and the coded pictures together, and what isn't in its word, as the other `parts` that differ."""
     together = _RESULTS.get(coded, _NOTHING)[0 if result.has_changed else 1 if result.is_equal else 2]
     if together == Result.OTHER_PARTS:

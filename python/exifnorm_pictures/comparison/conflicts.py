@@ -8,7 +8,7 @@ import re
 import unicodedata
 from collections import Counter
 from datetime import datetime
-from typing import Dict, Iterator, List, NamedTuple, Optional, Sequence, Tuple
+from typing import Iterator, NamedTuple, Optional, Sequence
 
 from exifnorm._words import documented
 
@@ -60,8 +60,8 @@ class Conflict(NamedTuple):
     label: str
     kind: ConflictKind
     detail: str
-    texts: Tuple[Caption, ...]
-    worse: Tuple[str, ...] = ()
+    texts: tuple[Caption, ...]
+    worse: tuple[str, ...] = ()
 
     @property
     def is_alike(self) -> bool:
@@ -74,7 +74,7 @@ class Conflict(NamedTuple):
         return self.kind == ConflictKind.DIFFERENT
 
 
-Positions = Tuple[Optional[Located], Optional[Located]]  # of Exif and of XMP
+Positions = tuple[Optional[Located], Optional[Located]]  # of Exif and of XMP
 
 
 class _How(NamedTuple):
@@ -83,9 +83,9 @@ class _How(NamedTuple):
     worse: str = ""  # a field
 
 
-def conflicts(texts: Sequence[Caption], positions: Positions = (None, None)) -> List[Conflict]:
+def conflicts(texts: Sequence[Caption], positions: Positions = (None, None)) -> list[Conflict]:
     """The labels with texts in two standards at least, and the position if Exif and XMP have one. An XMP sidecar counts beside them."""
-    by_label: Dict[str, List[Caption]] = {}
+    by_label: dict[str, list[Caption]] = {}
     for text in texts:
         if text.is_compared:
             by_label.setdefault(text.label, []).append(text)
@@ -95,7 +95,7 @@ def conflicts(texts: Sequence[Caption], positions: Positions = (None, None)) -> 
     return [*of_labels, *_of_positions(*positions)]
 
 
-def _source(text: Caption) -> Tuple[str, str]:
+def _source(text: Caption) -> tuple[str, str]:
     """The standard that a text is of, or the sidecar."""
     return text.standard, text.block
 
@@ -133,7 +133,7 @@ def _hows(label: Label, ours: Sequence[Caption]) -> Iterator[_How]:
             yield _pair(label, text, other)
 
 
-def _of_people(texts: Sequence[Caption]) -> List[Caption]:
+def _of_people(texts: Sequence[Caption]) -> list[Caption]:
     """The texts that neither are empty nor a camera's own."""
     return [it for it in texts if not it.is_empty and not it.is_own]
 
@@ -146,7 +146,7 @@ def chosen(texts: Sequence[Caption], known: Sequence[Conflict], order: Sequence[
     agreeing = Counter(text for text, _ in {(_plain(it.line), it.standard) for it in candidates if not it.is_extra and not it.block})
     candidates = [it for it in candidates if not it.block] or candidates
 
-    def rank(text: Caption) -> Tuple[bool, bool, bool, int]:
+    def rank(text: Caption) -> tuple[bool, bool, bool, int]:
         return text.is_extra, text.field in worse, agreeing[_plain(text.line)] < 2, order.index(text.standard)
 
     candidates.sort(key=rank)
@@ -159,7 +159,7 @@ def best(texts: Sequence[Caption], known: Sequence[Conflict]) -> str:
     return text.line if text else ""
 
 
-def own_texts(texts: Sequence[Caption]) -> List[str]:
+def own_texts(texts: Sequence[Caption]) -> list[str]:
     """The texts that a camera or a program writes by itself, each once."""
     return list(dict.fromkeys(it.line for it in texts if it.is_own))
 
@@ -183,7 +183,7 @@ def _pair(label: Label, text: Caption, other: Caption) -> _How:
     return max(each, key=lambda it: _ORDER.index(it.kind))
 
 
-def _lists(first: List[str], second: List[str], text: Caption, other: Caption) -> Optional[_How]:
+def _lists(first: list[str], second: list[str], text: Caption, other: Caption) -> Optional[_How]:
     """How two lists differ as wholes; None if only their texts can tell."""
     if sorted(first) == sorted(second):
         return _How(ConflictKind.ORDER, "another order")
@@ -197,11 +197,11 @@ def _lists(first: List[str], second: List[str], text: Caption, other: Caption) -
     return None
 
 
-def _parts(texts: Sequence[str]) -> List[str]:
+def _parts(texts: Sequence[str]) -> list[str]:
     return [part.strip() for text in texts for part in text.replace(",", ";").split(";") if part.strip()]
 
 
-def _texts_differ(label: Label, pair: Tuple[str, str], whose: Tuple[Caption, Caption], at: int) -> _How:
+def _texts_differ(label: Label, pair: tuple[str, str], whose: tuple[Caption, Caption], at: int) -> _How:
     if pair[0] == pair[1]:
         return _How(ConflictKind.ALIKE)
     for side in (0, 1):
@@ -225,7 +225,7 @@ def _explained(label: Label, text: str, against: str, label_text: Caption, at: i
     yield from _cut(label, label_text, text, against, len(octets))
 
 
-def _read_again(octets: bytes) -> Iterator[Tuple[str, str]]:
+def _read_again(octets: bytes) -> Iterator[tuple[str, str]]:
     """Bytes outside ASCII as texts in each character set that can have them, after its word."""
     for name, word in _CHARACTER_SETS.items() if not octets.isascii() else ():
         with contextlib.suppress(UnicodeDecodeError):

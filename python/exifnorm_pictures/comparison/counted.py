@@ -4,7 +4,7 @@ from __future__ import annotations
 
 import hashlib
 from itertools import islice
-from typing import Any, Iterator, NamedTuple, Optional, Sequence, Tuple
+from typing import Any, Iterator, NamedTuple, Optional, Sequence
 
 from ..catalogue.store import Catalogue
 from ..fields.choosing import Choice
@@ -69,7 +69,7 @@ def _columns(choice: Choice) -> str:
     return ", ".join(f"{columns.get(it, f'pictures.{it}')} AS {it}" for it in PICTURES.names)
 
 
-def _rows(catalogue: Catalogue, choice: Choice) -> Iterator[Tuple[object, ...]]:
+def _rows(catalogue: Catalogue, choice: Choice) -> Iterator[tuple[object, ...]]:
     """A row for each picture with blocks."""
     for picture, rows in catalogue.packed_fields("kind, name, status, ifnull(digest, repaired), octets, repair"):
         with catalogue.guarded():
@@ -77,7 +77,7 @@ def _rows(catalogue: Catalogue, choice: Choice) -> Iterator[Tuple[object, ...]]:
         yield (picture, *_row(blocks, choice))
 
 
-def _counted(row: Tuple[Any, ...], choice: Choice) -> _Counted:
+def _counted(row: tuple[Any, ...], choice: Choice) -> _Counted:
     word, name, status, digest, octets, repair, packed = row
     has(str, word, name, status, octets, *(it for it in (digest, repair) if it is not None))
     meaning = digest or octets
@@ -122,7 +122,7 @@ def _sum_of(fields: Sequence[Field]) -> str:
     return _sum([it.identity for it in fields])
 
 
-def _sum(rows: Sequence[Tuple[object, ...]]) -> str:
+def _sum(rows: Sequence[tuple[object, ...]]) -> str:
     return hashlib.sha256(repr(rows).encode("utf-8", "surrogatepass")).hexdigest()
 
 
@@ -135,7 +135,7 @@ def _together(blocks: Sequence[_Counted], kind: str, what: str) -> Optional[str]
     return joined(there) if there else ""
 
 
-def _row(blocks: Sequence[_Counted], choice: Choice) -> Tuple[object, ...]:
+def _row(blocks: Sequence[_Counted], choice: Choice) -> tuple[object, ...]:
     """The digest of each kind, of Exif after repairs, of all that the picture means, and of all its fields."""
     digests = [_together(blocks, kind, "digest") if kind in choice.kinds else "" for kind in KINDS]
     repaired = _together(blocks, EXIF, "repaired") if digests[0] is None else None

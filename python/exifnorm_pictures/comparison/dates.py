@@ -4,7 +4,7 @@ from __future__ import annotations
 
 import re
 from datetime import datetime, timedelta
-from typing import Dict, List, Optional, Sequence, Tuple
+from typing import Optional, Sequence
 
 from ..fields.field import Field
 from ..fields.plain_texts import text_of, xmp_texts
@@ -17,10 +17,10 @@ _TIME_OF = {"2:55": "2:60", "2:62": "2:63"}  # the DataSet of the time of a date
 _DATE_OF = {time: date for date, time in _TIME_OF.items()}
 
 
-def shifts(changes: Sequence[FieldDifference]) -> Dict[timedelta, List[FieldDifference]]:
+def shifts(changes: Sequence[FieldDifference]) -> dict[timedelta, list[FieldDifference]]:
     """The dates that moved, by how much later they are. The date and the time of IPTC move together,
     as over midnight."""
-    found: Dict[timedelta, List[FieldDifference]] = {}
+    found: dict[timedelta, list[FieldDifference]] = {}
     by_tag = {(it.tag, it.block): it for it in changes if it.directory == "iptc"}
     for change in changes:
         fields = _together(change, by_tag)
@@ -32,10 +32,10 @@ def shifts(changes: Sequence[FieldDifference]) -> Dict[timedelta, List[FieldDiff
     return found
 
 
-_ByTag = Dict[Tuple[str, str], FieldDifference]
+_ByTag = dict[tuple[str, str], FieldDifference]
 
 
-def _together(change: FieldDifference, by_tag: _ByTag) -> List[FieldDifference]:
+def _together(change: FieldDifference, by_tag: _ByTag) -> list[FieldDifference]:
     """A date with its time; nothing for a time whose date has it."""
     if change.directory != "iptc":
         return [change]
@@ -54,7 +54,7 @@ def _shift(change: FieldDifference) -> Optional[timedelta]:
     return second[0] - first[0] if first and second and first[1] == second[1] else None
 
 
-def _date_of(field: Field) -> Optional[Tuple[datetime, str]]:
+def _date_of(field: Field) -> Optional[tuple[datetime, str]]:
     """The time of a date, and what follows it; None for a field that is none, or for a date that
     isn't in the calendar."""
     form = _IPTC.get(field.tag, _DATE) if field.directory == "iptc" else _DATE

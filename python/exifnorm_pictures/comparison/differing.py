@@ -3,7 +3,7 @@
 from __future__ import annotations
 
 from fractions import Fraction
-from typing import Any, Dict, List, NamedTuple, Optional, Sequence, Tuple
+from typing import Any, NamedTuple, Optional, Sequence
 
 from ..fields.field import Field
 from ..fields.listing import LONGEST_BYTES, OCTETS, counted_type, digest_of, order_of, shortened
@@ -18,8 +18,8 @@ class FieldDifference(NamedTuple):
 
     directory: str
     tag: str
-    before: Tuple[Field, ...]  # several of a repeated DataSet, none if there is no such field
-    after: Tuple[Field, ...]
+    before: tuple[Field, ...]  # several of a repeated DataSet, none if there is no such field
+    after: tuple[Field, ...]
     block: str = ""  # of which block; empty for the first one of its kind
     part: str = ""  # the whole block or directory, such as `IPTC`, that came or went with this field; empty if both pictures have it
     note: str = ""  # what is printed in place of the values
@@ -56,7 +56,7 @@ def bare(fields: Sequence[Field]) -> Optional[str]:
     return ", ".join(shortened(it.exact) if it.type in texts else exact_side([it]) or "" for it in fields) if fields else None
 
 
-def equal_form(field: Field) -> Tuple[object, ...]:
+def equal_form(field: Field) -> tuple[object, ...]:
     """What is equal for fields that differ only in their form: numbers by value, and bytes whatever their type is.
 
     >>> equal_form(Field("exif", "829a", "RATIONAL", 1, ((10, 80000),))) == equal_form(Field("exif", "829a", "RATIONAL", 1, ((1, 8000),)))
@@ -84,7 +84,7 @@ def _number(value: Any) -> object:
     return Fraction(above, below) if below else ("no number", (above > 0) - (above < 0))
 
 
-def differences(before: Sequence[Field], after: Sequence[Field], block: str = "") -> List[FieldDifference]:
+def differences(before: Sequence[Field], after: Sequence[Field], block: str = "") -> list[FieldDifference]:
     """The fields that differ, in the order of a listing; values of a repeated DataSet are compared as one list.
 
     >>> [it.name for it in differences([Field("main", "010f", "ASCII", 2, b"a\\0")], [Field("main", "010f", "ASCII", 2, b"b\\0")])]
@@ -104,8 +104,8 @@ def _directory(where: str, there: Sequence["set[str]"]) -> str:
     return "" if all(where in it for it in there) else group_of(where)
 
 
-def _by_name(fields: Sequence[Field]) -> Dict[Tuple[str, str], List[Field]]:
-    result: Dict[Tuple[str, str], List[Field]] = {}
+def _by_name(fields: Sequence[Field]) -> dict[tuple[str, str], list[Field]]:
+    result: dict[tuple[str, str], list[Field]] = {}
     for field in fields:
         result.setdefault((field.directory, field.tag), []).append(field)
     return result

@@ -5,7 +5,7 @@ from __future__ import annotations
 
 from collections import Counter, defaultdict
 from dataclasses import dataclass, field
-from typing import Collection, Dict, Iterable, List, Sequence, Set, Tuple
+from typing import Collection, Iterable, Sequence
 
 from ..model.found import STANDARDS
 from .differing import FieldDifference
@@ -33,7 +33,7 @@ class Lacking:
     """Pictures that weren't edited in a standard that they have."""
 
     pictures: int = 0
-    names: List[bytes] = field(default_factory=list)  # the first ones
+    names: list[bytes] = field(default_factory=list)  # the first ones
 
     def add(self, pictures: int, names: Iterable[bytes]) -> None:
         """Counts more pictures."""
@@ -50,7 +50,7 @@ class Counted:
     shape: bytes
     value: str  # that it gave to all pictures; empty if they differ
     places: "Counter[str]" = field(default_factory=Counter)  # pictures, by standard
-    lacking: Dict[str, Lacking] = field(default_factory=dict)
+    lacking: dict[str, Lacking] = field(default_factory=dict)
 
     def add(self, name: bytes, edit: Edit, standards: Collection[str]) -> None:
         """Counts one more picture, which has these standards."""
@@ -70,7 +70,7 @@ class Counted:
         for it, lacking in other.lacking.items():
             self.lacking.setdefault(it, Lacking()).add(lacking.pictures, lacking.names)
 
-    def odd(self) -> Dict[str, Lacking]:
+    def odd(self) -> dict[str, Lacking]:
         """The standards in which this edit was made in most pictures that have them, and the few
         pictures in which it wasn't."""
         return {it: few for it, few in self.lacking.items() if few.pictures < self.places[it]}
@@ -80,8 +80,8 @@ class Counted:
 class Kind:
     """The pictures with the same edits."""
 
-    edits: List[Counted]
-    names: List[bytes] = field(default_factory=list)  # the first pictures
+    edits: list[Counted]
+    names: list[bytes] = field(default_factory=list)  # the first pictures
     pictures: int = 0
 
 
@@ -89,12 +89,12 @@ class Kind:
 class Group:
     """Pictures that were edited alike."""
 
-    counted: List[Counted]
+    counted: list[Counted]
     pictures: int = 0
-    names: List[bytes] = field(default_factory=list)  # the first pictures
-    kinds: List[int] = field(default_factory=list)  # the numbers of the kinds that it has
+    names: list[bytes] = field(default_factory=list)  # the first pictures
+    kinds: list[int] = field(default_factory=list)  # the numbers of the kinds that it has
     # the first picture of each kind, with its own edits
-    firsts: "List[Tuple[bytes, List[Edit]]]" = field(default_factory=list)
+    firsts: "list[tuple[bytes, list[Edit]]]" = field(default_factory=list)
 
     @property
     def number(self) -> int:
@@ -112,12 +112,12 @@ class Group:
         return {it.edit.name for it in self.counted} == {NUMBERS}
 
     @property
-    def edits(self) -> List[Edit]:
+    def edits(self) -> list[Edit]:
         """What all of its pictures have in common."""
         return [it.edit for it in self.counted]
 
     @property
-    def places(self) -> "List[Counter[str]]":
+    def places(self) -> "list[Counter[str]]":
         """In how many pictures each edit was in which standard."""
         return [it.places for it in self.counted]
 
@@ -141,8 +141,8 @@ class Kinds:
     has_parts: bool = True
     most_names: int = 1  # of the pictures of a kind that are kept
     further: int = 0  # pictures with edits that aren't among the kinds
-    kinds: List[Kind] = field(default_factory=list)
-    _numbers: Dict[Tuple[bytes, ...], int] = field(default_factory=dict)
+    kinds: list[Kind] = field(default_factory=list)
+    _numbers: dict[tuple[bytes, ...], int] = field(default_factory=dict)
     _edits: int = 0
     _names: int = 0
 
@@ -170,7 +170,7 @@ class Kinds:
                 counted.add(name, edits[counted.key], standards)
         return number
 
-    def _new(self, identity: Tuple[bytes, ...], edits: Dict[bytes, Edit]) -> int:
+    def _new(self, identity: tuple[bytes, ...], edits: dict[bytes, Edit]) -> int:
         """The number of a new kind, or 0 if there are too many."""
         if len(self.kinds) >= KINDS or self._edits + len(edits) > EDITS:
             return 0
@@ -186,11 +186,11 @@ class Kinds:
             self._names += bool(kind.names)
             kind.names.append(name)
 
-    def groups(self) -> List[Group]:
+    def groups(self) -> list[Group]:
         """The groups, the smallest first. Kinds are joined if they set a field to the same value,
         whatever it was before, or if each picture of many has an edit of its own."""
         joins = _Joins(self.kinds)
-        joined: Dict[Tuple[bytes, ...], Group] = {}
+        joined: dict[tuple[bytes, ...], Group] = {}
         for number, kind in enumerate(self.kinds, 1):
             found = joins.of(kind)
             identity = tuple(sorted(found))
@@ -215,8 +215,8 @@ class _Joins:
 
     def __init__(self, kinds: Sequence[Kind]) -> None:
         self._pictures: "Counter[bytes]" = Counter()
-        self._setting: Dict[Tuple[str, str], Set[bytes]] = defaultdict(set)
-        self._shapes: Dict[bytes, Set[bytes]] = defaultdict(set)
+        self._setting: dict[tuple[str, str], set[bytes]] = defaultdict(set)
+        self._shapes: dict[bytes, set[bytes]] = defaultdict(set)
         all_ = [(it, kind.pictures) for kind in kinds for it in kind.edits]
         for it, pictures in all_:
             self._pictures[it.key] += pictures
@@ -234,9 +234,9 @@ class _Joins:
         is_one = self._pictures[it.key] == 1 and not it.edit.note
         return is_one and not self._sets(it) and not self._has_shape(it)
 
-    def of(self, kind: Kind) -> Dict[bytes, Counted]:
+    def of(self, kind: Kind) -> dict[bytes, Counted]:
         """The edits of a kind that count, as its group has them."""
-        found: Dict[bytes, Counted] = {}
+        found: dict[bytes, Counted] = {}
         for it in kind.edits:
             edit, key = self._joined(it)
             one = Counted(edit, key, it.shape, it.value, Counter(it.places))
@@ -247,7 +247,7 @@ class _Joins:
                 found[key] = one
         return found
 
-    def _joined(self, it: Counted) -> Tuple[Edit, bytes]:
+    def _joined(self, it: Counted) -> tuple[Edit, bytes]:
         edit = it.edit
         if self._sets(it):
             edit = edit._replace(steps=(Step(IN, edit.value),), note="", is_list=False)
@@ -260,7 +260,7 @@ class _Joins:
         return edit, it.key
 
 
-def _alike(groups: Sequence[Group]) -> List[Group]:
+def _alike(groups: Sequence[Group]) -> list[Group]:
     """The groups whose edits look alike in words."""
     looks = [look(it.words()) for it in groups]
     counts = Counter(looks)

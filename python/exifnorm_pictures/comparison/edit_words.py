@@ -4,7 +4,7 @@ from __future__ import annotations
 
 import re
 from collections import Counter
-from typing import List, Optional, Sequence
+from typing import Optional, Sequence
 
 from .edits import Edit, places_of
 from .marking import IN, KEPT, OUT, Step
@@ -32,7 +32,7 @@ def head_of(edit: Edit, places: "Optional[Counter[str]]" = None, pictures: int =
     return f"{edit.name}{where}{'' if edit.note in _VERBS else ':'} {edit.note}"
 
 
-def steps_of(edit: Edit, is_one: bool) -> List[Step]:
+def steps_of(edit: Edit, is_one: bool) -> list[Step]:
     """The words of an edit: of one picture with some of the text around them, of several with `..`
     in its place; members of a list one by one."""
     if edit.note and edit.note != NUMBERED and not is_one:

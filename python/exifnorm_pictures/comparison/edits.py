@@ -14,7 +14,7 @@ import re
 from collections import Counter, defaultdict
 from datetime import timedelta
 from itertools import chain
-from typing import Dict, Iterator, List, NamedTuple, Optional, Sequence, Set, Tuple
+from typing import Iterator, NamedTuple, Optional, Sequence
 
 from ..fields.choosing import SAVES
 from ..fields.field import Field
@@ -58,9 +58,9 @@ class Edit(NamedTuple):
     """
 
     name: str  # the label of its fields, such as `caption`, or the name of the field
-    steps: Tuple[Step, ...] = ()
+    steps: tuple[Step, ...] = ()
     note: str = ""
-    fields: Tuple[str, ...] = ()
+    fields: tuple[str, ...] = ()
     value: str = ""  # the new value; empty if there is none
     is_list: bool = False
     is_minor: bool = False  # whether it counts only if it is all that was edited
@@ -74,7 +74,7 @@ class Edit(NamedTuple):
         return "~" if self.note or len(signs) != 1 else signs.pop()
 
     @property
-    def core(self) -> Tuple[Step, ...]:
+    def core(self) -> tuple[Step, ...]:
         """What equal edits have in common: what was taken out and put in, and whether that is
         between kept words."""
         signs = [it.sign for it in self.steps]
@@ -97,7 +97,7 @@ class Edit(NamedTuple):
         return digest(repr((self.name, self.note, [*chain(*numberless(self.core))])))
 
 
-def numberless(steps: Sequence[Step]) -> Tuple[Step, ...]:
+def numberless(steps: Sequence[Step]) -> tuple[Step, ...]:
     """Words with `#` in place of each number."""
     return tuple(Step(it.sign, _DIGITS.sub("#", it.text)) for it in steps)
 
@@ -107,7 +107,7 @@ def _bare(step: Step) -> Step:
     return Step(step.sign, text)
 
 
-def places_of(edit: Edit) -> List[str]:
+def places_of(edit: Edit) -> list[str]:
     """In which standards an edit was, which dates moved, or the labels of the texts that went with
     a block; nothing if the name says it."""
     if edit.note in ("removed", "added"):
@@ -127,11 +127,11 @@ def digest(text: str) -> bytes:
     return hashlib.sha256(text.encode("utf-8", "surrogatepass")).digest()[:16]
 
 
-def edits_of(changes: Sequence[FieldDifference], has_parts: bool = True) -> Dict[bytes, Edit]:
+def edits_of(changes: Sequence[FieldDifference], has_parts: bool = True) -> dict[bytes, Edit]:
     """The edits of a picture, with their keys, by the fields that differ: those with a label first,
     and last what programs write by themselves. A block or directory that came or went is one edit,
     but for the texts that came with it, unless only some fields are compared."""
-    edits: Dict[bytes, Edit] = {}
+    edits: dict[bytes, Edit] = {}
     for edit in _single(changes, _parts(changes) if has_parts else {}):
         _add(edits, edit)
     major = [(key or it.key, it) for key, it in edits.items() if not it.is_minor]
@@ -141,7 +141,7 @@ def edits_of(changes: Sequence[FieldDifference], has_parts: bool = True) -> Dict
     return dict([*major, (minor.key, minor)] if names else major)
 
 
-def _add(edits: Dict[bytes, Edit], edit: Edit) -> None:
+def _add(edits: dict[bytes, Edit], edit: Edit) -> None:
     """Adds an edit to those of a picture, of which equal ones are one."""
     key = edit.key
     known = edits.get(key)
@@ -156,14 +156,14 @@ def _add(edits: Dict[bytes, Edit], edit: Edit) -> None:
         edits[b""] = Edit(FURTHER, (), "changed", value=value)
 
 
-_Part = Tuple[str, str]  # whether it came or went, and its name
+_Part = tuple[str, str]  # whether it came or went, and its name
 
 
-def _parts(changes: Sequence[FieldDifference]) -> Dict[_Part, str]:
+def _parts(changes: Sequence[FieldDifference]) -> dict[_Part, str]:
     """The blocks and directories that came or went. A small one isn't an edit by itself: what
     counts are the texts that came with it, or the only one that went with it."""
     parted = [it for it in changes if it.part]
-    texts: Dict[_Part, Set[str]] = defaultdict(set)
+    texts: dict[_Part, set[str]] = defaultdict(set)
     for change in parted:
         if _has_label(change):
             texts[change.sign, change.part].add(_name(change))
@@ -171,7 +171,7 @@ def _parts(changes: Sequence[FieldDifference]) -> Dict[_Part, str]:
     return {it: SMALL if count <= FEW and (it[0] == IN or len(texts[it]) == 1) else WHOLE for it, count in counts.items()}
 
 
-def _single(changes: Sequence[FieldDifference], parts: Dict[_Part, str]) -> Iterator[Edit]:
+def _single(changes: Sequence[FieldDifference], parts: dict[_Part, str]) -> Iterator[Edit]:
     """The edits of single fields, and of those that are one: dates that moved, and positions that
     didn't go with a block or directory."""
     moved = shifts(changes)
@@ -200,7 +200,7 @@ def _of_dates(shift: timedelta, fields: Sequence[FieldDifference]) -> Edit:
     return Edit(DATES, (Step(OUT, before), Step(IN, after)), in_words(shift), names, after, is_minor=is_minor)
 
 
-def _is_position(change: FieldDifference, parts: Dict[_Part, str]) -> bool:
+def _is_position(change: FieldDifference, parts: dict[_Part, str]) -> bool:
     if _name(change) != POSITION or change.note or change.is_equal_number:
         return False
     return change.sign != OUT or parts.get((OUT, change.part)) != WHOLE
@@ -212,7 +212,7 @@ def edit_of(change: FieldDifference) -> Edit:
 
 
 @functools.lru_cache(maxsize=1)
-def _order() -> Dict[str, int]:
+def _order() -> dict[str, int]:
     return {label: at for at, label in enumerate(dict.fromkeys(label_of_fields().values()))}
 
 
@@ -221,7 +221,7 @@ def _name(change: FieldDifference) -> str:
     return label_of_fields().get(name, name) + (f" ({change.block})" if change.block else "")
 
 
-def place_of(change: FieldDifference) -> Tuple[int, str]:
+def place_of(change: FieldDifference) -> tuple[int, str]:
     """The place of a field among others, by its label, and what it is about."""
     name = _name(change)
     return _order().get(name, len(_order())), name
@@ -267,7 +267,7 @@ def _of_values(change: FieldDifference) -> Edit:
 
 
 @functools.lru_cache(maxsize=8)
-def _script(before: str, after: str) -> Tuple[Step, ...]:
+def _script(before: str, after: str) -> tuple[Step, ...]:
     """How a text becomes another one: often the same in Exif, IPTC and XMP."""
     return tuple(Marker(STEPS).script(before, after))
 
@@ -275,13 +275,13 @@ def _script(before: str, after: str) -> Tuple[Step, ...]:
 # Lists
 
 
-def lists_of(change: FieldDifference) -> Optional[Tuple[List[str], List[str]]]:
+def lists_of(change: FieldDifference) -> Optional[tuple[list[str], list[str]]]:
     """The members of a list before and after; None for a field that is none, or has one on both sides."""
     less, more = _members(change.before), _members(change.after)
     return None if less is None or more is None or len(less) == len(more) == 1 else (less, more)
 
 
-def _of_list(name: str, before: List[str], after: List[str], fields: Tuple[str, ...]) -> Edit:
+def _of_list(name: str, before: list[str], after: list[str], fields: tuple[str, ...]) -> Edit:
     """What a list has more and less."""
     less, more = Counter(before) - Counter(after), Counter(after) - Counter(before)
     steps = [Step(OUT, it) for it in sorted(less.elements())]
@@ -290,7 +290,7 @@ def _of_list(name: str, before: List[str], after: List[str], fields: Tuple[str, 
     return Edit(name, tuple(steps), "" if steps else order, fields, "; ".join(after), True)
 
 
-def _members(fields: Sequence[Field]) -> Optional[List[str]]:
+def _members(fields: Sequence[Field]) -> Optional[list[str]]:
     """The members of a list of texts; None for a field that is none."""
     if not fields:
         return []

@@ -4,7 +4,7 @@ from __future__ import annotations
 
 import os
 from dataclasses import dataclass, field
-from typing import Dict, Iterator, List, NamedTuple, Optional, Tuple
+from typing import Iterator, NamedTuple, Optional
 
 from ..model.found import EXIF, KINDS
 from ..model.problems import Problem
@@ -33,7 +33,7 @@ class Shared(NamedTuple):
     """What SQLite found that some pictures have in common."""
 
     basis: Basis
-    kinds: Tuple[str, ...]
+    kinds: tuple[str, ...]
     is_partial: bool = False  # they are the same but for fields that are left out
     has_choice: bool = False  # whether fields may be left out
 
@@ -59,12 +59,12 @@ class Link(NamedTuple):
 class Files:
     """The files of some pictures, as they are now."""
 
-    pictures: List[PictureRecord] = field(default_factory=list)  # different files that are there as they were looked at
-    links: List[Link] = field(default_factory=list)
-    gone: List[bytes] = field(default_factory=list)
-    changed: List[bytes] = field(default_factory=list)
+    pictures: list[PictureRecord] = field(default_factory=list)  # different files that are there as they were looked at
+    links: list[Link] = field(default_factory=list)
+    gone: list[bytes] = field(default_factory=list)
+    changed: list[bytes] = field(default_factory=list)
 
-    def only(self, pictures: List[PictureRecord]) -> "Files":
+    def only(self, pictures: list[PictureRecord]) -> "Files":
         """These pictures, with their further names."""
         here = {it.path for it in pictures}
         return Files(pictures, [it for it in self.links if it.of in here], self.gone, self.changed)
@@ -76,8 +76,8 @@ class Group:
 
     shared: Shared
     files: Files
-    reasons: Dict[int, str] = field(default_factory=dict)  # the refusals or repairs of a picture, by its number
-    others: Dict[int, int] = field(default_factory=dict)  # how many more pictures an earlier group has, of which this picture is one
+    reasons: dict[int, str] = field(default_factory=dict)  # the refusals or repairs of a picture, by its number
+    others: dict[int, int] = field(default_factory=dict)  # how many more pictures an earlier group has, of which this picture is one
     not_read: str = ""  # the parts that were not read, and have the same bytes
 
     @property
@@ -91,7 +91,7 @@ class Group:
         return Result.SAME_REPAIRED if self.basis == Basis.REPAIR else None
 
     @property
-    def members(self) -> List[PictureRecord]:
+    def members(self) -> list[PictureRecord]:
         """The pictures that are listed."""
         return self.files.pictures
 
@@ -101,7 +101,7 @@ class Group:
         return len(self.members)
 
     @property
-    def digests(self) -> Dict[str, str]:
+    def digests(self) -> dict[str, str]:
         """The digest of each kind that they have, as far as it is known."""
         first, digests = self.members[0], {}
         if self.shared.is_partial or self.basis in OTHERS:  # no digest is of what they have in common

@@ -3,7 +3,7 @@
 from __future__ import annotations
 
 import os
-from typing import Dict, Iterable, List, Optional, Sequence, Tuple
+from typing import Iterable, Optional, Sequence
 
 from ..extract.sidecars import Folders
 from ..model.records import PictureRecord, Stamp, is_marked_as
@@ -13,8 +13,8 @@ from .group import Files, Link
 def files_of(pictures: Iterable[PictureRecord], look: bool, folders: Optional[Folders]) -> Files:
     """The different files of some pictures that are there; the further names of each, and those that are gone or have changed."""
     files = Files()
-    places: Dict[object, Dict[object, int]] = {}  # of each file among the pictures, by device and inode
-    further: Dict[int, List[PictureRecord]] = {}
+    places: dict[object, dict[object, int]] = {}  # of each file among the pictures, by device and inode
+    further: dict[int, list[PictureRecord]] = {}
     for picture in pictures:
         state, (device, inode) = _state(picture, folders) if look else ("", (picture.device, picture.inode))
         if state:
@@ -31,7 +31,7 @@ def files_of(pictures: Iterable[PictureRecord], look: bool, folders: Optional[Fo
     return files
 
 
-def _add_links(files: Files, at: int, names: List[PictureRecord], look: bool) -> None:
+def _add_links(files: Files, at: int, names: list[PictureRecord], look: bool) -> None:
     """Takes one of several names of a file for its picture, and the others for links to it."""
     # one that leads through no symbolic link, if there is one: whoever keeps it keeps the file
     real = (it for it in names if os.path.realpath(it.path) == it.path)
@@ -48,7 +48,7 @@ def _shrunk(picture: PictureRecord, before: Sequence[PictureRecord]) -> PictureR
     return picture
 
 
-def _state(picture: PictureRecord, folders: Optional[Folders]) -> Tuple[str, Tuple[int, int]]:
+def _state(picture: PictureRecord, folders: Optional[Folders]) -> tuple[str, tuple[int, int]]:
     """`gone`, `changed`, or nothing for a file that is as it was; and the device and inode of the file."""
     try:
         now = os.stat(picture.path)

@@ -2,7 +2,7 @@
 
 from __future__ import annotations
 
-from typing import Dict, List, Optional, Sequence, Set
+from typing import Optional, Sequence
 
 from ..model.found import EXIF, KINDS, NAMES, XMP, lost_kinds
 from ..model.records import PictureRecord
@@ -66,7 +66,7 @@ def _refused(group: Group, kind: str) -> str:
 
 def _of_metadata(pictures: Sequence[PictureRecord]) -> str:
     """What is true of the metadata of pictures that may have different ones."""
-    known: Dict[str, List[str]] = {Result.SAME: [], Result.DIFFERENT: [], _REFUSED: [], Result.ABSENT: []}
+    known: dict[str, list[str]] = {Result.SAME: [], Result.DIFFERENT: [], _REFUSED: [], Result.ABSENT: []}
     for number, kind in enumerate(KINDS):
         known[_of_meanings({it.meanings[number] for it in pictures})].append(kind)
     none = none_of(known.pop(Result.ABSENT))
@@ -78,7 +78,7 @@ def _of_metadata(pictures: Sequence[PictureRecord]) -> str:
 _REFUSED = "refused or unreadable"
 
 
-def _of_meanings(meanings: Set[Optional[str]]) -> str:
+def _of_meanings(meanings: set[Optional[str]]) -> str:
     """What the digests of some pictures say of a kind."""
     if None in meanings:
         return _REFUSED

@@ -8,7 +8,7 @@ same place in blocks with the same bytes.
 
 from __future__ import annotations
 
-from typing import Dict, Iterator, List, NamedTuple, Optional, Sequence, Tuple
+from typing import Iterator, NamedTuple, Optional, Sequence
 
 from ..catalogue.store import PICTURE_COLUMNS, Catalogue
 from ..extract.sidecars import Folders
@@ -32,7 +32,7 @@ class _Query(NamedTuple):
     """How SQLite finds the groups of one basis: what is equal, which pictures can be in one, and what must be true of all together."""
 
     basis: Basis
-    key: Tuple[str, ...]
+    key: tuple[str, ...]
     where: str
     having: str = "count(*) > 1"
 
@@ -95,7 +95,7 @@ class Groups:
         """The groups of files with the same bytes, the largest first."""
         return self._groups(_Query(Basis.FILE, ("sha256",), _whole("!= ''") + _among(self.only)), KINDS, "pictures")
 
-    def _groups(self, query: _Query, kinds: Tuple[str, ...], table: str) -> Iterator[Group]:
+    def _groups(self, query: _Query, kinds: tuple[str, ...], table: str) -> Iterator[Group]:
         """The groups that SQLite finds in a table, by the files that are there."""
         for shared, pictures in _found(self.catalogue, query, kinds, table):
             group = Group(shared, files_of(pictures, self._look, self._folders))
@@ -109,7 +109,7 @@ class Groups:
             yield group
 
 
-def _found(catalogue: Catalogue, query: _Query, kinds: Tuple[str, ...], table: str) -> Iterator[Tuple[Shared, Iterator[PictureRecord]]]:
+def _found(catalogue: Catalogue, query: _Query, kinds: tuple[str, ...], table: str) -> Iterator[tuple[Shared, Iterator[PictureRecord]]]:
     """What pictures in a table have in common, and these pictures, by path."""
     key = ", ".join(query.key)
     heads = f"SELECT {key} FROM {table} WHERE {query.where} GROUP BY {key} HAVING {query.having} ORDER BY count(*) DESC, min(path)"
@@ -162,7 +162,7 @@ _DIFFERENT = "count(DISTINCT whole), count(DISTINCT listing), count(DISTINCT pla
 
 def _take_one_of_each(group: Group) -> None:
     """Leaves in a group one picture of each earlier group, and counts the others."""
-    by_key: Dict[Tuple[object, ...], List[PictureRecord]] = {}
+    by_key: dict[tuple[object, ...], list[PictureRecord]] = {}
     for picture in group.members:
         by_key.setdefault(_class_of(picture, group.shared.kinds), []).append(picture)
     group.files = group.files.only([same[0] for same in by_key.values()])
@@ -174,13 +174,13 @@ def _add_details(catalogue: Catalogue, group: Group) -> None:
     if group.members[0].not_read != "" and group.basis not in OTHERS:
         group.not_read = ", ".join(each_kind(it.what for it in catalogue.not_read_of(group.members[0])))
     if group.basis.has_reasons:
-        texts: Dict[str, str] = {}
+        texts: dict[str, str] = {}
         for picture in group.members:
             reason = _reason(catalogue, picture, group.basis)
             group.reasons[picture.id] = texts.setdefault(reason, reason)
 
 
-def _class_of(picture: PictureRecord, kinds: Sequence[str]) -> Tuple[object, ...]:
+def _class_of(picture: PictureRecord, kinds: Sequence[str]) -> tuple[object, ...]:
     """What is equal for pictures of one earlier group."""
     at = [KINDS.index(kind) for kind in kinds]
     return tuple(picture.octets[number] if picture.meanings[number] is None else picture.meanings[number] for number in at)
@@ -260,7 +260,7 @@ def _whole(words: str) -> str:
     return f"ifnull(problem, '') NOT IN {NOT_THERE} AND (sha256 {words})"
 
 
-def totals(catalogue: Catalogue, kinds: Sequence[str] = KINDS, only: Optional[str] = None, choice: Choice = EVERYTHING) -> Tuple[int, int]:
+def totals(catalogue: Catalogue, kinds: Sequence[str] = KINDS, only: Optional[str] = None, choice: Choice = EVERYTHING) -> tuple[int, int]:
     """The number of groups by meaning, and of files in them, by the catalogue alone: no file is looked at."""
     query = next(_queries([it for it in kinds if it in choice.kinds], only))
     file = "CASE WHEN inode > 0 THEN inode || ' ' || device || ' ' || size || ' ' || modified ELSE id END"  # which further names have, too

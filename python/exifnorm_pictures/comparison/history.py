@@ -5,7 +5,7 @@ from __future__ import annotations
 import contextlib
 import os
 from collections import Counter
-from typing import Iterator, List, NamedTuple, Optional, Sequence
+from typing import Iterator, NamedTuple, Optional, Sequence
 
 from ..catalogue.store import Catalogue
 from ..model.errors import WrongUse
@@ -61,7 +61,7 @@ class _Place(NamedTuple):
     may_be_elsewhere: bool = False
 
 
-def _places(name: bytes, catalogues: Sequence[Catalogue]) -> List[_Place]:
+def _places(name: bytes, catalogues: Sequence[Catalogue]) -> list[_Place]:
     """Where a picture is in each catalogue: where that of the neighbour is, and beyond a catalogue without it, by its name again."""
     places = [_Place(_named(it, name)) for it in catalogues]
     newest = max((number for number, place in enumerate(places) if place.path is not None), default=-1)

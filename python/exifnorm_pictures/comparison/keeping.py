@@ -6,7 +6,7 @@ from __future__ import annotations
 
 import contextlib
 from collections import Counter
-from typing import Dict, List, NamedTuple, Optional, Sequence, Tuple
+from typing import NamedTuple, Optional, Sequence
 
 from ..model import rest
 from ..model.found import XMP_FILE
@@ -23,7 +23,7 @@ NO_PICTURE = "no picture, and may belong to one, as an XMP file does"
 HAS_MORE = "it stays for one without other parts: {}"
 NOT_ALL = "its file has other bytes that say the same"
 
-_Key = Tuple[str, str]  # what was compared, and its digest
+_Key = tuple[str, str]  # what was compared, and its digest
 _NO_KEY = ("", "")
 _ALONE = {"file": OTHER_FILE, "picture": OTHER}  # of a picture that is equal to no other one
 
@@ -54,20 +54,20 @@ class _Equals(NamedTuple):
     """Pictures that are equal by one key, in the order in which they may stay."""
 
     pictures: Sequence[PictureRecord]
-    stays_for: Dict[int, PictureRecord]  # by the number of each: the first whose file has all of its parts
-    differs: Dict[int, PictureRecord]  # by the number of one that stays: the first that goes for it and lacks parts that count
-    goes: Dict[int, int]  # by the number of one that stays: how many go for it
+    stays_for: dict[int, PictureRecord]  # by the number of each: the first whose file has all of its parts
+    differs: dict[int, PictureRecord]  # by the number of one that stays: the first that goes for it and lacks parts that count
+    goes: dict[int, int]  # by the number of one that stays: how many go for it
     has_equal_bytes: bool
 
 
-def keeping(group: Group, reads: bool = True) -> Dict[int, Keep]:
+def keeping(group: Group, reads: bool = True) -> dict[int, Keep]:
     """What may be done with each picture of a group, by its number. The first of equal pictures by path stays: so of all groups that
     a picture is in, the one that stays is no later one, and a chain of groups ends at a picture that stays. One whose file has more
     parts comes first, as it may stay for one that lacks some. `reads` reads files with equal sizes."""
     members = list(filter(_is_picture, group.members))
     members.sort(key=lambda it: (-rest.count(it.beside), it.path))
     keys = _keys(members, reads)
-    equal: Dict[_Key, List[PictureRecord]] = {}
+    equal: dict[_Key, list[PictureRecord]] = {}
     for picture in members:
         equal.setdefault(keys[picture.id], []).append(picture)
     damages = _damages(members, equal)
@@ -83,7 +83,7 @@ def _is_picture(picture: PictureRecord) -> bool:
     return picture.problem != Problem.NO_PICTURE and picture.type != XMP_FILE
 
 
-def _damages(members: Sequence[PictureRecord], equal: Dict[_Key, List[PictureRecord]]) -> Dict[int, str]:
+def _damages(members: Sequence[PictureRecord], equal: dict[_Key, list[PictureRecord]]) -> dict[int, str]:
     """The damage of each picture, by its number; empty of one that isn't known to have any."""
     damages = {it.id: it.damage for it in members}
     for (what, _), pictures in equal.items():
@@ -97,7 +97,7 @@ def _equals(key: _Key, pictures: Sequence[PictureRecord]) -> _Equals:
     is_file = key[0] == "file"
     fullest: rest.Fullest[PictureRecord] = rest.Fullest()
     stays_for = {it.id: pictures[0] if is_file else fullest.has_all_of(it, it.beside) for it in pictures}
-    differs: Dict[int, PictureRecord] = {}
+    differs: dict[int, PictureRecord] = {}
     goes = Counter(stays_for[it.id].id for it in pictures if stays_for[it.id] is not it)
     for it in pictures:
         if rest.counting(rest.changes(it.beside, stays_for[it.id].beside)):
@@ -106,7 +106,7 @@ def _equals(key: _Key, pictures: Sequence[PictureRecord]) -> _Equals:
     return _Equals(pictures, stays_for, differs, goes, has_equal_bytes)
 
 
-def _keep(picture: PictureRecord, key: _Key, equals: Dict[_Key, _Equals], damage: str, has_unknown: bool) -> Keep:
+def _keep(picture: PictureRecord, key: _Key, equals: dict[_Key, _Equals], damage: str, has_unknown: bool) -> Keep:
     if damage:
         return Keep(why=damaged(damage))
     if key == _NO_KEY:
@@ -130,7 +130,7 @@ def _of_equal(picture: PictureRecord, same: _Equals) -> Keep:
     return Keep(True, "" if same.has_equal_bytes else NOT_ALL)
 
 
-def _keys(members: Sequence[PictureRecord], reads: bool) -> Dict[int, _Key]:
+def _keys(members: Sequence[PictureRecord], reads: bool) -> dict[int, _Key]:
     """What is known of each picture, by its number."""
     sizes = Counter(it.size for it in members if not it.coded_picture)
     return {it.id: _key(it, reads and sizes[it.size] > 1) for it in members}

@@ -6,7 +6,7 @@ import difflib
 import re
 from dataclasses import dataclass
 from itertools import compress, count
-from typing import List, NamedTuple, Optional, Sequence, Tuple
+from typing import NamedTuple, Optional, Sequence
 
 # Scripts without blanks between words have a word for each character
 _NO_BLANKS = "\u0e00-\u0eff\u1000-\u109f\u1780-\u17ff\u3040-\u30ff\u3400-\u4dbf\u4e00-\u9fff\uf900-\ufaff\U00020000-\U0003ffff"
@@ -29,7 +29,7 @@ class Piece(NamedTuple):
     is_changed: bool
 
 
-Pieces = Tuple[Piece, ...]
+Pieces = tuple[Piece, ...]
 
 
 def _common(words: Sequence[str], others: Sequence[str]) -> int:
@@ -37,9 +37,9 @@ def _common(words: Sequence[str], others: Sequence[str]) -> int:
     return next(compress(count(), map(str.__ne__, words, others)), min(len(words), len(others)))
 
 
-def _joined(steps: Sequence[Step]) -> List[Step]:
+def _joined(steps: Sequence[Step]) -> list[Step]:
     """The steps without empty ones, and with those joined that follow each other. Blanks and signs between two words that changed count as changed."""
-    joined: List[Step] = []
+    joined: list[Step] = []
     out, put = "", ""
     left = [it for it in steps if it.text]
     for at, step in enumerate(left):
@@ -59,7 +59,7 @@ class Marker:
 
     steps: int = STEPS
 
-    def script(self, before: str, after: str) -> List[Step]:
+    def script(self, before: str, after: str) -> list[Step]:
         """How one text becomes the other one, word by word.
 
         >>> Marker().script("a bowl, 1820", "a bowl, 1280")
@@ -79,7 +79,7 @@ class Marker:
             steps += [Step(KEPT, out)] if word == "equal" else [Step(OUT, out), Step(IN, put)]
         return _joined([*steps, Step(KEPT, "".join(words[len(words) - ends :]))])
 
-    def marked(self, before: Optional[str], after: Optional[str]) -> Tuple[Optional[Pieces], Optional[Pieces]]:
+    def marked(self, before: Optional[str], after: Optional[str]) -> tuple[Optional[Pieces], Optional[Pieces]]:
         """Both texts in pieces; None for a text that isn't there.
 
         >>> Marker().marked("a bowl, 1820", "a bowl, 1280")[1]

@@ -3,7 +3,7 @@
 from __future__ import annotations
 
 from collections import Counter
-from typing import Dict, List, NamedTuple, Tuple
+from typing import NamedTuple
 
 from ..scan.moved import deepest, shared_folder
 
@@ -18,7 +18,7 @@ class MovedFolder(NamedTuple):
     pictures: int
 
 
-def folders_of(name: bytes, place: bytes) -> Tuple[bytes, bytes]:
+def folders_of(name: bytes, place: bytes) -> tuple[bytes, bytes]:
     """The two folders between which a picture moved, without what they have in common at their end.
 
     >>> folders_of(b"a/x/1.jpg", b"b/x/1.jpg"), folders_of(b"a/1.jpg", b"b/2.jpg")
@@ -38,8 +38,8 @@ class MovedFolders:
     """Counts the pictures that moved, by their folders."""
 
     def __init__(self) -> None:
-        self._counts: "Counter[Tuple[bytes, bytes]]" = Counter()
-        self._shared: Dict[Tuple[bytes, bytes], bytes] = {}
+        self._counts: "Counter[tuple[bytes, bytes]]" = Counter()
+        self._shared: dict[tuple[bytes, bytes], bytes] = {}
 
     def add(self, name: bytes, place: bytes) -> None:
         """Counts a picture that moved."""
@@ -52,6 +52,6 @@ class MovedFolders:
         """How many pictures moved as this one did, to another folder with the same name."""
         return self._counts.get(folders_of(name, place), 0)
 
-    def lines(self) -> List[MovedFolder]:
+    def lines(self) -> list[MovedFolder]:
         """The folders from which two and more pictures moved to another one, those of the most pictures first."""
         return [MovedFolder(*deepest(pair, self._shared[pair]), count) for pair, count in self._counts.most_common() if count > 1]

@@ -5,7 +5,7 @@ from __future__ import annotations
 import os
 from collections import Counter
 from dataclasses import dataclass, field
-from typing import Dict, Iterator, List, NamedTuple, Optional, Set, Tuple
+from typing import Iterator, NamedTuple, Optional
 
 from ..catalogue.label_texts import rows_of
 from ..catalogue.store import Catalogue
@@ -70,7 +70,7 @@ class News:
     kind: Kind
     about: str = ""  # or a part of files and what became of it
     count: int = 0
-    names: List[Named] = field(default_factory=list)  # the first ones
+    names: list[Named] = field(default_factory=list)  # the first ones
     to: str = ""  # the new place of a folder
 
 
@@ -78,7 +78,7 @@ class Tally:
     """All news."""
 
     def __init__(self) -> None:
-        self._news: Dict[Tuple[Kind, str, str], News] = {}
+        self._news: dict[tuple[Kind, str, str], News] = {}
 
     def add(self, kind: Kind, name: bytes, about: str = "", to: Optional[bytes] = None, count: int = 1, folder_to: str = "") -> None:
         """Counts a picture, or some of a folder."""
@@ -87,7 +87,7 @@ class Tally:
         if len(news.names) < SHOWN:
             news.names.append(Named(name, to))
 
-    def all(self) -> List[News]:
+    def all(self) -> list[News]:
         """The news, the first kind first, and of each kind what is about the most pictures."""
         order = {kind: number for number, kind in enumerate(Kind)}
         return sorted(self._news.values(), key=lambda it: (order[it.kind], -it.count, it.about, it.to))
@@ -96,11 +96,11 @@ class Tally:
 class Between:
     """What has happened between two catalogues of an archive, of the last night and of tonight."""
 
-    def __init__(self, before: Catalogue, now: Catalogue, folders: List[bytes], session: Session) -> None:
+    def __init__(self, before: Catalogue, now: Catalogue, folders: list[bytes], session: Session) -> None:
         """Compares all pictures. Folders that aren't there are looked for below `folders`."""
         self.tally = Tally()
-        self.moves: Dict[bytes, bytes] = {}  # full paths
-        self._renumbered: Set[bytes] = set()  # those of them whose names other pictures had or have
+        self.moves: dict[bytes, bytes] = {}  # full paths
+        self._renumbered: set[bytes] = set()  # those of them whose names other pictures had or have
         self.coded: "Counter[Coded]" = Counter()
         self.pictures = 0
         self.with_news = 0
@@ -129,10 +129,10 @@ class Between:
     def _picture(self, side: int, name: bytes) -> PictureRecord:
         return self._sides[side].picture(self._full(side, name)) or PictureRecord()
 
-    def _texts(self, side: int, name: bytes) -> Dict[str, Set[str]]:
+    def _texts(self, side: int, name: bytes) -> dict[str, set[str]]:
         """The texts of a picture by label, also its position, serial numbers and owner."""
         catalogue = self._sides[side]
-        texts: Dict[str, Set[str]] = {}
+        texts: dict[str, set[str]] = {}
         with catalogue.guarded():
             for label, text, *_ in rows_of(catalogue.blocks_with_fields(self._picture(side, name))):
                 texts.setdefault(label, set()).add(text)
@@ -233,7 +233,7 @@ class Between:
                 self.tally.add(Kind.GONE, folder.names[0], count=folder.count)
 
 
-def _kinds(comparison: Compared) -> Iterator[Tuple[Kind, str]]:
+def _kinds(comparison: Compared) -> Iterator[tuple[Kind, str]]:
     """What a comparison itself says, besides the fields; of each part of the file by itself."""
     kind = _OF_CODED.get(comparison.picture)
     if kind:
@@ -258,7 +258,7 @@ def _kind_of_text(label: str, was_there: bool, is_there: bool) -> Kind:
 _OF_CODED = {Coded.DAMAGED: Kind.DAMAGED, Coded.DAMAGED_BEFORE: Kind.READABLE, Coded.OTHER: Kind.OTHER_PICTURE, Coded.BESIDE: Kind.PARTS}
 
 
-def _labels(comparison: Compared) -> List[str]:
+def _labels(comparison: Compared) -> list[str]:
     """The labels of which a field differs. What may be behind the end of a file that is cut off isn't known to differ."""
     names = {change.name.partition(" (")[0] for change in comparison.changes}
     return [label for label, fields in fields_by_label().items() if not names.isdisjoint(fields)]

@@ -2,7 +2,7 @@
 
 from __future__ import annotations
 
-from typing import TYPE_CHECKING, List, NamedTuple, Optional, Sequence
+from typing import TYPE_CHECKING, NamedTuple, Optional, Sequence
 
 from ..fields.listing import MAKER_NOTE
 from ..files.session import Session
@@ -30,7 +30,7 @@ class Noted(NamedTuple):
     result: Result
     changes: Sequence[FieldDifference]  # with what is known of a MakerNote in place of its bytes
     clause: str = ""
-    values: "Optional[List[maker_notes.NoteDifference]]" = None  # that ExifTool reads otherwise, if it was asked
+    values: "Optional[list[maker_notes.NoteDifference]]" = None  # that ExifTool reads otherwise, if it was asked
 
 
 class _Notes(NamedTuple):
@@ -41,7 +41,7 @@ class _Notes(NamedTuple):
     reached: Sequence[str]  # parts of the file that only they can reach
     is_rewritten: bool  # the block: then what the MakerNote leads to may be gone or have changed
 
-    def told(self, changes: Sequence[FieldDifference], note: str) -> List[FieldDifference]:
+    def told(self, changes: Sequence[FieldDifference], note: str) -> list[FieldDifference]:
         """The changes with a note in place of the bytes."""
         return [change._replace(note=note) if change in self.lines else change for change in changes]
 
@@ -97,7 +97,7 @@ def _open(before: Noted, notes: _Notes, changes: Sequence[FieldDifference], part
     return Noted(judged, judged.result, changes)
 
 
-def _read_otherwise(before: Noted, notes: _Notes, values: "List[maker_notes.NoteDifference]") -> Noted:
+def _read_otherwise(before: Noted, notes: _Notes, values: "list[maker_notes.NoteDifference]") -> Noted:
     """One change for all values that ExifTool reads otherwise."""
     note = f"{'has moved, and ' * notes.has_moved}now reads differently: {len(values)} value{'s' * (len(values) > 1)}"
     change = (notes.lines[0] if notes.lines else FieldDifference(*MAKER_NOTE, (), ()))._replace(note=note)

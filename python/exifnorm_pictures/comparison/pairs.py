@@ -8,7 +8,7 @@ import os
 import sqlite3
 import unicodedata
 from collections import Counter
-from typing import Any, Callable, Iterator, List, NamedTuple, Optional, Sequence, Set, Tuple, TypeVar
+from typing import Any, Callable, Iterator, NamedTuple, Optional, Sequence, TypeVar
 
 from ..catalogue.store import BLOCK_COLUMNS, PICTURE_COLUMNS, Catalogue, NoCatalogue, address, check_schema, connect, unlike
 from ..fields.field import Field
@@ -107,7 +107,7 @@ def shown_form(name: bytes) -> bytes:
     return unicodedata.normalize("NFC", name.decode("utf-8", "surrogateescape")).encode("utf-8", "surrogateescape")
 
 
-def heads_of(catalogues: Sequence[Catalogue]) -> List[bytes]:
+def heads_of(catalogues: Sequence[Catalogue]) -> list[bytes]:
     """What is in front of each picture's name in its path: the folder, if each catalogue has one, and otherwise nothing."""
     roots = [it.roots() for it in catalogues]
     by_root = all(len(it) <= 1 for it in roots)
@@ -120,7 +120,7 @@ class Pairs(Sides):
     If each catalogue has one folder, pictures are matched by path relative to it; otherwise by full path. All is read of one moment.
     """
 
-    def __init__(self, before: Catalogue, after: Catalogue, only: Optional[Set[bytes]] = None, by_stem: bool = False) -> None:
+    def __init__(self, before: Catalogue, after: Catalogue, only: Optional[set[bytes]] = None, by_stem: bool = False) -> None:
         """Pairs all pictures, or `by_stem` those of one name without the ending; `differing` and `came` return only some, by name or by path."""
         self.by_stem = by_stem
         self.catalogues = (before, after)
@@ -140,7 +140,7 @@ class Pairs(Sides):
         """Closes the connection, and with it the temporary database."""
         self.base.close()
 
-    def _open(self, only: Optional[Set[bytes]]) -> None:
+    def _open(self, only: Optional[set[bytes]]) -> None:
         for base, catalogue in zip(_BASES, self.catalogues):
             self.base.execute(f"ATTACH ? AS {base}", (address(catalogue.file),))
             check_schema(self.base, catalogue.name, base)
@@ -180,7 +180,7 @@ class Pairs(Sides):
             return "TRUE"
         return f"{_ALIASES[side]}.path IN main.chosen_{_BASES[side]}"
 
-    def _paths_of(self, side: int, name: bytes) -> Set[bytes]:
+    def _paths_of(self, side: int, name: bytes) -> set[bytes]:
         """The paths that a chosen name may stand for on a side: itself, the one below the folder, and that of a path of the other side."""
         mine, other = self.heads[side], self.heads[1 - side]
         return {name, mine + name, *[mine + name[len(other) :]] * name.startswith(other)}
@@ -250,13 +250,12 @@ class Pairs(Sides):
         paired = f"SELECT 1 FROM {_BASES[1 - side]}.pictures AS {other} WHERE {on}"
         return f"SELECT {mine}.id FROM {_BASES[side]}.pictures AS {mine} WHERE {_is_there(mine)} AND NOT EXISTS ({paired})"
 
-    def _alone(self, side: int, key: str, has_taken: bool) -> Iterator[Tuple[object, ...]]:
+    def _alone(self, side: int, key: str, has_taken: bool) -> Iterator[tuple[object, ...]]:
         """The number, the digests and the key of each picture that isn't paired yet, by key and path, also of those whose name has another file.
         SQLite has sorted them before the first is fetched."""
         key = f"form(substr(path, {len(self.heads[side]) + 1}))" if key == _FORM else key
         alone = [f"SELECT id FROM alone_{base}" + f" UNION SELECT {alias} FROM taken" * has_taken for base, alias in zip(_BASES, _ALIASES)]
         rows = [f"FROM ({query}) CROSS JOIN {base}.pictures USING (id)" for base, query in zip(_BASES, alone)]
-        key = f"form(substr(path, {len(self.heads[side]) + 1}))" if key == _FORM else key
         base, is_coded, is_content = _BASES[side], key in _CODED, key.startswith("content")
         left = (
             f"{rows[side]} WHERE problem IS NULL AND {_HAS_KEY} AND id NOT IN (SELECT {_ALIASES[side]} FROM moved)"
@@ -265,13 +264,16 @@ class Pairs(Sides):
             # of all that were edited a digest is made only if one may be equal: their key has the size and the time, too
             + f" AND (size, modified) IN (SELECT size, modified {rows[1 - side]})" * (is_content and has_taken)
         )
-        conditions = (
-            f" AND ({key}) IN (SELECT {key} {left} GROUP BY {key} HAVING count(*) = 1)" * (is_coded or is_content)
-            + " AND sha256 != ''" * key.startswith("sha256")
-            + f" AND {_IS_ALONE.format(base=base)}" * (key in _LIKELY)
-            + f" AND {_HAS_NO_COPY.format(base=base)}" * (key == _CODED[-1])
-        )
-        return self.base.execute(f"SELECT id, sha256, coded_picture, {key} {left}{conditions} ORDER BY {key}, path")
+        query = f"SELECT id, sha256, coded_picture, {key} {left}"
+        if is_coded or is_content:
+            query += f" AND ({key}) IN (SELECT {key} {left} GROUP BY {key} HAVING count(*) = 1)"
+        if key.startswith("sha256"):
+            query += " AND sha256 != ''"
+        if key in _LIKELY:
+            query += f" AND {_IS_ALONE.format(base=base)}"
+        if key == _CODED[-1]:
+            query += f" AND {_HAS_NO_COPY.format(base=base)}"
+        return self.base.execute(f"{query} ORDER BY {key}, path")
 
     # The results
 
@@ -288,7 +290,7 @@ class Pairs(Sides):
         )
         yield from self._rows(query, self._pair_of_row)
 
-    def _pair_of_row(self, row: Tuple[object, ...]) -> Pair:
+    def _pair_of_row(self, row: tuple[object, ...]) -> Pair:
         name, place, moved, is_edited = self._named(BEFORE, row[1]), *row[-5:-2]
         to = None if place is None else self._named(AFTER, place)
         is_one = to is not None and shown_form(to) == shown_form(name)
@@ -340,12 +342,12 @@ class Pairs(Sides):
         """Whether a picture of a side is so."""
         return next(self._rows(f"SELECT 1 FROM {base}.pictures WHERE {condition} LIMIT 1", bool), False)
 
-    def blocks(self, side: int, picture: PictureRecord) -> List[BlockRecord]:
+    def blocks(self, side: int, picture: PictureRecord) -> list[BlockRecord]:
         """A picture's blocks."""
         query = f"SELECT {BLOCK_COLUMNS} FROM {_BASES[side]}.blocks WHERE picture = ? ORDER BY number"
         return with_kept_fields(self._of(side, query, picture, block_of_row))
 
-    def fields(self, side: int, block: Optional[BlockRecord]) -> List[Field]:
+    def fields(self, side: int, block: Optional[BlockRecord]) -> list[Field]:
         """The fields of a block; none if they aren't kept, or if there is no block."""
         with self.catalogues[side].guarded():
             return fields_of(block) if block else []
@@ -354,16 +356,16 @@ class Pairs(Sides):
         """The result of `unpack` for what ExifTool read of a picture's MakerNotes, if it was asked."""
         return self.catalogues[side].maker_notes(picture, unpack)
 
-    def not_read(self, side: int, picture: PictureRecord) -> List[NotRead]:
+    def not_read(self, side: int, picture: PictureRecord) -> list[NotRead]:
         """The parts of a picture that were not read."""
         query = f"SELECT what, digest FROM {_BASES[side]}.not_read WHERE picture = ? ORDER BY number"
         return self._of(side, query, picture, not_read_of_row)
 
-    def _of(self, side: int, query: str, picture: PictureRecord, factory: Callable[..., Made]) -> List[Made]:
+    def _of(self, side: int, query: str, picture: PictureRecord, factory: Callable[..., Made]) -> list[Made]:
         with self.catalogues[side].guarded():
             return [factory(row) for row in self.base.execute(query, (picture.id,))]
 
-    def _picture(self, side: int, row: Tuple[Any, ...]) -> PictureRecord:
+    def _picture(self, side: int, row: tuple[Any, ...]) -> PictureRecord:
         with self.catalogues[side].guarded():
             return picture_of_row(row)
 
@@ -373,7 +375,7 @@ class Pairs(Sides):
                 yield factory(row)
 
 
-def _without_pictures(name: bytes, to: Optional[bytes], row: Tuple[object, ...]) -> Pair:
+def _without_pictures(name: bytes, to: Optional[bytes], row: tuple[object, ...]) -> Pair:
     """A picture that isn't there, or is elsewhere as it was."""
     is_unclear, is_sure, is_renumbered = (bool(row[at]) for at in (-6, -2, -1))
     return Pair(name, None, None, to, to is not None and is_renumbered, is_sure, is_unclear=is_unclear)
@@ -388,7 +390,7 @@ def _content(size: int, unread: str, *octets: str) -> bytes:
     return hashlib.sha256(repr(content_key(octets, unread, size)).encode("utf-8", "surrogatepass")).digest()
 
 
-def _equal(rows: Iterator[Tuple[object, ...]], others: Iterator[Tuple[object, ...]], both: bool) -> Iterator[Tuple[object, object]]:
+def _equal(rows: Iterator[tuple[object, ...]], others: Iterator[tuple[object, ...]], both: bool) -> Iterator[tuple[object, object]]:
     """The numbers of the rows with equal keys in two sequences that are in the order of their keys, each once. A row has a number, two digests,
     and then its key; no two are returned of which a digest is known to differ: the second one, or `both`.
 

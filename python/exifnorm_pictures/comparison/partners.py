@@ -6,7 +6,7 @@ import os
 import unicodedata
 from collections import defaultdict
 from itertools import chain
-from typing import Callable, Dict, Hashable, Iterable, Iterator, List, NamedTuple, Sequence, Set, Tuple
+from typing import Callable, Hashable, Iterable, Iterator, NamedTuple, Sequence
 
 _FORMATS = (
     "DNG CR2 CR3 NEF ARW SRW PEF RAF RW2 ORF RAW",
@@ -29,14 +29,14 @@ class File(NamedTuple):
     type: str
 
 
-Sides = Tuple[Sequence[File], Sequence[File]]
+Sides = tuple[Sequence[File], Sequence[File]]
 
 
 class Partners(NamedTuple):
     """The pictures that have one, and those that may have one of several."""
 
-    pairs: List[Tuple[File, File]]
-    unclear: Tuple[List[File], List[File]]
+    pairs: list[tuple[File, File]]
+    unclear: tuple[list[File], list[File]]
 
 
 def partners(before: Sequence[File], after: Sequence[File]) -> Partners:
@@ -60,7 +60,7 @@ def partners(before: Sequence[File], after: Sequence[File]) -> Partners:
     return Partners(pairs, _but(left, lambda it: _stem(it) not in one & other))
 
 
-def _but(sides: Sides, is_out: Callable[[File], bool]) -> Tuple[List[File], List[File]]:
+def _but(sides: Sides, is_out: Callable[[File], bool]) -> tuple[list[File], list[File]]:
     """The files of both sides but some."""
     before, after = ([it for it in side if not is_out(it)] for side in sides)
     return before, after
@@ -72,9 +72,9 @@ def _stem(file: File) -> str:
     return unicodedata.normalize("NFC", name).casefold()
 
 
-def _paired(before: Iterable[File], after: Iterable[File], key: Callable[[File], Hashable]) -> Iterator[Tuple[File, File]]:
+def _paired(before: Iterable[File], after: Iterable[File], key: Callable[[File], Hashable]) -> Iterator[tuple[File, File]]:
     """The pairs of files with one key, of which each is of the nearest format to the other, and no further one is as near."""
-    groups: Dict[Hashable, Tuple[List[File], List[File]]] = defaultdict(lambda: ([], []))
+    groups: dict[Hashable, tuple[list[File], list[File]]] = defaultdict(lambda: ([], []))
     for side, files in enumerate((before, after)):
         for file in files:
             groups[key(file)][side].append(file)
@@ -83,7 +83,7 @@ def _paired(before: Iterable[File], after: Iterable[File], key: Callable[[File],
         yield from (pair for pair in _nearest(one, other) if pair[::-1] in wanted)
 
 
-def _nearest(files: Sequence[File], others: Sequence[File]) -> Set[Tuple[File, File]]:
+def _nearest(files: Sequence[File], others: Sequence[File]) -> set[tuple[File, File]]:
     """Each of some files with the only one of the nearest format."""
     places = defaultdict(list)
     for other in others:

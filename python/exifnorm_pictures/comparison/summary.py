@@ -2,7 +2,6 @@
 
 from __future__ import annotations
 
-from typing import Dict, List, Tuple
 
 from ..fields.choosing import EVERYTHING, Choice
 from ..model.found import NAMES
@@ -16,7 +15,7 @@ _NOT_THERE = (Result.ABSENT, Result.MISSING_AFTER)
 MOST_NAMES = 3  # pictures of a result that are named
 
 
-def standards_of(comparison: Compared) -> List[str]:
+def standards_of(comparison: Compared) -> list[str]:
     """The standards that a picture has."""
     return [NAMES[it.kind] for it in comparison.verdicts if it.result not in _NOT_THERE]
 
@@ -31,7 +30,7 @@ class Summary:
 
     def __init__(self, choice: Choice = EVERYTHING, most_names: int = MOST_NAMES) -> None:
         self.kinds = Kinds(not choice.only, most_names)
-        self.pictures: Dict[str, List[Tuple[bytes, bytes]]] = {}  # the first ones of each result, and where they are now
+        self.pictures: dict[str, list[tuple[bytes, bytes]]] = {}  # the first ones of each result, and where they are now
         self.moved = MovedFolders()  # of pictures in which nothing else is other
 
     def add(self, comparison: Compared) -> int:

@@ -4,7 +4,7 @@ from __future__ import annotations
 
 from collections import Counter
 from itertools import chain
-from typing import Iterable, Iterator, List, NamedTuple
+from typing import Iterable, Iterator, NamedTuple
 
 from ..model.results import Result
 from ..model.texts import pictures_in_words, shown_path
@@ -104,9 +104,9 @@ class _Name(NamedTuple):
     pictures: int = 1
 
 
-def _names(summary: Summary, result: str) -> List[_Name]:
+def _names(summary: Summary, result: str) -> list[_Name]:
     """The first pictures with a result, as many as a line has room for."""
-    names: List[_Name] = []
+    names: list[_Name] = []
     for name in chain(_folders(summary) if result == Result.MOVED else (), _pictures(summary, result)):
         if names and sum(len(it.text) for it in names) + len(name.text) > LONGEST_NAMES:
             break

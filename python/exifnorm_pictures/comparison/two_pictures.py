@@ -5,7 +5,7 @@ from __future__ import annotations
 import contextlib
 import os
 from dataclasses import dataclass
-from typing import List, NamedTuple, Optional, Sequence, Tuple
+from typing import NamedTuple, Optional, Sequence
 
 from ..extract.formats.streams import digest_of_file
 from ..fields.block_fields import fields_of
@@ -32,7 +32,7 @@ from .proved import Answers, head_of_file
 from .wording import plain_sides
 
 
-Heads = Tuple[Optional[bytes], Optional[bytes]]
+Heads = tuple[Optional[bytes], Optional[bytes]]
 NO_ANSWERS = Answers(None, None)
 
 
@@ -40,9 +40,9 @@ class FieldRow(NamedTuple):
     """A field that differs; a side is None if the field isn't there."""
 
     name: str
-    plain: Tuple[Optional[str], Optional[str]]
-    exact: Tuple[Optional[str], Optional[str]]
-    differences: Tuple[FieldDifference, ...] = ()
+    plain: tuple[Optional[str], Optional[str]]
+    exact: tuple[Optional[str], Optional[str]]
+    differences: tuple[FieldDifference, ...] = ()
     note: str = ""  # in place of the values
     is_equal_number: bool = False  # whether the field differs only in the form of its number
 
@@ -51,7 +51,7 @@ class FieldRow(NamedTuple):
 class ComparedPair:
     """Two pictures, and what `changed` finds."""
 
-    records: Tuple[PictureRecord, PictureRecord]
+    records: tuple[PictureRecord, PictureRecord]
     compared: Compared
     is_identical: bool  # whether the files have the same bytes
     has_only_fields: bool  # whether only some fields were compared, and no pictures
@@ -78,7 +78,7 @@ class ComparedPair:
         )
 
 
-def read(path: bytes, how: How, session: Session) -> Tuple[PictureRecord, Optional[bytes]]:
+def read(path: bytes, how: How, session: Session) -> tuple[PictureRecord, Optional[bytes]]:
     """Reads a picture as `index --pixels` does, always with the digest of its file, if it can be read; and the head of a JPEG, which is that of
     the same file. A file that is written to meanwhile has no head."""
     stamp = Stamp.at(path)
@@ -118,13 +118,13 @@ def _proved(comparison: Compared, heads: Heads) -> Answers:
 # The rows of the table
 
 
-def rows_of(comparison: ComparedPair, each: bool) -> List[FieldRow]:
+def rows_of(comparison: ComparedPair, each: bool) -> list[FieldRow]:
     """A row for each change; those of equal numbers at the end, and then, with `each`, one for each value of a MakerNote that ExifTool reads
     otherwise. After as much as `show` shows there is `MORE`."""
     if comparison.is_identical:
         return []
     changes, shown = comparison.compared.changes, Shown()
-    rows: List[FieldRow] = []
+    rows: list[FieldRow] = []
     for change in changes:
         if shown.is_full:
             break
@@ -139,7 +139,7 @@ def rows_of(comparison: ComparedPair, each: bool) -> List[FieldRow]:
 MORE = FieldRow("further fields", (None, None), (None, None), note=f"not shown, after {LIMITS}")
 
 
-def _note_rows(comparison: Compared) -> List[FieldRow]:
+def _note_rows(comparison: Compared) -> list[FieldRow]:
     """A row for each value of a MakerNote that ExifTool reads otherwise."""
     name = group_name(*MAKER_NOTE)
     values = [(it.name, (it.before, it.after)) for it in comparison.maker_note or ()]
@@ -157,7 +157,7 @@ def _row(difference: FieldDifference) -> FieldRow:
     return FieldRow(difference.name, plain, exact, (difference,), difference.note, difference.is_equal_number)
 
 
-def with_position(rows: List[FieldRow], picture: PictureRecord, other: PictureRecord) -> List[FieldRow]:
+def with_position(rows: list[FieldRow], picture: PictureRecord, other: PictureRecord) -> list[FieldRow]:
     """The rows with the four fields of a position as one, in degrees, if both positions are known."""
     ours = [row for row in rows if _is_of_position(row)]
     (before, is_known), (after, is_other_known) = map(_position, (picture, other))
@@ -169,7 +169,7 @@ def with_position(rows: List[FieldRow], picture: PictureRecord, other: PictureRe
     return [*rows[:at], row, *(it for it in rows[at:] if it not in ours)]
 
 
-def _position(picture: PictureRecord) -> Tuple[Optional[str], bool]:
+def _position(picture: PictureRecord) -> tuple[Optional[str], bool]:
     """The position of a picture, and whether that is known: fields that make none may be a part of one."""
     exif = (block for block in picture.blocks if block.name == NAMES[EXIF])
     fields = {it.tag: it for block in exif for it in fields_of(block) if it.directory == "gps"}

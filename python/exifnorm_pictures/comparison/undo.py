@@ -6,7 +6,7 @@ ExifTool writes the pictures; this program never does.
 from __future__ import annotations
 
 import re
-from typing import Dict, List, Optional, Sequence, Tuple
+from typing import Optional, Sequence
 
 from ..fields import labels
 from ..fields.field import Field
@@ -27,14 +27,14 @@ _ANY = "[^\0\ufffd]*"  # without what stands for a character that isn't known
 _DATES = {"iptc": r"\d{8}|\d{6}[+-]\d{4}", "xmp": _DAY, "exif": _ANY, "main": _ANY}
 
 
-def arguments(place: bytes, changes: Sequence[FieldDifference]) -> Tuple[List[bytes], List[str]]:
+def arguments(place: bytes, changes: Sequence[FieldDifference]) -> tuple[list[bytes], list[str]]:
     """The lines that put the earlier texts of a picture back, and the fields that they leave.
 
     >>> before, after = (Field("main", "013b", "ASCII", 5, it) for it in (b"Otto\\0", b"Anna\\0"))
     >>> arguments(b"a.jpg", [FieldDifference("main", "013b", (before,), (after,))])[0][3:]
     [b'-IFD0:Artist#=Otto', b'./a.jpg', b'-execute']
     """
-    by_charset: Dict[bool, List[str]] = {True: [], False: []}
+    by_charset: dict[bool, list[str]] = {True: [], False: []}
     left = []
     for change in filter(_has_text, changes):
         words = None if _is_left(change) or set(b"\r\n") & set(place) else _words(change)
@@ -71,7 +71,7 @@ def _is_utf8(field: Field) -> bool:
     return not isinstance(octets, bytes) or is_utf8(octets)
 
 
-def _words(change: FieldDifference) -> Optional[List[str]]:
+def _words(change: FieldDifference) -> Optional[list[str]]:
     """The arguments for a field; None if ExifTool can't write its earlier texts."""
     try:
         texts = [one for it in change.before for one in _texts(it)]
@@ -86,7 +86,7 @@ def _words(change: FieldDifference) -> Optional[List[str]]:
     return words + [_assigned(name, text.replace("-", ":", dashes), it) for text, it in texts]
 
 
-def _can_be_written(texts: Sequence[Tuple[str, str]], form: str) -> bool:
+def _can_be_written(texts: Sequence[tuple[str, str]], form: str) -> bool:
     """Whether ExifTool writes all of these texts as they are, and nothing else."""
     if len(texts) > 1 and not all(text for text, _ in texts):
         return False
@@ -102,7 +102,7 @@ def _assigned(name: str, text: str, language: str) -> str:
     return f"-{name}{of_language}" + (f"#={escaped}" if text else "^=")
 
 
-def _texts(field: Field) -> List[Tuple[str, str]]:
+def _texts(field: Field) -> list[tuple[str, str]]:
     """The texts of a field in their order, each with its language. Raises `ValueError` for those
     that aren't kept, are longer than IPTC allows, or are in no known character set."""
     content = field.content

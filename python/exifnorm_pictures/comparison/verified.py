@@ -6,7 +6,7 @@ An XMP sidecar, which is a block of its picture in the catalogue, is a file here
 from __future__ import annotations
 
 import os
-from typing import Iterator, List, NamedTuple, Optional, Sequence, Tuple
+from typing import Iterator, NamedTuple, Optional, Sequence
 
 from ..catalogue.store import Catalogue
 from ..model.columns import Damaged
@@ -50,7 +50,7 @@ class Verified(NamedTuple):
     damage: str = ""  # of the file as it is now, also if it was damaged before
 
 
-def state_of(before: PictureRecord, now: PictureRecord) -> Tuple[State, str]:
+def state_of(before: PictureRecord, now: PictureRecord) -> tuple[State, str]:
     """The state of a file that is there, and more words about it."""
     if not now.sha256:
         return State.UNREADABLE, now.detail or TEXTS.get(now.problem or "", "")
@@ -65,7 +65,7 @@ def state_of(before: PictureRecord, now: PictureRecord) -> Tuple[State, str]:
     return _written(before, now)
 
 
-def _written(before: PictureRecord, now: PictureRecord) -> Tuple[State, str]:
+def _written(before: PictureRecord, now: PictureRecord) -> tuple[State, str]:
     """The state of a file with other bytes."""
     is_same_picture = bool(before.coded_picture) and now.coded_picture == before.coded_picture
     if now.marks == before.marks:  # an edit has another ctime at least
@@ -73,7 +73,7 @@ def _written(before: PictureRecord, now: PictureRecord) -> Tuple[State, str]:
     return _written_anew(before, now) if is_same_picture else _other(before, now)
 
 
-def _written_anew(before: PictureRecord, now: PictureRecord) -> Tuple[State, str]:
+def _written_anew(before: PictureRecord, now: PictureRecord) -> tuple[State, str]:
     """The state of a file with the same coded picture."""
     same = result_of(verdicts(before.sides(), now.sides())) == Result.SAME and before.not_read == now.not_read is not None
     parts = changes(before.beside, now.beside)
@@ -81,7 +81,7 @@ def _written_anew(before: PictureRecord, now: PictureRecord) -> Tuple[State, str
     return (State.CAPTIONED if not same else State.PARTS if counting(parts) else State.AGAIN), note
 
 
-def _other(before: PictureRecord, now: PictureRecord) -> Tuple[State, str]:
+def _other(before: PictureRecord, now: PictureRecord) -> tuple[State, str]:
     """The state of a file that isn't known to have the same picture."""
     if (now.size, now.modified) == (before.size, before.modified):
         return State.ROTTED, "size and time are as before"
@@ -165,13 +165,13 @@ def _sidecars(picture: PictureRecord, blocks: Sequence[BlockRecord]) -> Iterator
         yield PictureRecord.of(path, picture.root, stamp, sha256=digest)
 
 
-def _sidecars_of_row(row: Tuple[bytes, str]) -> List[Tuple[bytes, Stamp]]:
+def _sidecars_of_row(row: tuple[bytes, str]) -> list[tuple[bytes, Stamp]]:
     has(bytes, row[0])
     has(str, row[1])
     return list(_marked(*row))
 
 
-def _marked(picture: bytes, marks: str) -> Iterator[Tuple[bytes, Stamp]]:
+def _marked(picture: bytes, marks: str) -> Iterator[tuple[bytes, Stamp]]:
     """The sidecars of a picture with their marks, as a catalogue has them. Raises `Damaged`."""
     for line in marks.split("\n"):
         name, *numbers = line.split(" ")

@@ -4,7 +4,7 @@ from __future__ import annotations
 
 import time
 from datetime import MAXYEAR, MINYEAR
-from typing import Dict, Iterator, List, NamedTuple, Optional, Sequence, Tuple
+from typing import Iterator, NamedTuple, Optional, Sequence
 
 from ..catalogue.store import Catalogue
 from ..catalogue.texts import texts_of
@@ -81,7 +81,7 @@ class Export:
         values = reading.values.items() if reading else ()
         self.tables.add("maker_notes", [(picture.id, at, *value) for at, value in enumerate(values)])
 
-    def _texts(self, picture: PictureRecord, blocks: Sequence[Tuple[BlockRecord, List[Field]]]) -> None:
+    def _texts(self, picture: PictureRecord, blocks: Sequence[tuple[BlockRecord, list[Field]]]) -> None:
         texts = texts_of(blocks)
         missing = texts.missing
         self.missing += bool(missing)
@@ -103,7 +103,7 @@ def _keep_row(keep: Keep) -> Row:
     return None if keep.keep is None else int(keep.keep), keep.note or None
 
 
-def _path(path: bytes) -> Tuple[str, bool]:
+def _path(path: bytes) -> tuple[str, bool]:
     """A path as a text, and whether it is escaped, since it is no UTF-8."""
     try:
         return path.decode("utf-8"), False
@@ -141,7 +141,7 @@ class FieldRow(NamedTuple):
 
 
 # What the row of a field has by its directory and its tag: its name, its key, whether the texts of a picture are made of such fields, and its position
-_About = Tuple[str, str, bool, bool]
+_About = tuple[str, str, bool, bool]
 
 
 class FieldRows:
@@ -149,10 +149,10 @@ class FieldRows:
     unpacked."""
 
     def __init__(self) -> None:
-        self._kept: Dict[str, Dict[str, FieldRow]] = {}  # by how a field begins, and its rest
-        self._about: Dict[Tuple[str, str], _About] = {}  # by directory and tag
+        self._kept: dict[str, dict[str, FieldRow]] = {}  # by how a field begins, and its rest
+        self._about: dict[tuple[str, str], _About] = {}  # by directory and tag
 
-    def of_block(self, octets: Optional[bytes]) -> List[FieldRow]:
+    def of_block(self, octets: Optional[bytes]) -> list[FieldRow]:
         """The row of each field of a block. Raises `Damaged`."""
         if not octets:
             return []

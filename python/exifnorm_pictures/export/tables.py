@@ -5,7 +5,7 @@ from __future__ import annotations
 import contextlib
 import sqlite3
 from itertools import islice
-from typing import Dict, Iterable, Iterator, List, Sequence, Tuple
+from typing import Iterable, Iterator, Sequence
 
 from ..files import signals
 from ..model.budgets import SQL_STEPS, WAITING_BYTES
@@ -212,7 +212,7 @@ _EMPTY_IS_NULL = {
     "conflicts": {"detail"},
 }
 
-Row = Tuple[object, ...]
+Row = tuple[object, ...]
 
 
 class Tables:
@@ -220,9 +220,9 @@ class Tables:
 
     def __init__(self, base: sqlite3.Connection) -> None:
         self._base = base
-        self._rows: Dict[str, List[Row]] = {}
+        self._rows: dict[str, list[Row]] = {}
         self._size = 0  # of the rows that wait
-        self.counts: Dict[str, int] = {}
+        self.counts: dict[str, int] = {}
 
     def add_all(self, table: str, rows: Iterable[Row]) -> None:
         """Adds rows to a table, of which a thousand at a time are in memory."""
@@ -230,7 +230,7 @@ class Tables:
         while several := list(islice(left, _ROWS)):
             self.add(table, several)
 
-    def add(self, table: str, rows: List[Row]) -> None:
+    def add(self, table: str, rows: list[Row]) -> None:
         """Adds a few rows to a table."""
         if rows:
             self.add_storable(table, *storable(rows))
@@ -297,7 +297,7 @@ def tables(file: str) -> Iterator[Tables]:
             raise
 
 
-def storable(rows: List[Row]) -> Tuple[List[Row], int]:
+def storable(rows: list[Row]) -> tuple[list[Row], int]:
     r"""Rows as they can be stored, and the characters of their texts.
 
     >>> storable([(1, "a\0b", None, "c"), (2, "", None, "d")])

@@ -8,7 +8,7 @@ here; its frames are rest. JPEG XL: the codestream, also of several boxes.
 from __future__ import annotations
 
 import hashlib
-from typing import Dict, Iterator, List, Set, Tuple
+from typing import Iterator
 
 from ..model.budgets import Budget
 from ..model.found import CUT, IN_PICTURE, Blocks, Broken
@@ -23,7 +23,7 @@ from .formats.streams import Stream, pieces, read_at, size_of
 _EXIF_HEAD = 10  # bytes before a block of Exif, as most programs write them
 
 
-def add_heif(stream: Stream, coded: "hashlib.blake2b") -> List[Part]:
+def add_heif(stream: Stream, coded: "hashlib.blake2b") -> list[Part]:
     """Adds the coded pictures of a HEIF to a digest. Returns claims to the parts of the file. Raises `Broken` and `TooMuch`."""
     every, _ = boxes_to_fault(stream)  # after which is a trailer, or the reader of the blocks says that the file is cut
     meta = [it for it in every if it.kind == b"meta"]
@@ -64,9 +64,9 @@ class _Heif:
 
     def __init__(self, stream: Stream, reader: heif.Reader) -> None:
         self.stream, self.reader = stream, reader
-        self.properties: List[Box] = []
-        self.associated: Dict[int, List[int]] = {}  # the positions of the properties of each item, from 1 on
-        self.used: Set[int] = set()  # the properties of pictures
+        self.properties: list[Box] = []
+        self.associated: dict[int, list[int]] = {}  # the positions of the properties of each item, from 1 on
+        self.used: set[int] = set()  # the properties of pictures
         self.left = size_of(stream)  # items may share bytes in a made file
 
     def read_properties(self, meta: Box) -> None:
@@ -107,7 +107,7 @@ class _Heif:
             if kind != b"cdsc" and {item_number, *others} <= set(numbers):
                 coded.update(b"%b%d:%b" % (kind, numbers[item_number], b",".join(b"%d" % numbers[it] for it in others)))
 
-    def _add(self, coded: "hashlib.blake2b", kind: bytes, ranges: List[Range]) -> None:
+    def _add(self, coded: "hashlib.blake2b", kind: bytes, ranges: list[Range]) -> None:
         length = sum(end - start for start, end in ranges)
         self.left -= length
         if self.left < 0:
@@ -117,7 +117,7 @@ class _Heif:
             for data in pieces(self.stream, start, end):
                 coded.update(data)
 
-    def _kind_of(self, box: Box) -> Tuple[str, str]:
+    def _kind_of(self, box: Box) -> tuple[str, str]:
         """The class of a property, and the name of a rest."""
         if box.kind in (b"free", b"skip"):
             return STRUCTURE, ""
@@ -171,10 +171,10 @@ class _Heif:
                 yield Part(REST, start, start + len(name), "names of items")
 
 
-def add_jxl(stream: Stream, coded: "hashlib.blake2b") -> List[Part]:
+def add_jxl(stream: Stream, coded: "hashlib.blake2b") -> list[Part]:
     """The same of a JPEG XL. Raises `Broken` and `TooMuch`."""
     if read_at(stream, 0, len(jxl.BARE)) == jxl.BARE:
-        codestream, claims = [(0, size_of(stream))], []  # type: List[Range], List[Part]
+        codestream, claims = [(0, size_of(stream))], []  # type: list[Range], list[Part]
     else:
         every, _ = boxes_to_fault(stream)
         codestream = [(it.start + 4 * (it.kind == b"jxlp"), it.end) for it in every if it.kind in (b"jxlc", b"jxlp")]

@@ -13,7 +13,7 @@ from __future__ import annotations
 import contextlib
 import hashlib
 import zlib
-from typing import Iterable, Iterator, List, NamedTuple, Optional, Tuple
+from typing import Iterable, Iterator, NamedTuple, Optional
 
 from ..files import opening
 from ..model import rest
@@ -64,7 +64,7 @@ def digest(stream: Stream, budget: Budget) -> str:
     return followed(stream, budget)[0]
 
 
-def followed(stream: Stream, budget: Budget) -> Tuple[str, List[parts.Part]]:
+def followed(stream: Stream, budget: Budget) -> tuple[str, list[parts.Part]]:
     """The digest, and all parts of the file; none in a format that isn't followed here. Raises `Broken` and `TooMuch`."""
     stream.seek(0)
     head = stream.read(12)
@@ -100,7 +100,7 @@ _JFIF, _ADOBE = 0xE0, 0xEE
 _NO_FRAMES = (0xC4, 0xC8, 0xCC)  # tables, and what is reserved
 
 
-def _jpeg(stream: Stream, coded: "hashlib.blake2b", budget: Budget) -> List[parts.Part]:
+def _jpeg(stream: Stream, coded: "hashlib.blake2b", budget: Budget) -> list[parts.Part]:
     head = read_head(stream, 0, budget)
     claims = list(jpeg.parts(stream, head, budget))
     picture = [it for it in claims if it.kind == parts.PICTURE]
@@ -153,7 +153,7 @@ def _png(stream: Stream, coded: "hashlib.blake2b", budget: Budget) -> Iterator[p
     return png.parts(stream, chunks)
 
 
-def _check(stream: Stream, coded: "Optional[hashlib.blake2b]", chunk: Tuple[int, bytes, int]) -> None:
+def _check(stream: Stream, coded: "Optional[hashlib.blake2b]", chunk: tuple[int, bytes, int]) -> None:
     """Adds a chunk to a digest, if there is one. Raises `Broken` if it isn't what its check sum says."""
     at, kind, length = chunk
     known = zlib.crc32(kind)

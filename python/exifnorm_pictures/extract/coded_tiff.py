@@ -9,7 +9,7 @@ from __future__ import annotations
 
 import functools
 import hashlib
-from typing import Dict, Iterator, List, Optional, Sequence, Tuple
+from typing import Iterator, Optional, Sequence
 
 from ..model.budgets import STRIPS, Budget
 from ..model.found import IN_PICTURE, Broken
@@ -36,7 +36,7 @@ _COUNTED = frozenset((*_CODING, *_OFFSETS, *_OFFSETS.values(), _PROFILE))
 _NUMBERS = frozenset((_WIDTH, _HEIGHT, _BITS, _COMPRESSION, _PHOTOMETRIC, _SAMPLES, _ROWS, _PLANES, _TILE_WIDTH, _TILE_HEIGHT))
 _JPEG, _UNCOMPRESSED, _YCBCR = (6, 7), 1, 6
 
-Entries = Dict[int, Entry]
+Entries = dict[int, Entry]
 
 
 class NotFollowed(Broken):
@@ -90,7 +90,7 @@ def _value(directories: Directories, entry: Entry) -> bytes:
     return b"%d:%d:%d:" % (entry.tag, entry.type, entry.size) + directories.value(entry)
 
 
-def _numbers(directories: Directories, entries: Entries, tag: int, default: int = 1) -> List[int]:
+def _numbers(directories: Directories, entries: Entries, tag: int, default: int = 1) -> list[int]:
     """The numbers of an entry, or the default of its tag."""
     return (directories.numbers(entries[tag]) if tag in entries else []) or [default]
 
@@ -102,7 +102,7 @@ def _order(directories: Directories, entries: Entries) -> bytes:
     return directories.order.encode("ascii") if has_order else b""
 
 
-def _strips(directories: Directories, page: Directory, entries: Entries, coded: "hashlib.blake2b") -> Iterator[Tuple[int, int]]:
+def _strips(directories: Directories, page: Directory, entries: Entries, coded: "hashlib.blake2b") -> Iterator[tuple[int, int]]:
     """The ranges of the strips, tiles and JPEGs of a page, after their lengths, which are added. Raises `Broken`."""
     if sum(any(tag in entries for tag in pair) for pair in ((_STRIPS, 0x0117), (_TILES, 0x0145))) > 1:
         raise NotFollowed("strips and tiles in one directory")
@@ -132,7 +132,7 @@ def _check_lengths(directories: Directories, entries: Entries, lengths: Sequence
         raise NotFollowed("strips that are shorter than their pixels")
 
 
-def _uncompressed(directories: Directories, entries: Entries) -> Tuple[int, int, int]:
+def _uncompressed(directories: Directories, entries: Entries) -> tuple[int, int, int]:
     """How many strips or tiles a plane has, the bytes of each but the last one, and those of the last one: of compressed ones 0."""
     numbers = functools.partial(_numbers, directories, entries)
     if numbers(_COMPRESSION)[0] != _UNCOMPRESSED or numbers(_PHOTOMETRIC)[0] == _YCBCR:
@@ -149,13 +149,13 @@ def _uncompressed(directories: Directories, entries: Entries) -> Tuple[int, int,
     return count, row * rows, row * (height - (count - 1) * rows)
 
 
-def _joined(ranges: Iterator[Tuple[int, int]]) -> Iterator[Tuple[int, int]]:
+def _joined(ranges: Iterator[tuple[int, int]]) -> Iterator[tuple[int, int]]:
     """The same bytes in the same order, in fewer ranges.
 
     >>> list(_joined(iter([(2, 5), (5, 9), (1, 2)])))
     [(2, 9), (1, 2)]
     """
-    last: Optional[List[int]] = None
+    last: Optional[list[int]] = None
     for start, end in ranges:
         if last and start == last[1]:
             last[1] = end

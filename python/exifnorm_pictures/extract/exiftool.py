@@ -14,7 +14,7 @@ import json
 import os
 import re
 import shutil
-from typing import Dict, List, Optional, Sequence, cast
+from typing import Optional, Sequence, cast
 
 from ..files.session import Session
 from ..model.budgets import OUTPUT, WHOLE_FILE, budget_of
@@ -51,7 +51,7 @@ class Process:
         self.number = 0
         self.process = programs.start(programs.exiftool("-stay_open", "True", "-@", "-"), room, is_asked=True)
 
-    def ask(self, paths: Sequence[bytes], words: Sequence[str], options: Sequence[str]) -> List[Dict[str, str]]:
+    def ask(self, paths: Sequence[bytes], words: Sequence[str], options: Sequence[str]) -> list[dict[str, str]]:
         """The tags of some files for the arguments `words`, each by its copy and name as in `Copy1:IPTC`. Raises `Failed`."""
         self.number += 1
         names = [self._handed_over(path, number) for number, path in enumerate(paths)]
@@ -91,7 +91,7 @@ class Process:
         programs.end(self.process)
 
 
-def _members(output: bytes, names: Sequence[bytes]) -> List[Dict[str, str]]:
+def _members(output: bytes, names: Sequence[bytes]) -> list[dict[str, str]]:
     """The object in an output about each file. Raises `Failed` for anything else."""
     if not output.strip():
         return [{} for _ in names]
@@ -121,7 +121,7 @@ def _process(session: Session) -> Process:
     return cast(Process, session.tool)
 
 
-def ask(session: Session, path: bytes, words: Sequence[str]) -> Dict[str, str]:
+def ask(session: Session, path: bytes, words: Sequence[str]) -> dict[str, str]:
     """ExifTool's tags of one file. If it fails, a new ExifTool reads the next file."""
     answer = ask_several(session, [path], words)[0]
     for version in values(answer, _VERSION):
@@ -129,7 +129,7 @@ def ask(session: Session, path: bytes, words: Sequence[str]) -> Dict[str, str]:
     return answer
 
 
-def ask_several(session: Session, paths: Sequence[bytes], words: Sequence[str], options: Sequence[str] = _OPTIONS) -> List[Dict[str, str]]:
+def ask_several(session: Session, paths: Sequence[bytes], words: Sequence[str], options: Sequence[str] = _OPTIONS) -> list[dict[str, str]]:
     """ExifTool's tags of some files, which are asked for in one call."""
     try:
         with session.clock(b"\0".join(paths)) as seconds:
@@ -157,7 +157,7 @@ def octets(value: str) -> bytes:
         raise Failed("ExifTool's answer isn't understood: a block is no base64") from None
 
 
-def values(answer: Dict[str, str], tag: str) -> List[str]:
+def values(answer: dict[str, str], tag: str) -> list[str]:
     """All copies of a tag in an output, the first one first."""
     return [value for name, value in answer.items() if name.rpartition(":")[2] == tag]
 
@@ -179,11 +179,11 @@ def by_others(session: Session, path: bytes, stream: Stream, whole: bool, why: s
     return blocks
 
 
-def _first(answer: Dict[str, str], tag: str) -> str:
+def _first(answer: dict[str, str], tag: str) -> str:
     return next(iter(values(answer, tag)), "")[:_WORDS_LENGTH]
 
 
-def _blocks(answer: Dict[str, str]) -> Blocks:
+def _blocks(answer: dict[str, str]) -> Blocks:
     """The blocks in an output of ExifTool."""
     blocks = Blocks(extractor=EXIFTOOL, type=_first(answer, "FileType"))
     for tag, kind in _TAGS.items():

@@ -6,7 +6,7 @@ import contextlib
 import errno
 import os
 import sys
-from typing import IO, Iterator, List, Optional, Protocol, cast
+from typing import IO, Iterator, Optional, Protocol, cast
 
 from ..model.budgets import COPIED_BYTES, Budget
 from ..model.texts import described, ending_of
@@ -57,7 +57,7 @@ class FileObject(Parts):
     def _part(self, at: int, length: int) -> bytes:
         self.budget.check_clock()
         _seek(self._source, self._start + at)
-        parts: List[bytes] = []
+        parts: list[bytes] = []
         while length > 0 and (data := _some(self._source, length)):  # some return less than they are asked for
             parts.append(data)
             length -= len(data)

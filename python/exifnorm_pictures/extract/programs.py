@@ -14,7 +14,7 @@ import select
 import shutil
 import signal
 import time
-from typing import TYPE_CHECKING, Callable, Dict, List, Mapping, NamedTuple, Optional, Set, Tuple
+from typing import TYPE_CHECKING, Callable, Mapping, NamedTuple, Optional
 
 from ..files import signals
 from ..model.budgets import OUTPUT, PROGRAM_BYTES
@@ -74,15 +74,15 @@ def _path_of(program: str) -> Optional[str]:
     return shutil.which(program, path=os.pathsep.join(filter(os.path.isabs, os.get_exec_path())))
 
 
-def exiftool(*words: str) -> List[str]:
+def exiftool(*words: str) -> list[str]:
     """The arguments of a call of ExifTool that reads no configuration file. `-config` only counts as the first option."""
     return [needed("exiftool"), "-config", "", *words]
 
 
-_told: Dict[str, str] = {}  # the versions that programs have told with an answer, by their paths
+_told: dict[str, str] = {}  # the versions that programs have told with an answer, by their paths
 
 
-def told() -> Dict[str, str]:
+def told() -> dict[str, str]:
     """The versions that programs have told in this process, by their paths."""
     return dict(_told)
 
@@ -104,7 +104,7 @@ def version(program: str, seconds: float) -> Optional[str]:
     return output.rpartition(" ")[2].strip() or None
 
 
-def run(words: List[str], seconds: float, folder: Optional[str] = None) -> Done:
+def run(words: list[str], seconds: float, folder: Optional[str] = None) -> Done:
     """Runs a program to its end. Raises `Failed` if it takes too long, writes too much, gets no more memory, or is ended by a signal."""
     import subprocess
 
@@ -121,14 +121,14 @@ def run(words: List[str], seconds: float, folder: Optional[str] = None) -> Done:
         end(started)
 
 
-def _name(words: List[str]) -> str:
+def _name(words: list[str]) -> str:
     return os.path.basename(words[0])
 
 
 _libc = ctypes.CDLL(None)
 
 
-def start(words: List[str], folder: Optional[str] = None, is_asked: bool = False) -> "subprocess.Popen[bytes]":
+def start(words: list[str], folder: Optional[str] = None, is_asked: bool = False) -> "subprocess.Popen[bytes]":
     """Starts a program in a process group of its own, which the system ends if this process is killed. It has an input if it is asked. Raises `Failed`."""
     started: "Optional[subprocess.Popen[bytes]]" = None
     try:
@@ -143,7 +143,7 @@ def start(words: List[str], folder: Optional[str] = None, is_asked: bool = False
         raise
 
 
-def _memory() -> Tuple[int, int]:
+def _memory() -> tuple[int, int]:
     """The limits of a program's memory, no higher than those of this process."""
     import resource  # which Windows hasn't: there no program is started
 
@@ -151,7 +151,7 @@ def _memory() -> Tuple[int, int]:
     return (PROGRAM_BYTES if soft == resource.RLIM_INFINITY else min(soft, PROGRAM_BYTES)), hard
 
 
-def _started(words: List[str], folder: Optional[str], is_asked: bool, mask: Set[int]) -> "subprocess.Popen[bytes]":
+def _started(words: list[str], folder: Optional[str], is_asked: bool, mask: set[int]) -> "subprocess.Popen[bytes]":
     import resource
     import subprocess
 

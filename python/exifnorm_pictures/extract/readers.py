@@ -4,7 +4,7 @@ from __future__ import annotations
 
 import os
 import re
-from typing import Callable, NamedTuple, Optional, Tuple
+from typing import Callable, NamedTuple, Optional
 
 from ..model.found import Blocks
 from . import raw_files
@@ -33,7 +33,7 @@ def type_of(blocks: Blocks, path: bytes) -> str:
     return named[1].decode("ascii").upper() if named else blocks.type
 
 
-FORMATS: Tuple[Format, ...] = (
+FORMATS: tuple[Format, ...] = (
     Format("JPEG", lambda head, _: head.startswith(jpeg.START), jpeg.read),
     Format("PNG", lambda head, _: head.startswith(png.START), png.read),
     Format("WebP", lambda head, _: webp.is_webp(head[:12]), webp.read),

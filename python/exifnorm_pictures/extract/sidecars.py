@@ -11,7 +11,7 @@ from __future__ import annotations
 import hashlib
 import os
 import re
-from typing import Callable, Dict, Iterable, Iterator, List, NamedTuple, Optional, Sequence, Set, Tuple
+from typing import Callable, Iterable, Iterator, NamedTuple, Optional, Sequence
 
 from ..files import opening
 from ..model.budgets import LIMITS, PACKET_BYTES, XMP_BYTES
@@ -39,14 +39,14 @@ class Folder:
 
     def __init__(self, names: Iterable[bytes]) -> None:
         """Takes the names of all files of the folder."""
-        self._of: Dict[bytes, List[Tuple[str, bytes]]] = {}  # by the picture's name in small letters
-        self._further: Dict[bytes, int] = {}  # sidecars of such a name that are not read
-        self._known: Dict[bytes, Tuple[Sidecar, ...]] = {}  # those of such a name, which all pictures of the name share
-        self.files: Set[bytes] = set()  # the sidecars that belong to a picture
+        self._of: dict[bytes, list[tuple[str, bytes]]] = {}  # by the picture's name in small letters
+        self._further: dict[bytes, int] = {}  # sidecars of such a name that are not read
+        self._known: dict[bytes, tuple[Sidecar, ...]] = {}  # those of such a name, which all pictures of the name share
+        self.files: set[bytes] = set()  # the sidecars that belong to a picture
         every = sorted(names)
         sidecars = [it for it in every if it.lower().endswith(b".xmp")]
         if sidecars:
-            self._pictures: Dict[bytes, Set[bytes]] = {}  # names in small letters, by themselves and without their extensions
+            self._pictures: dict[bytes, set[bytes]] = {}  # names in small letters, by themselves and without their extensions
             for low in {name.lower() for name in every}:
                 if re.search(_PICTURE_NAME, low):
                     self._pictures.setdefault(low, set()).add(low)
@@ -76,7 +76,7 @@ class Folder:
                 self._further[name] = self._further.get(name, 0) + 1
             self.files.add(sidecar)
 
-    def of(self, picture: bytes) -> Tuple[Sidecar, ...]:
+    def of(self, picture: bytes) -> tuple[Sidecar, ...]:
         """The sidecars of a picture, in a fixed order. The names of their blocks don't depend on that of the picture."""
         name = picture.lower()
         if name in self._of and name not in self._known:
@@ -84,7 +84,7 @@ class Folder:
         return self._known.get(name, ())
 
     def _ordered(self, name: bytes) -> Iterator[Sidecar]:
-        counts: Dict[str, int] = {}
+        counts: dict[str, int] = {}
         for what, file in sorted(self._of[name]):
             counts[what] = counts.get(what, 0) + 1
             yield Sidecar(what if counts[what] == 1 else f"{ordinal(counts[what])} {what}", file)
@@ -99,9 +99,9 @@ class Folders:
     _MOST = 64
 
     def __init__(self) -> None:
-        self._folders: Dict[bytes, Folder] = {}
+        self._folders: dict[bytes, Folder] = {}
 
-    def of(self, path: bytes) -> Tuple[Sidecar, ...]:
+    def of(self, path: bytes) -> tuple[Sidecar, ...]:
         """The sidecars of a picture; none if its folder can't be listed."""
         folder, name = os.path.split(path)
         if folder not in self._folders:

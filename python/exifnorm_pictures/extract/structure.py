@@ -7,7 +7,7 @@ from __future__ import annotations
 
 import struct
 from itertools import count
-from typing import Dict, Iterator, List, NamedTuple, Optional, Set, Tuple
+from typing import Iterator, NamedTuple, Optional
 
 from ..model.budgets import BLOCK_ENTRIES
 from ..model.texts import in_words
@@ -31,7 +31,7 @@ _SIZES = tuple(TIFF[number].size if number in TIFF else 0 for number in range(_U
 _READ = {order: [struct.Struct(order + form) for form in ("HHII", "H", "I")] for order in "<>"}
 _PICTURES = (0x0201, 0x0202, 0x0111, 0x0117)  # a thumbnail's JPEG, its length, its strips, their lengths
 
-Row = Tuple[int, ...]  # an entry: its tag, type, number of elements, and its last four bytes as a number
+Row = tuple[int, ...]  # an entry: its tag, type, number of elements, and its last four bytes as a number
 
 
 class Entry(NamedTuple):
@@ -54,15 +54,15 @@ class Directory:
 
     __slots__ = ("name", "at", "rows", "next", "size", "named_at", "_entries")
 
-    def __init__(self, name: str, at: int, rows: List[Row], next_at: int, size: int, named_at: int) -> None:
+    def __init__(self, name: str, at: int, rows: list[Row], next_at: int, size: int, named_at: int) -> None:
         self.name, self.at, self.rows = name, at, rows
         self.next = next_at  # the place of the next directory's offset
         self.size = size  # the number of entries by its first two bytes
         self.named_at = named_at  # the place of the offset that leads here
-        self._entries: Optional[List[Entry]] = None
+        self._entries: Optional[list[Entry]] = None
 
     @property
-    def entries(self) -> List[Entry]:
+    def entries(self) -> list[Entry]:
         """The entries. A refused block can have thousands, and is walked after each step of its repair."""
         if self._entries is None:
             new = tuple.__new__
@@ -87,7 +87,7 @@ def directories(block: bytes) -> Iterator[Directory]:
     """
     order, end, left = order_of(block), len(block), BLOCK_ENTRIES
     row, two, four = _READ[order]
-    seen: Set[int] = set()
+    seen: set[int] = set()
     waiting = [("main", four.unpack_from(block, 4)[0], 4)] if end >= HEADER else []
     while waiting and left >= 0:
         name, at, named_at = waiting.pop()
@@ -106,7 +106,7 @@ def directories(block: bytes) -> Iterator[Directory]:
                 waiting += _linked(block, order, name, at, rows)
 
 
-def _linked(block: bytes, order: str, name: str, at: int, rows: List[Row]) -> Iterator[Tuple[str, int, int]]:
+def _linked(block: bytes, order: str, name: str, at: int, rows: list[Row]) -> Iterator[tuple[str, int, int]]:
     """The directories that the entries of one lead to, the last one first: the name of each, its offset, and where this is."""
     links = _LINKS[name]
     for number, row in [(number, row) for number, row in enumerate(rows) if row[0] in links][::-1]:
@@ -160,7 +160,7 @@ class Walk:
         """Whether a value isn't all in the block."""
         return entry.size > 4 and entry.last + entry.size > len(self.block)
 
-    def pictures(self) -> List[bytes]:
+    def pictures(self) -> list[bytes]:
         """The thumbnail's JPEG and its strips, as far as they are in the block."""
         thumbs = (directory for directory in self.directories if directory.name == "thumb")
         return [self.block[start:end] for directory in thumbs for start, end in _pictures(self.block, self.order, directory)]
@@ -170,8 +170,8 @@ class Notes(NamedTuple):
     """Where the MakerNote begins (None: none, or in its entry), the bytes that no field covers, and what may lead to them."""
 
     place: Optional[int]
-    uncovered: "List[Gap]"
-    by: Tuple[str, ...]
+    uncovered: "list[Gap]"
+    by: tuple[str, ...]
 
     @property
     def words(self) -> str:
@@ -186,7 +186,7 @@ class Notes(NamedTuple):
         return b"".join(placed(at - start, octets) for at, octets in self.uncovered)
 
 
-Gap = Tuple[int, bytes]  # bytes that no field covers, and their offset
+Gap = tuple[int, bytes]  # bytes that no field covers, and their offset
 
 
 def placed(at: int, octets: bytes) -> bytes:
@@ -209,7 +209,7 @@ def counted(number: int, by: str) -> str:
 
 def notes(block: bytes) -> Notes:
     """What a block has besides its fields. Bytes of 0 are filling."""
-    place, leads = None, {}  # type: Optional[int], Dict[str, None]
+    place, leads = None, {}  # type: Optional[int], dict[str, None]
     covered = [(0, HEADER)]
     for directory in directories(block):
         if directory.at < HEADER:
@@ -231,9 +231,9 @@ def notes(block: bytes) -> Notes:
     return Notes(place, gaps(block, covered), tuple(leads))
 
 
-def _pictures(block: bytes, order: str, thumb: Directory) -> List[Tuple[int, int]]:
+def _pictures(block: bytes, order: str, thumb: Directory) -> list[tuple[int, int]]:
     """Where the JPEG and the strips of a thumbnail's directory are."""
-    numbers: Dict[int, List[int]] = {}
+    numbers: dict[int, list[int]] = {}
     for number, (tag, kind, elements, last) in enumerate(thumb.rows):
         if tag in _PICTURES:
             size = _SIZES[kind] * elements if kind < _UNKNOWN else 0
@@ -242,20 +242,20 @@ def _pictures(block: bytes, order: str, thumb: Directory) -> List[Tuple[int, int
     return [(start, start + size) for one, other in pairs for start, size in zip(numbers.get(one, ()), numbers.get(other, ()))]
 
 
-def _numbers(block: bytes, order: str, kind: int, size: int, start: int) -> List[int]:
+def _numbers(block: bytes, order: str, kind: int, size: int, start: int) -> list[int]:
     """The values of an entry of type SHORT or LONG, which begin at `start`."""
     code = TIFF[kind].code if kind in (SHORT, LONG) else ""
     data = block[start : start + size]
     return [number for number, in struct.iter_unpack(order + code, data)] if code and len(data) == size else []
 
 
-def gaps(block: bytes, covered: List[Tuple[int, int]]) -> List[Gap]:
+def gaps(block: bytes, covered: list[tuple[int, int]]) -> list[Gap]:
     """The bytes between some ranges, without the filling around them, and their offsets.
 
     >>> gaps(b"ab\\0cd\\0\\0", [(0, 2)])
     [(3, b'cd')]
     """
-    between: List[Gap] = []
+    between: list[Gap] = []
     reached = 0
     for start, after in [*sorted(covered), (len(block), len(block))]:
         if start > reached and (gap := block[reached:start].lstrip(b"\0")):

@@ -3,7 +3,7 @@
 from __future__ import annotations
 
 from functools import partial
-from typing import Callable, Iterable, List, Optional, Sequence, Tuple
+from typing import Callable, Iterable, Optional, Sequence
 
 from ..model.records import BlockRecord
 from .field import Field
@@ -11,7 +11,7 @@ from .lines import parted
 from .listing import rest_of
 from .packing import unpacked
 
-Make = Callable[[], Optional[List[Field]]]
+Make = Callable[[], Optional[list[Field]]]
 
 
 class Fields:
@@ -21,9 +21,9 @@ class Fields:
 
     def __init__(self, make: Make) -> None:
         self._make: Optional[Make] = make
-        self._fields: Optional[List[Field]] = None
+        self._fields: Optional[list[Field]] = None
 
-    def all(self) -> Optional[List[Field]]:
+    def all(self) -> Optional[list[Field]]:
         """The fields, in the order of a listing; None if a catalogue doesn't have them."""
         make = self._make
         if make is not None:
@@ -39,7 +39,7 @@ class _KeptTexts:
 
     def __init__(self, cells: Sequence[Optional[bytes]]) -> None:
         self._cells = cells
-        self._texts: Optional[List[Optional[bytes]]] = None
+        self._texts: Optional[list[Optional[bytes]]] = None
 
     def of(self, number: int) -> Optional[bytes]:
         """Those of one block."""
@@ -62,7 +62,7 @@ class _KeptFields(Fields):
         return self._texts.of(self._number)
 
 
-def _unpacked(texts: _KeptTexts, number: int) -> Optional[List[Field]]:
+def _unpacked(texts: _KeptTexts, number: int) -> Optional[list[Field]]:
     text = texts.of(number)
     return unpacked(text) if text else None
 
@@ -70,7 +70,7 @@ def _unpacked(texts: _KeptTexts, number: int) -> Optional[List[Field]]:
 _FIELDS = BlockRecord._fields.index("fields")  # after which only what a catalogue doesn't have follows
 
 
-def with_kept_fields(blocks: Sequence[BlockRecord]) -> List[BlockRecord]:
+def with_kept_fields(blocks: Sequence[BlockRecord]) -> list[BlockRecord]:
     """The blocks of a picture of a catalogue, of all its rows in their order, each with its own fields."""
     texts = _KeptTexts([block.fields for block in blocks])
     return [BlockRecord._make((*block[:_FIELDS], None, block.but_note, _KeptFields(texts, at))) for at, block in enumerate(blocks)]
@@ -81,18 +81,18 @@ def packed_fields(block: BlockRecord) -> Optional[bytes]:
     return block.fresh.packed() if isinstance(block.fresh, _KeptFields) else block.fields
 
 
-def known_fields(block: BlockRecord) -> Optional[List[Field]]:
+def known_fields(block: BlockRecord) -> Optional[list[Field]]:
     """The fields of a block; None of one that has no meaning, or in a catalogue that doesn't have them. Raises `Damaged`."""
     if isinstance(block.fresh, Fields):
         return block.fresh.all()
     return unpacked(block.fields) if block.fields else None
 
 
-def fields_of(block: BlockRecord) -> List[Field]:
+def fields_of(block: BlockRecord) -> list[Field]:
     """The same, where those that aren't known count as none. Raises `Damaged`."""
     return known_fields(block) or []
 
 
-def rests_of(blocks: Iterable[Tuple[BlockRecord, List[Field]]]) -> List[str]:
+def rests_of(blocks: Iterable[tuple[BlockRecord, list[Field]]]) -> list[str]:
     """What is said of blocks that have more fields than are kept: a text may be among these."""
     return [f"the fields of {block.name}{rest}" for block, fields in blocks for rest in [rest_of(fields)] if rest]

@@ -6,7 +6,7 @@ import difflib
 import fnmatch
 import re
 from dataclasses import dataclass, field
-from typing import Callable, Dict, FrozenSet, Iterable, Iterator, List, Mapping, Sequence, Set, Tuple
+from typing import Callable, Iterable, Iterator, Mapping, Sequence
 
 from ..model.errors import WrongUse
 from ..model.found import EXIF, IPTC, NAMES, XMP
@@ -69,7 +69,7 @@ def is_of_several(pattern: str) -> bool:
     return bool(_WILD.search(pattern)) or pattern.casefold() in {"iptc", "xmp", *EXIF_GROUPS, *XMP_GROUPS}
 
 
-def ambiguous(named: Mapping[str, Iterable[str]]) -> Dict[str, List[str]]:
+def ambiguous(named: Mapping[str, Iterable[str]]) -> dict[str, list[str]]:
     """The names that several fields of some pictures have, each with the names of these that no other
     field has; no patterns and groups, which are meant for several."""
     return {it: sorted({*fields}) for it, fields in named.items() if len({*fields}) > 1 and not is_of_several(it)}
@@ -85,7 +85,7 @@ def stands_for(name: str, fields: Sequence[str]) -> str:
     return escaped(f"{name} stands for {', '.join(fields[:MOST_NAMED])}{more}")
 
 
-def kinds_of(pattern: str) -> FrozenSet[str]:
+def kinds_of(pattern: str) -> frozenset[str]:
     """The kinds of blocks that can have a field of a pattern.
 
     >>> sorted(kinds_of("GPS:*")), sorted(kinds_of("2:25")), sorted(kinds_of("dc:title")), len(kinds_of("Artist"))
@@ -154,17 +154,17 @@ class Pattern:
     test: Test
     of_set: str = ""  # the set that it is of
     is_seen: bool = False
-    names: Set[str] = field(default_factory=set)  # of the fields that fit it
+    names: set[str] = field(default_factory=set)  # of the fields that fit it
 
 
-def _patterns(words: Sequence[str]) -> List[Pattern]:
+def _patterns(words: Sequence[str]) -> list[Pattern]:
     """The patterns of the words of a command line, those of sets one by one. A label such as `creator` is a set of fields over Exif, IPTC and
     XMP, also where a field has the same name. Raises `UnknownField`."""
     if not words:
         return []
     from .labels import fields_by_label, label_of  # which loads the library
 
-    patterns: List[Pattern] = []
+    patterns: list[Pattern] = []
     for word in dict.fromkeys(words):
         label = label_of(word)
         if word in SETS or label:
@@ -183,16 +183,16 @@ class Choice:
         self.ignore, self.only = _patterns(ignore), _patterns(only)
         self._patterns = (*self.ignore, *self.only)
         self.equal_numbers = equal_numbers  # count as equal
-        self.left_out: Dict[str, int] = {}  # fields that differ and were left out, and in how many pictures
-        self.absent: List[str] = []  # words that fit no field of the pictures
+        self.left_out: dict[str, int] = {}  # fields that differ and were left out, and in how many pictures
+        self.absent: list[str] = []  # words that fit no field of the pictures
         self.maker_notes = 0  # pictures with a MakerNote, if it may have what was asked for
         self.kinds = self._kinds()
-        self._known: Dict[Tuple[str, str, str], bool] = {}
+        self._known: dict[tuple[str, str, str], bool] = {}
 
     def __bool__(self) -> bool:
         return bool(self.ignore or self.only or self.equal_numbers)
 
-    def _kinds(self) -> FrozenSet[str]:
+    def _kinds(self) -> frozenset[str]:
         """The kinds of blocks with fields that count. `Exif`, `IPTC` and `XMP` stand for whole blocks."""
         kinds = set().union(*(kinds_of(it.text) for it in self.only)) if self.only else set(NAMES)
         words = {it.text.casefold().removesuffix(":*") if it.text.casefold() != "xmp:*" else "" for it in self.ignore}
@@ -221,7 +221,7 @@ class Choice:
                 pattern.names.add(group_name(where, key)[:LONGEST_CACHED])
         return is_rest(where, key) or (not ignored and (bool(wanted) or not self.only))
 
-    def of(self, fields: Iterable[Field], block: str = "") -> List[Field]:
+    def of(self, fields: Iterable[Field], block: str = "") -> list[Field]:
         """Those of some fields that count."""
         return [it for it in fields if self.counts(it.directory, it.tag, block)]
 
@@ -241,20 +241,20 @@ class Choice:
             if name in self.left_out or len(self.left_out) < MOST_LISTED:
                 self.left_out[name] = self.left_out.get(name, 0) + 1
 
-    def labels(self) -> Dict[str, Tuple[str, ...]]:
+    def labels(self) -> dict[str, tuple[str, ...]]:
         """The labels that were given, each with its fields."""
         given = dict.fromkeys(it.of_set for it in self._patterns if it.of_set and it.of_set not in SETS)
         return {it: tuple(dict.fromkeys(one.text for one in self._patterns if one.of_set == it)) for it in given}
 
-    def ambiguous(self) -> Dict[str, List[str]]:
+    def ambiguous(self) -> dict[str, list[str]]:
         """The names that were given and that several fields have, with the names of these."""
         return ambiguous({it.text: it.names for it in self._patterns})
 
-    def unseen(self) -> List[str]:
+    def unseen(self) -> list[str]:
         """The patterns that fit no field, but for those of sets."""
         return [it.text for it in self._patterns if not it.is_seen and not it.of_set]
 
-    def unseen_words(self) -> List[str]:
+    def unseen_words(self) -> list[str]:
         """The words that fit no field: patterns, and labels of which no field was there."""
         unseen = dict.fromkeys(it.of_set for it in self._patterns if it.of_set and it.of_set not in SETS)
         seen = {it.of_set for it in self._patterns if it.is_seen}
@@ -265,7 +265,7 @@ class Choice:
         """Whether serial numbers or owners are asked for, which a MakerNote may have, too."""
         return any(re.search("serial|owner", it.of_set or it.text, re.I) for it in self.only)
 
-    def unknown(self) -> List[str]:
+    def unknown(self) -> list[str]:
         """The patterns that fit no field so far, and that no field can fit by the standards."""
         return [it for it in self.unseen() if not is_known(it)]
 

@@ -2,7 +2,7 @@
 
 from __future__ import annotations
 
-from typing import TYPE_CHECKING, Any, ClassVar, Dict, NoReturn, Tuple, Union
+from typing import TYPE_CHECKING, Any, ClassVar, NoReturn, Union
 
 from ..model.found import EXIF, NAMES
 from ..model.xmp_values import Long, XmpValue
@@ -11,9 +11,9 @@ from .plain_names import exact_key, group_name
 if TYPE_CHECKING:
     from .typed import Value
 
-Ratio = Tuple[int, int]  # numerator and denominator; `exifnorm.Ratio` is one too, whose package loads the library
-Content = Union[bytes, Tuple[int, ...], Tuple[Ratio, ...], Tuple[XmpValue, ...], Long]
-Identity = Tuple[str, str, str, int, Content]  # the directory, the tag, the type, the number of elements, and the content
+Ratio = tuple[int, int]  # numerator and denominator; `exifnorm.Ratio` is one too, whose package loads the library
+Content = Union[bytes, tuple[int, ...], tuple[Ratio, ...], tuple[XmpValue, ...], Long]
+Identity = tuple[str, str, str, int, Content]  # the directory, the tag, the type, the number of elements, and the content
 
 
 class Field:
@@ -68,7 +68,7 @@ class Field:
     def __delattr__(self, name: str) -> NoReturn:
         raise AttributeError(f"a field doesn't change: {name}")
 
-    def __reduce__(self) -> Tuple[Any, ...]:
+    def __reduce__(self) -> tuple[Any, ...]:
         return type(self), (*self.identity, self._block)
 
     def __eq__(self, other: object) -> bool:
@@ -129,7 +129,7 @@ class Field:
         return without_nul(value) if isinstance(value, str) else value
 
     @property
-    def languages(self) -> Dict[str, str]:
+    def languages(self) -> dict[str, str]:
         """Of alternatives in XMP the texts by their languages, as {"x-default": "Vase", "de": "Krug"}; empty for other fields."""
         from .typed import languages_of
 

@@ -4,7 +4,7 @@ from __future__ import annotations
 
 import functools
 import re
-from typing import Dict, FrozenSet, Iterator, List, Sequence, Tuple
+from typing import Iterator, Sequence
 
 from ..model.texts import safe
 from ..model.xmp_names import PREFIXES
@@ -14,8 +14,8 @@ from .plain_names import group_name, group_of, plain_name
 
 # ExifTool's and exiv2's prefixes where they are others, and ExifTool's of namespaces that have none here
 _OTHER_PREFIXES = {"Iptc4xmpCore": ("iptcCore", "iptc"), "Iptc4xmpExt": ("iptcExt",), "MicrosoftPhoto": ("microsoft",)}
-_SPACES: Dict[str, str] = dict(line.split() for line in other_names.SPACES.strip().splitlines())
-_NAMES: Dict[str, Sequence[str]] = {key: names.split(",") for key, _, names in (word.partition("=") for word in other_names.NAMES.split())}
+_SPACES: dict[str, str] = dict(line.split() for line in other_names.SPACES.strip().splitlines())
+_NAMES: dict[str, Sequence[str]] = {key: names.split(",") for key, _, names in (word.partition("=") for word in other_names.NAMES.split())}
 _EXIV2 = {"main": "Exif.Image", "exif": "Exif.Photo", "gps": "Exif.GPSInfo", "interop": "Exif.Iop", "thumb": "Exif.Thumbnail"}
 
 # Properties of the Adobe XMP Specification (parts 1 and 2) and of the IPTC Photo Metadata Standard; those of Exif and TIFF have the names of
@@ -33,11 +33,11 @@ photoshop:TransmissionReference photoshop:Urgency Iptc4xmpCore:CiAdrCity Iptc4xm
 Iptc4xmpCore:IntellectualGenre Iptc4xmpCore:Location Iptc4xmpCore:Scene Iptc4xmpCore:SubjectCode lr:hierarchicalSubject plus:DataMining plus:OtherConstraints
 """.split()
 
-Names = FrozenSet[str]
+Names = frozenset[str]
 _DIRECTORIES = ("main", "exif", "gps", "interop", "thumb", "iptc")
 
 
-def names_and_groups(where: str, key: str, block: str = "") -> Tuple[Names, Names, Names]:
+def names_and_groups(where: str, key: str, block: str = "") -> tuple[Names, Names, Names]:
     """The names of a field, its groups, and its names in other programs, in small letters.
 
     >>> sorted(names_and_groups("iptc", "2:25")[0])
@@ -103,7 +103,7 @@ def asked_name(folded: str) -> str:
     return f"xmp-?:{name}" if name and group.startswith("xmp-") and group not in XMP_GROUPS and group != "xmp-iptc" else folded
 
 
-def _parted(key: str) -> Tuple[str, str]:
+def _parted(key: str) -> tuple[str, str]:
     """The prefix of a property and its name; of a namespace without a prefix ExifTool's, or none."""
     if not key.startswith("<"):
         prefix, _, name = key.partition(":")
@@ -113,7 +113,7 @@ def _parted(key: str) -> Tuple[str, str]:
     return _SPACES.get(uri[:at], _SPACES.get(uri[: at - 1], "")), uri[at:]
 
 
-def _bare(where: str, key: str) -> List[str]:
+def _bare(where: str, key: str) -> list[str]:
     """The names without a group."""
     if where == "xmp":
         return [] if key.startswith("<") else [key.partition(":")[2] or key]
@@ -136,7 +136,7 @@ def _groups(where: str, key: str) -> Names:
 
 
 @functools.lru_cache(maxsize=1)
-def dictionary() -> Tuple[Names, Tuple[str, ...]]:
+def dictionary() -> tuple[Names, tuple[str, ...]]:
     """All names of the standards' fields and of their groups; and those of them that are printed and no numbers, as they are printed."""
     fields = _known_fields()
     names = frozenset(name for it in fields for some in names_and_groups(*it) for name in some)
@@ -144,7 +144,7 @@ def dictionary() -> Tuple[Names, Tuple[str, ...]]:
     return names, tuple(dict.fromkeys([*printed, *(it.partition(":")[2] for it in printed)]))
 
 
-def _known_fields() -> List[Tuple[str, str]]:
+def _known_fields() -> list[tuple[str, str]]:
     """The fields of the standards, and those for which other programs have a name."""
     tags = [(where, key) for where, tables in TABLES.items() for table in tables for key in table]
     mirrored = [("xmp", f"{prefix}:{it}") for prefix, place in _TAGS_IN_XMP for table in TABLES[place] for it in table.values()]
@@ -153,7 +153,7 @@ def _known_fields() -> List[Tuple[str, str]]:
     return [*tags, ("thumb", "jpeg"), ("thumb", "strip"), *properties, *mirrored, *named]
 
 
-def _fields_named(name: str) -> List[Tuple[str, str]]:
+def _fields_named(name: str) -> list[tuple[str, str]]:
     """The fields that an entry of the other names is about: `main` stands for three directories.
 
     >>> _fields_named("main:c612"), _fields_named("2:25"), _fields_named("exif:PixelXDimension")

@@ -4,7 +4,7 @@ from __future__ import annotations
 
 import re
 from fractions import Fraction
-from typing import Dict, List, NamedTuple, Optional, Sequence
+from typing import NamedTuple, Optional, Sequence
 
 from . import other_names
 from .dates import plain_date
@@ -19,12 +19,12 @@ class Forms(NamedTuple):
 
     texts: Sequence[str]  # as `exiftool -n` has them
     shown: Sequence[str]  # as `show` prints it
-    others: List[str]
-    numbers: List[str]  # texts that are numbers
-    dates: List[str]  # dates and times, with the separators in which they are compared
+    others: list[str]
+    numbers: list[str]  # texts that are numbers
+    dates: list[str]  # dates and times, with the separators in which they are compared
 
 
-def _table(text: str) -> Dict[str, Dict[str, str]]:
+def _table(text: str) -> dict[str, dict[str, str]]:
     rows = (line.partition(" ")[::2] for line in text.strip().replace("\n ", " ").splitlines())
     return {tag: dict(row.split(" ", 1) for row in words.split("; ")) for tag, words in rows}
 
@@ -44,14 +44,14 @@ def tag_of(directory: str, key: str) -> str:
     return _TAGS.get(key, "") if directory == "xmp" else key if directory in ("main", "exif", "thumb") else ""
 
 
-def words_of(directory: str, key: str) -> Dict[str, List[str]]:
+def words_of(directory: str, key: str) -> dict[str, list[str]]:
     """The words that this program and ExifTool have for the numbers of a field, by number.
 
     >>> words_of("main", "0112")["6"], words_of("xmp", "tiff:Orientation")["1"]
     (['turn 90° clockwise to view', 'Rotate 90 CW'], ['upright', 'Horizontal (normal)'])
     """
     tag = tag_of(directory, key)
-    words: Dict[str, List[str]] = {}
+    words: dict[str, list[str]] = {}
     for table in (WORDS, _OTHER_WORDS):
         for number, word in table.get(tag, {}).items():
             words.setdefault(number, []).append(word)
@@ -63,7 +63,7 @@ _IS_DATE = re.compile(r"\d{4}[-:]\d\d|\d{8}")
 _CLOCK = re.compile(r"\d\d:\d\d(:\d\d(\.\d+)?)?( ?UTC|Z|[+-]\d\d:?\d\d)?")
 
 
-def forms_of(field: Field, texts: Sequence[str]) -> List[Forms]:
+def forms_of(field: Field, texts: Sequence[str]) -> list[Forms]:
     """The values of a field whose texts are these, as `exiftool -n` has them. All of a list is a value that isn't shown.
 
     >>> forms_of(Field("main", "0112", "SHORT", 1, (6,)), ["6"])[0][1:]

@@ -7,7 +7,7 @@ from __future__ import annotations
 
 import functools
 import re
-from typing import Dict, Iterable, Iterator, List, NamedTuple, Optional, Sequence, Set, Tuple
+from typing import Iterable, Iterator, NamedTuple, Optional, Sequence
 
 from exifnorm._words import documented
 
@@ -98,7 +98,7 @@ _POSITION = ("0001", "0002", "0003", "0004", "0005", "0006")
 
 
 @functools.lru_cache(maxsize=1)
-def fields_by_label() -> Dict[str, Tuple[str, ...]]:
+def fields_by_label() -> dict[str, tuple[str, ...]]:
     """The fields of each label over Exif, IPTC and XMP, by the names that are printed.
 
     >>> fields_by_label()["creator"]
@@ -117,14 +117,14 @@ def fields_by_label() -> Dict[str, Tuple[str, ...]]:
     return {word: tuple(group_name(*it) for it in fields) for word, fields in by_label.items()}
 
 
-def _fields_of(label: Label) -> List[Tuple[str, str]]:
+def _fields_of(label: Label) -> list[tuple[str, str]]:
     exif = ("exif" if label.word == DATE else "main", label.exif)
     places = [exif, ("iptc", label.iptc), ("xmp", label.xmp), ("xmp", _MIRRORS.get(label.exif, ""))]
     return [(where, key) for where, key in places if key]
 
 
 @functools.lru_cache(maxsize=1)
-def label_of_fields() -> Dict[str, str]:
+def label_of_fields() -> dict[str, str]:
     """The label of each field that has one, by the names that are printed."""
     return {name: label for label, names in fields_by_label().items() for name in names}
 
@@ -162,8 +162,8 @@ class Caption(NamedTuple):
     label: str
     standard: str
     field: str
-    texts: Tuple[str, ...]
-    octets: Tuple[bytes, ...] = ()
+    texts: tuple[str, ...]
+    octets: tuple[bytes, ...] = ()
     guess: str = ""
     block: str = ""
     is_extra: bool = False
@@ -219,7 +219,7 @@ def word_of(field: Field) -> Optional[str]:
     return LABELLED.get((field.directory, field.tag))
 
 
-def not_kept(fields: Iterable[Field]) -> Set[str]:
+def not_kept(fields: Iterable[Field]) -> set[str]:
     """The labels of which a text is too long to be kept."""
     return {word for it in fields if not isinstance(it.content, bytes) and has_long(it) for word in [word_of(it)] if word}
 
@@ -242,8 +242,8 @@ _NUMBERS = {tag: number for number, label in enumerate(LABELS) for tag in (label
 
 def _of_octets_fields(fields: Sequence[Field]) -> Iterator[Caption]:
     """The texts of a block of Exif or IPTC, by its fields."""
-    exif: Dict[str, Field] = {}
-    record: Dict[str, List[bytes]] = {}
+    exif: dict[str, Field] = {}
+    record: dict[str, list[bytes]] = {}
     for field in fields:
         if isinstance(field.content, bytes) and field.directory == "iptc":
             record.setdefault(field.tag, []).append(field.content)
@@ -268,10 +268,10 @@ def _is_at_home(field: Field) -> bool:
     return (field.directory == "exif") == (field.tag in _IN_EXIF)
 
 
-def with_own(texts: Sequence[Caption], make: str = "", model: str = "") -> List[Caption]:
+def with_own(texts: Sequence[Caption], make: str = "", model: str = "") -> list[Caption]:
     """The texts of a picture, of which captions and comments are marked that a camera with this make and model, or a program, writes by
     itself; also where another program has copied them to IPTC or XMP."""
-    known: Dict[int, bool] = {}  # pages of a TIFF may share a long text
+    known: dict[int, bool] = {}  # pages of a TIFF may share a long text
     for text in texts:
         if text.label in _CAN_BE_OWN and id(text.texts) not in known:
             known[id(text.texts)] = is_own(text.line, make, model)
@@ -283,7 +283,7 @@ def names_camera(field: Field) -> bool:
     return field.directory == "main" and field.tag in _CAMERA
 
 
-def camera_of(fields: Iterable[Field]) -> Tuple[str, str]:
+def camera_of(fields: Iterable[Field]) -> tuple[str, str]:
     """The make and the model in a block of Exif."""
     values = {it.tag: it.content for it in fields if names_camera(it) and isinstance(it.content, bytes)}
     if not values:
@@ -306,7 +306,7 @@ def _of_octets(word: str, standard: str, field: str, values: Sequence[bytes], is
     return Caption(word, standard, field, tuple([text.strip(" \0") for text in texts]), tuple(values), guess)
 
 
-def _extra(exif: Dict[str, Field]) -> Iterator[Caption]:
+def _extra(exif: dict[str, Field]) -> Iterator[Caption]:
     """The comment, and what Windows writes."""
     for tag in ("9286", *WINDOWS):
         if tag in exif:
@@ -322,7 +322,7 @@ def _wide_text(octets: bytes) -> str:
 # Dates
 
 
-def _dates(exif: Dict[str, Field], record: Dict[str, List[bytes]]) -> Iterator[Caption]:
+def _dates(exif: dict[str, Field], record: dict[str, list[bytes]]) -> Iterator[Caption]:
     """The date of the picture, with its time and its parts of a second, if they are there."""
     taken, part, zone = (_ascii(_octets(exif.get(tag))) for tag in ("9003", "9291", "9011"))
     if "9003" in exif:

@@ -4,7 +4,7 @@ from __future__ import annotations
 
 import hashlib
 import re
-from typing import Iterable, Iterator, Optional, Sequence, Tuple
+from typing import Iterable, Iterator, Optional, Sequence
 
 from ..model.texts import quoted
 from ..model import xmp_values
@@ -141,7 +141,7 @@ def _exact_octets(field: Field, octets: bytes) -> str:
     return f"0x{octets.hex()}" if len(octets) <= LONGEST_BYTES else f"0x{octets[:8].hex()}.. sha256:{digest_of(octets)}"
 
 
-def numbers_text(kind: str, values: "Tuple[int, ...] | Tuple[Ratio, ...]") -> str:
+def numbers_text(kind: str, values: "tuple[int, ...] | tuple[Ratio, ...]") -> str:
     """Numbers as a listing has them (docs/FORMAT.md, "Listing")."""
     if kind in ("RATIONAL", "SRATIONAL"):
         return " ".join(["%d/%d" % one for one in values])  # type: ignore[str-format]
@@ -150,7 +150,7 @@ def numbers_text(kind: str, values: "Tuple[int, ...] | Tuple[Ratio, ...]") -> st
     return " ".join(map(str, values))
 
 
-def marked_text(field: Field, octets: bytes) -> Optional[Tuple[str, str]]:
+def marked_text(field: Field, octets: bytes) -> Optional[tuple[str, str]]:
     """Bytes as a text that can be printed, without the NUL at its end, and a mark for its form; None if they are none."""
     if field.tag in _MARKED:
         if is_wide_text(field) and (text := _wide_text(octets)) is not None:
@@ -222,10 +222,10 @@ def counted_type(field: Field) -> str:
 _PLACES = ["main", "exif", "interop", "gps", "thumb", "iptc", "xmp"]
 
 
-def order_of(key: Tuple[str, str]) -> Tuple[int, Tuple[int, ...], str]:
+def order_of(key: tuple[str, str]) -> tuple[int, tuple[int, ...], str]:
     """The place of a field, by its directory and tag, in an ordered list."""
     where, tag = key
-    number: Tuple[int, ...]
+    number: tuple[int, ...]
     if where == "xmp":
         number = ()
     elif re.fullmatch("[0-9]{1,5}:[0-9]{1,5}", tag):

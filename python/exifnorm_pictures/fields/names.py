@@ -5,9 +5,8 @@ A tag without a name keeps its number. The names are for people; comparisons use
 
 from __future__ import annotations
 
-from typing import Dict
 
-DIRECTORIES: Dict[str, str] = {
+DIRECTORIES: dict[str, str] = {
     "main": "main directory (0th IFD)",
     "exif": "Exif directory",
     "interop": "Interoperability directory",
@@ -18,7 +17,7 @@ DIRECTORIES: Dict[str, str] = {
 }
 
 
-def _table(text: str) -> Dict[str, str]:
+def _table(text: str) -> dict[str, str]:
     words = text.split()
     return dict(zip(words[0::2], words[1::2]))
 

@@ -3,7 +3,7 @@
 from __future__ import annotations
 
 from itertools import islice, starmap
-from typing import Iterable, List
+from typing import Iterable
 
 from exifnorm._forms import _READ, Place, places
 
@@ -13,7 +13,7 @@ from .field import DeclaredField, Field, Identity
 from .listing import OCTETS, digest_of
 
 
-def fields_of_form(form: bytes) -> List[Field]:
+def fields_of_form(form: bytes) -> list[Field]:
     """The fields of a normal form, in the order of a listing.
 
     >>> fields_of_form(b"\\x1c\\x02\\x78\\x00\\x04Vase")
@@ -24,7 +24,7 @@ def fields_of_form(form: bytes) -> List[Field]:
     return list(starmap(DeclaredField if declared == [b"\x1b%G"] else Field, each))
 
 
-def contents(form: bytes) -> List[Identity]:
+def contents(form: bytes) -> list[Identity]:
     """What identifies each field of a normal form, where the time for objects matters."""
     each = places(form)
     if len(form) <= LEAST_FIELD * FIELDS:
@@ -43,8 +43,8 @@ def count(form: bytes, budget: Budget) -> None:
         budget.spend(ALL_FIELDS, sum(1 for _ in islice(places(form), FIELDS)))
 
 
-def _read(form: bytes, each: Iterable[Place]) -> List[Identity]:
-    fields: List[Identity] = []
+def _read(form: bytes, each: Iterable[Place]) -> list[Identity]:
+    fields: list[Identity] = []
     for where, tag, kind, elements, at in each:
         if kind in OCTETS:
             fields.append((where, f"{tag:04x}", kind, elements, form[at : at + elements]))

@@ -7,7 +7,7 @@ is a person's. Each rule is of texts in real files; tests/pictures/test_own_text
 from __future__ import annotations
 
 import re
-from typing import Iterator, Set
+from typing import Iterator
 
 # Whole texts, in capitals
 _TEXTS = frozenset(
@@ -49,7 +49,7 @@ def is_own(text: str, make: str = "", model: str = "") -> bool:
     return _is_name(upper, set(_words(make)) - _FILLING, set(_words(model)) - _FILLING)
 
 
-def _is_name(line: str, makes: Set[str], models: Set[str]) -> bool:
+def _is_name(line: str, makes: set[str], models: set[str]) -> bool:
     """Whether a line names the camera, and has no other word that says something: a make and a further word, a model's word of letters and
     digits, or all words of a model. "Mark", "Black", "12" and "Apple" may be a person's titles, though they are in the names of cameras."""
     words = list(_words(line))

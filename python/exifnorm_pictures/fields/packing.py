@@ -15,7 +15,7 @@ from __future__ import annotations
 import hashlib
 import json
 from itertools import starmap
-from typing import Any, Callable, Iterable, List, NamedTuple, Optional, Sequence, Tuple
+from typing import Any, Callable, Iterable, NamedTuple, Optional, Sequence
 
 from ..model.budgets import FIELD_BYTES, NESTED
 from ..model.columns import Damaged
@@ -132,7 +132,7 @@ def _json_of_property(value: XmpValue) -> str:
 # And back. A catalogue may be damaged or a stranger's, so nothing is taken on trust.
 
 
-def unpacked(octets: bytes) -> List[Field]:
+def unpacked(octets: bytes) -> list[Field]:
     """The fields from the result of `packed`. Raises `Damaged`.
 
     >>> unpacked(packed([Field("main", "010f", "ASCII", 4, b"abc\\0")]).octets)
@@ -155,7 +155,7 @@ def unpacked(octets: bytes) -> List[Field]:
 _FIELD, _PROPERTY = '["', '["xmp","'  # as a field of a block begins, and one of a packet
 
 
-def divided(octets: bytes) -> Tuple[str, List[str]]:
+def divided(octets: bytes) -> tuple[str, list[str]]:
     """How each field of a block begins in the result of `packed`, and the rest of each up to its last bracket. If each of these is a field by
     itself, as `field_of` finds, then they are those of the block. Otherwise some value has what is between two fields.
 
@@ -249,7 +249,7 @@ def _text(value: Any) -> str:
     return value
 
 
-def _list(value: Any) -> List[Any]:
+def _list(value: Any) -> list[Any]:
     if not isinstance(value, list):
         raise ValueError("something else than a list")
     return value

@@ -5,7 +5,7 @@ from __future__ import annotations
 import math
 import re
 from fractions import Fraction
-from typing import Dict, Iterable, Iterator, List, NamedTuple, Optional, Sequence, Tuple
+from typing import Iterable, Iterator, NamedTuple, Optional, Sequence
 
 from ..model.xmp_values import Array, Long, LongStructure, Structure, texts_in
 from .field import Field
@@ -41,7 +41,7 @@ def is_of_position(field: Field) -> bool:
     return field.directory == "gps" or (field.directory == "xmp" and field.tag in ("exif:GPSLatitude", "exif:GPSLongitude"))
 
 
-def of_position(fields: Sequence[Field]) -> List[Field]:
+def of_position(fields: Sequence[Field]) -> list[Field]:
     """Those of some fields of which a position is made."""
     return [it for it in fields if it.directory in ("gps", "xmp") and is_of_position(it)]
 
@@ -97,17 +97,17 @@ class Located(NamedTuple):
         return Place(float(self.latitude.degrees), float(self.longitude.degrees))
 
 
-def located(fields: Iterable[Field]) -> Tuple[Optional[Located], Optional[Located]]:
+def located(fields: Iterable[Field]) -> tuple[Optional[Located], Optional[Located]]:
     """The position that Exif has, and that of XMP; None if a part is missing or is no angle of the earth."""
     gps, properties = _by_tag(fields)
     exif = _located(_of_exif(gps.get("0002"), gps.get("0001")), _of_exif(gps.get("0004"), gps.get("0003")))
     return exif, _located(_of_xmp(properties.get("exif:GPSLatitude"), "NS"), _of_xmp(properties.get("exif:GPSLongitude"), "EW"))
 
 
-def _by_tag(fields: Iterable[Field]) -> Tuple[Dict[str, Field], Dict[str, Field]]:
+def _by_tag(fields: Iterable[Field]) -> tuple[dict[str, Field], dict[str, Field]]:
     """The fields of GPS in Exif, and those in XMP."""
-    gps: Dict[str, Field] = {}
-    properties: Dict[str, Field] = {}
+    gps: dict[str, Field] = {}
+    properties: dict[str, Field] = {}
     for field in fields:
         if field.directory == "gps":
             gps.setdefault(field.tag, field)
@@ -127,7 +127,7 @@ def has_angles(fields: Iterable[Field]) -> bool:
     return any(key in gps and degrees(gps[key]) is not None for key in ("0002", "0004")) or bool(properties)
 
 
-def further_places(fields: Iterable[Field]) -> Tuple[List[Place], bool]:
+def further_places(fields: Iterable[Field]) -> tuple[list[Place], bool]:
     """The positions in structures of XMP, at any depth, as those of where a picture was created and of what it shows; and whether there may be
     more: coordinates that make no position, or a structure of places that isn't kept.
 
@@ -142,7 +142,7 @@ def further_places(fields: Iterable[Field]) -> Tuple[List[Place], bool]:
     return [it for it in places if it is not None], is_unclear
 
 
-def _place_in(structure: Structure) -> List[Optional[Place]]:
+def _place_in(structure: Structure) -> list[Optional[Place]]:
     """The position of a structure with a coordinate; None if it makes no position."""
     halves = {name.rpartition(":")[2]: value for name, value in structure.members if name.rpartition(":")[2] in _HALVES}
     angles = [_of_xmp(Field("xmp", it, "text", 1, (halves[it],)) if it in halves else None, signs) for it, signs in _HALVES.items()]
@@ -215,7 +215,7 @@ def altitude_of(fields: Iterable[Field]) -> Optional[float]:
     >>> altitude_of([Field("gps", "0005", "BYTE", 1, b"\\1"), Field("gps", "0006", "RATIONAL", 1, ((25, 2),))])
     -12.5
     """
-    values: Dict[Tuple[str, str], object] = {}
+    values: dict[tuple[str, str], object] = {}
     for field in fields:
         if (field.directory, field.tag) in _ALTITUDE:
             values.setdefault((field.directory, field.tag), field.value)

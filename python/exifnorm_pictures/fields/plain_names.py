@@ -7,7 +7,6 @@ from __future__ import annotations
 
 import functools
 import re
-from typing import Dict, Tuple
 
 from ..model.budgets import CACHED
 from .names import name_of
@@ -29,7 +28,7 @@ CountryPrimaryLocationCode Country-PrimaryLocationCode CountryPrimaryLocationNam
 CaptionAbstract Caption-Abstract WriterEditor Writer-Editor ObjectDataPreviewFileFormat ObjectPreviewFileFormat
 ObjectDataPreviewFileFormatVersion ObjectPreviewFileVersion ObjectDataPreviewData ObjectPreviewData
 """.split()
-_NAMES: Dict[str, str] = dict(zip(_WORDS[0::2], _WORDS[1::2]))
+_NAMES: dict[str, str] = dict(zip(_WORDS[0::2], _WORDS[1::2]))
 _PICTURES = {"jpeg": "ThumbnailImage", "strip": "ThumbnailTIFF"}
 
 
@@ -54,7 +53,7 @@ def group_name(where: str, key: str) -> str:
     return _cached(where, key)[0] if len(key) <= CACHED else _made(where, key)[0]
 
 
-def spellings(where: str, key: str) -> Tuple[str, ...]:
+def spellings(where: str, key: str) -> tuple[str, ...]:
     """What a field is found by, in small letters: its name with its group and without, and what identifies it in its directory.
 
     >>> sorted(spellings("main", "013b"))
@@ -63,7 +62,7 @@ def spellings(where: str, key: str) -> Tuple[str, ...]:
     return _cached(where, key)[1] if len(key) <= CACHED else _made(where, key)[1]
 
 
-def _made(where: str, key: str) -> Tuple[str, Tuple[str, ...]]:
+def _made(where: str, key: str) -> tuple[str, tuple[str, ...]]:
     if where == "xmp":
         name = f"XMP:{key}" if key.startswith("<") else f"XMP-{key}"
     else:

@@ -7,7 +7,7 @@ from __future__ import annotations
 
 import re
 from fractions import Fraction
-from typing import Any, Callable, List, Optional
+from typing import Any, Callable, Optional
 
 from ..model.xmp_values import Long
 from .field import Field
@@ -21,7 +21,7 @@ INTEGERS = ("SHORT", "LONG", "WHOLE", "SSHORT", "SLONG")
 RATIOS = ("RATIONAL", "SRATIONAL")
 
 
-def fractions(field: Field) -> Optional[List[Optional[Fraction]]]:
+def fractions(field: Field) -> Optional[list[Optional[Fraction]]]:
     """The numbers of a field; None in it for a fraction with the denominator 0, and None for all if it has no numbers or too many.
 
     >>> fractions(Field("exif", "a432", "RATIONAL", 2, ((10, 80), (1, 0)))), fractions(Field("main", "0112", "SHORT", 1, (6,)))
@@ -85,7 +85,7 @@ shutter_speed = of_number(lambda one: seconds(Fraction(2.0 ** -float(one)).limit
 exposure_value = of_number(lambda one: f"{'+' if one > 0 else ''}{decimal(one, 2)} EV")  # a correction of the exposure
 
 
-def denominators(field: Field) -> List[int]:
+def denominators(field: Field) -> list[int]:
     """Into how many parts each number of a field is divided, as it is written: those of 30/10 are tenths.
 
     >>> denominators(Field("gps", "0002", "RATIONAL", 3, ((46, 1), (1213, 100), (0, 1))))
@@ -101,7 +101,7 @@ def degrees(field: Field) -> Optional[Fraction]:
     return sum((one / Fraction(60) ** place for place, one in enumerate(parts)), Fraction(0)) if parts else None
 
 
-def _three(field: Field) -> Optional[List[Fraction]]:
+def _three(field: Field) -> Optional[list[Fraction]]:
     """The numbers of a field that has three."""
     parts = fractions(field) or []
     return [one for one in parts if one is not None] if len(parts) == 3 and None not in parts else None

@@ -2,7 +2,7 @@
 
 from __future__ import annotations
 
-from typing import Callable, List, Optional, Tuple
+from typing import Callable, Optional
 
 from ..model.texts import quoted
 from ..model.xmp_values import Long, simple_texts
@@ -140,7 +140,7 @@ def guess_of(field: Field) -> str:
 _NO_TEXTS = (*DATASET_NUMBERS, "1:90")
 
 
-def decoded(octets: bytes, declares_utf8: bool = False) -> Tuple[str, str]:
+def decoded(octets: bytes, declares_utf8: bool = False) -> tuple[str, str]:
     """The text of some bytes, and how its character set was found if it isn't declared, or isn't the declared one.
 
     >>> decoded(b"Vase"), decoded(b"Z\\xfcrich"), decoded(b"Z\\xc3\\xbcrich", True)
@@ -174,7 +174,7 @@ def plain_comment(field: Field) -> Optional[str]:
 # XMP
 
 
-def xmp_texts(field: Field) -> Optional[List[Tuple[str, str]]]:
+def xmp_texts(field: Field) -> Optional[list[tuple[str, str]]]:
     """The texts of a simple value or of a list of such, each with its language. None for a structure, or a value that isn't kept whole."""
     if isinstance(field.content, Long):
         return None

@@ -5,7 +5,7 @@ A value without plain words stays as it is printed exactly.
 
 from __future__ import annotations
 
-from typing import Dict, Optional, Tuple
+from typing import Optional
 
 from ..model.texts import escaped, quoted
 from ..model.xmp_values import Literal
@@ -17,7 +17,7 @@ from .places import direction
 from .plain_texts import EMPTY, guessed, plain_comment, plain_xmp, text_of
 
 # Words for numbers: TIFF 6.0 and CIPA DC-008 (Exif 2.32), 4.6
-WORDS: Dict[str, Dict[str, str]] = {}
+WORDS: dict[str, dict[str, str]] = {}
 
 
 def _words(keys: str, text: str) -> None:
@@ -78,11 +78,11 @@ def _flash(field: Field) -> Optional[str]:
     return NO_FLASH if bits & 0x20 else ", ".join(filter(None, (words[bits >> bit & mask] for bit, mask, words in FLASH)))
 
 
-def _table(words: Dict[str, str]) -> Rule:
+def _table(words: dict[str, str]) -> Rule:
     return lambda it: words.get(str(numbers.integer(it)))
 
 
-def _letter(words: Dict[str, str]) -> Rule:
+def _letter(words: dict[str, str]) -> Rule:
     return lambda it: words.get(text_of(it) or "")
 
 
@@ -91,7 +91,7 @@ def _byte(*words: str) -> Rule:
     return lambda it: known.get(it.content) if isinstance(it.content, bytes) else None
 
 
-_EXIF: Dict[str, Rule] = {
+_EXIF: dict[str, Rule] = {
     **{key: _table(words) for key, words in WORDS.items()},
     **dict.fromkeys(("0132", "9003", "9004"), numbers.date),
     **dict.fromkeys(("9202", "9205"), numbers.aperture_value),
@@ -109,7 +109,7 @@ _EXIF: Dict[str, Rule] = {
     "9000": numbers.version,
     "a000": numbers.version,
 }
-_GPS: Dict[str, Rule] = {
+_GPS: dict[str, Rule] = {
     **dict.fromkeys(("0002", "0004", "0014", "0016"), numbers.angle),
     **dict.fromkeys(("000f", "0011", "0018"), with_unit("°", 2)),
     **dict.fromkeys(("001b", "001c"), plain_comment),
@@ -123,7 +123,7 @@ _GPS: Dict[str, Rule] = {
     "001d": numbers.date,
     "001f": with_unit(" m", 1),
 }
-_IIM: Dict[str, Rule] = {
+_IIM: dict[str, Rule] = {
     **dict.fromkeys(DATASET_DATES, numbers.iptc_date),
     **dict.fromkeys(DATASET_TIMES, numbers.iptc_time),
     **dict.fromkeys(DATASET_NUMBERS, numbers.iptc_number),
@@ -143,7 +143,7 @@ def plain(field: Field) -> str:
     return _in_words(field) or _text(field) or _without_words(field)
 
 
-def plain_and_exact(field: Field) -> Tuple[str, str]:
+def plain_and_exact(field: Field) -> tuple[str, str]:
     """The results of `plain` and of `exact`, for which a text is looked at once.
 
     >>> plain_and_exact(Field("main", "013b", "ASCII", 5, b"Otto\\0"))
@@ -205,7 +205,7 @@ _HALVES = (("0001", "0002"), ("0003", "0004"))
 POSITION_TAGS = tuple(key for half in _HALVES for key in half)  # the tags of the four fields
 
 
-def position(fields: Dict[str, Field]) -> Optional[str]:
+def position(fields: dict[str, Field]) -> Optional[str]:
     """The position of the GPS directory in degrees, of its fields by tag; None if a part is missing.
 
     >>> angles = {"0002": ((46, 1), (30, 1), (0, 1)), "0004": ((7, 1), (1213, 100), (0, 1))}

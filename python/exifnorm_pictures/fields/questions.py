@@ -15,7 +15,7 @@ from __future__ import annotations
 import difflib
 import re
 from dataclasses import dataclass
-from typing import Callable, Iterable, Iterator, List, Optional, Sequence, Tuple, Type, Union
+from typing import Callable, Iterable, Iterator, Optional, Sequence, Type, Union
 
 from ..model.errors import WrongUse
 from ..model.texts import safe
@@ -61,7 +61,7 @@ class Condition:
     label: str
     comparison: str
     value: str
-    others: Tuple[str, ...] = ()  # further texts of `is`, of which one is enough
+    others: tuple[str, ...] = ()  # further texts of `is`, of which one is enough
 
 
 @dataclass(frozen=True)
@@ -75,20 +75,20 @@ class Not:
 class All:
     """Pictures for which each of these holds."""
 
-    questions: Tuple["Question", ...]
+    questions: tuple["Question", ...]
 
 
 @dataclass(frozen=True)
 class Any:
     """Pictures for which one of these holds."""
 
-    questions: Tuple["Question", ...]
+    questions: tuple["Question", ...]
 
 
 Question = Union[With, Condition, Not, All, Any]
 
 
-def labels_of(question: Question) -> List[str]:
+def labels_of(question: Question) -> list[str]:
     """The labels of a question, in its order, each once.
 
     >>> labels_of(question_of("without credit and creator = Anna or credit = x"))
@@ -106,7 +106,7 @@ def _leaves(question: Question) -> Iterator[Union[With, Condition]]:
             yield from _leaves(part)
 
 
-def conditions_of(question: Question) -> List[Condition]:
+def conditions_of(question: Question) -> list[Condition]:
     """The comparisons of a question."""
     return [leaf for leaf in _leaves(question) if isinstance(leaf, Condition)]
 
@@ -118,7 +118,7 @@ def all_of(questions: Sequence[Question]) -> Question:
     return questions[0] if len(questions) == 1 else All(tuple(questions))
 
 
-def question_of(text: str, words_of: Callable[[str], List[str]] = lambda name: []) -> Question:
+def question_of(text: str, words_of: Callable[[str], list[str]] = lambda name: []) -> Question:
     """What a text asks; `words_of` reads a file of words. Raises `WrongQuestion`.
 
     >>> question_of("keywords = clay or without credit")
@@ -171,7 +171,7 @@ def _label_or_field(text: str) -> Optional[str]:
     return label
 
 
-def fields_in(words: Iterable[str]) -> List[str]:
+def fields_in(words: Iterable[str]) -> list[str]:
     """Those of some words that are fields or damage and no labels, each once."""
     labels = fields_by_label()
     return [word for word in dict.fromkeys(words) if word not in labels]
@@ -236,7 +236,7 @@ class _Reader(Reader):
         self._depth -= 1
         return question
 
-    def _comparison(self) -> Tuple[str, ...]:
+    def _comparison(self) -> tuple[str, ...]:
         """The words of the comparison that is next; empty if none is."""
         return next((it for it in _BY_WORDS if self._follows(*it)), ())
 

@@ -26,7 +26,7 @@ import fnmatch
 import os
 import re
 from dataclasses import dataclass
-from typing import Callable, Dict, Iterable, List, NoReturn, Optional, Sequence, Tuple
+from typing import Callable, Iterable, NoReturn, Optional, Sequence
 
 from ..model.errors import WrongUse
 from . import dates
@@ -79,12 +79,12 @@ class Rule:
     line: int
     text: str  # as it was written
     kind: str
-    labels: Tuple[str, ...]
-    values: Tuple[
+    labels: tuple[str, ...]
+    values: tuple[
         str, ...
     ] = ()  # of VALUES all that are allowed; the text of EQUAL, the pattern of LIKE, the number of LENGTH, the date of AFTER and BEFORE
-    inside: Tuple[str, ...] = ()
-    outside: Tuple[str, ...] = ()
+    inside: tuple[str, ...] = ()
+    outside: tuple[str, ...] = ()
 
     def is_about(self, path: str) -> bool:
         """Whether it is about a picture with this path below the folder that was indexed.
@@ -106,14 +106,14 @@ def _lies_in(path: str, folders: Iterable[str]) -> bool:
     return False
 
 
-def rules_of(text: str, words_of: Callable[[str], List[str]]) -> List[Rule]:
+def rules_of(text: str, words_of: Callable[[str], list[str]]) -> list[Rule]:
     """The rules of a file; `words_of` reads a file of words. Raises `WrongRules`, with a line for each mistake.
 
     >>> [rule.kind for rule in rules_of("every picture needs credit\\ncredit is 'Museum'", lambda name: [])]
     ['needs', 'values']
     """
-    rules: List[Rule] = []
-    mistakes: List[str] = []
+    rules: list[Rule] = []
+    mistakes: list[str] = []
     words = 0
     for number, line in enumerate(text.splitlines(), 1):
         try:
@@ -133,7 +133,7 @@ def rules_of(text: str, words_of: Callable[[str], List[str]]) -> List[Rule]:
     return rules
 
 
-def _rule(number: int, line: str, words_of: Callable[[str], List[str]]) -> Optional[Rule]:
+def _rule(number: int, line: str, words_of: Callable[[str], list[str]]) -> Optional[Rule]:
     """The rule of a line, if it has one. Raises `Mistake`."""
     if len(line) > LONGEST_LINE:
         raise Mistake(f"a line has at most {LONGEST_LINE:,} characters; a file of words, after from, may have more", 0, 1)
@@ -153,7 +153,7 @@ class _Reader(Reader):
         if self._takes("every", "picture"):
             if not self._takes("needs"):
                 self._fail("expected: needs, as in `every picture needs credit`")
-            kind, labels, values = NEEDS, self._labels(), ()  # type: Tuple[str, Tuple[str, ...], Tuple[str, ...]]
+            kind, labels, values = NEEDS, self._labels(), ()  # type: tuple[str, tuple[str, ...], tuple[str, ...]]
         elif self._takes("labels", "agree"):
             left_out = self._left_out()
             kind, labels, values = AGREE, tuple(it for it in COMPARED if it not in left_out), ()
@@ -173,7 +173,7 @@ class _Reader(Reader):
         self._at = at
         return ()
 
-    def _labels(self) -> Tuple[str, ...]:
+    def _labels(self) -> tuple[str, ...]:
         """Labels up to a predicate, a place or the end."""
         labels = [self._label()]
         while self._takes(","):
@@ -204,11 +204,11 @@ class _Reader(Reader):
                 self._fail(f"{token.text!r} is no word of a rule (perhaps {_MEANT[token.word]} is meant)", token)
         self._fail(f"{name!r} is no label and no field{nearest(name)}", *tokens)
 
-    def _predicate_words(self) -> Tuple[str, ...]:
+    def _predicate_words(self) -> tuple[str, ...]:
         """The words of the predicate that is next; empty if none is."""
         return next((words for words in _PREDICATES if self._follows(*words)), ())
 
-    def _predicate(self, labels: Sequence[str]) -> Tuple[str, Tuple[str, ...]]:
+    def _predicate(self, labels: Sequence[str]) -> tuple[str, tuple[str, ...]]:
         words = self._predicate_words()
         if not words:
             known = (" ".join(words) for words in _PREDICATES if words != ("needs",))
@@ -219,7 +219,7 @@ class _Reader(Reader):
             self._fail("only `every picture` needs something: every picture needs " + ", ".join(labels), *self._tokens[:1])
         return kind, self._values(words, kind, labels)
 
-    def _values(self, words: Tuple[str, ...], kind: str, labels: Sequence[str]) -> Tuple[str, ...]:
+    def _values(self, words: tuple[str, ...], kind: str, labels: Sequence[str]) -> tuple[str, ...]:
         if kind in (NEVER, AGREE):
             return self._refuse_others(labels) if kind == AGREE else ()
         if kind == LENGTH:
@@ -236,7 +236,7 @@ class _Reader(Reader):
         except ValueError as error:
             self._fail(str(error), value)
 
-    def _refuse_others(self, labels: Sequence[str]) -> Tuple[str, ...]:
+    def _refuse_others(self, labels: Sequence[str]) -> tuple[str, ...]:
         """Refuses labels that aren't kept in several of Exif, IPTC and XMP."""
         if others := [label for label in labels if label not in COMPARED]:
             self._fail(f"{others[0]} is none of the labels that are compared: {', '.join(COMPARED)}", *self._tokens[:1])
@@ -262,8 +262,8 @@ class _Reader(Reader):
             self._fail(f"expected: {dates.EXPECTED}", given)
         return day
 
-    def _places(self) -> Tuple[Tuple[str, ...], Tuple[str, ...]]:
-        folders: Dict[str, List[str]] = {word: [] for word in _PLACES}
+    def _places(self) -> tuple[tuple[str, ...], tuple[str, ...]]:
+        folders: dict[str, list[str]] = {word: [] for word in _PLACES}
         while not self._is_at_end:
             word = self._next.word
             if word not in _PLACES:

@@ -3,7 +3,7 @@
 from __future__ import annotations
 
 import functools
-from typing import Dict, Iterator, List, Sequence, Tuple
+from typing import Iterator, Sequence
 
 from ..model.xmp_values import Array, LongStructure, Structure, XmpValue
 from .field import Field
@@ -12,7 +12,7 @@ from .field_names import Names, asked_name, names_and_groups
 _LONGEST = 200  # characters of a key whose names are kept
 
 
-def members_of(field: Field) -> List[Field]:
+def members_of(field: Field) -> list[Field]:
     """The members of a property's structures, at any depth, as fields: of a list of structures one field has those of all.
 
     >>> from ..model.xmp_values import Literal
@@ -22,7 +22,7 @@ def members_of(field: Field) -> List[Field]:
     """
     if field.directory != "xmp" or not isinstance(field.content, tuple):
         return []
-    found: Dict[str, List[XmpValue]] = {}
+    found: dict[str, list[XmpValue]] = {}
     for value in field.content:
         for key, member in _members(field.tag.rstrip(">"), value):
             found.setdefault(key, []).append(member)
@@ -35,7 +35,7 @@ def has_members(field: Field) -> bool:
     return isinstance(field.content, tuple) and any(isinstance(it, (Array, Structure, LongStructure)) for it in field.content)
 
 
-def _members(key: str, value: object) -> Iterator[Tuple[str, XmpValue]]:
+def _members(key: str, value: object) -> Iterator[tuple[str, XmpValue]]:
     if isinstance(value, LongStructure):
         value = value.value
     if isinstance(value, Array):
@@ -49,7 +49,7 @@ def _members(key: str, value: object) -> Iterator[Tuple[str, XmpValue]]:
             yield from _members(whole, member)
 
 
-def with_other_name(fields: Sequence[Field], folded: str) -> List[Field]:
+def with_other_name(fields: Sequence[Field], folded: str) -> list[Field]:
     """The fields, or else the members of structures, that another program names so, in small letters."""
     asked = asked_name(folded)
     found = [it for it in fields if _is_named(it, folded, asked)]
@@ -64,5 +64,5 @@ def _is_named(field: Field, folded: str, asked: str) -> bool:
 _kept = functools.lru_cache(4096)(names_and_groups)
 
 
-def _names(where: str, key: str) -> Tuple[Names, Names, Names]:
+def _names(where: str, key: str) -> tuple[Names, Names, Names]:
     return _kept(where, key) if len(key) < _LONGEST else names_and_groups(where, key)

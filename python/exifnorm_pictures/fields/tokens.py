@@ -3,7 +3,7 @@
 from __future__ import annotations
 
 import re
-from typing import Callable, List, NamedTuple, NoReturn, Tuple
+from typing import Callable, NamedTuple, NoReturn
 
 # The comparisons with the very texts that are given, which need only be composed alike
 EXACT = (("is",), ("one", "of"), ("from",))
@@ -38,7 +38,7 @@ class Mistake(Exception):
         super().__init__(why)
         self.why, self.start, self.end = why, start, end
 
-    def shown_in(self, text: str) -> Tuple[str, str]:
+    def shown_in(self, text: str) -> tuple[str, str]:
         """The text with a mark below the mistake, or of a long text the part around it."""
         first, last = max(0, self.start - _SHOWN), self.start + _SHOWN
         part = " ".join(text[first:last].splitlines())
@@ -48,7 +48,7 @@ class Mistake(Exception):
         return f"  {before}{part}{' ..' * (last < len(text))}", f"  {mark}"
 
 
-def tokens_of(text: str, has_comments: bool = False) -> List[Token]:
+def tokens_of(text: str, has_comments: bool = False) -> list[Token]:
     """The tokens of a text, up to a comment. Raises `Mistake`.
 
     >>> [token.text for token in tokens_of("creator one of 'Ann Lee', Ben # or so", True)]
@@ -56,7 +56,7 @@ def tokens_of(text: str, has_comments: bool = False) -> List[Token]:
     >>> tokens_of('"the ""big"" vase"')[0].text
     'the "big" vase'
     """
-    tokens: List[Token] = []
+    tokens: list[Token] = []
     at, end = 0, len(text.rstrip())
     while at < end:
         match = _TOKEN.match(text, at)
@@ -81,7 +81,7 @@ def tokens_of(text: str, has_comments: bool = False) -> List[Token]:
 class Reader:
     """Reads tokens one after the other."""
 
-    def __init__(self, text: str, tokens: List[Token], words_of: Callable[[str], List[str]]) -> None:
+    def __init__(self, text: str, tokens: list[Token], words_of: Callable[[str], list[str]]) -> None:
         """`words_of` reads the file of words that follows `from`."""
         end = tokens[-1].end if tokens else 0
         self._text, self._words_of = text, words_of
@@ -121,7 +121,7 @@ class Reader:
         start, end = (tokens[0].start, tokens[-1].end) if tokens else self._next[1:3]
         return Token(self._text[start:end], start, end)
 
-    def _value(self, ends: Tuple[str, ...], expected: str) -> Token:
+    def _value(self, ends: tuple[str, ...], expected: str) -> Token:
         """A text in quotes, or all up to a word that ends it."""
         if self._next.is_quoted:
             self._at += 1
@@ -131,7 +131,7 @@ class Reader:
             self._fail(expected)
         return value
 
-    def _texts(self, words: Tuple[str, ...], ends: Tuple[str, ...], expected: str) -> Tuple[str, ...]:
+    def _texts(self, words: tuple[str, ...], ends: tuple[str, ...], expected: str) -> tuple[str, ...]:
         """The texts after one of the exact comparisons."""
         ends = (*ends, ",") if words == ("one", "of") else ends
         first = self._value(ends, expected)

@@ -6,7 +6,7 @@ import math
 import struct
 from datetime import date, datetime, time
 from fractions import Fraction
-from typing import Any, Dict, Iterator, List, Optional, Sequence, Tuple, Union
+from typing import Any, Iterator, Optional, Sequence, Union
 
 from ..model.xmp_values import Array, Literal, Long, LongStructure, Structure, Uri, XmpValue, exact
 from .field import Field
@@ -14,7 +14,7 @@ from .listing import DATASET_DATES, DATASET_NUMBERS, DATASET_TIMES, LONGEST_TEXT
 from .plain_texts import comment, guessed
 from .xmp_types import object_of
 
-Value = Union[str, int, float, bool, Fraction, datetime, date, time, bytes, None, Tuple[Any, ...], Dict[str, Any]]
+Value = Union[str, int, float, bool, Fraction, datetime, date, time, bytes, None, tuple[Any, ...], dict[str, Any]]
 
 _DATES = {("main", "0132"), ("exif", "9003"), ("exif", "9004")}
 _VERSIONS = {("exif", "9000"), ("exif", "a000"), ("interop", "0002")}  # UNDEFINED, and digits by the standard
@@ -97,7 +97,7 @@ def _one_or_all(values: Sequence[Value]) -> Value:
     return values[0] if len(values) == 1 else tuple(values)
 
 
-def _numbers(field: Field) -> List[Value]:
+def _numbers(field: Field) -> list[Value]:
     """The numbers of a field; None for a fraction with the denominator 0."""
     values: Any = field.content
     if field.type in ("RATIONAL", "SRATIONAL"):
@@ -189,7 +189,7 @@ def _one_of_xmp(name: str, value: XmpValue) -> Value:
     return _one_of_xmp(name, default[0]) if default else ()
 
 
-def _members_of(structure: Structure) -> Iterator[Tuple[str, Value]]:
+def _members_of(structure: Structure) -> Iterator[tuple[str, Value]]:
     """The members of a structure. A text in another language than the default one has this after its name, as ExifTool prints it.
 
     >>> alternatives = Array("Alt", (Literal("Krug", "de"), Literal("Vase", "x-default")))
@@ -201,7 +201,7 @@ def _members_of(structure: Structure) -> Iterator[Tuple[str, Value]]:
         yield from ((f"{name}-{word}", text) for word, text in _languages(values).items() if word.lower() != "x-default")
 
 
-def languages_of(field: Field) -> Dict[str, str]:
+def languages_of(field: Field) -> dict[str, str]:
     """The texts of alternatives by their languages, the default one first.
 
     >>> alternatives = Array("Alt", (Literal("Krug", "de"), Literal("Vase", "x-default")))
@@ -211,10 +211,10 @@ def languages_of(field: Field) -> Dict[str, str]:
     return _languages(field.content) if field.directory == "xmp" and isinstance(field.content, tuple) else {}
 
 
-def _languages(values: Sequence[object]) -> Dict[str, str]:
+def _languages(values: Sequence[object]) -> dict[str, str]:
     arrays = [it for it in values if isinstance(it, Array) and it.kind == "Alt"]
     texts = [it for array in arrays for it in array.members if isinstance(it, Literal) and it.language]
-    languages: Dict[str, str] = {}
+    languages: dict[str, str] = {}
     for text in sorted(texts, key=lambda it: it.language.lower() != "x-default"):
         languages.setdefault(text.language, text.text)
     return languages
@@ -256,8 +256,8 @@ def _json_of_value(name: str, value: XmpValue, has_language: bool) -> Any:
     return None
 
 
-def _by_name(structure: Structure) -> Dict[str, List[XmpValue]]:
-    by_name: Dict[str, List[XmpValue]] = {}
+def _by_name(structure: Structure) -> dict[str, list[XmpValue]]:
+    by_name: dict[str, list[XmpValue]] = {}
     for name, value in structure.members:
         by_name.setdefault(name, []).append(value)
     return by_name

@@ -3,7 +3,6 @@
 from __future__ import annotations
 
 import hashlib
-from typing import Dict, List, Tuple
 
 from ..model.xmp_names import short_name
 from ..xmp.tree import MEMBER, Literal, Node, Uri, Statement, Statements, Value, key_of, unique
@@ -15,26 +14,26 @@ WHERE = "xmp"
 LONGEST_STRUCTURE = 400  # characters of the exact form of a value without texts that is kept whole
 
 
-def fields_of_statements(statements: Statements) -> List[Field]:
+def fields_of_statements(statements: Statements) -> list[Field]:
     """A field for each property, by its name.
 
     >>> fields_of_statements((Statement("http://purl.org/dc/elements/1.1/format", Literal("image/jpeg")),))
     [Field(name='XMP-dc:format', text='image/jpeg')]
     """
-    by_property: Dict[str, List[Value]] = {}
+    by_property: dict[str, list[Value]] = {}
     for predicate, value in unique(statements):
         by_property.setdefault(short_name(predicate), []).append(value)
     return [_field(name, values) for name, values in sorted(by_property.items())]
 
 
-def _field(name: str, values: List[Value]) -> Field:
+def _field(name: str, values: list[Value]) -> Field:
     kept = tuple([_kept(value) for value in values])
     first = kept[0]
     word, number = (first.kind, len(first.members)) if isinstance(first, Array) else _form(values[0])
     return Field(WHERE, name, word, number if len(values) == 1 else len(values), kept)
 
 
-def _form(value: Value) -> Tuple[str, int]:
+def _form(value: Value) -> tuple[str, int]:
     """A word for the form of a value, and the number of its members."""
     if isinstance(value, Node):
         statements = unique(value.statements)
@@ -67,13 +66,13 @@ def _value(value: Value) -> XmpValue:
     return Structure(tuple(named))
 
 
-def _place(statement: Statement) -> Tuple[int, str]:
+def _place(statement: Statement) -> tuple[int, str]:
     return len(statement.predicate), statement.predicate
 
 
-def _name(member: Tuple[str, XmpValue]) -> str:
+def _name(member: tuple[str, XmpValue]) -> str:
     return member[0] + "="
 
 
-def _name_and_value(member: Tuple[str, XmpValue]) -> str:
+def _name_and_value(member: tuple[str, XmpValue]) -> str:
     return f"{member[0]}={exact(member[1])}"

@@ -9,7 +9,7 @@ from __future__ import annotations
 import re
 from datetime import date, datetime, timedelta, timezone
 from fractions import Fraction
-from typing import Callable, Dict, Optional, Union
+from typing import Callable, Optional, Union
 
 XmpObject = Union[int, float, Fraction, bool, datetime, date, None, str]
 
@@ -41,8 +41,8 @@ exifEX Integer PhotographicSensitivity SensitivityType StandardOutputSensitivity
 """
 
 
-def _types() -> Dict[str, str]:
-    types: Dict[str, str] = {}
+def _types() -> dict[str, str]:
+    types: dict[str, str] = {}
     for line in _TABLE.strip().replace("\n ", " ").splitlines():
         prefix, _, rest = line.partition(" ")
         for part in rest.split("; "):
@@ -117,7 +117,7 @@ def _date(text: str) -> XmpObject:
         return text
 
 
-_MADE: Dict[str, Callable[[str], XmpObject]] = {
+_MADE: dict[str, Callable[[str], XmpObject]] = {
     "Integer": _integer,
     "Real": lambda text: float(text) if _REAL.fullmatch(text) else text,
     "Rational": _rational,

@@ -12,7 +12,7 @@ import os
 import re
 import stat
 import zlib
-from typing import AnyStr, BinaryIO, Callable, Iterator, Optional, Pattern, Tuple
+from typing import AnyStr, BinaryIO, Callable, Iterator, Optional, Pattern
 
 from ..model.errors import Failure
 from ..model.texts import reason, shown_path
@@ -48,7 +48,7 @@ def copy_new(source: bytes, out: bytes, like: bytes, check: Callable[[bytes], No
         _link(file, name, out)
 
 
-def replace(out: bytes, write: Write, allowed: Callable[[bytes], bool], kept: Tuple[str, ...] = ()) -> None:
+def replace(out: bytes, write: Write, allowed: Callable[[bytes], bool], kept: tuple[str, ...] = ()) -> None:
     """Writes a file that may replace an earlier one: a regular file whose first bytes are `allowed`, or an empty one.
 
     It is made from the files `kept`, which are never replaced, whatever name `out` is. It has the rights of the file that it replaces, or
@@ -63,7 +63,7 @@ def replace(out: bytes, write: Write, allowed: Callable[[bytes], bool], kept: Tu
         raise NotReplaced(reason(error)) from None
 
 
-def put(name: str, write: Write, allowed: Callable[[bytes], bool], kept: Tuple[str, ...] = ()) -> None:
+def put(name: str, write: Write, allowed: Callable[[bytes], bool], kept: tuple[str, ...] = ()) -> None:
     """The same for a name of the command line, which the error names."""
     try:
         replace(os.fsencode(name), write, allowed, kept)
@@ -71,7 +71,7 @@ def put(name: str, write: Write, allowed: Callable[[bytes], bool], kept: Tuple[s
         raise NotReplaced(not_written(shown_path(name), error)) from None
 
 
-def _replace(there: bytes, write: Write, sources: Tuple[str, ...]) -> None:
+def _replace(there: bytes, write: Write, sources: tuple[str, ...]) -> None:
     before = rights.rights_of(there) if os.path.exists(there) else None
 
     def write_all(file: BinaryIO) -> None:
@@ -93,7 +93,7 @@ def _replace(there: bytes, write: Write, sources: Tuple[str, ...]) -> None:
             raise
 
 
-def _check(out: bytes, allowed: Callable[[bytes], bool], kept: Tuple[str, ...]) -> None:
+def _check(out: bytes, allowed: Callable[[bytes], bool], kept: tuple[str, ...]) -> None:
     try:
         now = os.stat(out)
     except FileNotFoundError:
@@ -134,7 +134,7 @@ def _remove_dead(entry: "os.DirEntry[bytes]") -> None:
 
 
 @contextlib.contextmanager
-def _written(out: bytes, write: Write, mode: int) -> Iterator[Tuple[BinaryIO, Optional[bytes]]]:
+def _written(out: bytes, write: Write, mode: int) -> Iterator[tuple[BinaryIO, Optional[bytes]]]:
     """A file in the folder of `out` with all its bytes on the disk, and its name if it needed one. It begins with a mode, less umask."""
     folder, number, name = os.path.dirname(out) or b".", -1, None
     try:
@@ -151,7 +151,7 @@ def _written(out: bytes, write: Write, mode: int) -> Iterator[Tuple[BinaryIO, Op
                 os.unlink(name)
 
 
-def _opened(folder: bytes, out: bytes, mode: int) -> Tuple[int, Optional[bytes]]:
+def _opened(folder: bytes, out: bytes, mode: int) -> tuple[int, Optional[bytes]]:
     """A new file that is locked, as far as the file system can, and its name if it needs one."""
     if hasattr(os, "O_TMPFILE"):
         with contextlib.suppress(OSError):

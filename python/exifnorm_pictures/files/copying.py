@@ -5,7 +5,7 @@ from __future__ import annotations
 import contextlib
 import errno
 import os
-from typing import Iterator, Tuple
+from typing import Iterator
 
 from .opening import read_at
 
@@ -53,7 +53,7 @@ def is_hollow(number: int, size: int, most: int) -> bool:
     return holes > most
 
 
-def _data(number: int, start: int, end: int) -> Iterator[Tuple[int, int]]:
+def _data(number: int, start: int, end: int) -> Iterator[tuple[int, int]]:
     """The ranges of a file that aren't holes, or everything where a file system doesn't know them."""
     while start < end:
         try:

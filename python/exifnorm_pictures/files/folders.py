@@ -16,7 +16,7 @@ import re
 import stat
 import tempfile
 from itertools import islice
-from typing import Any, Iterator, List, Optional, Sequence, Tuple
+from typing import Any, Iterator, Optional, Sequence
 
 from ..model.texts import reason, shown_path
 from . import opening, rights, signals
@@ -39,7 +39,7 @@ class NewFolder:
 
     def __init__(self, path: bytes, earlier: bytes, allowed: Optional[rights.Rights], sources: Sequence[str]) -> None:
         self.path, self._earlier, self._allowed, self._sources = path, earlier, allowed, sources
-        self.lines: List[str] = []  # of the list: the SHA-256 and the name of each file, as sha256sum has them
+        self.lines: list[str] = []  # of the list: the SHA-256 and the name of each file, as sha256sum has them
 
     def write(self, name: str, octets: bytes) -> None:
         """Writes a file, with the rights of the one that it replaces, or those of the sources and umask. Raises `OSError`."""
@@ -110,7 +110,7 @@ def replaced(out: bytes, mark: str, sources: Sequence[str]) -> Iterator[NewFolde
             os.close(lock)
 
 
-def _locked(beside: bytes) -> Tuple[bytes, int]:
+def _locked(beside: bytes) -> tuple[bytes, int]:
     """A new folder, and the number by which this process has locked it, as far as the file system can."""
     while True:
         room = tempfile.mkdtemp(prefix=_PREFIX, suffix=_SUFFIX, dir=beside)
@@ -156,7 +156,7 @@ def _remove(folder: bytes, mark: str) -> None:
 _FIRST = "The pages of a report by exifnorm-pictures, which a new one replaces:"
 
 
-def _rights_of_earlier(there: bytes, mark: str) -> Optional[Tuple[rights.Rights, rights.Rights]]:
+def _rights_of_earlier(there: bytes, mark: str) -> Optional[tuple[rights.Rights, rights.Rights]]:
     """The rights of an earlier folder and of its list. Raises `NotReplaced` if something else is there."""
     try:
         now = os.stat(there)

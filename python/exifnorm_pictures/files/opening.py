@@ -7,7 +7,7 @@ import errno
 import io
 import os
 import stat
-from typing import TYPE_CHECKING, BinaryIO, Dict, Iterator, Optional, Tuple, TypeVar, Union
+from typing import TYPE_CHECKING, BinaryIO, Iterator, Optional, TypeVar, Union
 
 if TYPE_CHECKING:
     from _typeshed import WriteableBuffer
@@ -18,7 +18,7 @@ IRREGULAR = "it is no regular file"
 _FLAGS = sum(getattr(os, name, 0) for name in ("O_RDONLY", "O_NONBLOCK", "O_NOCTTY", "O_CLOEXEC", "O_BINARY"))  # those that the system has
 
 
-_held: Dict[bytes, int] = {}  # the numbers of the files that are held open, by their names
+_held: dict[bytes, int] = {}  # the numbers of the files that are held open, by their names
 
 
 @contextlib.contextmanager
@@ -36,7 +36,7 @@ def held(path: bytes) -> Iterator[Optional[int]]:
             os.close(_held.pop(path))
 
 
-def opened(path: Union[bytes, str]) -> Tuple[int, int]:
+def opened(path: Union[bytes, str]) -> tuple[int, int]:
     """The number of a regular file that is open, and its length. A file that becomes a pipe isn't waited for. Raises `OSError`."""
     if isinstance(path, bytes) and path in _held:
         number = os.dup(_held[path])

@@ -7,7 +7,7 @@ import os
 import signal
 import sys
 from types import FrameType
-from typing import IO, Iterator, List, Optional, Set
+from typing import IO, Iterator, Optional
 
 from ..model.errors import Failure
 from ..model.texts import safe
@@ -84,7 +84,7 @@ def heed_no_more() -> None:
 
 
 @contextlib.contextmanager
-def signals_held() -> Iterator[Set[int]]:
+def signals_held() -> Iterator[set[int]]:
     """Signals that end the run come at the end of this, which gives the mask from before: a process that is started has it too.
 
     Python calls functions of its modules around a fork, and an exception that is raised in one of them is lost.
@@ -104,7 +104,7 @@ def end_by(number: int) -> None:
 
 def ready_streams() -> None:
     """Opens /dev/null for a closed standard stream, so that no file gets its number. Raises `ClosedOutput`."""
-    closed: List[int] = []
+    closed: list[int] = []
     for number in (0, 1, 2):
         try:
             os.fstat(number)

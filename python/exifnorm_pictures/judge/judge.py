@@ -4,7 +4,7 @@ from __future__ import annotations
 
 import hashlib
 from functools import partial
-from typing import Dict, List, Optional, Set, Tuple
+from typing import Optional
 
 import exifnorm
 
@@ -99,13 +99,13 @@ def _with_notes(block: BlockRecord, at: FoundBlock, blocks: Blocks) -> BlockReco
     return block if notes.place is None else block._replace(note=notes.place if at.note is None else at.note)
 
 
-def judge_all(blocks: Blocks, packs: bool = False) -> List[BlockRecord]:
+def judge_all(blocks: Blocks, packs: bool = False) -> list[BlockRecord]:
     """Judges all blocks of a picture, in their order. Extended XMP is judged with the packet that refers to it. Raises `TooMuch`."""
     blocks.blocks = [it for it in blocks.blocks if it.kind == XMP or not _says_nothing(it)]
     extended = _Extended(blocks) if any([it.extends for it in blocks.blocks]) else None
-    known: Dict[Tuple[str, bytes], BlockRecord] = {}
+    known: dict[tuple[str, bytes], BlockRecord] = {}
     many = len(blocks.blocks) > FEW
-    judged: List[BlockRecord] = []
+    judged: list[BlockRecord] = []
     kept = 0
     for at in blocks.blocks:
         if at.extends:
@@ -149,7 +149,7 @@ class _Extended:
 
     def __init__(self, blocks: Blocks) -> None:
         self.blocks = [it for it in blocks.blocks if it.extends]
-        self.every: Dict[str, Dict[str, bytes]] = {}
+        self.every: dict[str, dict[str, bytes]] = {}
         for at in self.blocks:
             self.every.setdefault(_part(at), {}).setdefault(at.extends, at.data)
         self.remaining = {part: dict(some) for part, some in self.every.items()}
@@ -161,7 +161,7 @@ class _Extended:
         part = _part(block)
         return _judge_xmp(block, self.named.get(part, self.none), self.remaining.get(part, {}), packs)
 
-    def not_named(self) -> List[BlockRecord]:
+    def not_named(self) -> list[BlockRecord]:
         """What no packet beside it named."""
         left = [it for it in self.blocks if it.extends in self.remaining[_part(it)] or it.data != self.every[_part(it)][it.extends]]
         return [_unreadable(XMP, it, len(it.data), hashlib.sha256(it.data).hexdigest(), "ExtensionNotNamed") for it in left]
@@ -180,9 +180,9 @@ def judge_packet(packet: bytes) -> BlockRecord:
     return _judge_xmp(_BY_ITSELF._replace(data=packet), xmp.Extensions({}), {}, False)
 
 
-def _judge_xmp(at: FoundBlock, extensions: xmp.Extensions, left: Dict[str, bytes], packs: bool) -> BlockRecord:
+def _judge_xmp(at: FoundBlock, extensions: xmp.Extensions, left: dict[str, bytes], packs: bool) -> BlockRecord:
     """Reads a packet with its extended XMP, which is taken out of `left`."""
-    used: Set[str] = set()
+    used: set[str] = set()
     try:
         statements: Optional[xmp.Statements] = xmp.statements(at.data, extensions, used)
         cause = ""

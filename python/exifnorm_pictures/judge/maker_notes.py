@@ -8,7 +8,7 @@ import hashlib
 import json
 import zlib
 from collections import Counter
-from typing import Dict, List, NamedTuple, Optional, Sequence, Tuple
+from typing import NamedTuple, Optional, Sequence
 
 from ..extract import exiftool, programs
 from ..files.session import Session
@@ -17,7 +17,7 @@ from ..model.columns import Damaged
 from ..model.records import PictureRecord, Stamp, has, is_marked_as
 from .sides import Sides
 
-Values = Dict[str, str]
+Values = dict[str, str]
 
 # -u: tags without a name too; -b: previews too; -sep: lists as one text. Not -m, which hides most warnings of damaged MakerNotes.
 _WARNINGS = ("-q", "-q", "-json", "-a", "-u", "-G1:4", "-n", "-b", "-sep", " | ", "-ExifTool:Warning", "-ExifTool:Error")
@@ -42,7 +42,7 @@ class NotesReading(NamedTuple):
     """The values of a picture's MakerNotes, and what ExifTool warns of as it reads them."""
 
     values: Values
-    warnings: Tuple[str, ...] = ()
+    warnings: tuple[str, ...] = ()
 
     @property
     def doubt(self) -> str:
@@ -60,7 +60,7 @@ class NoteDifference(NamedTuple):
     after: Optional[str]
 
 
-def readings_of(session: Session, paths: Sequence[bytes]) -> List[NotesReading]:
+def readings_of(session: Session, paths: Sequence[bytes]) -> list[NotesReading]:
     """What ExifTool reads of the MakerNotes of one or two files. Raises `programs.Failed` and `programs.Missing`."""
     answers = exiftool.ask_several(session, paths, (), _WORDS)
     warnings = [sorted(value for name, value in it.items() if _is_warning(name)) for it in answers]
@@ -76,7 +76,7 @@ def _is_warning(name: str) -> bool:
     return name.partition(":")[0] == "ExifTool"
 
 
-def _values(answer: Dict[str, str]) -> Values:
+def _values(answer: dict[str, str]) -> Values:
     return {name: _short(value) for name, value in answer.items() if not _is_warning(name) and name.rpartition(":")[2] not in _PLACES}
 
 
@@ -86,7 +86,7 @@ def _short(value: str) -> str:
     return f"{value[:40]}.. sha256:{hashlib.sha256(value.encode('utf-8', 'surrogatepass')).hexdigest()[:32]}"
 
 
-def note_differences(before: Values, after: Values) -> List[NoteDifference]:
+def note_differences(before: Values, after: Values) -> list[NoteDifference]:
     """The values that differ."""
     return [NoteDifference(it, before.get(it), after.get(it)) for it in dict.fromkeys([*before, *after]) if before.get(it) != after.get(it)]
 
@@ -112,14 +112,14 @@ def unpacked_reading(octets: bytes) -> NotesReading:
 class ComparedNotes(NamedTuple):
     """The values that differ between two pictures. If none does, why that may mean nothing, and whether only one of the two is warned of so."""
 
-    differences: List[NoteDifference]
+    differences: list[NoteDifference]
     doubt: str = ""
     is_new: bool = False
 
 
 def compared_notes(session: Session, sides: Sides, picture: PictureRecord, other: PictureRecord) -> Optional[ComparedNotes]:
     """Two pictures compared; None if a reading isn't known: a file has changed since, or there is no ExifTool."""
-    known: Dict[int, NotesReading] = {}
+    known: dict[int, NotesReading] = {}
     for number, side in enumerate((picture, other)):
         kept = sides.maker_notes(number, side, unpacked_reading)
         if kept is not None:

@@ -9,7 +9,7 @@ from __future__ import annotations
 
 import struct
 from collections import Counter
-from typing import Callable, Dict, Iterator, List, NamedTuple, Optional, Tuple, Union
+from typing import Callable, Iterator, NamedTuple, Optional, Union
 
 import exifnorm
 
@@ -37,18 +37,18 @@ class Repaired(NamedTuple):
 
     block: bytes
     form: bytes
-    steps: Tuple[Step, ...]
+    steps: tuple[Step, ...]
 
 
 # The block after a step, the step's words, what it loses, and where
-_Done = Union[None, Tuple[bytearray, str, str], Tuple[bytearray, str, str, str]]
+_Done = Union[None, tuple[bytearray, str, str], tuple[bytearray, str, str, str]]
 
 
 def repaired(block: bytes, budget: Optional[Budget] = None) -> Optional[Repaired]:
     """The repaired block; none if no repair is known. Raises `TooLong` if its picture has taken too much time."""
     budget = budget or Budget()
     original = now = bytes(block)
-    steps: List[Step] = []
+    steps: list[Step] = []
     while len(steps) <= MOST:
         budget.check_time()
         form, cause = b"", ""
@@ -83,7 +83,7 @@ def _next(cause: str, original: bytes, now: bytes, budget: Budget) -> _Done:
 def _changed_value(original: bytes, now: bytes, walk: Walk, budget: Budget) -> _Done:
     """Leaves out a value that the block didn't have: it shares bytes with a table, which other steps have changed."""
     old = Walk(original)
-    known: Dict[Tuple[str, int, int], List[Entry]] = {}
+    known: dict[tuple[str, int, int], list[Entry]] = {}
     for directory, entry in _entries(old):
         known.setdefault((directory.name, entry.tag, entry.elements), []).append(entry)
 
@@ -106,7 +106,7 @@ def _changed_value(original: bytes, now: bytes, walk: Walk, budget: Budget) -> _
     return _without(now, walk, directory, entry), "a thumbnail that other steps would change left out", "the thumbnail", "thumb"
 
 
-def _entries(walk: Walk) -> Iterator[Tuple[Directory, Entry]]:
+def _entries(walk: Walk) -> Iterator[tuple[Directory, Entry]]:
     """Each entry, with its directory."""
     return ((directory, entry) for directory in walk.directories for entry in directory.entries)
 
@@ -114,7 +114,7 @@ def _entries(walk: Walk) -> Iterator[Tuple[Directory, Entry]]:
 # The steps, by the engine's causes
 
 
-def _value(directory: Directory, entry: Entry) -> Tuple[str, str]:
+def _value(directory: Directory, entry: Entry) -> tuple[str, str]:
     """What is lost with an entry that is left out, and where."""
     return "a value", f"{directory.name} {entry.tag:04x}"
 
@@ -154,7 +154,7 @@ def _overlap(block: bytes, walk: Walk) -> _Done:
     )
 
 
-def _values(directory: Directory) -> List[Tuple[bool, int, int, int]]:
+def _values(directory: Directory) -> list[tuple[bool, int, int, int]]:
     """The values of a directory: whether it may be moved, where it begins, its length, and the place of its offset."""
     values = [
         (entry.tag != MAKER_NOTE, entry.last, entry.size, entry.place + 8)
@@ -254,12 +254,12 @@ def _without_directory(block: bytes, walk: Walk, directory: Directory) -> Option
 
 
 def _doubled(block: bytes, walk: Walk) -> _Done:
-    def value(entry: Entry) -> Tuple[bytes, bytes]:
+    def value(entry: Entry) -> tuple[bytes, bytes]:
         at = entry.last if entry.size > 4 else entry.place + 8
         return block[entry.place : entry.place + 8], block[at : at + entry.size]
 
     for directory in walk.directories:
-        by: Dict[int, Entry] = {}
+        by: dict[int, Entry] = {}
         for entry in directory.entries:
             other = by.setdefault(entry.tag, entry)
             if other is not entry:
@@ -368,7 +368,7 @@ def _loop(block: bytes, walk: Walk) -> _Done:
     return None
 
 
-_STEPS: Dict[str, Callable[[bytes, Walk], _Done]] = {
+_STEPS: dict[str, Callable[[bytes, Walk], _Done]] = {
     "Unsorted": _unsorted,
     "Overlap": _overlap,
     "DirectoryOutside": _directory_outside,

@@ -2,7 +2,7 @@
 
 from __future__ import annotations
 
-from typing import Callable, List, Optional, Sequence, TypeVar
+from typing import Callable, Optional, Sequence, TypeVar
 
 from ..fields.field import Field
 from ..fields.block_fields import fields_of
@@ -20,7 +20,7 @@ class Sides:
         """A picture's blocks."""
         return picture.blocks
 
-    def fields(self, side: int, block: Optional[BlockRecord]) -> List[Field]:
+    def fields(self, side: int, block: Optional[BlockRecord]) -> list[Field]:
         """The fields of a block; none if they aren't kept, or if there is no block."""
         return fields_of(block) if block else []
 

@@ -10,7 +10,7 @@ another. With --whole, which asks for every byte, all limits of a picture are `W
 from __future__ import annotations
 
 import time
-from typing import Dict, Optional
+from typing import Optional
 
 PROGRAM_SECONDS = 60.0  # of a clock, that a program may take for one file
 PROGRAM_BYTES = 1 << 30  # of the addresses of its process; need 0.1 GB
@@ -30,7 +30,7 @@ DIRECTORIES, ENTRIES, VALUE_BYTES = "directories", "entries of directories", "by
 ALL_FIELDS = "fields of Exif and IPTC"
 XMP_BYTES, XMP_TAGS, XMP_ATTRIBUTES = "bytes of XMP", "tags of XMP", "attributes of XMP"
 
-LIMITS: Dict[str, int] = {
+LIMITS: dict[str, int] = {
     BYTES_READ: 1 << 30,  # bytes that are read twice count twice. About 3 seconds of SHA-256; need 6.8 MB
     COPIED_BYTES: 1 << 30,  # of a file object that can't seek, or that another program reads
     BLOCKS: 20_000,  # two for each page of a TIFF; need 15

@@ -4,7 +4,7 @@ A field that is a column is declared as `Annotated[type, "what it is"]`, or with
 """
 
 from operator import itemgetter
-from typing import Any, Callable, Dict, Generic, Iterable, List, NamedTuple, Tuple, Type, TypeVar, get_args
+from typing import Any, Callable, Generic, Iterable, NamedTuple, Type, TypeVar, get_args
 
 
 class Damaged(Exception):
@@ -25,8 +25,8 @@ class Is(NamedTuple):
 _SQL = {int: "INTEGER", str: "TEXT", bytes: "BLOB"}
 
 
-_IsShort = Callable[[Tuple[Any, ...]], bool]
-Record = TypeVar("Record", bound=Tuple[Any, ...])
+_IsShort = Callable[[tuple[Any, ...]], bool]
+Record = TypeVar("Record", bound=tuple[Any, ...])
 
 
 class Columns(Generic[Record]):
@@ -34,18 +34,18 @@ class Columns(Generic[Record]):
 
     def __init__(self, record: Type[Record], first: Iterable[str] = (), last: Iterable[str] = ()) -> None:
         """`first` and `last` are further definitions in SQL, each with what it is after `--`."""
-        declared: Dict[str, Any] = {name: kind for name, kind in record.__annotations__.items() if hasattr(kind, "__metadata__")}
+        declared: dict[str, Any] = {name: kind for name, kind in record.__annotations__.items() if hasattr(kind, "__metadata__")}
         about = [(name, kind, more) for name, kind in declared.items() for more in kind.__metadata__]  # of which each has one
         columns = [(name, kind.__origin__, more if isinstance(more, Is) else Is(more)) for name, kind, more in about]
-        self.names: Tuple[str, ...] = tuple(name for name, _, _ in columns)
-        self.types: List[Any] = [get_args(kind) or kind for _, kind, _ in columns]  # those of a row's values
-        self.longest: List[int] = [more.longest for _, _, more in columns]
+        self.names: tuple[str, ...] = tuple(name for name, _, _ in columns)
+        self.types: list[Any] = [get_args(kind) or kind for _, kind, _ in columns]  # those of a row's values
+        self.longest: list[int] = [more.longest for _, _, more in columns]
         self.width = len(columns)
         named: Any = record  # a NamedTuple, which types can't say
         self._record_of: Callable[[Iterable[Any]], Record] = named._make
         self._others = tuple(named._field_defaults[name] for name in named._fields[self.width :])
         self._lines = [*first, *(_defined(name, kind, more) for name, kind, more in columns), *last]
-        self._right: Dict[Tuple[type, ...], _IsShort] = {}  # by the types of a row, which are right: whether its values are short
+        self._right: dict[tuple[type, ...], _IsShort] = {}  # by the types of a row, which are right: whether its values are short
 
     @property
     def listed(self) -> str:
@@ -59,7 +59,7 @@ class Columns(Generic[Record]):
         lines = [f"    {sql + comma:<31} -- {about}" if about else f"    {sql}{comma}" for (sql, _, about), comma in zip(parts, commas)]
         return "\n".join([f"CREATE TABLE {name} (", *lines, f"){end};"])
 
-    def record(self, row: Tuple[Any, ...]) -> Record:
+    def record(self, row: tuple[Any, ...]) -> Record:
         """The record of a row. Raises `Damaged` if a value isn't of the type of its column, or of one of its types, or is longer than `index`
         writes any."""
         kinds = tuple(map(type, row))
@@ -70,7 +70,7 @@ class Columns(Generic[Record]):
                 self._right[kinds] = self._shortness(kinds)
         return self._record_of(row + self._others)
 
-    def _shortness(self, kinds: Tuple[type, ...]) -> _IsShort:
+    def _shortness(self, kinds: tuple[type, ...]) -> _IsShort:
         """For rows with values of these types: whether all texts and bytes of a row are short enough for each of its columns."""
         sized = [at for at, kind in enumerate(kinds) if kind in (str, bytes)]
         most = min((self.longest[at] for at in sized), default=0)

@@ -2,8 +2,6 @@
 
 from __future__ import annotations
 
-from typing import Tuple
-
 
 class Failure(Exception):
     """An error whose text is for people. It ends the command. Further arguments are lines below the text."""
@@ -12,7 +10,7 @@ class Failure(Exception):
         return str(self.args[0]) if self.args else ""
 
     @property
-    def lines(self) -> Tuple[str, ...]:
+    def lines(self) -> tuple[str, ...]:
         """The lines below the text."""
         return tuple(map(str, self.args[1:]))
 

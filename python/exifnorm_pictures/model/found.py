@@ -4,7 +4,7 @@ from __future__ import annotations
 
 import hashlib
 from collections import Counter
-from typing import Dict, Iterable, List, NamedTuple, Optional, Sequence, Tuple
+from typing import Iterable, NamedTuple, Optional, Sequence
 
 from .budgets import BLOCKS, NOT_READ, Budget
 
@@ -76,7 +76,7 @@ class NotRead(NamedTuple):
     digest: str  # SHA-256 of its bytes in hexadecimal digits; empty if they were not compared either
 
 
-def damage(parts: Iterable[str]) -> List[str]:
+def damage(parts: Iterable[str]) -> list[str]:
     """The parts that are what is left of a damaged file, in which any block may be lost.
 
     >>> damage(["trailer of 3 bytes", "the rest of a damaged file (no marker at 2)"])
@@ -103,7 +103,7 @@ _WORDS_OF = {EXIF: ("Exif item", "Exif box", "Exif chunk"), XMP: ("rdf+xml", "ex
 _MAY_HAVE = {"bytes behind the Photoshop": KINDS, "APP13 segment of an": KINDS, "APP1 segment of an": [XMP]}
 
 
-def lost_kinds(type: str, parts: Sequence[str]) -> Tuple[str, ...]:
+def lost_kinds(type: str, parts: Sequence[str]) -> tuple[str, ...]:
     """The kinds of blocks that may be missing of a file of this format that is damaged, or of which a part of a kind wasn't read.
 
     >>> lost_kinds("JPEG", ["the rest of a damaged file (no marker at 2)"]), lost_kinds("JPEG", ["second picture"])
@@ -116,7 +116,7 @@ def lost_kinds(type: str, parts: Sequence[str]) -> Tuple[str, ...]:
     return (EXIF, XMP) if type in WITHOUT_IPTC else KINDS
 
 
-def hidden_kinds(parts: Iterable[NotRead], other: Iterable[NotRead]) -> List[str]:
+def hidden_kinds(parts: Iterable[NotRead], other: Iterable[NotRead]) -> list[str]:
     """The kinds of which blocks may be in parts that weren't read, and whose bytes the other picture doesn't have.
 
     >>> hidden_kinds([NotRead("APP1 segment of an unknown kind", "d")], [])
@@ -127,7 +127,7 @@ def hidden_kinds(parts: Iterable[NotRead], other: Iterable[NotRead]) -> List[str
     return [kind for what in left for words, kinds in _MAY_HAVE.items() if words in what for kind in kinds]
 
 
-def not_known(type: str, parts: Sequence[str], kinds: Iterable[str]) -> List[str]:
+def not_known(type: str, parts: Sequence[str], kinds: Iterable[str]) -> list[str]:
     """The kinds that may be missing of a damaged file, in which blocks of some kinds are left.
 
     >>> not_known("JPEG", ["the rest of a damaged file (no marker at 20)"], ["exif"])
@@ -137,7 +137,7 @@ def not_known(type: str, parts: Sequence[str], kinds: Iterable[str]) -> List[str
     return [kind for kind in lost_kinds(type, parts) if kind not in there]
 
 
-def each_kind(parts: Iterable[str]) -> List[str]:
+def each_kind(parts: Iterable[str]) -> list[str]:
     """Parts that were not read, for people: those of the same words together, because a file may have thousands of them.
 
     >>> each_kind(["trailer of 3 bytes", "unknown chunk", "unknown chunk"])
@@ -168,7 +168,7 @@ class Blocks:
         self.type = type  # the format's name: JPEG, PNG, WEBP, TIFF, or ExifTool's name for it
         self.problem, self.detail = problem, detail
         self.damage = damage  # where the file is cut off, if all of its metadata stands before that
-        self.counts: Dict[str, int] = {}  # of blocks by name
+        self.counts: dict[str, int] = {}  # of blocks by name
         self.has_more = False  # whether ExifTool may find blocks in a part that was not read
         self.iptc_digest = b""  # of the record, as Photoshop has noted it
         self.budget = budget or Budget()
@@ -209,7 +209,7 @@ class Blocks:
         digests = [hashlib.md5(it.data, usedforsecurity=False).digest() for it in records[:1]]
         return self.iptc_digest not in (b"", *digests) and bool(records)
 
-    def of_kind(self, kind: str) -> List[FoundBlock]:
+    def of_kind(self, kind: str) -> list[FoundBlock]:
         """The blocks of one kind.
 
         >>> Blocks([FoundBlock(EXIF, b"MM", "Exif", "eXIf chunk at 33")]).of_kind(XMP)

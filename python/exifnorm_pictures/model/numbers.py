@@ -3,7 +3,7 @@
 from __future__ import annotations
 
 from collections import defaultdict
-from typing import DefaultDict, Iterable, Iterator, List, Sequence, Tuple, TypeVar
+from typing import DefaultDict, Iterable, Iterator, Sequence, TypeVar
 
 Value = TypeVar("Value")
 
@@ -23,7 +23,7 @@ class Numbers:
     ([7], False, [5000, -3])
     """
 
-    def __init__(self, rows: Iterable[Tuple[int]] = ()) -> None:
+    def __init__(self, rows: Iterable[tuple[int]] = ()) -> None:
         """The numbers of some rows, of which each is one number. Raises `TypeError` for a row with another value."""
         self.is_rest = False  # whether all other numbers are in it, of which there are infinitely many
         self._bits: DefaultDict[int, int] = defaultdict(int)  # of those that are in it, or that are not
@@ -38,7 +38,7 @@ class Numbers:
     def __contains__(self, number: int) -> bool:
         return bool(self._bits.get(number >> _SHIFT, 0) >> (number & _MASK) & 1) != self.is_rest
 
-    def chosen(self, rows: Sequence[Tuple[int, Value]]) -> List[Tuple[int, Value]]:
+    def chosen(self, rows: Sequence[tuple[int, Value]]) -> list[tuple[int, Value]]:
         """Those of some rows that begin with a number that is in it."""
         of, is_rest = self._bits.get, self.is_rest
         return [row for row in rows if of(row[0] >> _SHIFT, 0) >> (row[0] & _MASK) & 1 != is_rest]

@@ -3,7 +3,6 @@
 from __future__ import annotations
 
 from enum import Flag, auto
-from typing import Tuple
 
 from .words import Word
 
@@ -97,7 +96,7 @@ class Problem(Word):
     )
 
 
-def _words(follows: Follows) -> Tuple[str, ...]:
+def _words(follows: Follows) -> tuple[str, ...]:
     return tuple(str.__str__(problem) for problem in Problem if problem.follows & follows)
 
 

@@ -6,7 +6,7 @@ Each definition is also that of its table: what a field says of its column is wr
 import hashlib
 import itertools
 import os
-from typing import Annotated, Any, Dict, List, NamedTuple, Optional, Sequence, Set, Tuple
+from typing import Annotated, Any, NamedTuple, Optional, Sequence
 
 from .budgets import ROW_BYTES
 from .columns import LONGEST, Columns, Damaged, Is, check
@@ -58,7 +58,7 @@ class BlockRecord(NamedTuple):
         return self.status == Status.ACCEPTED
 
     @property
-    def steps(self) -> Tuple[Step, ...]:
+    def steps(self) -> tuple[Step, ...]:
         """The steps of its repair."""
         return unpacked(self.repair)
 
@@ -171,8 +171,8 @@ class PictureRecord(NamedTuple):
     sha256: Annotated[Optional[str], "SHA-256 of the whole file; empty: it can't be read; NULL: not requested"] = None
     sidecars: Annotated[str, Is("names, sizes, times and inodes of its XMP sidecars; empty if there is none", longest=_EACH)] = ""
     # What other tables of a catalogue have, and what it doesn't have, if the picture was looked at just now
-    blocks: Tuple[BlockRecord, ...] = ()
-    unread: Tuple[NotRead, ...] = ()
+    blocks: tuple[BlockRecord, ...] = ()
+    unread: tuple[NotRead, ...] = ()
     notes: Optional[bytes] = None  # what ExifTool reads of its MakerNotes, if it was asked
     is_known: bool = False  # whether it had the same problem when it was looked at before
 
@@ -195,7 +195,7 @@ class PictureRecord(NamedTuple):
             others["damage"] = fault
         if not problem:  # of one with a problem nothing is known
             others.update(_compared(blocks, unread))
-        values: List[Any] = list(cls._field_defaults.values())  # in a third of the time of a call with so many names
+        values: list[Any] = list(cls._field_defaults.values())  # in a third of the time of a call with so many names
         values[1:12] = path, root, *(stamp or _NO_STAMP), type, extractor, problem, detail
         values[_PLACES["blocks"]], values[_PLACES["unread"]] = tuple(blocks), tuple(unread)
         for name, value in others.items():
@@ -220,32 +220,32 @@ class PictureRecord(NamedTuple):
 
     def stamped(self, stamp: Optional[Stamp]) -> "PictureRecord":
         """The same picture with other marks."""
-        marks: Dict[str, Any] = dict(zip(Stamp._fields, stamp or _NO_STAMP))
+        marks: dict[str, Any] = dict(zip(Stamp._fields, stamp or _NO_STAMP))
         return self._replace(**marks)
 
     @property
-    def programs(self) -> Set[str]:
+    def programs(self) -> set[str]:
         """The other programs that have read something of it, if it was looked at just now."""
         names = {self.extractor, *[block.extractor for block in self.blocks]}
         return {name for name in names if name in PROGRAMS} | ({EXIFTOOL} if self.notes else set())
 
     @property
-    def not_known(self) -> List[str]:
+    def not_known(self) -> list[str]:
         """The kinds of which a block may be missing, since the file is damaged, if it was looked at just now."""
         return not_known(self.type, [part.what for part in self.unread], (block.kind for block in self.blocks))
 
     @property
-    def marks(self) -> Tuple[Optional[int], ...]:
+    def marks(self) -> tuple[Optional[int], ...]:
         """Size, times and inode, as in a stamp."""
         return self.size, self.modified, self.changed, self.inode
 
     @property
-    def meanings(self) -> Tuple[Optional[str], ...]:
+    def meanings(self) -> tuple[Optional[str], ...]:
         """By KINDS: the digest of the meaning, empty without a block, None if it isn't known."""
         return self.exif, self.iptc, self.xmp
 
     @property
-    def octets(self) -> Tuple[str, ...]:
+    def octets(self) -> tuple[str, ...]:
         """By KINDS: the digest of the blocks' bytes, empty without a block."""
         return self.exif_octets, self.iptc_octets, self.xmp_octets
 
@@ -266,7 +266,7 @@ class PictureRecord(NamedTuple):
             return str(Status.ACCEPTED)
         return "damaged" if self.damage and self.not_read != "" else "no block"
 
-    def sides(self) -> Dict[str, Side]:
+    def sides(self) -> dict[str, Side]:
         """The digest of its meaning, for each kind of block."""
         by_kind = {}
         for kind, digest, octets in zip(KINDS, self.meanings, self.octets):
@@ -295,12 +295,12 @@ _NO_STAMP = (None,) * len(Stamp._fields)
 _OCTETS = {kind: f"{kind}_octets" for kind in KINDS}
 
 
-def _compared(blocks: Sequence[BlockRecord], unread: Sequence[NotRead]) -> Dict[str, Any]:
+def _compared(blocks: Sequence[BlockRecord], unread: Sequence[NotRead]) -> dict[str, Any]:
     """What is compared of a picture: columns by their names."""
-    by_kind: Dict[str, List[BlockRecord]] = {kind: [] for kind in KINDS}
+    by_kind: dict[str, list[BlockRecord]] = {kind: [] for kind in KINDS}
     for block in blocks:
         by_kind[block.kind].append(block)
-    known: Dict[str, Any] = {"not_read": "", "other_not_read": ""}
+    known: dict[str, Any] = {"not_read": "", "other_not_read": ""}
     for word, ours in by_kind.items():
         side = side_of(ours)
         known[word] = side.digest if side.status == Status.ACCEPTED else "" if side.status == Status.ABSENT else None
@@ -331,7 +331,7 @@ def _parts_digest(parts: Sequence[NotRead]) -> Optional[str]:
     return hashlib.sha256(lines.encode("utf-8", "surrogatepass")).hexdigest() if all(it.digest for it in parts) else None
 
 
-def not_read_of_row(row: Tuple[Any, ...]) -> NotRead:
+def not_read_of_row(row: tuple[Any, ...]) -> NotRead:
     """A part that was not read, of a row `what, digest`."""
     has_short(str, *row)
     return NotRead(*row)
@@ -365,7 +365,7 @@ BLOCKS = Columns(
 picture_of_row = PICTURES.record
 
 
-def block_of_row(row: Tuple[Any, ...]) -> BlockRecord:
+def block_of_row(row: tuple[Any, ...]) -> BlockRecord:
     """A block of a row of the columns of BLOCKS."""
     block = BLOCKS.record((kind_of(row[0]), *row[1:]))
     unpacked(block.repair)

@@ -6,7 +6,7 @@ A part of more bytes than may be read has an empty digest, and is never equal to
 from __future__ import annotations
 
 import hashlib
-from typing import Dict, Generic, List, Sequence, Set, Tuple, TypeVar
+from typing import Generic, Sequence, TypeVar
 
 MOST, LONGEST = 20, 200  # names of a file, and characters of a name
 FURTHER = "further parts"  # all others of a file with more names
@@ -18,7 +18,7 @@ _BY_PROGRAMS = frozenset(
 )
 
 
-def text_of(digests: Dict[str, str]) -> str:
+def text_of(digests: dict[str, str]) -> str:
     """The text: a line for each name, with its digest. Of many names the last ones have one line together, and so have long ones.
 
     >>> text_of({"comment": "0f", "colour profile": "1e"})
@@ -33,7 +33,7 @@ def text_of(digests: Dict[str, str]) -> str:
     return "\n".join(lines)
 
 
-def names_in(text: str) -> Dict[str, str]:
+def names_in(text: str) -> dict[str, str]:
     """The digests by name.
 
     >>> names_in("1e colour profile\\n comment")
@@ -43,7 +43,7 @@ def names_in(text: str) -> Dict[str, str]:
     return {name: digest for digest, _, name in lines}
 
 
-def changes(before: str, after: str) -> List[str]:
+def changes(before: str, after: str) -> list[str]:
     """What has come, gone or changed. Of two files of which one has more names than are kept, it isn't known whether a name came or went.
 
     >>> changes("1e colour profile\\n0f comment", "2d colour profile\\n3c trailer")
@@ -72,7 +72,7 @@ def is_by_programs(name: str) -> bool:
     return name.partition(" of MPF picture")[0] in _BY_PROGRAMS
 
 
-def counting(found: Sequence[str]) -> List[str]:
+def counting(found: Sequence[str]) -> list[str]:
     """The changes that count.
 
     >>> counting(["JFIF changed", "comment removed", "trailer too large to compare"])
@@ -102,8 +102,8 @@ class Fullest(Generic[T]):
     """
 
     def __init__(self) -> None:
-        self._found: Dict[str, T] = {}
-        self._with: Dict[str, List[Tuple[T, Set[str]]]] = {}  # the files that have a line, and all of their lines
+        self._found: dict[str, T] = {}
+        self._with: dict[str, list[tuple[T, set[str]]]] = {}  # the files that have a line, and all of their lines
 
     def has_all_of(self, file: T, text: str) -> T:
         """The first one that has all parts of a file with this text: itself, if there is no other."""

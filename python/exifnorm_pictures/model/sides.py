@@ -3,7 +3,7 @@
 from __future__ import annotations
 
 import hashlib
-from typing import TYPE_CHECKING, NamedTuple, Sequence, Tuple
+from typing import TYPE_CHECKING, NamedTuple, Sequence
 
 from .found import NAMES, XMP
 from .words import Word
@@ -50,7 +50,7 @@ def side_of(ours: Sequence[BlockRecord]) -> Side:
     return Side(Status.ACCEPTED, joined([(it.name, it.digest or "") for it in ours]), octets)
 
 
-def joined(named: Sequence[Tuple[str, str]]) -> str:
+def joined(named: Sequence[tuple[str, str]]) -> str:
     """One digest for several blocks, by their names; that of the first block of a kind if it is alone."""
     if len(named) == 1 and named[0][0] in NAMES.values():
         return named[0][1]

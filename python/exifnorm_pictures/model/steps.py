@@ -3,7 +3,7 @@
 from __future__ import annotations
 
 import json
-from typing import Dict, FrozenSet, List, NamedTuple, Optional, Sequence, Tuple
+from typing import NamedTuple, Optional, Sequence
 
 from .columns import Damaged
 
@@ -17,7 +17,7 @@ class Step(NamedTuple):
     where: str = ""  # the directory of which fields are lost, such as `gps`, or the lost field, such as `main 010f`
 
 
-def loses(steps: Sequence[Step]) -> List[str]:
+def loses(steps: Sequence[Step]) -> list[str]:
     """What some steps lose."""
     return list(dict.fromkeys(it.loses for it in steps if it.loses))
 
@@ -26,7 +26,7 @@ def loses(steps: Sequence[Step]) -> List[str]:
 _BELOW = {"main": ("exif", "gps", "interop", "thumb"), "exif": ("interop",)}
 
 
-def lost_fields(steps: Sequence[Step]) -> FrozenSet[str]:
+def lost_fields(steps: Sequence[Step]) -> frozenset[str]:
     """The fields that some steps lose, and the directories of which they lose fields that nobody knows, with those that only they lead to.
 
     >>> sorted(lost_fields([Step("DirectoryOutside", "dropped", "a directory", "exif"), Step("ValueOutside", "left out", "a value", "main 010f")]))
@@ -38,7 +38,7 @@ def lost_fields(steps: Sequence[Step]) -> FrozenSet[str]:
 
 def words(steps: Sequence[Step]) -> str:
     """Some steps for people: `entries sorted, the missing end of a directory added`."""
-    counts: Dict[str, int] = {}
+    counts: dict[str, int] = {}
     for step in steps:
         counts[step.what] = counts.get(step.what, 0) + 1
     return ", ".join(what + (f" ({count} times)" if count > 1 else "") for what, count in counts.items())
@@ -49,7 +49,7 @@ def packed(steps: Sequence[Step]) -> str:
     return json.dumps([list(it) for it in steps])
 
 
-def unpacked(text: Optional[str]) -> Tuple[Step, ...]:
+def unpacked(text: Optional[str]) -> tuple[Step, ...]:
     """The steps from the result of `packed`. Raises `Damaged`, since a catalogue may be damaged or a stranger's.
 
     >>> unpacked(packed([Step("Doubled", "left out")]))

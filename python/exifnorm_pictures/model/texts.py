@@ -8,10 +8,10 @@ from __future__ import annotations
 import os
 import re
 from types import TracebackType
-from typing import Any, Dict, Optional, Union
+from typing import Any, Optional, Union
 
 
-Members = Dict[str, Any]  # of a JSON object
+Members = dict[str, Any]  # of a JSON object
 
 
 def escaped(text: str) -> str:

@@ -5,7 +5,6 @@ The package exifnorm, which is installed without this one too, has a table of it
 
 from __future__ import annotations
 
-from typing import Dict
 
 HEADS = (b"II*\0", b"MM\0*")  # how a file begins that isn't a BigTIFF, and a block
 SHORT, LONG, SSHORT, SLONG, IFD = 3, 4, 8, 9, 13
@@ -21,7 +20,7 @@ class Type:
         self.name, self.size, self.code = name, size, code
 
 
-EXIF: Dict[int, Type] = {  # those of a block
+EXIF: dict[int, Type] = {  # those of a block
     1: Type("BYTE", 1),
     2: Type("ASCII", 1),
     SHORT: Type("SHORT", 2, "H"),

@@ -7,7 +7,7 @@ from __future__ import annotations
 
 import functools
 from collections import Counter
-from typing import Dict, Iterable, List, Mapping, NamedTuple, Sequence, Tuple
+from typing import Iterable, Mapping, NamedTuple, Sequence
 
 from .found import EXIF, IPTC, NAMES, XMP, NotRead, cut, damage
 from .results import Result
@@ -57,12 +57,12 @@ def _is_read(side: Side) -> bool:
     return bool(side.digest or side.repaired or side.status == Status.ABSENT)
 
 
-def verdicts(before: Dict[str, Side], after: Dict[str, Side], kinds: Iterable[str] = tuple(NAMES)) -> List[Verdict]:
+def verdicts(before: dict[str, Side], after: dict[str, Side], kinds: Iterable[str] = tuple(NAMES)) -> list[Verdict]:
     """The verdicts on several kinds."""
     return [verdict(kind, before.get(kind, NO_BLOCK), after.get(kind, NO_BLOCK)) for kind in kinds]
 
 
-def left_open(parts: Iterable[NotRead], other: Iterable[NotRead]) -> List[str]:
+def left_open(parts: Iterable[NotRead], other: Iterable[NotRead]) -> list[str]:
     """The parts that were not read and may differ: those without a digest, and those that only one picture has in these bytes.
 
     >>> left_open([NotRead("trailer", "d")], [NotRead("trailer", "d")]), left_open([NotRead("trailer", "d")], [])
@@ -122,7 +122,7 @@ def with_verb(names: Sequence[str]) -> str:
     return f"{names[0]} is" if len(names) == 1 else f"{', '.join(names[:-1])} and {names[-1]} are"
 
 
-def none_of(kinds: Sequence[str]) -> List[str]:
+def none_of(kinds: Sequence[str]) -> list[str]:
     """The kinds that no picture has, as one clause if there are any."""
     return ["no " + " and no ".join(NAMES[it] for it in kinds)] if kinds else []
 
@@ -171,8 +171,8 @@ Turns = Mapping[str, Mapping[Result, Result]]  # what becomes of the verdict on 
 class Judged(NamedTuple):
     """What is known of two pictures: the verdicts, and the parts that were not read and may differ."""
 
-    verdicts: Tuple[Verdict, ...]
-    parts: Tuple[str, ...] = ()
+    verdicts: tuple[Verdict, ...]
+    parts: tuple[str, ...] = ()
 
     @property
     def result(self) -> Result:

@@ -3,11 +3,10 @@
 from __future__ import annotations
 
 import functools
-from typing import Dict
 
 from .budgets import CACHED
 
-_SPACES: Dict[str, str] = dict(
+_SPACES: dict[str, str] = dict(
     line.split()
     for line in """
 http://purl.org/dc/elements/1.1/ dc

@@ -4,7 +4,7 @@ from __future__ import annotations
 
 import re
 from operator import itemgetter
-from typing import Any, Iterator, List, NamedTuple, Tuple, Union
+from typing import Any, Iterator, NamedTuple, Union
 
 from .texts import escaped, quoted
 
@@ -30,7 +30,7 @@ class Array(NamedTuple):
     """A list in the order of the file, with its kind: `Alt`, `Bag` or `Seq`. A Bag is equal to one with the same members in another order."""
 
     kind: str
-    members: "Tuple[XmpValue, ...]"
+    members: "tuple[XmpValue, ...]"
 
     def __eq__(self, other: object) -> bool:
         if not isinstance(other, Array):
@@ -45,7 +45,7 @@ class Array(NamedTuple):
     def __hash__(self) -> int:
         return hash((self.kind, frozenset(self.members)))
 
-    def ordered(self) -> "List[XmpValue]":
+    def ordered(self) -> "list[XmpValue]":
         """The members, those of a Bag in an order that doesn't depend on the file's."""
         return sorted(self.members, key=identity) if self.kind == "Bag" else list(self.members)
 
@@ -53,7 +53,7 @@ class Array(NamedTuple):
 class Structure(NamedTuple):
     """Fields by their names, sorted: a structure, or a text with what qualifies it."""
 
-    members: "Tuple[Tuple[str, XmpValue], ...]"
+    members: "tuple[tuple[str, XmpValue], ...]"
 
 
 class Long(NamedTuple):
@@ -73,7 +73,7 @@ class LongStructure(Long):
         structure.value = value
         return structure
 
-    def __getnewargs__(self) -> Tuple[Any, ...]:  # by which it is pickled
+    def __getnewargs__(self) -> tuple[Any, ...]:  # by which it is pickled
         return (*self, self.value)
 
 
@@ -116,7 +116,7 @@ def exact(value: XmpValue) -> str:
     return "{" + ", ".join(f"{escaped(name)}={exact(one)}" for name, one in value.members) + "}"
 
 
-def texts_in(value: XmpValue) -> Tuple[str, ...]:
+def texts_in(value: XmpValue) -> tuple[str, ...]:
     """The texts of a value: of a list all, of alternatives the default one. A structure has none, unless it is a text with qualifiers.
 
     >>> texts_in(Array("Alt", (Literal("Krug", "de"), Literal("Vase", "x-default")))), texts_in(Structure((("stEvt:action", Literal("saved")),)))
@@ -137,12 +137,12 @@ def texts_in(value: XmpValue) -> Tuple[str, ...]:
     return tuple(it.text for name, it in value.members if name == VALUE and isinstance(it, Literal))
 
 
-def _chosen(members: Tuple[XmpValue, ...]) -> Tuple[str, ...]:
+def _chosen(members: tuple[XmpValue, ...]) -> tuple[str, ...]:
     every = [it for it in members if isinstance(it, Literal)]
     return tuple(it.text for it in ([it for it in every if it.language.lower() == "x-default"] or every)[:1])
 
 
-def simple_texts(value: XmpValue) -> Iterator[Tuple[str, str]]:
+def simple_texts(value: XmpValue) -> Iterator[tuple[str, str]]:
     """The texts of a value or of a list of such, each with its language. Raises `ValueError` for a structure, a text with a datatype, and a long value."""
     if isinstance(value, Literal) and not value.datatype:
         yield value.text, value.language

@@ -3,7 +3,7 @@
 from __future__ import annotations
 
 from dataclasses import dataclass
-from typing import Dict, Optional, Tuple
+from typing import Optional
 
 from exifnorm._causes import OF_BLOCKS
 
@@ -17,7 +17,7 @@ class Cause:
 
     name: str
     meaning: str
-    writers: Tuple[Tuple[str, str], ...]  # who wrote such blocks, and how many were met
+    writers: tuple[tuple[str, str], ...]  # who wrote such blocks, and how many were met
     readers: str
     cost: str
 
@@ -198,13 +198,13 @@ _CAUSES = (
     ),
 )
 
-CAUSES: Dict[str, Cause] = {it.name: it for it in _CAUSES}
+CAUSES: dict[str, Cause] = {it.name: it for it in _CAUSES}
 
 _WRITE_AGAIN = "`exifnorm-pictures mend`, whose last step lets ExifTool write all tags that it reads into new blocks. It helps where ExifTool reads the packet."
 _WHOLE_COPY = "Take the file from its source again: a program has copied its XMP only in part."
 
 # The remedies of XMP packets that can't be read, by the causes of `exifnorm_pictures.xmp`, which has their meanings.
-XMP_REMEDIES: Dict[str, str] = {
+XMP_REMEDIES: dict[str, str] = {
     "TooLong": "No packet of a real picture is so long. Keep what is long, such as masks of an editor, outside of the picture.",
     "LongNamespace": "No real namespace is so long. `exifnorm-pictures mend` makes a copy without its properties, where ExifTool reads the packet.",
     "LongLanguage": "No real language is so long. Put another one in its place.",
@@ -224,7 +224,7 @@ XMP_REMEDIES: Dict[str, str] = {
 # another, 68 kB, ExifTool 12.57 takes 16 seconds of a processor.
 OVER_LIMITS = ("TooLong", "LongNamespace", "LongLanguage", "TooDeep")
 # Of blocks whose form is too long, that are compressed, or for which the memory didn't suffice: these have no cause of the grammar.
-OTHER_REMEDIES: Dict[str, Tuple[str, str]] = {
+OTHER_REMEDIES: dict[str, tuple[str, str]] = {
     "NormalTooLong": (
         "The block is accepted, but its normal form would be longer than any block may be.",
         "Nothing in it is wrong. Pictures with it are only the same byte for byte.",
@@ -237,7 +237,7 @@ OTHER_REMEDIES: Dict[str, Tuple[str, str]] = {
 }
 
 
-def words_of(cause: str, kind: str = "") -> Optional[Tuple[str, str]]:
+def words_of(cause: str, kind: str = "") -> Optional[tuple[str, str]]:
     """The meaning and the remedy of any cause that a block of a catalogue can have. TooLong is a cause of blocks, and another one of XMP.
 
     >>> words_of("RareForm")[1][:26], words_of("Unsorted")[0], words_of("TooLong", XMP)[1][:34]

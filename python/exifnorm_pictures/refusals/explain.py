@@ -3,7 +3,7 @@
 from __future__ import annotations
 
 from dataclasses import dataclass, field
-from typing import Callable, Dict, List, Optional
+from typing import Callable, Optional
 
 from exifnorm import XmpRefused, xmp_normal
 from exifnorm._causes import OF_PACKETS
@@ -26,20 +26,20 @@ class Explanation:
     kind: str
     judgement: BlockRecord
     cause: Optional[Cause] = None
-    here: List[str] = field(default_factory=list)  # the parts at the offset
-    octets: List[str] = field(default_factory=list)
+    here: list[str] = field(default_factory=list)  # the parts at the offset
+    octets: list[str] = field(default_factory=list)
     is_without_remedy: bool = False  # of this file: each step of `mend` was tried
 
     @property
     def _remedy(self) -> str:
         return NO_REMEDY if self.is_without_remedy or self.cause is None else self.cause.remedy
 
-    def _here(self) -> List[str]:
+    def _here(self) -> list[str]:
         """The parts at the offset, or for a block of another kind what is wrong, and the remedy. One that isn't `mend` may help all the same."""
         has_failed = self.is_without_remedy and self.cause is None and "mend`" in "".join(self.here[-1:])
         return [*self.here[:-1], f"Remedy: {NO_REMEDY}"] if has_failed else self.here
 
-    def lines(self) -> List[str]:
+    def lines(self) -> list[str]:
         """The explanation as text."""
         if self.cause is None:
             *here, remedy = self._here() or [""]
@@ -107,18 +107,18 @@ def _fault_of(packet: bytes) -> Optional[XmpRefused]:
     return None
 
 
-def _length(layout: Layout, cause: str, place: int) -> List[str]:
+def _length(layout: Layout, cause: str, place: int) -> list[str]:
     return [f"The block has {in_words(len(layout.block), 'byte')}."]
 
 
-def _beginning(layout: Layout, cause: str, place: int) -> List[str]:
+def _beginning(layout: Layout, cause: str, place: int) -> list[str]:
     block = layout.block
     if not block:
         return ["The block is empty: the picture has no such metadata."]
     return [f"It begins with {block[:8].hex(' ')}."]
 
 
-def _data_set(layout: Layout, cause: str, place: int) -> List[str]:
+def _data_set(layout: Layout, cause: str, place: int) -> list[str]:
     block = layout.block
     before = block.rfind(b"\x1c", 0, place)
     lines = [f"The record has {in_words(len(block), 'byte')}; at {place} is {block[place : place + 8].hex(' ') or 'nothing'}."]
@@ -133,7 +133,7 @@ def _range(part: Part) -> str:
     return f"{part.what} (bytes {part.start} to {part.end - 1})"
 
 
-def _ranges(layout: Layout, cause: str, place: int) -> List[str]:
+def _ranges(layout: Layout, cause: str, place: int) -> list[str]:
     owners = layout.owners(place)
     lines = _entry_line(layout, place)
     if owners:
@@ -143,7 +143,7 @@ def _ranges(layout: Layout, cause: str, place: int) -> List[str]:
     return lines
 
 
-def _directory(layout: Layout, cause: str, place: int) -> List[str]:
+def _directory(layout: Layout, cause: str, place: int) -> list[str]:
     lines = _entry_line(layout, place) if cause != "EmptyDirectory" else []
     at = place if cause == "EmptyDirectory" else _named(layout, place)
     if at is None:
@@ -158,7 +158,7 @@ def _directory(layout: Layout, cause: str, place: int) -> List[str]:
     return lines + [words]
 
 
-def _next(layout: Layout, cause: str, place: int) -> List[str]:
+def _next(layout: Layout, cause: str, place: int) -> list[str]:
     return [f"The thumbnail directory names a further one at {layout.number(place, 4)}."]
 
 
@@ -168,7 +168,7 @@ def _named(layout: Layout, place: int) -> Optional[int]:
     return entry.last if entry else layout.number(place, 4)
 
 
-def _entry_line(layout: Layout, place: int) -> List[str]:
+def _entry_line(layout: Layout, place: int) -> list[str]:
     entry = layout.entries.get(place)
     if entry is None:
         words = {4: "the header's offset of the main directory"}.get(place, "the offset of the next directory")
@@ -176,7 +176,7 @@ def _entry_line(layout: Layout, place: int) -> List[str]:
     return [f"At {place} is entry {entry.number}: {entry.label}, {entry.form}, last field {entry.last}."]
 
 
-def _entry(layout: Layout, cause: str, place: int) -> List[str]:
+def _entry(layout: Layout, cause: str, place: int) -> list[str]:
     lines = _entry_line(layout, place)
     entry = layout.entries.get(place)
     if entry is None:
@@ -193,7 +193,7 @@ def _entry(layout: Layout, cause: str, place: int) -> List[str]:
 
 
 # What is shown of a refused block beside the bytes at the offset, by the cause; of all other causes the entry there
-_FACTS: Dict[str, Callable[[Layout, str, int], List[str]]] = {
+_FACTS: dict[str, Callable[[Layout, str, int], list[str]]] = {
     "TooLong": _length,
     "UnknownKind": _beginning,
     "HeaderCut": _length,

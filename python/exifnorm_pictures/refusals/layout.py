@@ -6,7 +6,7 @@ It judges nothing: the cause and the byte offset of a refusal are the engine's.
 from __future__ import annotations
 
 from dataclasses import dataclass
-from typing import Dict, List, NamedTuple, Optional, Tuple
+from typing import NamedTuple, Optional
 
 from ..extract.structure import HEADER, Directory, directories, order_of, two_at
 from ..fields.names import DIRECTORIES, name_of
@@ -58,8 +58,8 @@ class Layout:
     def __init__(self, block: bytes) -> None:
         self.block = block.removeprefix(SIX)
         self.order = order_of(self.block)
-        self.parts: List[Part] = [Part(0, HEADER, "the header", 0)]
-        self.entries: Dict[int, EntryAt] = {}
+        self.parts: list[Part] = [Part(0, HEADER, "the header", 0)]
+        self.entries: dict[int, EntryAt] = {}
         for directory in directories(self.block):
             self._add(directory)
 
@@ -75,7 +75,7 @@ class Layout:
         self.parts.append(Part(directory.at, directory.next + 4, words, named_at))
         if directory.at < HEADER:
             return
-        by_tag: Dict[int, EntryAt] = {}
+        by_tag: dict[int, EntryAt] = {}
         for number, (tag, kind, elements, last) in enumerate(directory.rows, 1):
             place = directory.at - 10 + 12 * number
             if (kind, elements) == (SHORT, 1):
@@ -89,7 +89,7 @@ class Layout:
         if directory.name == "thumb" and start and length:
             self.parts.append(Part(start.last, start.last + length.last, "the thumbnail JPEG", start.place))
 
-    def owners(self, place: int) -> Optional[Tuple[Part, Part]]:
+    def owners(self, place: int) -> Optional[tuple[Part, Part]]:
         """The part that the entry at an offset claims and that shares bytes with an earlier one, and that one."""
         for index, mine in enumerate(self.parts):
             if mine.named_at != place or mine.end <= mine.start or index == 0:
@@ -100,7 +100,7 @@ class Layout:
         return None
 
 
-def hexadecimal(block: bytes, place: int, around: int = 2) -> List[str]:
+def hexadecimal(block: bytes, place: int, around: int = 2) -> list[str]:
     """The bytes around an offset, sixteen in a line, with a mark below it.
 
     >>> for line in hexadecimal(b"MM\\0*\\0\\0\\0\\x08", 4): print(line)

@@ -9,7 +9,7 @@ import re
 import tempfile
 from collections import Counter
 from dataclasses import dataclass, field
-from typing import Callable, Dict, List, NamedTuple, Optional, Tuple, Union
+from typing import Callable, NamedTuple, Optional, Union
 
 from ..extract import coded_picture, programs
 from ..extract.extraction import blocks_of_file
@@ -62,12 +62,12 @@ class Mended:
     """The result: the refusals before, the remedy that worked, and the printed values that were lost or changed."""
 
     remedy: Remedy
-    before: Dict[str, str]
-    lost: List[str] = field(default_factory=list)
-    gained: List[str] = field(default_factory=list)
+    before: dict[str, str]
+    lost: list[str] = field(default_factory=list)
+    gained: list[str] = field(default_factory=list)
     problem: str = ""
-    repairs: Tuple[Step, ...] = ()  # what was repaired
-    damage: List[str] = field(default_factory=list)  # what is left of a damaged file, and was not read
+    repairs: tuple[Step, ...] = ()  # what was repaired
+    damage: list[str] = field(default_factory=list)  # what is left of a damaged file, and was not read
     cut_off: str = ""  # where the file is cut off, in its metadata or behind them
     is_written: bool = False  # whether there is a copy
 
@@ -107,7 +107,7 @@ def mend(picture: bytes, out: bytes, session: Session, folder: Optional[bytes] =
 _remove_left = functools.lru_cache(maxsize=64)(atomic.remove_left)  # so that a folder of many copies is listed once
 
 
-def attempt(session: Session, picture: bytes, room: str) -> Tuple[Mended, Optional[bytes]]:
+def attempt(session: Session, picture: bytes, room: str) -> tuple[Mended, Optional[bytes]]:
     """What `mend` does with a picture, and the file that it would write, which is in the folder `room`; none if no remedy helps. Raises
     `NeedsExifTool`, `programs.Failed` and `TooMuch`."""
     taken = blocks_of_file(picture, session=session)
@@ -148,7 +148,7 @@ class _Repair(NamedTuple):
     """A copy with repaired blocks, and what was repaired."""
 
     file: str
-    steps: Tuple[Step, ...]
+    steps: tuple[Step, ...]
 
 
 def _repaired(session: Session, picture: bytes, taken: Blocks, room: str) -> Optional[_Repair]:
@@ -166,7 +166,7 @@ def _repaired(session: Session, picture: bytes, taken: Blocks, room: str) -> Opt
     return _Repair(name, repair[1])
 
 
-def _beside_exif(taken: Blocks) -> List[object]:
+def _beside_exif(taken: Blocks) -> list[object]:
     """What a repair of Exif must not change: the rest of a damaged file is the same wherever it begins."""
     parts = ((REST if it.what.startswith(REST) else it.what, it.digest) for it in taken.not_read)
     return [*((it.kind, it.name, it.data) for it in taken.blocks if it.kind != EXIF), *sorted(parts)]
@@ -180,12 +180,12 @@ def _put(octets: bytes, picture: bytes, out: bytes, check: Callable[[bytes], Non
         raise NotWritten("the copy is there already" if isinstance(error, FileExistsError) else reason(error)) from error
 
 
-def _refusals(taken: Blocks) -> Dict[str, str]:
+def _refusals(taken: Blocks) -> dict[str, str]:
     """The refusal of each block that isn't accepted, by the block's name."""
     return {it.name: it.line for it in judge_all(taken) if not it.is_accepted}
 
 
-Attempt = Tuple[Remedy, str, List[str], List[str]]
+Attempt = tuple[Remedy, str, list[str], list[str]]
 
 
 def _copy(source: Union[bytes, str], name: str) -> None:
@@ -193,7 +193,7 @@ def _copy(source: Union[bytes, str], name: str) -> None:
         copying.copy(given.fileno(), copy.fileno())
 
 
-def _others(name: str, taken: Blocks) -> Dict[str, str]:
+def _others(name: str, taken: Blocks) -> dict[str, str]:
     """Digests by name of what a remedy must keep: of the meaning of each accepted block without a MakerNote, which has offsets; of the coded
     picture and each part of the rest, or, if these aren't known, of the parts that were not read."""
     blocks = {it.name: it.digest or "" for it in judge_all(taken, False) if it.is_accepted and it.note is None}
@@ -286,7 +286,7 @@ def _rebuild(session: Session, name: str) -> bool:
     return _exiftool(session, *words).returncode == 0
 
 
-_REMEDIES: Dict[Remedy, Callable[[Session, str], bool]] = {Remedy.TOUCH: _touch, Remedy.EXIV2: _by_exiv2, Remedy.REBUILD: _rebuild}
+_REMEDIES: dict[Remedy, Callable[[Session, str], bool]] = {Remedy.TOUCH: _touch, Remedy.EXIV2: _by_exiv2, Remedy.REBUILD: _rebuild}
 _OFFSETS = re.compile(rb"Offset|Start |Padding|IPTCDigest|XMPToolkit")  # and who wrote a packet
 
 
@@ -299,7 +299,7 @@ def _printed(session: Session, name: str) -> "Counter[str]":
     return Counter(it.decode("utf-8", "backslashreplace") for it in both)
 
 
-def _with_numbers(lines: List[bytes]) -> List[bytes]:
+def _with_numbers(lines: list[bytes]) -> list[bytes]:
     """Each value as it is printed, and exactly, from a list of the former that is followed by one of the latter.
 
     >>> _with_numbers([b"FocalLength : 5.4 mm", b"Make : a", b"FocalLength : 5.40625", b"Make : a"])

@@ -5,7 +5,7 @@ from __future__ import annotations
 import os
 import struct
 import zlib
-from typing import BinaryIO, Callable, Dict, List, NamedTuple, Optional, Sequence, Tuple
+from typing import BinaryIO, Callable, NamedTuple, Optional, Sequence
 
 from ..files import copying
 from ..judge import repairs
@@ -23,7 +23,7 @@ class Change(NamedTuple):
     new: bytes
 
 
-def changes(picture: BinaryIO, kind: str, blocks: Sequence[FoundBlock]) -> Optional[Tuple[List[Change], Tuple[Step, ...]]]:
+def changes(picture: BinaryIO, kind: str, blocks: Sequence[FoundBlock]) -> Optional[tuple[list[Change], tuple[Step, ...]]]:
     """What replaces the refused Exif blocks of a file, in the order of the file, and the steps of the repairs. None if a block can't be
     repaired or isn't found in the file. Raises `TooLong`.
 
@@ -32,7 +32,7 @@ def changes(picture: BinaryIO, kind: str, blocks: Sequence[FoundBlock]) -> Optio
     wrap = _WRAPPERS.get(kind)
     if wrap is None:
         return None
-    replaced, steps = [], ()  # type: List[Change], Tuple[Step, ...]
+    replaced, steps = [], ()  # type: list[Change], tuple[Step, ...]
     for block in dict.fromkeys(it.data for it in blocks if it.kind == EXIF):
         repair = repairs.repaired(block)
         change = _change(picture, wrap, block, repair.block) if repair and repair.steps else None
@@ -74,10 +74,10 @@ def _change(picture: BinaryIO, wrap: Callable[[bytes], bytes], old: bytes, new: 
     return None
 
 
-def _places(picture: BinaryIO, wanted: bytes) -> List[int]:
+def _places(picture: BinaryIO, wanted: bytes) -> list[int]:
     """Where some bytes are in a file: all places, but no more than two of each piece."""
     picture.seek(0)
-    places: List[int] = []
+    places: list[int] = []
     window, start = b"", 0
     while len(places) < 2:
         piece = picture.read(max(_PIECE, len(wanted)))
@@ -112,5 +112,5 @@ def _webp_chunk(data: bytes) -> bytes:
     return b"EXIF" + struct.pack("<I", len(data)) + data + b"\0" * (len(data) % 2)
 
 
-_WRAPPERS: Dict[str, Callable[[bytes], bytes]] = {"JPEG": _segment, "PNG": _png_chunk, "WEBP": _webp_chunk}
+_WRAPPERS: dict[str, Callable[[bytes], bytes]] = {"JPEG": _segment, "PNG": _png_chunk, "WEBP": _webp_chunk}
 REPAIRED_TYPES = tuple(_WRAPPERS)  # the types of files in which blocks are replaced

@@ -3,7 +3,7 @@
 from __future__ import annotations
 
 from dataclasses import dataclass, field
-from typing import Any, Callable, Iterator, List, NamedTuple, Optional
+from typing import Any, Callable, Iterator, NamedTuple, Optional
 
 from ..catalogue.checking import Checked
 from ..comparison.agreeing import checked
@@ -57,7 +57,7 @@ class Written:
     section: Section
     number: int = 0  # of what is counted
     entries: int = 0
-    pages: List[PageLink] = field(default_factory=list)
+    pages: list[PageLink] = field(default_factory=list)
     body: Any = ""
 
 
@@ -90,7 +90,7 @@ class Book:
             if changes:
                 changes.close()
 
-    def _files(self, written: List[Written]) -> int:
+    def _files(self, written: list[Written]) -> int:
         """How many files the index for the search box has; 0 if all is on the first page."""
         if not self._search or not any(it.pages for it in written):
             return 0
@@ -133,14 +133,14 @@ class Book:
             page = following
         return written
 
-    def _write_page(self, written: Written, page: List[Entry], has_next: bool, put: Put) -> None:
+    def _write_page(self, written: Written, page: list[Entry], has_next: bool, put: Put) -> None:
         section, number = written.section, len(written.pages) + 1
         name = f"{section.key}-{number}.html"
         body = self._rendered(written, page, name)
         written.pages.append(PageLink(name, _label(section, page, number)))
         put(name, self._renderer.page(section, number, has_next, body))
 
-    def _rendered(self, written: Written, page: List[Entry], name: str) -> Any:
+    def _rendered(self, written: Written, page: list[Entry], name: str) -> Any:
         key, first = written.section.key, written.entries + 1
         for number, entry in enumerate(page, first):
             place = f"{name}#{key}-{number}"
@@ -163,7 +163,7 @@ def _number(entry: Entry, section: Section) -> int:
     return entry.is_counted if section.what == "group" else len(entry.pictures)
 
 
-def _label(section: Section, page: List[Entry], number: int) -> str:
+def _label(section: Section, page: list[Entry], number: int) -> str:
     """What a link to a page says: its number, or the folders that it shows."""
     if section.key != "folders":
         return f"page {number}"

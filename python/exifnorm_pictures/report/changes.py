@@ -4,7 +4,7 @@ from __future__ import annotations
 
 import json
 from collections import Counter
-from typing import Dict, Iterable, Iterator, List, NamedTuple, Optional, Sequence, Tuple, Union
+from typing import Iterable, Iterator, NamedTuple, Optional, Sequence, Union
 
 from ..catalogue.store import Known
 from ..comparison import changed
@@ -35,7 +35,7 @@ BAR, THINNEST = 1000, 8  # the length of the bar, and of its shortest part
 class Row(NamedTuple):
     """A field that differs, with its two values in pieces, or what is printed in their place."""
 
-    names: List[str]  # of fields of one label with equal values
+    names: list[str]  # of fields of one label with equal values
     before: Optional[Pieces]
     after: Optional[Pieces]
     note: str
@@ -56,10 +56,10 @@ class Difference(NamedTuple):
 
     result: Result
     note: str
-    rows: List[Row]
+    rows: list[Row]
     is_other: bool  # whether the picture itself is another one or damaged
     total: int  # of all its pictures
-    pictures: List[ChangedPicture]
+    pictures: list[ChangedPicture]
     is_first: bool  # False: more pictures with the difference before
     group: int = 0  # of pictures that were edited alike
 
@@ -68,14 +68,14 @@ class ShownGroup(NamedTuple):
     """Pictures that were edited alike, with the first of them; each with its own edits if these differ."""
 
     number: int
-    edits: List[Edit]
-    heads: List[str]  # what each edit is about
+    edits: list[Edit]
+    heads: list[str]  # what each edit is about
     total: int
-    pictures: List[Tuple[ChangedPicture, List[Edit]]]
+    pictures: list[tuple[ChangedPicture, list[Edit]]]
     start: float  # of its part of the bar
     length: float
     # pictures that weren't edited in a standard that they have, and what is said of them
-    left_out: List[Tuple[str, List[ChangedPicture]]]
+    left_out: list[tuple[str, list[ChangedPicture]]]
 
 
 class Changes:
@@ -103,7 +103,7 @@ class Changes:
         self.left_out = list(lines(about.choice, True))
         self.compared = changed.total(self.results)
         self._groups = self.summary.kinds.groups()
-        self._group_of: Dict[int, int] = {kind: group.number for group in self._groups for kind in group.kinds}
+        self._group_of: dict[int, int] = {kind: group.number for group in self._groups for kind in group.kinds}
 
     def close(self) -> None:
         """Removes the temporary database."""
@@ -117,17 +117,20 @@ class Changes:
             self.folders.add(comparison.name, comparison.moved_to)
         rank = _RESULTS.index(comparison.result)
         is_other = comparison.picture == Coded.OTHER or comparison.picture.is_damaged
-        self._equal.add(json.dumps([rank, comparison.note, _rows(comparison.changes), is_other, kind]), name_of(comparison), False, rank)
+        text = json.dumps([rank, comparison.note, _rows(comparison.changes), is_other, kind])
+        self._equal.add(text, name_of(comparison), False, rank)
 
     @property
-    def counted(self) -> List[Tuple[Result, int]]:
+    def counted(self) -> list[tuple[Result, int]]:
         """How many pictures have each result, those first that are listed."""
-        return sorted(((it, self.results[it]) for it in Result if self.results[it]), key=lambda it: it[0].has_changed is False)
+        there = [(it, self.results[it]) for it in Result if self.results[it]]
+        return sorted(there, key=lambda it: it[0].has_changed is False)
 
-    def groups(self) -> List[ShownGroup]:
+    def groups(self) -> list[ShownGroup]:
         """The groups of pictures that were edited alike, the smallest first: so many of one picture,
         and the largest ones."""
-        shown = [*self._groups[: self.number_odd][:GROUPS], *self._groups[max(self.number_odd, len(self._groups) - GROUPS) :]]
+        first = max(self.number_odd, len(self._groups) - GROUPS)
+        shown = [*self._groups[: self.number_odd][:GROUPS], *self._groups[first:]]
         pictures = max(1, sum(it.pictures for it in shown))
         lengths = [max(THINNEST, BAR * it.pictures / pictures) for it in shown]
         scale, start, groups = BAR / max(1, sum(lengths)), 0.0, []
@@ -139,7 +142,8 @@ class Changes:
     def _shown_group(self, group: Group, start: float, length: float) -> ShownGroup:
         heads = [head_of(it, places, group.pictures) for it, places in zip(group.edits, group.places)]
         few = [(it.what, self._pictures(it.few.names)) for it in lacking_of(group)]
-        return ShownGroup(group.number, group.edits, heads, group.pictures, self._shown(group), start, length, few)
+        shown = self._shown(group)
+        return ShownGroup(group.number, group.edits, heads, group.pictures, shown, start, length, few)
 
     @property
     def number_odd(self) -> int:
@@ -151,17 +155,17 @@ class Changes:
         """How many groups of several pictures there are."""
         return len(self._groups) - self.number_odd
 
-    def _shown(self, group: Group) -> List[Tuple[ChangedPicture, List[Edit]]]:
+    def _shown(self, group: Group) -> list[tuple[ChangedPicture, list[Edit]]]:
         """The first pictures of a group, with their own edits if each has others."""
         if group.is_odd or len(group.kinds) > 1:
             names, edits = zip(*group.firsts[:SHEET])
             return list(zip(self._pictures(names), edits))
         return [(it, []) for it in self._pictures(group.names)]
 
-    def _pictures(self, names: Iterable[bytes]) -> List[ChangedPicture]:
+    def _pictures(self, names: Iterable[bytes]) -> list[ChangedPicture]:
         return [self._picture(Result.DIFFERENT, name, False) for name in names]
 
-    def notes(self) -> List[str]:
+    def notes(self) -> list[str]:
         """What was compared of the pictures, and what is left out."""
         further = self.summary.kinds.further
         more = [f"More than {KINDS:,} kinds of edit: {pictures_in_words(further)} more, which aren't grouped"] * bool(further)
@@ -178,7 +182,8 @@ class Changes:
             for chunk in chunks(names, lambda name: name):
                 pictures = [self._picture(result, name, is_other) for name in chunk]
                 difference = Difference(result, note, rows, is_other, count, pictures, is_first, self._group_of.get(kind, 0))
-                yield Entry(difference, tuple(it.after or it.before or b"" for it in pictures), 1 + len(rows), is_first, len(text))
+                paths = tuple(it.after or it.before or b"" for it in pictures)
+                yield Entry(difference, paths, 1 + len(rows), is_first, len(text))
                 is_first = False
 
     def _picture(self, result: Result, name: bytes, is_other: bool) -> ChangedPicture:
@@ -196,15 +201,15 @@ class Changes:
 _Side = Union[None, str, Sequence[str]]  # no value, a text, or the members of a list
 
 
-def _rows(changes: Sequence[FieldDifference]) -> List[Tuple[object, ...]]:
+def _rows(changes: Sequence[FieldDifference]) -> list[tuple[object, ...]]:
     """The fields that differ, those with a label first, such as the caption. Those of one label with equal values are one row."""
-    names: Dict[Tuple[object, ...], List[str]] = {}
+    names: dict[tuple[object, ...], list[str]] = {}
     for one in sorted(changes, key=lambda it: place_of(it)[0]):
         names.setdefault((place_of(one)[1], *_values(one), one.note), []).append(one.name)
     return [(those, *row[1:]) for row, those in names.items()]
 
 
-def _values(change: FieldDifference) -> Tuple[_Side, _Side]:
+def _values(change: FieldDifference) -> tuple[_Side, _Side]:
     less, more = lists_of(change) or ([], [])
     if less == more or change.note:
         return sides(change)
@@ -212,7 +217,7 @@ def _values(change: FieldDifference) -> Tuple[_Side, _Side]:
     return shown[: len(less)] or None, shown[len(less) :] or None
 
 
-def _marked(marker: Marker, before: _Side, after: _Side) -> Tuple[Optional[Pieces], Optional[Pieces]]:
+def _marked(marker: Marker, before: _Side, after: _Side) -> tuple[Optional[Pieces], Optional[Pieces]]:
     """Both values in pieces: words, or whole members of a list."""
     if isinstance(before, str) or isinstance(after, str):
         return marker.marked(before, after)  # type: ignore[arg-type]  # neither is a list then

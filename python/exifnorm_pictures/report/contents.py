@@ -4,7 +4,7 @@ from __future__ import annotations
 
 from collections import Counter
 from dataclasses import dataclass
-from typing import Any, Iterable, Iterator, List, Optional, Sequence, Set, Tuple
+from typing import Any, Iterable, Iterator, Optional, Sequence
 
 from ..catalogue.store import Catalogue, Run
 from ..comparison import changed, groups
@@ -34,7 +34,7 @@ class About:
 
     catalogue: Catalogue
     old: Optional[Catalogue] = None
-    only: Optional[Set[bytes]] = None
+    only: Optional[set[bytes]] = None
     look: bool = True
     choice: Choice = EVERYTHING
     session: Optional[Session] = None  # in which ExifTool is asked
@@ -67,7 +67,7 @@ class Refused:
         return self.cause if self.place is None else f"{self.cause} at {self.place}"
 
 
-def unproved(runs: Sequence[Run]) -> List[str]:
+def unproved(runs: Sequence[Run]) -> list[str]:
     """The versions of libraries without proofs that made digests."""
     return sorted({it[2] for it in runs if it[2] and it[2].endswith("-unproved")})
 
@@ -86,7 +86,7 @@ def refused(about: About, by_cause: str = "") -> Iterator[Refused]:
     yield from about.catalogue.rows(query, (by_cause,) * bool(by_cause), _refused_of_row)
 
 
-def _refused_of_row(row: Tuple[Any, ...]) -> Refused:
+def _refused_of_row(row: tuple[Any, ...]) -> Refused:
     path, kind, name, cause, place = row
     has_short(bytes, path)
     has_short(str, name, cause)
@@ -104,7 +104,7 @@ def _count_fields(counts: "Counter[str]", names: Iterable[str]) -> int:
     return left
 
 
-Objects = Iterator[Tuple[str, Members]]  # each with what it is about
+Objects = Iterator[tuple[str, Members]]  # each with what it is about
 
 
 def objects(about: About) -> Objects:

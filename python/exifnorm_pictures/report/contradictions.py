@@ -7,7 +7,7 @@ from __future__ import annotations
 
 from collections import Counter
 from dataclasses import dataclass, field
-from typing import Dict, Iterator, List, NamedTuple
+from typing import Iterator, NamedTuple
 
 from ..catalogue.store import Catalogue
 from ..catalogue.texts import PictureTexts, texts_of
@@ -23,12 +23,12 @@ class Checked(NamedTuple):
     """A picture with metadata in two standards at least, and its differences."""
 
     path: bytes
-    conflicts: List[Conflict]
+    conflicts: list[Conflict]
     is_whole: bool  # whether all of its texts were compared
     has_two: bool = True  # standards, as far as its file goes
 
     @property
-    def real(self) -> List[Conflict]:
+    def real(self) -> list[Conflict]:
         """Its contradictions."""
         return [it for it in self.conflicts if it.is_real]
 
@@ -65,7 +65,7 @@ def checked(catalogue: Catalogue, pictures: Iterator[PictureRecord]) -> Iterator
         yield _checked(picture, [block for block, _ in blocks], texts)
 
 
-def _checked(picture: PictureRecord, blocks: List[BlockRecord], texts: PictureTexts) -> Checked:
+def _checked(picture: PictureRecord, blocks: list[BlockRecord], texts: PictureTexts) -> Checked:
     known = [one for one in conflicts(texts.texts, texts.located) if not one.is_alike and one.label not in texts.missing]
     is_whole = not (texts.missing or _is_cut(picture)) and all(one.is_accepted or one.repair for one in blocks)
     return Checked(picture.path, known, is_whole)
@@ -76,9 +76,9 @@ def _is_cut(picture: PictureRecord) -> bool:
     return bool(picture.damage) and picture.not_read != ""
 
 
-def texts_by_standard(conflict: Conflict) -> Dict[str, str]:
+def texts_by_standard(conflict: Conflict) -> dict[str, str]:
     """The texts by standard."""
-    by_standard: Dict[str, List[str]] = {}
+    by_standard: dict[str, list[str]] = {}
     for text in conflict.texts:
         by_standard.setdefault(text.standard, []).append(text.line)
     return {standard: "; ".join(by_standard[standard]) for standard in STANDARDS if standard in by_standard}

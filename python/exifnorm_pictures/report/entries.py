@@ -2,7 +2,7 @@
 
 from __future__ import annotations
 
-from typing import Any, Callable, Iterable, Iterator, List, NamedTuple, Tuple, TypeVar
+from typing import Any, Callable, Iterable, Iterator, NamedTuple, TypeVar
 
 PAGE = 200  # pictures of a page
 ROWS = 5_000  # rows of its tables, unless one entry alone has more
@@ -16,15 +16,15 @@ class Entry(NamedTuple):
     """Something that a list has: what its template shows, the pictures that it is about, and how many rows it takes."""
 
     data: Any
-    pictures: Tuple[bytes, ...]
+    pictures: tuple[bytes, ...]
     rows: int = 1
     is_counted: bool = True  # False: more pictures of an entry that is counted already
     size: int = 0  # characters of its texts, if they may be long
 
 
-def chunks(pictures: Iterable[Made], path_of: Callable[[Made], bytes]) -> Iterator[List[Made]]:
+def chunks(pictures: Iterable[Made], path_of: Callable[[Made], bytes]) -> Iterator[list[Made]]:
     """As many pictures at a time as a page has; fewer if their names are long."""
-    chunk: List[Made] = []
+    chunk: list[Made] = []
     size = 0
     for picture in pictures:
         size += len(path_of(picture))
@@ -36,13 +36,13 @@ def chunks(pictures: Iterable[Made], path_of: Callable[[Made], bytes]) -> Iterat
         yield chunk
 
 
-def pages_of(entries: Iterable[Entry]) -> Iterator[List[Entry]]:
+def pages_of(entries: Iterable[Entry]) -> Iterator[list[Entry]]:
     """The entries of each page. An entry is on one page.
 
     >>> [len(it) for it in pages_of([Entry(0, (b"",) * 150), Entry(0, (b"",) * 50), Entry(0, (b"",))])]
     [2, 1]
     """
-    page: List[Entry] = []
+    page: list[Entry] = []
     pictures = rows = size = 0
     for entry in entries:
         more, longer = max(1, len(entry.pictures)), entry.size + sum(map(len, entry.pictures))

@@ -9,7 +9,7 @@ import shlex
 from collections import Counter
 from dataclasses import dataclass, field
 from itertools import groupby
-from typing import Dict, Iterator, List, NamedTuple, Sequence, Tuple
+from typing import Iterator, NamedTuple, Sequence
 
 from ..catalogue.checking import Broken, Checked
 from ..catalogue.store import PICTURE_COLUMNS
@@ -41,12 +41,12 @@ class Counts:
     total: int = 0
     states: "Counter[str]" = field(default_factory=Counter)
     causes: "Counter[str]" = field(default_factory=Counter)
-    groups: Tuple[int, int] = (0, 0)  # and pictures in them
+    groups: tuple[int, int] = (0, 0)  # and pictures in them
     unknown: int = 0  # pictures that may be the same as others but for their MakerNotes
     contradictions: Contradictions = field(default_factory=Contradictions)
     unread: int = 0
     damaged: int = 0  # cut off, or with a damaged picture
-    parts: "List[Tuple[str, int]]" = field(default_factory=list)  # the most frequent unread parts, and the number of pictures with each
+    parts: "list[tuple[str, int]]" = field(default_factory=list)  # the most frequent unread parts, and the number of pictures with each
     maker_notes: int = 0  # pictures with a MakerNote
 
     @property
@@ -83,7 +83,7 @@ _STATE = """CASE WHEN ifnull(problem, '') != '' THEN problem WHEN exif IS NULL O
     WHEN exif != '' OR iptc != '' OR xmp != '' THEN 'accepted' WHEN damage != '' AND not_read IS NOT '' THEN 'damaged' ELSE 'no block' END"""
 
 
-def _counted_word(row: Tuple[str, int]) -> Tuple[str, int]:
+def _counted_word(row: tuple[str, int]) -> tuple[str, int]:
     has(str, row[0])
     return row
 
@@ -91,9 +91,9 @@ def _counted_word(row: Tuple[str, int]) -> Tuple[str, int]:
 class Contradicting(NamedTuple):
     """Pictures that contradict themselves in the same texts."""
 
-    rows: List[Tuple[str, str, Dict[str, str]]]  # a label, what is said of it, and its texts
+    rows: list[tuple[str, str, dict[str, str]]]  # a label, what is said of it, and its texts
     total: int  # of all its pictures
-    pictures: List[bytes]
+    pictures: list[bytes]
     is_first: bool
 
     @property
@@ -130,9 +130,9 @@ class Breaking(NamedTuple):
     """A picture that breaks rules, each with what breaks it."""
 
     path: bytes
-    broken: List[Tuple[Rule, Broken]]
+    broken: list[tuple[Rule, Broken]]
 
-    def by_rule(self) -> List[Tuple[Rule, List[Broken]]]:
+    def by_rule(self) -> list[tuple[Rule, list[Broken]]]:
         """Each rule once, with all that breaks it."""
         return [(rule, [broken for _, broken in all_]) for rule, all_ in groupby(self.broken, lambda pair: pair[0])]
 
@@ -150,7 +150,7 @@ class Same(NamedTuple):
     total: int  # of all its pictures
     sentence: str
     note: str  # what is known of all its pictures, such as why none may go
-    pictures: List[Tuple[bytes, Keep]]
+    pictures: list[tuple[bytes, Keep]]
     is_first: bool
     may_go: int = 0  # pictures of the group that another one has, and the bytes of their files
     octets: int = 0
@@ -180,7 +180,7 @@ class Captioned(NamedTuple):
     """Files with one coded picture and different texts, each with its texts."""
 
     total: int
-    pictures: List[Tuple[bytes, List[str]]]
+    pictures: list[tuple[bytes, list[str]]]
     is_first: bool = True
 
 
@@ -203,7 +203,7 @@ def captioned(about: About) -> Iterator[Entry]:
                 yield Entry(one, paths, len(few), not number, size)
 
 
-def _captions(about: About, picture: PictureRecord) -> List[str]:
+def _captions(about: About, picture: PictureRecord) -> list[str]:
     found = texts_of(about.catalogue.blocks_with_fields(picture), _CAPTIONS).texts
     return list(dict.fromkeys(it.line for it in found if it.label in _CAPTIONS))
 
@@ -249,7 +249,7 @@ class Unread(NamedTuple):
     """A picture that is damaged or wasn't wholly read, and where."""
 
     path: bytes
-    parts: List[str]
+    parts: list[str]
 
 
 def damaged(about: About) -> Iterator[Entry]:
@@ -287,7 +287,7 @@ class Folder(NamedTuple):
     """Some pictures of a folder."""
 
     path: bytes
-    pictures: List[Tuple[bytes, str]]  # each with its state
+    pictures: list[tuple[bytes, str]]  # each with its state
     is_first: bool
 
 
@@ -304,7 +304,7 @@ def folders(about: About) -> Iterator[Entry]:
             yield Entry(Folder(folder, pictures, not number), tuple(path for path, _ in pictures))
 
 
-def _two_words(row: Tuple[bytes, str]) -> Tuple[bytes, str]:
+def _two_words(row: tuple[bytes, str]) -> tuple[bytes, str]:
     has_short(bytes, row[0])
     has_short(str, row[1])
     return row

@@ -3,7 +3,7 @@
 from __future__ import annotations
 
 import sqlite3
-from typing import Iterable, List, Tuple
+from typing import Iterable
 
 WORDS = {
     "changed": "changed",
@@ -29,7 +29,7 @@ class Marks:
         """Closes the connection, and with it the database."""
         self._base.close()
 
-    def add(self, key: str, places: Iterable[Tuple[bytes, str]]) -> None:
+    def add(self, key: str, places: Iterable[tuple[bytes, str]]) -> None:
         """Keeps where a list has some pictures; of several places the first."""
         if key in WORDS:
             self._base.executemany("INSERT OR IGNORE INTO marks VALUES (?, ?, ?)", ((path, key, place) for path, place in places))
@@ -38,7 +38,7 @@ class Marks:
         """Notes that pictures were shown. Returns how many of them were not before."""
         return self._base.executemany("INSERT OR IGNORE INTO marks VALUES (?, '', '')", ((path,) for path in paths)).rowcount
 
-    def of(self, path: bytes) -> List[Tuple[str, str]]:
+    def of(self, path: bytes) -> list[tuple[str, str]]:
         """What the lists say of a picture, each with its place."""
         known = dict(self._base.execute("SELECT list, place FROM marks WHERE path = ?", (path,)))
         return [(word, known[key]) for key, word in WORDS.items() if key in known]

@@ -6,7 +6,7 @@ import base64
 import hashlib
 import os
 from datetime import datetime
-from typing import TYPE_CHECKING, Any, Dict, List, Optional, Sequence
+from typing import TYPE_CHECKING, Any, Optional, Sequence
 
 from ..catalogue.checking import Checked
 from ..model.found import STANDARDS
@@ -47,7 +47,7 @@ class Renderer:
         for name in self._templates.list_templates(extensions=["html"]):
             self._templates.get_template(name)  # compiled once, whatever is listed
         style, script = ((TEMPLATES / name).read_text(encoding="utf-8") for name in ("report.css", "report.js"))
-        self._shared: Dict[str, Any] = {
+        self._shared: dict[str, Any] = {
             "title": about.title,
             "now": datetime.now().astimezone().strftime("%Y-%m-%d %H:%M"),
             "roots": roots,
@@ -73,14 +73,14 @@ class Renderer:
         template: Any = self._templates.get_template(f"{key}.html")
         return template.make_module({**self._shared, "pictures": pictures}).entries(entries, first)
 
-    def _small_pictures(self, key: str, entries: Sequence[Entry]) -> Dict[Any, str]:
+    def _small_pictures(self, key: str, entries: Sequence[Entry]) -> dict[Any, str]:
         """The small pictures of those lists that show them, by paths; and those of earlier files, by the digests of their coded pictures."""
         if not self._look or key not in WITH_PICTURES:
             return {}
         paths = [path for entry in entries for path in entry.pictures]
         others = _others(entries) if key == "changed" else []
         compared = [path for one in others for path in (one.after, one.earlier) if path]
-        pictures: Dict[Any, str] = {**self.small_pictures.of(paths, compared)}
+        pictures: dict[Any, str] = {**self.small_pictures.of(paths, compared)}
         for digest_ in {one.digest for one in others if one.digest}:
             address = self.small_pictures.of_digest(digest_)
             pictures.update({digest_: address} if address else {})
@@ -91,7 +91,7 @@ class Renderer:
         values = {**self._shared, "section": section, "number": number, "has_next": has_next, "body": body}
         return str(self._templates.get_template("list.html").render(values))
 
-    def index(self, counts: Counts, lists: List["Written"], changes: Optional[Changes], rules: Optional[Checked], files: int) -> str:
+    def index(self, counts: Counts, lists: list["Written"], changes: Optional[Changes], rules: Optional[Checked], files: int) -> str:
         """The first page, or the only one, whose search box looks into the index if that has files."""
         results = [it for it, _ in changes.counted if it.has_changed is not False] if changes else []
         titles = [(it.section.key, it.section.title) for it in lists if it.entries]
@@ -116,7 +116,7 @@ class Renderer:
         return self._html("").join(parts)
 
 
-def _others(entries: Sequence[Entry]) -> List[ChangedPicture]:
+def _others(entries: Sequence[Entry]) -> list[ChangedPicture]:
     """The pictures that are other ones or damaged."""
     return [one for entry in entries if entry.data.is_other for one in entry.data.pictures]
 

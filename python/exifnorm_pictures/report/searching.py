@@ -4,7 +4,7 @@ from __future__ import annotations
 
 import functools
 import json
-from typing import Any, Callable, Dict, Iterable, List, Optional, Sequence, Tuple
+from typing import Any, Callable, Iterable, Optional, Sequence
 
 from ..fields.labels import label_of_fields
 from ..model.texts import safe, shown_path
@@ -27,7 +27,7 @@ class SearchIndex:
     def __init__(self, put: Callable[[str, str], None], roots: Sequence[bytes]) -> None:
         self.files = 0
         self._put, self._roots = put, roots
-        self._lines: List[str] = []
+        self._lines: list[str] = []
         self._length = 0
 
     def add(self, key: str, place: str, entry: Entry) -> None:
@@ -69,26 +69,26 @@ def _words(data: Any) -> Iterable[Optional[str]]:
     return words(data)
 
 
-def _of_problem(data: Any) -> List[Optional[str]]:
+def _of_problem(data: Any) -> list[Optional[str]]:
     """A file without an answer, or a damaged one."""
     return [getattr(data, "problem", ""), getattr(data, "detail", "")]
 
 
-def _of_difference(data: Difference) -> List[str]:
+def _of_difference(data: Difference) -> list[str]:
     said = [f"{it};" for it in (data.note, labels_of(data.rows)) if it]
     return [*map(_row, data.rows), *said, data.result, f"edit:{data.group};"]
 
 
-def _of_contradiction(data: Contradicting) -> List[str]:
+def _of_contradiction(data: Contradicting) -> list[str]:
     return [text for label, detail, texts in data.rows for text in (label, detail, *texts.values())]
 
 
-def _of_rules(data: Breaking) -> List[Optional[str]]:
+def _of_rules(data: Breaking) -> list[Optional[str]]:
     rules = [(one.label, one.text, f"line {rule.line}: {rule.text}") for rule, one in data.broken]
     return [text for texts in rules for text in texts]
 
 
-_WORDS: Dict[type, _Words] = {
+_WORDS: dict[type, _Words] = {
     Difference: _of_difference,
     Contradicting: _of_contradiction,
     Breaking: _of_rules,
@@ -111,13 +111,13 @@ def labels_of(rows: Sequence[Row]) -> str:
     return " ".join(dict.fromkeys(labels[name] for row in rows for name in row.names if name in labels))
 
 
-def kinds_of(lists: Sequence[Tuple[str, str]], results: Iterable[str]) -> List[Tuple[str, str]]:
+def kinds_of(lists: Sequence[tuple[str, str]], results: Iterable[str]) -> list[tuple[str, str]]:
     """What can be chosen beside the search box: each list by its key and title, and the kinds of change.
 
     >>> kinds_of([("changed", "Changed pictures"), ("same", "Pictures with the same metadata")], ["moved"])[1:]
     [('changed/moved', 'Changed pictures: moved'), ('same', 'Pictures with the same metadata')]
     """
-    kinds: List[Tuple[str, str]] = []
+    kinds: list[tuple[str, str]] = []
     for key, title in lists:
         kinds.append((key, title))
         if key == "changed":

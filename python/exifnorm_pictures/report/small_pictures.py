@@ -8,7 +8,7 @@ import hashlib
 import os
 import re
 from itertools import islice
-from typing import Dict, Iterable, List, NamedTuple, Optional, Protocol, Sequence, Set
+from typing import Iterable, NamedTuple, Optional, Protocol, Sequence
 
 from ..catalogue.store import Catalogue
 from ..extract import coded_picture
@@ -29,7 +29,7 @@ class Kept(Protocol):
     """Where small pictures are kept."""
 
     SOURCES: str  # what a content security policy has to allow
-    symbols: "List[Symbol]"  # the pictures that the page itself has
+    symbols: "list[Symbol]"  # the pictures that the page itself has
 
     def address(self, name: str) -> str:
         """The address of a small picture; empty if it isn't there yet. Raises `OSError`."""
@@ -53,8 +53,8 @@ class InPage:
     SOURCES = "data:"
 
     def __init__(self) -> None:
-        self._addresses: Dict[str, str] = {}  # of the pictures of one page, which are few
-        self.symbols: List[Symbol] = []
+        self._addresses: dict[str, str] = {}  # of the pictures of one page, which are few
+        self.symbols: list[Symbol] = []
 
     def address(self, name: str) -> str:
         return self._addresses.get(name, "")
@@ -79,7 +79,7 @@ class InFolder:
 
     def __init__(self, folder: NewFolder) -> None:
         self._folder = folder
-        self.symbols: List[Symbol] = []
+        self.symbols: list[Symbol] = []
 
     def address(self, name: str) -> str:
         return name if self._folder.has(name) else ""
@@ -104,14 +104,14 @@ class SmallPictures:
         self._catalogues, self._kept, self._session = catalogues, kept, session
         self._shrinker = Shrinker(session is None or session.programs)
         self.has_pillow = self._shrinker.is_there
-        self._failed: Set[str] = set()
-        self._known: Dict[bytes, str] = {}
+        self._failed: set[str] = set()
+        self._known: dict[bytes, str] = {}
 
     def close(self) -> None:
         """Ends the process that makes them."""
         self._shrinker.close()
 
-    def of(self, paths: Iterable[bytes], compared: Iterable[bytes] = ()) -> Dict[bytes, str]:
+    def of(self, paths: Iterable[bytes], compared: Iterable[bytes] = ()) -> dict[bytes, str]:
         """The addresses of the small pictures of these files, as far as there are any. Those that are `compared` with another are made from the
         picture: the thumbnail that a file has may be older."""
         whole = set(compared)

@@ -4,7 +4,7 @@ from __future__ import annotations
 
 from collections import Counter
 from pathlib import Path
-from typing import TYPE_CHECKING, Any, Callable, Dict
+from typing import TYPE_CHECKING, Any, Callable
 
 from ..comparison.edit_words import head_of, steps_of
 from ..comparison.groups import of_notes
@@ -30,7 +30,7 @@ STATE_WORDS = {
     "damaged": "cut off, and without a block in what is left",
 }
 _TONES = {"accepted": "good", "refused": "bad", "no block": "plain", "damaged": "bad", "NoPicture": "plain"}
-_RESULT_TONES: Dict[str, str] = {
+_RESULT_TONES: dict[str, str] = {
     Result.SAME: "good",
     **dict.fromkeys((Result.ONLY_MAKER_NOTE, Result.SAME_FILE, Result.REFUSED_SAME), "plain"),
     **dict.fromkeys((Result.DAMAGED, Result.DAMAGED_BEFORE, Result.DAMAGED_DIFFERENT), "bad"),
@@ -51,7 +51,7 @@ def check() -> None:
         raise NoTemplates(f"--html: {why}") from None
 
 
-def environment(filters: Dict[str, Callable[..., Any]]) -> "jinja2.Environment":
+def environment(filters: dict[str, Callable[..., Any]]) -> "jinja2.Environment":
     """What knows the templates, with some filters more."""
     import jinja2
 
@@ -71,7 +71,7 @@ def environment(filters: Dict[str, Callable[..., Any]]) -> "jinja2.Environment":
     return templates
 
 
-_FILTERS: Dict[str, Callable[..., Any]] = {
+_FILTERS: dict[str, Callable[..., Any]] = {
     "number": "{:,}".format,
     "counted": in_words,
     "path": shown_path,

@@ -6,7 +6,7 @@ from __future__ import annotations
 import contextlib
 import sqlite3
 from collections import Counter
-from typing import Callable, List, Mapping, NamedTuple, Optional, Sequence, Set, Union
+from typing import Callable, Mapping, NamedTuple, Optional, Sequence, Union
 
 from ..catalogue.store import make_rows, put_rows
 from ..extract import programs
@@ -18,7 +18,7 @@ from .walk import FoundFile
 
 LONGEST_WAIT = 2.0  # seconds until results are committed, if pictures are slow
 
-Lines = Callable[[PictureRecord], List[str]]  # the lines that are printed about a picture
+Lines = Callable[[PictureRecord], list[str]]  # the lines that are printed about a picture
 
 
 class How(NamedTuple):
@@ -46,9 +46,9 @@ class Batch(NamedTuple):
 
     file: str  # with their rows
     states: "Counter[str]"  # how many have each state
-    lines: List[str]
-    programs: Set[str]  # the other programs that have read something of them
-    unread: List[PictureRecord]  # which have no row: if they were known before, their earlier results stay
+    lines: list[str]
+    programs: set[str]  # the other programs that have read something of them
+    unread: list[PictureRecord]  # which have no row: if they were known before, their earlier results stay
     left: Sequence[FoundFile]  # the pictures after them, which were not looked at yet
     versions: Mapping[str, str]  # that other programs have told, by their paths
 

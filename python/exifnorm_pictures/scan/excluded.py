@@ -5,7 +5,7 @@ from __future__ import annotations
 import os
 import re
 from fnmatch import translate
-from typing import List, Sequence, Tuple
+from typing import Sequence
 
 
 class Excluded:
@@ -19,7 +19,7 @@ class Excluded:
     def __init__(self, patterns: Sequence[str] = ()) -> None:
         texts = [it.strip("/") if it.strip("/") else it for it in dict.fromkeys(patterns)]
         # as bytes: a name need not be UTF-8
-        self._patterns: List[Tuple[str, "re.Pattern[bytes]"]] = [(it, re.compile(os.fsencode(translate(it)))) for it in texts]
+        self._patterns: list[tuple[str, "re.Pattern[bytes]"]] = [(it, re.compile(os.fsencode(translate(it)))) for it in texts]
         self._used = [False] * len(texts)
         self.count = 0  # of files and folders that were passed over
         self.known = 0  # of excluded pictures that are in the catalogue from an earlier run
@@ -46,6 +46,6 @@ class Excluded:
         parts = path.split(b"/")
         return any(self.fits(b"/".join(parts[:end])) for end in range(1, len(parts) + 1))
 
-    def unused(self) -> List[str]:
+    def unused(self) -> list[str]:
         """The patterns that have fitted nothing."""
         return [text for (text, _), used in zip(self._patterns, self._used) if not used]

@@ -7,7 +7,7 @@ import threading
 from collections import deque
 from concurrent.futures import Future, ThreadPoolExecutor
 from itertools import chain, islice
-from typing import Deque, Iterable, Iterator, List, Optional, Tuple
+from typing import Deque, Iterable, Iterator, Optional
 
 from ..catalogue.store import Catalogue
 from ..files import opening
@@ -28,7 +28,7 @@ def looker(before: Catalogue) -> Look:
     """Looks only into those files that have another SHA-256 than a catalogue has."""
 
     def look(work: Iterable[FoundFile], how: How) -> Iterator[Result]:
-        others: List[FoundFile] = []
+        others: list[FoundFile] = []
         for file, digest in _hashed(iter(work), how.processes):
             known = before.picture(file.path) or PictureRecord()
             if digest and known.sha256 == digest and known.problem not in NOT_THERE:
@@ -43,14 +43,14 @@ def looker(before: Catalogue) -> Look:
     return look
 
 
-def _hashed(work: Iterator[FoundFile], threads: int) -> Iterator[Tuple[FoundFile, str]]:
+def _hashed(work: Iterator[FoundFile], threads: int) -> Iterator[tuple[FoundFile, str]]:
     """The files with their SHA-256, in their order. Several threads read them, one file each."""
     begin = list(islice(work, 2))
     files = chain(begin, work)
     if threads == 1 or len(begin) < 2:
         yield from ((file, digest(file.path)) for file in files)
         return
-    waiting: "Deque[Tuple[FoundFile, Future[str]]]" = deque()
+    waiting: "Deque[tuple[FoundFile, Future[str]]]" = deque()
     is_stopped = threading.Event()
     with ThreadPoolExecutor(threads) as pool:
         try:

@@ -12,7 +12,7 @@ from collections import Counter
 from datetime import datetime, timezone
 from itertools import chain, islice
 from operator import itemgetter
-from typing import Callable, Dict, Iterable, Iterator, List, NamedTuple, Optional, Sequence, Set, Tuple
+from typing import Callable, Iterable, Iterator, NamedTuple, Optional, Sequence
 
 from ..catalogue.store import Catalogue, Known
 from ..extract import programs
@@ -76,10 +76,10 @@ class Work:
         self.to_read = 0  # files that are new or changed, as far as folders are listed
         self.new = False  # whether the catalogue, if it knows any picture, doesn't know one of them ..
         self.reread = Paths()  # .. and which of them it knows
-        self.unlisted: List[Unlisted] = []
+        self.unlisted: list[Unlisted] = []
         self.counts: "Counter[str]" = Counter()
         self.sidecars = Numbers()  # of XMP files that belong to pictures, and were files by themselves before
-        self.taken: List[int] = []  # those of them that are forgotten
+        self.taken: list[int] = []  # those of them that are forgotten
         self.unfinished = Numbers()  # of pictures for which a program was missing that is there now
         self.seen = Numbers()  # of pictures that were found
 
@@ -111,8 +111,8 @@ def _settle(options: IndexOptions, at_work: "_Looking", departed: Departed) -> N
         catalogue.put(run, batch)
     if work.new:
         departed.settle(catalogue, run, lambda path: path not in work.reread)
-    folders: "Counter[Tuple[bytes, bytes]]" = Counter()
-    shared: Dict[Tuple[bytes, bytes], bytes] = {}
+    folders: "Counter[tuple[bytes, bytes]]" = Counter()
+    shared: dict[tuple[bytes, bytes], bytes] = {}
     for path, to in departed.moves() if options.moved_line else ():
         both = moved_folders(path, to)
         if both:
@@ -129,7 +129,7 @@ def _now() -> str:
     return datetime.now(timezone.utc).strftime("%Y-%m-%dT%H:%M:%SZ")
 
 
-def _own_files(name: str) -> Tuple[bytes, ...]:
+def _own_files(name: str) -> tuple[bytes, ...]:
     """The names of the catalogue itself and of SQLite's files beside it."""
     names = {os.path.abspath(os.fsencode(name)), os.path.realpath(os.fsencode(name))}
     return tuple(it + ending for it in names for ending in (b"", b"-wal", b"-shm", b"-journal"))
@@ -143,7 +143,7 @@ class _Finding:
         self.options, self.catalogue, self.work, self.first = (options, catalogue, work, first)
         self.is_whole = False  # whether all files are found
         self.named = Paths() if can_overlap(options.names) else None
-        self._remounted: List[Tuple[int, int]] = []  # a file system that is there now, and an unchanged picture on it
+        self._remounted: list[tuple[int, int]] = []  # a file system that is there now, and an unchanged picture on it
         if not first:
             for number in _unfinished(catalogue):
                 work.unfinished.add(number)
@@ -153,7 +153,7 @@ class _Finding:
 
     def each(self, between: Callable[[], object]) -> Iterator[FoundFile]:
         """The files that have to be looked at; `between` is called each time that some are found. The catalogue is not locked outside."""
-        files: List[FoundFile] = []
+        files: list[FoundFile] = []
         while not self.is_whole:
             following = self._next_files()
             self.work.to_read += len(following)
@@ -162,7 +162,7 @@ class _Finding:
             files = following
         yield from files
 
-    def _next_files(self) -> List[FoundFile]:
+    def _next_files(self) -> list[FoundFile]:
         """Of the next files those that have to be looked at."""
         with self.catalogue.reading():
             files = list(islice(self._files, AHEAD))
@@ -288,9 +288,9 @@ class _Looking:
     def __init__(self, options: IndexOptions, catalogue: Catalogue, run: int, work: Work) -> None:
         self.options, self.catalogue, self.run, self.work = (options, catalogue, run, work)
         self.progress = Progress(0, quiet=options.quiet)
-        self.ready: List[Result] = []
+        self.ready: list[Result] = []
         self.version = ""  # of the library
-        self.versions: Dict[str, Optional[str]] = {}  # of the other programs that have read a picture
+        self.versions: dict[str, Optional[str]] = {}  # of the other programs that have read a picture
         self.files = 0  # of batches that are ready
         self.pictures = self.size = 0  # that are ready, and their bytes
         self.done = 0
@@ -354,7 +354,7 @@ class _Looking:
         self.last = time.monotonic()
         self.progress.done(self.done)
 
-    def keep_versions(self, programs: Set[str]) -> None:
+    def keep_versions(self, programs: set[str]) -> None:
         """Keeps the versions of programs that have read a picture."""
         new = programs - self.versions.keys()
         if new:

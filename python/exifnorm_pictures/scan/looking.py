@@ -3,7 +3,7 @@
 from __future__ import annotations
 
 import time
-from typing import Iterable, Iterator, List, Optional, Sequence, Tuple
+from typing import Iterable, Iterator, Optional, Sequence
 
 from exifnorm import LibraryMissing
 
@@ -69,7 +69,7 @@ def _look(file: FoundFile, how: How, session: Session, packs: bool) -> PictureRe
     return PictureRecord.of_blocks(file.path, file.root, stamp, blocks, judged, file=whole_file, **more)
 
 
-def _read(file: FoundFile, how: How, session: Session, packs: bool) -> Tuple[Blocks, List[BlockRecord]]:
+def _read(file: FoundFile, how: How, session: Session, packs: bool) -> tuple[Blocks, list[BlockRecord]]:
     """The blocks of a file and its sidecars, and what they mean. A file over a limit has a problem, and so has one for which a program takes too long."""
     try:
         blocks = extraction.blocks_of_file(file.path, how.whole, session)
@@ -84,7 +84,7 @@ def _read(file: FoundFile, how: How, session: Session, packs: bool) -> Tuple[Blo
         return Blocks(problem=Problem.TOO_SLOW, detail=str(error)), []
 
 
-def _maker_notes(session: Session, path: bytes, blocks: Blocks, judged: Sequence[BlockRecord]) -> Tuple[Optional[bytes], bool]:
+def _maker_notes(session: Session, path: bytes, blocks: Blocks, judged: Sequence[BlockRecord]) -> tuple[Optional[bytes], bool]:
     """What ExifTool reads of the MakerNotes of a picture that has one, for a catalogue, and whether that is known.
 
     If it fails at them, they are a part that was not read; without it the picture is as it is if nobody asks for them.
@@ -103,7 +103,7 @@ def _maker_notes(session: Session, path: bytes, blocks: Blocks, judged: Sequence
         return None, False
 
 
-def _pixels(path: bytes, blocks: Blocks) -> Tuple[Optional[str], str, str, Optional[str]]:
+def _pixels(path: bytes, blocks: Blocks) -> tuple[Optional[str], str, str, Optional[str]]:
     """What --pixels adds to a record: the digests of the coded picture and of what is beside it, its damage, and the digest of the whole file;
     empty if not known."""
     from ..extract import coded_picture

@@ -6,14 +6,14 @@ import functools
 import hashlib
 import os
 import sqlite3
-from typing import Any, Callable, Dict, Iterator, List, Optional, Sequence, Tuple
+from typing import Any, Callable, Iterator, Optional, Sequence
 
 from ..catalogue.store import Catalogue
 from ..model.problems import Problem
 from ..model.records import PictureRecord
 from ..model.texts import shown_path
 
-Key = Tuple[object, ...]
+Key = tuple[object, ...]
 _MARKS = "size, modified, inode, sha256, coded_picture, not_read, exif_octets, iptc_octets, xmp_octets"
 
 
@@ -78,11 +78,11 @@ class Departed:
             row = (path, os.path.basename(path), *marks, sha256, coded_picture, _digest(content_key(octets, unread, size)))
             self._base.execute(_ADD, row)
 
-    def each(self) -> Iterator[Tuple[bytes, Optional[bytes]]]:
+    def each(self) -> Iterator[tuple[bytes, Optional[bytes]]]:
         """The path of each picture that is gone, in the order in which they were noted, and its new one if that is known."""
         return iter(self._base.execute("SELECT path, went FROM gone ORDER BY number"))
 
-    def moves(self) -> Iterator[Tuple[bytes, bytes]]:
+    def moves(self) -> Iterator[tuple[bytes, bytes]]:
         """The same of those that have a new path."""
         return ((path, went) for path, went in self.each() if went is not None)
 
@@ -102,17 +102,17 @@ class Departed:
         facts = {"number": number, "sha256": sha256, "coded_picture": coded_picture}
         return self._base.execute(f"SELECT 1 FROM gone WHERE number = :number AND {_KNOWN}", facts).fetchone() is not None
 
-    def _alike(self, facts: Dict[str, object]) -> Optional[Tuple[int]]:
+    def _alike(self, facts: dict[str, object]) -> Optional[tuple[int]]:
         """The number of the picture with these bytes, or of the only one with these blocks, this size and this time."""
         for query in (*_SAME_BYTES, *_ALIKE):
-            rows: List[Tuple[int]] = self._base.execute(query, facts).fetchall()
+            rows: list[tuple[int]] = self._base.execute(query, facts).fetchall()
             if len(rows) == 1 or rows and query in _SAME_BYTES:
                 return rows[0]
         return None
 
-    def _likely(self, catalogue: Catalogue, path: bytes, facts: Dict[str, object]) -> Optional[Tuple[int]]:
+    def _likely(self, catalogue: Catalogue, path: bytes, facts: dict[str, object]) -> Optional[tuple[int]]:
         """The number of the only picture with this content, if no other one means the same."""
-        row: Optional[Tuple[int]] = self._base.execute(_LIKELY, facts).fetchone()
+        row: Optional[tuple[int]] = self._base.execute(_LIKELY, facts).fetchone()
         if row is None or self._base.execute(_ARE_TWO, (facts["content"],)).fetchone()[0]:
             return None
         return None if catalogue.number_of(_MEAN_THE_SAME, (path,)) else row
@@ -155,13 +155,13 @@ def _digest(key: Optional[Key]) -> Optional[bytes]:
     return None if key is None else hashlib.sha256(repr(key).encode("utf-8", "surrogatepass")).digest()
 
 
-def moved_together(went: Dict[bytes, bytes]) -> Dict[Tuple[bytes, bytes], List[bytes]]:
+def moved_together(went: dict[bytes, bytes]) -> dict[tuple[bytes, bytes], list[bytes]]:
     """The pictures that moved from one folder to another with the path below it, by these two folders; two and more of each.
 
     >>> moved_together({b"/a/x/1.jpg": b"/b/x/1.jpg", b"/a/x/2.jpg": b"/b/x/2.jpg", b"/a/3.jpg": b"/c/4.jpg"})
     {(b'/a/x', b'/b/x'): [b'/a/x/1.jpg', b'/a/x/2.jpg']}
     """
-    together: Dict[Tuple[bytes, bytes], List[bytes]] = {}
+    together: dict[tuple[bytes, bytes], list[bytes]] = {}
     for old, new in went.items():
         folders = moved_folders(old, new)
         if folders:
@@ -179,7 +179,7 @@ def shared_folder(folder: Optional[bytes], path: bytes) -> bytes:
     return own if folder is None else os.path.commonpath([folder, own])
 
 
-def deepest(folders: Tuple[bytes, bytes], shared: bytes) -> Tuple[bytes, bytes]:
+def deepest(folders: tuple[bytes, bytes], shared: bytes) -> tuple[bytes, bytes]:
     """The folder that moved, and where it is: the one above it may have others that stayed.
 
     >>> deepest((b"/a", b"/a/new"), b"/a/x"), deepest((b"/a", b"/b"), b"/a")
@@ -190,7 +190,7 @@ def deepest(folders: Tuple[bytes, bytes], shared: bytes) -> Tuple[bytes, bytes]:
     return old, new
 
 
-def moved_folders(old: bytes, new: bytes) -> Optional[Tuple[bytes, bytes]]:
+def moved_folders(old: bytes, new: bytes) -> Optional[tuple[bytes, bytes]]:
     """The folder that a picture was in, and the one that it moved to with the path below it; None if its name is another one.
 
     >>> moved_folders(b"/a/x/1.jpg", b"/b/x/1.jpg"), moved_folders(b"/a/3.jpg", b"/c/4.jpg")

@@ -8,7 +8,7 @@ import hashlib
 import os
 import re
 from collections import Counter
-from typing import Dict, FrozenSet, Iterator, List, NamedTuple, Optional, Sequence, Set
+from typing import Iterator, NamedTuple, Optional, Sequence
 
 from ..catalogue import shards
 from ..catalogue.store import NUMBERS, Catalogue, roll_back
@@ -38,19 +38,19 @@ class Shard(NamedTuple):
 class Plan(NamedTuple):
     """The parts of a run."""
 
-    shards: List[Shard]
+    shards: list[Shard]
     has_sidecars: bool  # whether the catalogues that are there have XMP sidecars ..
     has_digests: bool  # .. and digests of coded pictures
     is_empty: bool  # whether none of them has a picture
     excluded: int  # files and folders directly in the folders that are passed over
-    unused: FrozenSet[str]  # patterns that have fitted none of these
+    unused: frozenset[str]  # patterns that have fitted none of these
 
 
 class Outcome(NamedTuple):
     """What became of a part, or of all."""
 
     counts: "Counter[str]"
-    unused: FrozenSet[str]  # patterns that have fitted nothing
+    unused: frozenset[str]  # patterns that have fitted nothing
     damaged: int = 0  # of the pictures that were looked at
     refused: int = 0  # of all pictures, with a block that isn't accepted
     excluded: int = 0  # pictures of an earlier run that are excluded now
@@ -96,7 +96,7 @@ def _refuse_missing(tops: Sequence[bytes], gone: Sequence[Shard]) -> None:
             raise WrongFolder(f"there is no folder {shown_path(top)}")
 
 
-def _listed_with(where: str, parts: Dict[str, Part]) -> List[str]:
+def _listed_with(where: str, parts: dict[str, Part]) -> list[str]:
     """All catalogues that are listed, to which those of some parts are added. Other runs may add theirs at the same time."""
     with shards.listing(where):
         listed = shards.listed(where)
@@ -106,7 +106,7 @@ def _listed_with(where: str, parts: Dict[str, Part]) -> List[str]:
     return listed
 
 
-def _check(where: str, tops: Sequence[bytes]) -> List[str]:
+def _check(where: str, tops: Sequence[bytes]) -> list[str]:
     """The catalogues that are listed. Raises `WrongFolder`."""
     inside = os.path.join(os.path.realpath(os.fsencode(where)), b"")
     shown = shown_path(os.fsencode(where))
@@ -128,7 +128,7 @@ def _check(where: str, tops: Sequence[bytes]) -> List[str]:
     return listed
 
 
-def _parts(top: bytes, excluded: Excluded, known: Dict[str, str], roots: Set[bytes]) -> Iterator[Part]:
+def _parts(top: bytes, excluded: Excluded, known: dict[str, str], roots: set[bytes]) -> Iterator[Part]:
     """The parts of a folder, or it as one, if it is a part of a folder of an earlier run. One that can't be listed has its own files alone, and
     the run says why. Raises `WrongFolder`."""
     above = os.path.dirname(top)

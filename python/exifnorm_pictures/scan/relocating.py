@@ -5,7 +5,7 @@ from __future__ import annotations
 import time
 from collections import Counter
 from itertools import islice
-from typing import Iterator, List, Tuple
+from typing import Iterator
 
 from ..catalogue.store import Catalogue
 from ..extract.sidecars import marks_elsewhere
@@ -41,7 +41,7 @@ def relocated(catalogue: Catalogue, old: bytes, new: bytes) -> "Counter[str]":
     return counts
 
 
-def _rows(catalogue: Catalogue, old: bytes, new: bytes, began: int, counts: "Counter[str]") -> Iterator[Tuple[object, ...]]:
+def _rows(catalogue: Catalogue, old: bytes, new: bytes, began: int, counts: "Counter[str]") -> Iterator[tuple[object, ...]]:
     """The values of `_UPDATE` for each picture."""
     for number, path, root, sidecars, problem, *marks in catalogue.rows("SELECT * FROM temp.moving"):
         has(bytes, path, root)
@@ -63,7 +63,7 @@ def _root(root: bytes, old: bytes, new: bytes) -> bytes:
     return root if new.startswith(root.rstrip(b"/") + b"/") else new
 
 
-def _looked_at(place: bytes, marks: List[int], began: int) -> Tuple[str, Tuple[int, int, int]]:
+def _looked_at(place: bytes, marks: list[int], began: int) -> tuple[str, tuple[int, int, int]]:
     """Whether a file is as before, and the time of its last change of status, its inode and its device."""
     size, modified, *others = marks
     now = Stamp.at(place)

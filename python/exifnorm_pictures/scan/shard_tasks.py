@@ -12,7 +12,7 @@ import os
 import time
 from collections import Counter
 from itertools import islice
-from typing import Any, Dict, Iterator, List, Optional, Sequence, Tuple
+from typing import Any, Iterator, Optional, Sequence
 
 from ..extract import programs
 from ..model.problems import Problem
@@ -48,7 +48,7 @@ class Parts:
         self.scheduler, self.how = scheduler, how._replace(room="", jobs=1, lines=None)
         self.where, self.again, self.patterns = os.path.abspath(where), again, patterns
         self.deaths: "Counter[str]" = Counter()  # how often workers died at a part, by its catalogue
-        self.tasks: Dict[Any, Shard] = {}  # that haven't ended
+        self.tasks: dict[Any, Shard] = {}  # that haven't ended
         self.threads = 0  # of all workers, when they were last counted
         self.counted = 0.0
 
@@ -65,7 +65,7 @@ class Parts:
                 raise programs.Failed(f"a worker of {self.scheduler} failed: {type(error).__name__}: {error}") from error
             return planned
 
-    def outcomes(self, planned: Plan, how: How) -> Iterator[Tuple[Shard, Outcome]]:
+    def outcomes(self, planned: Plan, how: How) -> Iterator[tuple[Shard, Outcome]]:
         """Each part with its outcome, in order of arrival; few wait for each worker."""
         shards = iter(planned.shards)
         with self._connected() as client:
@@ -110,7 +110,7 @@ class Parts:
         there = self.how._replace(pixels=how.pixels, sidecars=how.sidecars)
         self.tasks[client.submit(index_there, self.where, shard, self.again, there, self.patterns, pure=False)] = shard
 
-    def _finished(self, client: Any, tasks: List[Any]) -> List[Any]:
+    def _finished(self, client: Any, tasks: list[Any]) -> list[Any]:
         """Those of some tasks that have ended, at least one. Raises `programs.Failed` if there has been no worker for too long."""
         since = time.monotonic()
         while True:

@@ -6,7 +6,7 @@ import io
 import os
 import stat
 import sys
-from typing import Callable, Collection, Iterable, Iterator, List, NamedTuple, Optional, Sequence, Tuple, cast
+from typing import Callable, Collection, Iterable, Iterator, NamedTuple, Optional, Sequence, cast
 
 from ..extract.sidecars import Folder, Folders, Sidecar
 from ..model.errors import WrongUse
@@ -21,7 +21,7 @@ class FoundFile(NamedTuple):
     path: bytes
     root: bytes
     stamp: Optional[Stamp]  # None if the file system has none
-    sidecars: Tuple[Sidecar, ...] = ()  # if they are asked for
+    sidecars: tuple[Sidecar, ...] = ()  # if they are asked for
     problem: Optional[str] = None  # that it had when it was looked at before
 
 
@@ -85,7 +85,7 @@ class Part(NamedTuple):
         return self.folder == self.top
 
 
-def parts_of(top: bytes, excluded: Excluded) -> Tuple[List[Part], bool]:
+def parts_of(top: bytes, excluded: Excluded) -> tuple[list[Part], bool]:
     """The folders of a folder as parts, and whether it has files of its own. Raises `OSError`."""
     folders, files = _listed(top, len(top.rstrip(b"/")) + 1, excluded)
     return [Part(top, os.path.join(top, name)) for name in folders], bool(files)
@@ -121,10 +121,10 @@ def _below(
                 yield FoundFile(path, top, Stamp.at(path), known.of(name))
 
 
-def _listed(folder: bytes, head: int, excluded: Excluded) -> Tuple[List[bytes], List[bytes]]:
+def _listed(folder: bytes, head: int, excluded: Excluded) -> tuple[list[bytes], list[bytes]]:
     """The names of the folders and of the files of a folder, without what is excluded; a link to a folder is neither."""
-    folders: List[bytes] = []
-    files: List[bytes] = []
+    folders: list[bytes] = []
+    files: list[bytes] = []
     excludes = bool(excluded)
     with os.scandir(folder) as entries:
         for entry in entries:

@@ -15,7 +15,7 @@ from concurrent.futures import Future, ProcessPoolExecutor, wait
 from concurrent.futures.process import BrokenProcessPool
 from contextvars import ContextVar
 from multiprocessing import util
-from typing import Deque, Iterable, Iterator, List, Mapping, NamedTuple, Sequence, Set, Union
+from typing import Deque, Iterable, Iterator, Mapping, NamedTuple, Sequence, Union
 
 from ..extract import programs
 from ..files import signals
@@ -78,7 +78,7 @@ def in_several_processes(work: Iterable[FoundFile], how: How) -> Iterator[Result
 def _by_several(work: Iterator[FoundFile], how: How) -> Iterator[Result]:
     chunks = chunks_of(work, how.processes)
     files = (os.path.join(how.room, f"rows-{number}") for number in itertools.count())
-    unfinished: List[Task] = [Task([], "")]
+    unfinished: list[Task] = [Task([], "")]
     while unfinished:
         unfinished = []
         yield from _by_processes(chunks, how, files, unfinished)
@@ -86,9 +86,9 @@ def _by_several(work: Iterator[FoundFile], how: How) -> Iterator[Result]:
             yield from _one_by_one(task.chunk, how)
 
 
-def chunks_of(work: Iterator[FoundFile], processes: int) -> Iterator[List[FoundFile]]:
+def chunks_of(work: Iterator[FoundFile], processes: int) -> Iterator[list[FoundFile]]:
     """The work in parts: small ones at first, so that all processes begin soon, and small ones again when the end of the work is in sight."""
-    ahead: List[FoundFile] = []
+    ahead: list[FoundFile] = []
     parts = PARTS * processes
     most = max(LEAST_CHUNK, min(CHUNK, AHEAD // parts))
     for size in itertools.chain(filter(most.__gt__, SIZES), itertools.repeat(most)):
@@ -105,7 +105,7 @@ def chunks_of(work: Iterator[FoundFile], processes: int) -> Iterator[List[FoundF
 def look_at_some(task: Task, how: How) -> Union[Batch, Few]:
     """A process's results for the first pictures of a task: for all of them, unless that takes too long or too much memory."""
     ends_at = time.monotonic() + LONGEST_WAIT
-    entries: List[PictureRecord] = []
+    entries: list[PictureRecord] = []
     size = 0
     for file in task.chunk:
         entries.append(_look(file, how))
@@ -128,7 +128,7 @@ _session: ContextVar[Session] = ContextVar("session")  # of a process of a pool,
 _PR_SET_PDEATHSIG = 1
 
 
-def _begin(how: How, parent: int, mask: Set[int]) -> None:
+def _begin(how: How, parent: int, mask: set[int]) -> None:
     """The start of a process. Only the parent handles signals; if it is killed, its processes end."""
     ctypes.CDLL(None).prctl(_PR_SET_PDEATHSIG, signal.SIGKILL)
     if os.getppid() != parent:
@@ -142,7 +142,7 @@ def _begin(how: How, parent: int, mask: Set[int]) -> None:
     util.Finalize(None, session.close, exitpriority=10)  # the processes of a pool don't run atexit
 
 
-def _by_processes(chunks: Iterator[Sequence[FoundFile]], how: How, files: Iterator[str], unfinished: List[Task]) -> Iterator[Result]:
+def _by_processes(chunks: Iterator[Sequence[FoundFile]], how: How, files: Iterator[str], unfinished: list[Task]) -> Iterator[Result]:
     """The results of several processes. If one of them dies, the tasks that have no result are left in `unfinished`, without files."""
     waiting: "Deque[Future[Union[Batch, Few]]]" = deque()  # in the order of `unfinished`, which has a task before it is given to the pool
     pool = _pool(how, how.processes)

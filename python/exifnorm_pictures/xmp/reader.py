@@ -7,7 +7,6 @@ from __future__ import annotations
 
 import functools
 import re
-from typing import Dict, List
 from xml.etree.ElementTree import Element
 
 from ..model.budgets import CACHED, LANGUAGE
@@ -43,8 +42,8 @@ def of_root(root: Element) -> Statements:
     """The statements of an rdf:RDF element. Raises `Unreadable`."""
     if set(root.attrib) - {_LANG} or _says(root.text):
         raise Unreadable("RareForm")
-    every: List[Statement] = []
-    inner: List[Statements] = []
+    every: list[Statement] = []
+    inner: list[Statements] = []
     subjects = set()
     for node in root:
         if node.tag != _DESCRIPTION or _says(node.tail):
@@ -90,12 +89,12 @@ def _made_uri(name: str) -> str:
 _cached_uri = functools.lru_cache(maxsize=4096)(_made_uri)
 
 
-def _node(node: Element, language: str, inner: List[Statements]) -> List[Statement]:
+def _node(node: Element, language: str, inner: list[Statements]) -> list[Statement]:
     """The statements of a node element: its type, its attributes, and its property elements. Those about the picture in a value go to `inner`."""
     if node.tag not in _NODES or _says(node.text):
         raise Unreadable("RareForm")
     language = _language(node, language)
-    statements: List[Statement] = []
+    statements: list[Statement] = []
     if node.tag != _DESCRIPTION:
         statements.append(Statement(TYPE, Uri(RDF + node.tag[len(_R) :])))
     for name, text in node.attrib.items():
@@ -106,8 +105,8 @@ def _node(node: Element, language: str, inner: List[Statements]) -> List[Stateme
     return statements + _properties(node, language, inner)
 
 
-def _properties(node: Element, language: str, inner: List[Statements]) -> List[Statement]:
-    statements: List[Statement] = []
+def _properties(node: Element, language: str, inner: list[Statements]) -> list[Statement]:
+    statements: list[Statement] = []
     number = 0
     for element in node:
         if _says(element.tail):
@@ -129,7 +128,7 @@ def _resource(uri: str) -> Uri:
     return Uri(uri)
 
 
-def _value(element: Element, language: str, inner: List[Statements]) -> Value:
+def _value(element: Element, language: str, inner: list[Statements]) -> Value:
     """The value of a property element."""
     own = {name: text for name, text in element.attrib.items() if name != _LANG}
     if not own:
@@ -145,7 +144,7 @@ def _value(element: Element, language: str, inner: List[Statements]) -> Value:
     return _by_attributes(own, language)
 
 
-def _content(element: Element, language: str, inner: List[Statements]) -> Value:
+def _content(element: Element, language: str, inner: list[Statements]) -> Value:
     if not len(element):
         return Literal(element.text or "", language)
     node = element[0]
@@ -160,7 +159,7 @@ def _content(element: Element, language: str, inner: List[Statements]) -> Value:
     return Uri(PICTURE)
 
 
-def _by_attributes(own: Dict[str, str], language: str) -> Node:
+def _by_attributes(own: dict[str, str], language: str) -> Node:
     """The attributes of a property element without content are a node of their own."""
     if any(name.startswith(_R) and name != _VALUE for name in own):
         raise Unreadable("RareForm")
@@ -169,7 +168,7 @@ def _by_attributes(own: Dict[str, str], language: str) -> Node:
 
 def check_repeated(statements: Statements) -> None:
     """Raises `Unreadable` if a property stands twice with different values: their order decides which one a reader shows, and isn't known."""
-    seen: Dict[str, Value] = {}
+    seen: dict[str, Value] = {}
     for predicate, value in statements:
         other = seen.setdefault(predicate, value)
         if other is not value and predicate != TYPE and other != value and key_of(other) != key_of(value):

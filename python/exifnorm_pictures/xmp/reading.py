@@ -3,7 +3,7 @@
 from __future__ import annotations
 
 import hashlib
-from typing import Dict, Mapping, Optional, Set, Tuple
+from typing import Mapping, Optional
 
 from exifnorm import XmpRefused
 from exifnorm._properties import Makers, made_of_form
@@ -26,7 +26,7 @@ class Extensions:
 
     def __init__(self, data: Mapping[str, bytes], budget: Optional[Budget] = None) -> None:
         self.data, self.budget = data, budget or Budget()
-        self._parsed: Dict[str, Statements] = {}
+        self._parsed: dict[str, Statements] = {}
 
     def statements(self, name: str) -> Statements:
         """The statements of one. Raises `Unreadable`."""
@@ -40,7 +40,7 @@ class Extensions:
         return self._parsed[name]
 
 
-def statements(packet: bytes, extensions: Extensions, used: Set[str]) -> Statements:
+def statements(packet: bytes, extensions: Extensions, used: set[str]) -> Statements:
     """The statements of a packet with the extended XMP of its picture; the digests in use go to `used`.
 
     Raises `Unreadable`.
@@ -73,7 +73,7 @@ def _parsed(packet: bytes) -> Statements:
         return reader.statements(packet)
 
 
-def _named(statements: Statements) -> Tuple[str, ...]:
+def _named(statements: Statements) -> tuple[str, ...]:
     """The digests of the extended XMP that some statements refer to."""
     return tuple(dict.fromkeys(it.value.text.upper() for it in statements if it.predicate == NOTE and isinstance(it.value, Literal)))
 
@@ -91,7 +91,7 @@ def by_library(packet: bytes) -> Statements:
     return tuple(made_of_form(form_of(packet, sort=False), _STATEMENTS))
 
 
-def _container(kind: str, members: Tuple[Value, ...]) -> Node:
+def _container(kind: str, members: tuple[Value, ...]) -> Node:
     return Node((_TYPES[kind], *[Statement(f"{RDF}_{number}", it) for number, it in enumerate(members, 1)]))
 
 

@@ -4,7 +4,7 @@ from __future__ import annotations
 
 import hashlib
 import re
-from typing import Dict, List, NamedTuple, Tuple, Union
+from typing import NamedTuple, Union
 
 from ..model.xmp_values import Literal, Uri
 
@@ -18,7 +18,7 @@ MEMBER = re.compile(re.escape(RDF) + r"_([0-9]+)\Z")
 class Node(NamedTuple):
     """A value with statements of its own: a structure, an array, or a text with qualifiers."""
 
-    statements: "Tuple[Statement, ...]"
+    statements: "tuple[Statement, ...]"
 
     @property
     def container(self) -> str:
@@ -38,7 +38,7 @@ class Statement(NamedTuple):
     value: Value
 
 
-Statements = Tuple[Statement, ...]
+Statements = tuple[Statement, ...]
 
 
 __all__ = [
@@ -72,7 +72,7 @@ def key_of(value: Value) -> str:
     return "_" + digest_of_statements(value.statements, value.container == "Bag")
 
 
-def unique(statements: Statements) -> "List[Statement]":
+def unique(statements: Statements) -> "list[Statement]":
     """Each statement once: a statement about a name or a text is the same each time it is made. Nodes have no name, and stay.
 
     >>> len(unique((Statement("a", Literal("1")), Statement("a", Literal("1")), Statement("a", Node(())), Statement("a", Node(())))))
@@ -91,10 +91,10 @@ def digest_of_statements(statements: Statements, is_bag: bool = False) -> str:
     >>> digest_of_statements((first, second)) == digest_of_statements((second, first)), digest_of_statements((first,)) == digest_of_statements((second,))
     (True, False)
     """
-    lines: List[str] = []
+    lines: list[str] = []
     distinct = unique(statements)
     many = len({predicate for predicate, _ in distinct}) < len(distinct)
-    counts: Dict[str, int] = {}
+    counts: dict[str, int] = {}
     for predicate, value in distinct:
         word = "member" if is_bag and MEMBER.match(predicate) else predicate
         if many and predicate != TYPE:  # XMP allows a property once; of several, readers take the first or the last, so their order counts

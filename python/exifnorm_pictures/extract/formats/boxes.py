@@ -6,7 +6,7 @@ last box of a file may have the length 0. No reader follows boxes in boxes of un
 
 from __future__ import annotations
 
-from typing import Callable, Iterator, List, NamedTuple, Optional, Set, Tuple
+from typing import Callable, Iterator, NamedTuple, Optional
 
 from ...model.budgets import BOXES, BOX_BYTES, budget_of
 from ...model.found import CUT, REST, SIX, XMP, Blocks, Broken, NotRead, damage
@@ -65,9 +65,9 @@ def boxes(stream: Stream, start: int, end: int, is_file: bool = False) -> Iterat
         at += length
 
 
-def boxes_to_fault(stream: Stream) -> Tuple[List[Box], Optional[Broken]]:
+def boxes_to_fault(stream: Stream) -> tuple[list[Box], Optional[Broken]]:
     """The boxes of a file up to the first fault, and that. Raises `TooMuch`."""
-    every: List[Box] = []
+    every: list[Box] = []
     try:
         for box in boxes(stream, 0, size_of(stream), is_file=True):
             every.append(box)
@@ -76,7 +76,7 @@ def boxes_to_fault(stream: Stream) -> Tuple[List[Box], Optional[Broken]]:
     return every, None
 
 
-def boxes_of_file(blocks: Blocks, stream: Stream, is_whole: Callable[[Set[bytes]], bool]) -> List[Box]:
+def boxes_of_file(blocks: Blocks, stream: Stream, is_whole: Callable[[set[bytes]], bool]) -> list[Box]:
     """The boxes of a file. `is_whole` says of the kinds of some boxes whether they are a whole picture, after which anything may follow.
     Raises `Broken` and `TooMuch`."""
     every, fault = boxes_to_fault(stream)

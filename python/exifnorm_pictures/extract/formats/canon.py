@@ -2,7 +2,6 @@
 
 from __future__ import annotations
 
-from typing import Dict
 
 from ...model.found import Blocks, Broken
 from .boxes import Box, boxes
@@ -13,9 +12,9 @@ CNCV, CMT1, CMT2, CMT3, CMT4 = b"CNCV", b"CMT1", b"CMT2", b"CMT3", b"CMT4"
 _WITHOUT = frozenset((b"CCTP", b"CTBO", b"THMB", b"free"))  # kinds and places of tracks, thumbnail
 
 
-def parts(blocks: Blocks, stream: Stream, box: Box) -> Dict[bytes, Box]:
+def parts(blocks: Blocks, stream: Stream, box: Box) -> dict[bytes, Box]:
     """The version and the structures of the box. Other boxes in it are named. Raises `Broken`."""
-    structures: Dict[bytes, Box] = {}
+    structures: dict[bytes, Box] = {}
     for structure in boxes(stream, box.start, box.end):
         if structure.kind in (CNCV, CMT1, CMT2, CMT3, CMT4):
             if structure.kind in structures:

@@ -6,7 +6,7 @@ from __future__ import annotations
 
 import io
 import struct
-from typing import Dict, List, Optional, Tuple
+from typing import Optional
 
 from exifnorm import LIMIT
 
@@ -23,7 +23,7 @@ _TAGS = {CMT2: 0x8769, CMT4: 0x8825}
 _NOTE, _INTEROPERABILITY, _UNDEFINED = 0x927C, 0xA005, 7
 
 
-def one_block(structures: Dict[bytes, bytes], budget: Budget) -> Optional[bytes]:
+def one_block(structures: dict[bytes, bytes], budget: Budget) -> Optional[bytes]:
     """The block of the structures, by the kinds of their boxes; None if they can't be one. Raises `TooMuch`.
 
     They can't be one if they have several byte orders, further directories, pointers to what is in another box, or damage.
@@ -49,8 +49,8 @@ class _Memory(io.BytesIO):
 class _Joined(Directories):
     """The structures one after another. The offsets of each count from its own header, and here from the first."""
 
-    def __init__(self, structures: Dict[bytes, bytes], budget: Budget) -> None:
-        self._ranges: Dict[bytes, Tuple[int, int]] = {}
+    def __init__(self, structures: dict[bytes, bytes], budget: Budget) -> None:
+        self._ranges: dict[bytes, tuple[int, int]] = {}
         joined = b""
         if CMT3 in structures:
             structures = {**structures, CMT3: _laid_out(structures[CMT3], budget)}
@@ -84,13 +84,13 @@ class _Joined(Directories):
     def _table(self, kind: bytes) -> Table:
         """The first directory of a structure, with its interoperability directory."""
         entries = self._directory(kind, self._firsts[kind])
-        below: Dict[int, Table] = {}
+        below: dict[int, Table] = {}
         for entry in entries if kind == CMT2 else ():
             if entry.tag == _INTEROPERABILITY and is_pointer(entry) and not below:
                 below[entry.tag] = Table(self._directory(kind, self.number(entry.last)), {})
         return Table(entries, below)
 
-    def _directory(self, kind: bytes, offset: int) -> List[Entry]:
+    def _directory(self, kind: bytes, offset: int) -> list[Entry]:
         """The entries of a directory, whose values are in its own structure or nowhere."""
         start, end = self._ranges[kind]
         directory: Directory = self.read(start + offset)
@@ -121,10 +121,10 @@ def _laid_out(note: bytes, budget: Budget) -> bytes:
     return Layout(directories, Table(first.entries, {})).block()
 
 
-_NOTHING: Tuple[List[bytes], ...] = ([], [b"II*"], [b"MM\0*"])  # Canon writes a second header at the end, with an offset of 0
+_NOTHING: tuple[list[bytes], ...] = ([], [b"II*"], [b"MM\0*"])  # Canon writes a second header at the end, with an offset of 0
 
 
-def _insert(entries: List[Entry], entry: Entry) -> None:
+def _insert(entries: list[Entry], entry: Entry) -> None:
     """Inserts an entry in the order of the tags. Raises `Broken` if its tag is there."""
     if any(one.tag == entry.tag for one in entries):
         raise Broken(f"a second entry of tag {entry.tag:04x}")

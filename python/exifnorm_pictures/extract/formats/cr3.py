@@ -6,7 +6,7 @@ Not compared, because they contain no Exif, IPTC or XMP: previews, the thumbnail
 
 from __future__ import annotations
 
-from typing import Dict, List, Optional, Tuple
+from typing import Optional
 
 from ...model.budgets import EXTENTS, budget_of
 from ...model.found import EXIF, Blocks, Broken, LeftToOthers, NotRead
@@ -53,7 +53,7 @@ def read(stream: Stream, whole: bool = False) -> Blocks:
 
 
 def _movie(blocks: Blocks, stream: Stream, moov: Box) -> None:
-    structures: Dict[bytes, Box] = {}
+    structures: dict[bytes, Box] = {}
     for box in boxes(stream, moov.start, moov.end):
         if box.uuid == canon.UUID and not structures:
             structures = canon.parts(blocks, stream, box)
@@ -69,7 +69,7 @@ def _movie(blocks: Blocks, stream: Stream, moov: Box) -> None:
     _add_exif(blocks, stream, structures)
 
 
-def _add_exif(blocks: Blocks, stream: Stream, canon_boxes: Dict[bytes, Box]) -> None:
+def _add_exif(blocks: Blocks, stream: Stream, canon_boxes: dict[bytes, Box]) -> None:
     """Adds one block of all structures; if they can't be one, a block of each."""
     structures = {kind: content(stream, it) for kind, it in canon_boxes.items() if not is_blank(stream, it.start, it.end)}
     block = one_block(structures, blocks.budget)
@@ -86,13 +86,13 @@ class _Track:
 
     def __init__(self, blocks: Blocks, stream: Stream, trak: Box) -> None:
         self.blocks, self.stream = blocks, stream
-        self._boxes: Dict[bytes, Box] = {}
+        self._boxes: dict[bytes, Box] = {}
         waiting = [trak]
         for outer in waiting:  # which grows meanwhile: at most by one box of each kind
             for box in boxes(stream, outer.start, outer.end):
                 self._sort(box, waiting)
 
-    def _sort(self, box: Box, waiting: List[Box]) -> None:
+    def _sort(self, box: Box, waiting: list[Box]) -> None:
         if box.kind in (b"free", b"skip"):
             return
         if box.kind in self._boxes:
@@ -120,7 +120,7 @@ class _Track:
             raise Broken(f"a track has no {kind.decode('ascii')} box")
         return content(self.stream, self._boxes[kind])
 
-    def _samples(self) -> Optional[List[Tuple[int, int]]]:
+    def _samples(self) -> Optional[list[tuple[int, int]]]:
         """The ranges of the samples; None unless each is a chunk by itself, as Canon writes them."""
         sizes = Fields(self._content(b"stsz"), "stsz box")
         wide = 8 if b"co64" in self._boxes else 4

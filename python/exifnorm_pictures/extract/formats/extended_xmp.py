@@ -3,7 +3,6 @@
 from __future__ import annotations
 
 import struct
-from typing import Dict, Tuple
 
 from ...model.found import XMP, Blocks, FoundBlock, ordinal
 
@@ -17,8 +16,8 @@ class Pieces:
     """The pieces of the extended packets of one picture, each by its offset."""
 
     def __init__(self) -> None:
-        self._parts: Dict[bytes, Tuple[int, Dict[int, bytes]]] = {}
-        self._places: Dict[bytes, str] = {}
+        self._parts: dict[bytes, tuple[int, dict[int, bytes]]] = {}
+        self._places: dict[bytes, str] = {}
 
     def add(self, data: bytes, place: str) -> bool:
         """Adds a piece, which is all behind the head; whether it fits the others of its packet."""

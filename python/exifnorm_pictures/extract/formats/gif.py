@@ -5,7 +5,7 @@ Not compared, because they contain no Exif, IPTC or XMP: comments, plain texts, 
 
 from __future__ import annotations
 
-from typing import Callable, Dict
+from typing import Callable
 
 from ...model.budgets import BLOCK_BYTES, EXTENSIONS, budget_of
 from ...model.found import IPTC, XMP, Blocks, Broken
@@ -120,7 +120,7 @@ class _Reader:
         photoshop.add_resources(self.blocks, [(where, self.data())])
 
 
-_READERS: Dict[bytes, Callable[[_Reader, str], None]] = {
+_READERS: dict[bytes, Callable[[_Reader, str], None]] = {
     b"XMP DataXMP": _Reader._xmp,
     b"MGKIPTC0000": _Reader._iptc,
     b"MGK8BIM0000": _Reader._resources,

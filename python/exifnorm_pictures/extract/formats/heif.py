@@ -7,7 +7,7 @@ that no item has.
 from __future__ import annotations
 
 import zlib
-from typing import Dict, List, Optional, Set, Tuple
+from typing import Optional
 
 from ...model.budgets import BOX_BYTES, budget_of
 from ...model.found import EXIF, IN_PICTURE, XMP, Blocks, Broken, NotRead
@@ -55,7 +55,7 @@ def read(stream: Stream, whole: bool = False) -> Blocks:
     return blocks
 
 
-def _is_whole(kinds: Set[bytes]) -> bool:
+def _is_whole(kinds: set[bytes]) -> bool:
     return b"mdat" in kinds and (b"meta" in kinds or b"moov" in kinds)
 
 
@@ -66,11 +66,11 @@ class Reader:
         self.stream = stream
         self.blocks = blocks
         self.items = Items(stream)
-        self.taken: Dict[int, int] = {}  # items that are blocks, each with the bytes before its block
+        self.taken: dict[int, int] = {}  # items that are blocks, each with the bytes before its block
 
     def read(self, meta: Box) -> None:
         """Adds the blocks of all items."""
-        known: Set[bytes] = set()
+        known: set[bytes] = set()
         for box in boxes(self.stream, meta.start + 4, meta.end):
             if box.kind in READERS or box.kind == b"iprp":
                 if box.kind in known:
@@ -104,7 +104,7 @@ class Reader:
             elif box.kind != b"ipma":
                 self._leave(f"{box.name} in iprp", box)
 
-    def _take(self, item: Item, names: Dict[int, str]) -> None:
+    def _take(self, item: Item, names: dict[int, str]) -> None:
         """Adds the block of an item, or names it."""
         part = self.items.part_of(item, names)
         what = item.words + (f" of {part}" if part else "")
@@ -127,7 +127,7 @@ class Reader:
         else:
             self.blocks.name(NotRead(what, digest_of_parts(self.stream, ranges)))
 
-    def _packet(self, item: Item, ranges: List[Tuple[int, int]]) -> Optional[bytes]:
+    def _packet(self, item: Item, ranges: list[tuple[int, int]]) -> Optional[bytes]:
         """The packet of an item, which may be compressed as by zlib; None if it can't be read."""
         if item.encoding not in (b"", b"deflate"):
             return None
@@ -142,7 +142,7 @@ class Reader:
         self.blocks.budget.spend(BOX_BYTES, len(packet))
         return packet if opened.eof and not opened.unused_data else None
 
-    def ranges(self, item: Item) -> Optional[List[Tuple[int, int]]]:
+    def ranges(self, item: Item) -> Optional[list[tuple[int, int]]]:
         """The parts of the file that an item has; None if it is elsewhere, or consists of other items."""
         place = self.items.places.get(item.number)
         idat = self.items.idat
@@ -156,6 +156,6 @@ class Reader:
             raise Broken(f"the file ends inside item {item.number}" if place.method == 0 else f"item {item.number} isn't in the file")
         return ranges
 
-    def _data(self, ranges: List[Tuple[int, int]]) -> bytes:
+    def _data(self, ranges: list[tuple[int, int]]) -> bytes:
         self.blocks.budget.spend(BOX_BYTES, sum(end - start for start, end in ranges))
         return b"".join(read_at(self.stream, start, end - start) for start, end in ranges)

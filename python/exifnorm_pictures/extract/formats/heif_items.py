@@ -2,7 +2,7 @@
 
 from __future__ import annotations
 
-from typing import Callable, Dict, List, NamedTuple, Optional, Set, Tuple
+from typing import Callable, NamedTuple, Optional
 
 from ...model.budgets import EXTENTS, ITEMS, budget_of
 from ...model.found import Broken
@@ -45,7 +45,7 @@ class Place(NamedTuple):
     method: int  # 0: in the file, 1: in the box idat, 2: in other items
     is_elsewhere: bool  # in another file
     has_lengths: bool
-    extents: List["tuple[int, int]"]  # offset and length of each part
+    extents: list["tuple[int, int]"]  # offset and length of each part
 
 
 class Items:
@@ -54,13 +54,13 @@ class Items:
     def __init__(self, stream: Stream) -> None:
         self.stream = stream
         self.budget = budget_of(stream)
-        self.items: List[Item] = []
-        self.places: Dict[int, Place] = {}
+        self.items: list[Item] = []
+        self.places: dict[int, Place] = {}
         self.idat: Optional[Box] = None
         self.primary: Optional[int] = None
-        self.references: List[Tuple[bytes, int, List[int]]] = []  # each with its kind, its item and the items that it names
-        self._described: Dict[int, List[int]] = {}  # the pictures that an item describes
-        self._tiles: Set[int] = set()
+        self.references: list[tuple[bytes, int, list[int]]] = []  # each with its kind, its item and the items that it names
+        self._described: dict[int, list[int]] = {}  # the pictures that an item describes
+        self._tiles: set[int] = set()
 
     def read(self, box: Box) -> None:
         """Reads a box of `READERS`. Raises `Broken` and `TooMuch`."""
@@ -158,7 +158,7 @@ class Items:
         places = (it for it in self.places.values() if it.method == 0 and not it.is_elsewhere and it.has_lengths)
         return max((start + length for place in places for start, length in place.extents), default=0)
 
-    def pictures(self) -> Dict[int, str]:
+    def pictures(self) -> dict[int, str]:
         """The names of the pictures that are neither the main one nor parts of others, by their numbers."""
         names = {}
         for word, kind in (("auxiliary picture", b"auxl"), ("thumbnail", b"thmb")):
@@ -171,7 +171,7 @@ class Items:
                 names[item.number] = f"picture {count}"
         return names
 
-    def part_of(self, item: Item, names: Dict[int, str]) -> str:
+    def part_of(self, item: Item, names: dict[int, str]) -> str:
         """The name of the picture that an item describes: none for the main picture, and where no picture is named."""
         described = list(dict.fromkeys(self._described.get(item.number, ())))
         if not described or self.primary is None or self.primary in described:
@@ -181,7 +181,7 @@ class Items:
         return " and ".join(names.get(it, f"item {it}") for it in described)
 
 
-READERS: Dict[bytes, Callable[[Items, Box], None]] = {
+READERS: dict[bytes, Callable[[Items, Box], None]] = {
     b"hdlr": Items._hdlr,
     b"pitm": Items._pitm,
     b"idat": Items._idat,

@@ -6,7 +6,6 @@ IPTC or XMP: the codestream with its comments, colour profiles.
 
 from __future__ import annotations
 
-from typing import Set
 
 from ...model.budgets import CHUNKS, budget_of
 from ...model.found import EXIF, IN_PICTURE, IPTC, SIX, Blocks, Broken
@@ -70,7 +69,7 @@ def _is_cut(stream: Stream, at: int, end: int) -> bool:
     return at + 2 > end or read_at(stream, at, 2) != _END_MARK
 
 
-def _is_whole(kinds: Set[bytes]) -> bool:
+def _is_whole(kinds: set[bytes]) -> bool:
     return bool({b"jp2c", b"ftbl", b"mdat"} & kinds)
 
 

@@ -9,7 +9,7 @@ from __future__ import annotations
 
 import contextlib
 import re
-from typing import Iterator, List, Set, Tuple
+from typing import Iterator
 
 from ...model.budgets import RESOURCES, Budget, budget_of
 from ...model.found import CUT, EXIF, REST, SIX, XMP, XMP_HEAD, Blocks, Broken, NotRead
@@ -68,10 +68,10 @@ class _Head:
         self.end = 0  # after the header of the first scan, after the end mark, or after the last whole segment
         self.has_scan = False
         self.is_open = False  # whether the file ends before the first scan
-        self.indexes: List[Tuple[int, bytes]] = []  # MPF indexes, each with the offset of its header
+        self.indexes: list[tuple[int, bytes]] = []  # MPF indexes, each with the offset of its header
         self.index_is_wrong = False
-        self._exif: List[Tuple[str, bytes]] = []  # the position of each block, and its bytes
-        self._runs: List[Tuple[str, bytes]] = []  # Photoshop resources, the same way
+        self._exif: list[tuple[str, bytes]] = []  # the position of each block, and its bytes
+        self._runs: list[tuple[str, bytes]] = []  # Photoshop resources, the same way
         self._pieces = Pieces()
         self._octets, self._start = b"", 0  # what was read of the file, and where that begins
 
@@ -130,7 +130,7 @@ class _Head:
 _RESOURCES, _INDEX = "Photoshop resources", "MPF index"
 
 
-def _kind_of(marker: int, data: bytes) -> Tuple[str, int]:
+def _kind_of(marker: int, data: bytes) -> tuple[str, int]:
     """What a segment of an application has whose mark the library doesn't know, and the length of the mark; or its name."""
     if marker == APP1 and (like := _EXIF_LIKE.match(data)):  # a lenient form: a mark that is written in another way
         return EXIF, like.end()
@@ -146,9 +146,9 @@ def _kind_of(marker: int, data: bytes) -> Tuple[str, int]:
     return not_compared(marker, data) or (f"{name} of an unknown kind" if marker in (APP1, APP13) else f"{name} {word(data)}".rstrip()), 0
 
 
-def _further(stream: Stream, head: _Head, end: int) -> List[int]:
+def _further(stream: Stream, head: _Head, end: int) -> list[int]:
     """The offsets of the further pictures of the MPF index. An index that does not fit the file is noted, and not followed."""
-    starts: Set[int] = set()
+    starts: set[int] = set()
     for at, data in head.indexes:
         try:
             places = mpf.further_pictures(data, at)
@@ -207,7 +207,7 @@ def parts(stream: Stream, head: Head, budget: Budget) -> Iterator[Part]:
     for part in _of_picture(stream, head, 0, size_of(stream), budget):
         yield part
         end = max(end, part.end)
-    starts: Set[int] = set()
+    starts: set[int] = set()
     for marker, _, _, at, length in head.parts:
         data = head.octets[at : at + length]
         if marker == APP2 and data.startswith(mpf.HEAD):
@@ -251,7 +251,7 @@ def _of_rest(parts: Iterator[Part], name: str) -> Iterator[Part]:
 def _of_head(head: Head, start: int, budget: Budget) -> Iterator[Part]:
     """The same of the segments before the first scan."""
     at, last = start, ""
-    runs: List[List[Range]] = []
+    runs: list[list[Range]] = []
     for marker, piece, begins, first, length in head.parts[:-1]:
         data, first = head.octets[first : first + length], start + first
         end = first + length

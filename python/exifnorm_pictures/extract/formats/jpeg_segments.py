@@ -3,7 +3,7 @@ reads them, and its blocks, as the library joins them."""
 
 from __future__ import annotations
 
-from typing import List, NamedTuple, Tuple
+from typing import NamedTuple
 
 import exifnorm
 from exifnorm._jpeg import PART_KINDS, PartRow, part_rows, whole_blocks
@@ -44,7 +44,7 @@ class Head(NamedTuple):
     """The head of a picture, or what is there of one that is damaged."""
 
     octets: bytes  # of the file from the picture's start on; they have all parts, and may have more
-    parts: List[PartRow]  # each with its marker, the number of its kind, whether a block begins with it, its offset and its size
+    parts: list[PartRow]  # each with its marker, the number of its kind, whether a block begins with it, its offset and its size
     end: int  # in the file, after the last part
     fault: str = ""  # why the head isn't whole
     is_open: bool = False  # whether the file ends after a whole segment, before a scan and the end mark
@@ -79,7 +79,7 @@ def read_head(stream: Stream, start: int, budget: Budget) -> Head:
     return Head(octets, parts, start + end, f"{_FAULTS[cause]} at {marker}")
 
 
-def blocks_of(head: Head) -> List[bytes]:
+def blocks_of(head: Head) -> list[bytes]:
     """The blocks that begin in the parts of a head, in their order. A lenient form: a file that has a fault, or that ends after a whole segment,
     is read as if it had the end mark there. So a block of Exif that might go on counts as far as it goes; such a file is never wholly read.
 
@@ -99,7 +99,7 @@ def blocks_of(head: Head) -> List[bytes]:
 _FAULTS = {"JpegCut": "the file ends inside the segment", "JpegNoMarker": "no marker", "JpegLength": "no segment", "JpegNoStart": "no JPEG"}
 
 
-def _parts(octets: bytes, budget: Budget) -> Tuple[List[PartRow], str, int]:
+def _parts(octets: bytes, budget: Budget) -> tuple[list[PartRow], str, int]:
     """The parts of a head, and the cause and the offset of its fault, if it has one. Raises `TooMuch`."""
     try:
         return part_rows(octets, budget.left[SEGMENTS]), "", 0

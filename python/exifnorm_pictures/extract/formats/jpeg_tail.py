@@ -8,7 +8,7 @@ the rest is assumed to be picture data; otherwise everything is read.
 from __future__ import annotations
 
 import re
-from typing import Iterator, List, NamedTuple, Tuple
+from typing import Iterator, NamedTuple
 
 from ...model.budgets import SCAN_SEGMENTS, TooMuch, budget_of
 from .jpeg_segments import APP1, APP13, EOI
@@ -25,7 +25,7 @@ _TABLES = frozenset((0xC4, 0xCC, 0xDA, 0xDB, 0xDD))  # DHT, DAC, SOS, DQT, DRI
 class Tail(NamedTuple):
     """The result: the offsets and lengths of the metadata segments, and the end of the picture."""
 
-    segments: "List[tuple[int, int]]"
+    segments: "list[tuple[int, int]]"
     end: int  # after the end mark, or the end of the part if there is none
     has_mark: bool
     is_read: bool = True
@@ -106,7 +106,7 @@ def _is_plain(markers: Markers) -> bool:
         markers.pass_over()
 
 
-def segments(markers: Markers) -> Iterator[Tuple[int, int]]:
+def segments(markers: Markers) -> Iterator[tuple[int, int]]:
     """The marker and the offset of each segment from the first scan on, once `markers` is behind it; at last 0 or the end mark."""
     budget, passed, marker = budget_of(markers.stream), 0, -1
     while marker not in (0, EOI):
@@ -124,7 +124,7 @@ def segments(markers: Markers) -> Iterator[Tuple[int, int]]:
 
 def _scanned(markers: Markers) -> Tail:
     """Reads all bytes after the first scan's header."""
-    places: "List[tuple[int, int]]" = []
+    places: "list[tuple[int, int]]" = []
     last = 0
     for last, at in segments(markers):
         if last in (APP1, APP13):

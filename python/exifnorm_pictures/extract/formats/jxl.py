@@ -7,7 +7,7 @@ bytes.
 
 from __future__ import annotations
 
-from typing import Optional, Set
+from typing import Optional
 
 from ...model.budgets import budget_of
 from ...model.found import COMPRESSED, EXIF, XMP, Blocks, Broken
@@ -40,7 +40,7 @@ def read(stream: Stream, whole: bool = False) -> Blocks:
     return blocks
 
 
-def _is_whole(kinds: Set[bytes]) -> bool:
+def _is_whole(kinds: set[bytes]) -> bool:
     return b"jxlc" in kinds or b"jxlp" in kinds
 
 

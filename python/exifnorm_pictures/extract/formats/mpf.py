@@ -3,7 +3,6 @@
 from __future__ import annotations
 
 import struct
-from typing import List, Tuple
 
 from ...model.found import Broken
 from ...model.tiff_types import HEADS
@@ -15,7 +14,7 @@ _ENTRY = "4xII4x"  # of `struct`: its length and its offset
 _ENTRY_LENGTH = 16
 
 
-def further_pictures(data: bytes, base: int) -> List[Tuple[int, int]]:
+def further_pictures(data: bytes, base: int) -> list[tuple[int, int]]:
     """The start and the length of each picture in the index besides the first one; `base` is the offset of the index's own header in the file.
 
     The first entry, whose offset is 0, is the picture that the index is in. Raises `Broken`.

@@ -11,7 +11,7 @@ import hashlib
 from bisect import bisect_right
 from heapq import heappop, heappush
 from itertools import accumulate
-from typing import Callable, Dict, Iterable, Iterator, List, NamedTuple, Sequence, Tuple
+from typing import Callable, Iterable, Iterator, NamedTuple, Sequence
 
 from ...model.budgets import BYTES_READ, budget_of
 from .streams import Stream, is_blank, pieces, size_of
@@ -25,7 +25,7 @@ COMMENT, CREDENTIALS, PROFILE, TRAILER, UNCLAIMED = (
     "unclaimed bytes",
 )
 
-Range = Tuple[int, int]
+Range = tuple[int, int]
 
 
 class Part(NamedTuple):
@@ -37,7 +37,7 @@ class Part(NamedTuple):
     name: str = ""
 
 
-def whole(stream: Stream, claims: Iterable[Part]) -> List[Part]:
+def whole(stream: Stream, claims: Iterable[Part]) -> list[Part]:
     """The parts of a whole file in their order, by what is claimed of it. Of two claims to a byte the first one counts.
 
     >>> import io
@@ -45,7 +45,7 @@ def whole(stream: Stream, claims: Iterable[Part]) -> List[Part]:
     [('picture', 0, 2, ''), ('metadata', 2, 3, ''), ('rest', 3, 6, 'trailer')]
     """
     at, size = 0, size_of(stream)
-    parts: List[Part] = []
+    parts: list[Part] = []
     for part in [*_disjoint(claims, size), Part(STRUCTURE, size, size)]:
         if at < part.start:
             is_filling = budget_of(stream).may_digest(part.start - at) and is_blank(stream, at, part.start)
@@ -56,12 +56,12 @@ def whole(stream: Stream, claims: Iterable[Part]) -> List[Part]:
     return parts[:-1]
 
 
-def _disjoint(claims: Iterable[Part], size: int) -> List[Part]:
+def _disjoint(claims: Iterable[Part], size: int) -> list[Part]:
     """What the claims get, in their order in the file."""
     waiting = sorted((it.start, number, min(it.end, size), it) for number, it in enumerate(claims) if it.start < min(it.end, size))
     bounds = sorted({bound for start, _, end, _ in waiting for bound in (start, end)})
-    open_: List[Tuple[int, int, Part]] = []  # the claims to the bytes at a bound, the first one in front
-    taken: List[Part] = []
+    open_: list[tuple[int, int, Part]] = []  # the claims to the bytes at a bound, the first one in front
+    taken: list[Part] = []
     place, last = 0, -1
     for at, end in zip(bounds, bounds[1:]):
         while place < len(waiting) and waiting[place][0] == at:
@@ -78,10 +78,10 @@ def _disjoint(claims: Iterable[Part], size: int) -> List[Part]:
     return taken
 
 
-Chunk = Tuple[int, bytes, int]  # its offset, its kind and its length; its content begins after eight bytes
+Chunk = tuple[int, bytes, int]  # its offset, its kind and its length; its content begins after eight bytes
 
 
-def of_chunks(found: Iterable[Chunk], kind_of: Callable[[Chunk], Tuple[str, str]], behind: Callable[[int], int]) -> Iterator[Part]:
+def of_chunks(found: Iterable[Chunk], kind_of: Callable[[Chunk], tuple[str, str]], behind: Callable[[int], int]) -> Iterator[Part]:
     """Claims to some chunks, of which one function tells the class and the name, and another the bytes behind a content."""
     for chunk in found:
         at, _, length = chunk
@@ -124,10 +124,10 @@ def word(data: bytes) -> str:
     return bytes(it for it in data.split(b"\0")[0][:12] if 32 < it < 127).decode("ascii")
 
 
-def digests(stream: Stream, parts: Iterable[Part]) -> Dict[str, str]:
+def digests(stream: Stream, parts: Iterable[Part]) -> dict[str, str]:
     """A digest of the rest of a file by name; an empty one of more than may be read. Raises `TooMuch`."""
     budget = budget_of(stream)
-    by_name: Dict[str, List[Part]] = {}
+    by_name: dict[str, list[Part]] = {}
     for part in parts:
         if part.kind == REST:
             by_name.setdefault(part.name, []).append(part)

@@ -6,7 +6,7 @@ an even length (Adobe Photoshop File Formats Specification, "Image Resource Bloc
 
 from __future__ import annotations
 
-from typing import Iterator, List, Sequence, Tuple
+from typing import Iterator, Sequence
 
 import exifnorm
 
@@ -40,7 +40,7 @@ _NAMES = {
 }
 
 
-def resources(data: bytes, most: int = LIMITS[RESOURCES]) -> Tuple[List[exifnorm.Resource], bytes]:
+def resources(data: bytes, most: int = LIMITS[RESOURCES]) -> tuple[list[exifnorm.Resource], bytes]:
     """The resources, and the bytes after the last whole one, without zeros. Raises `TooMuch` for more than `most`.
 
     >>> resources(b"8BIM" + b"\\x04\\x04" + b"\\0\\0" + b"\\0\\0\\0\\x03" + b"abc\\0")
@@ -55,7 +55,7 @@ def resources(data: bytes, most: int = LIMITS[RESOURCES]) -> Tuple[List[exifnorm
     return rows, rest if rest.strip(b"\0") else b""
 
 
-def add_resources(blocks: Blocks, runs: Sequence[Tuple[str, bytes]], part: str = "") -> None:
+def add_resources(blocks: Blocks, runs: Sequence[tuple[str, bytes]], part: str = "") -> None:
     """Adds the blocks in some runs of resources, each run with its position. A resource that continues in the next run is joined, as
     exiv2 does."""
     most = LIMITS[RESOURCES] * blocks.budget.times

@@ -8,7 +8,7 @@ from __future__ import annotations
 
 import zlib
 from functools import partial
-from typing import Iterable, Iterator, Tuple
+from typing import Iterable, Iterator
 
 from ...model.budgets import CHUNKS, CHUNK_BYTES, Budget, budget_of
 from ...model.found import EXIF, IPTC, SIX, XMP, XMP_HEAD, Blocks, Broken
@@ -56,7 +56,7 @@ def parts(stream: Stream, found: Iterable[Chunk]) -> Iterator[Part]:
     yield from of_chunks(found, partial(_class_of, stream), lambda _: 4)  # the check sum
 
 
-def _class_of(stream: Stream, chunk: Chunk) -> Tuple[str, str]:
+def _class_of(stream: Stream, chunk: Chunk) -> tuple[str, str]:
     """The class of a chunk's content, and the name of a rest."""
     at, kind, length = chunk
     if kind in PIXELS:

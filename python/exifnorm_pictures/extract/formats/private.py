@@ -7,7 +7,7 @@ ExifTool alone (its modules Sony, PanasonicRaw, SamsungRaw), and that of DNG fro
 from __future__ import annotations
 
 import hashlib
-from typing import List, Optional, Tuple
+from typing import Optional
 
 from exifnorm import LIMIT
 
@@ -72,7 +72,7 @@ class Private:
             self._reached.add(self.directories.size, self.directories.size)  # they have no length, and no trailer is known
         return True
 
-    def _place_of(self, entry: Entry) -> Optional[Tuple[int, int]]:
+    def _place_of(self, entry: Entry) -> Optional[tuple[int, int]]:
         """The range of a value of bytes that is a file by itself."""
         return self.directories.place_of(entry) if entry.type in _BYTES else None
 
@@ -152,12 +152,12 @@ class Private:
         directories.check()
 
 
-def _parts(directories: Directories, directory: Directory) -> List[Tuple[int, int]]:
+def _parts(directories: Directories, directory: Directory) -> list[tuple[int, int]]:
     """The parts of a file that a directory with its header and its values takes."""
     return [(0, 8), (directory.at, directory.end), *filter(None, map(directories.place_of, directory.entries))]
 
 
-def add_directory(blocks: Blocks, directories: Directories, directory: Directory, kept: List[Entry], where: str, part: str) -> None:
+def add_directory(blocks: Blocks, directories: Directories, directory: Directory, kept: list[Entry], where: str, part: str) -> None:
     """Adds some entries of a directory without pointers as a block. Raises `Broken`."""
     layout = Layout(directories, Table(kept, {}))
     if layout.length > LIMIT:

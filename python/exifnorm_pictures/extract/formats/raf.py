@@ -6,7 +6,6 @@ lengths of the parts as numbers of four bytes, the high byte first.
 
 from __future__ import annotations
 
-from typing import Tuple
 
 from ...model.budgets import budget_of
 from ...model.found import Blocks, Broken, NotRead
@@ -55,7 +54,7 @@ def read(stream: Stream, whole: bool = False) -> Blocks:
     return blocks
 
 
-def _place(head: bytes, at: int) -> Tuple[int, int]:
+def _place(head: bytes, at: int) -> tuple[int, int]:
     """The offset and the length of a part, which stand at an offset of the header."""
     return int.from_bytes(head[at : at + 4], "big"), int.from_bytes(head[at + 4 : at + 8], "big")
 

@@ -5,7 +5,7 @@ from __future__ import annotations
 
 import hashlib
 import os
-from typing import Iterable, Iterator, Optional, Protocol, Tuple
+from typing import Iterable, Iterator, Optional, Protocol
 
 from ...files import opening
 from ...files.copying import is_hollow
@@ -195,7 +195,7 @@ def digest_of_rest(stream: Stream, start: int, end: int) -> Optional[str]:
     return None if blank else digest.hexdigest()
 
 
-def digest_of_parts(stream: Stream, parts: Iterable[Tuple[int, int]]) -> str:
+def digest_of_parts(stream: Stream, parts: Iterable[tuple[int, int]]) -> str:
     """SHA-256 of some parts of a file, joined, which may share bytes; empty if they are more than may be read. Raises `TooMuch`."""
     budget, digest, length = budget_of(stream), hashlib.sha256(), 0
     for start, end in parts:

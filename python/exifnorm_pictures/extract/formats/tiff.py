@@ -11,7 +11,7 @@ import contextlib
 import hashlib
 import itertools
 from collections import deque
-from typing import Deque, Dict, Iterable, Iterator, List, NamedTuple, Set, Tuple
+from typing import Deque, Iterable, Iterator, NamedTuple
 
 from exifnorm import LIMIT
 
@@ -40,7 +40,7 @@ _PAIRS = ((0x0111, 0x0117), (0x0144, 0x0145), (0x0201, 0x0202))
 _XMP, _IPTC, _PHOTOSHOP, _PROFILE, _LAYERS = 0x02BC, 0x83BB, 0x8649, 0x8773, 0x935C
 _NAMES = {_PROFILE: PROFILE, _LAYERS: "Photoshop's layers"}  # of values that are rest
 _OWN = frozenset((_XMP, _IPTC, _PHOTOSHOP, _LAYERS))  # which aren't in the block of their directory
-_Pointers = Dict[int, "_Pointers"]
+_Pointers = dict[int, "_Pointers"]
 _POINTERS: _Pointers = {0x8769: {0xA005: {}}, 0x8825: {}}  # Exif with Interoperability, GPS
 OTHER_POINTERS = {
     0x0190: "GlobalParametersIFD",
@@ -52,7 +52,7 @@ OTHER_POINTERS = {
 _DNG_VERSION, _MAKER_NOTE = 0xC612, 0x927C
 
 
-_Place = Tuple[int, str, int]  # the offset of a directory, the name of its chain, and its number there
+_Place = tuple[int, str, int]  # the offset of a directory, the name of its chain, and its number there
 
 
 class Page(NamedTuple):
@@ -105,7 +105,7 @@ class Reader:
         self._reached = Reached(length)
         self._has_note = False
         self._cut = ""  # where the file ends, if a value isn't wholly in it
-        self._notes: Set[int] = set()  # where the MakerNotes begin whose places are compared
+        self._notes: set[int] = set()  # where the MakerNotes begin whose places are compared
         self._private = Private(directories, self.blocks, self._reached, whole)
         self._pixels = {tag: name for tag, name in PIXELS.items() if not (self._private.is_panasonic and tag in _FREE)}
 
@@ -132,7 +132,7 @@ class Reader:
             if directory.following:
                 waiting.appendleft((directory.following, name, number + 1))
 
-    def _named(self, directory: Directory, part: str) -> List[_Place]:
+    def _named(self, directory: Directory, part: str) -> list[_Place]:
         entries = [entry for entry in directory.entries if entry.tag == SUB_IFDS]
         if entries and part.count("SubIFD") >= DEEPEST:
             raise Broken(f"more than {DEEPEST} SubIFDs below one another")
@@ -151,7 +151,7 @@ class Reader:
         self._pixels_reach(directory)
         return directory
 
-    def _values_reach(self, entries: List[Entry]) -> None:
+    def _values_reach(self, entries: list[Entry]) -> None:
         for entry in entries:
             place = self.directories.place_of(entry)
             if place:
@@ -179,8 +179,8 @@ class Reader:
 
     def take(self, page: Page) -> None:
         """Adds the blocks of a page."""
-        left_out: Set[str] = set()
-        kept: List[Entry] = []
+        left_out: set[str] = set()
+        kept: list[Entry] = []
         for entry in page.directory.entries:
             if entry.tag in self._private.tags and self._private.takes(entry, page.part or "page 1"):
                 continue
@@ -226,8 +226,8 @@ class Reader:
             return False
         return True
 
-    def _table(self, entries: List[Entry], pointers: _Pointers) -> Table:
-        below: Dict[int, Table] = {}
+    def _table(self, entries: list[Entry], pointers: _Pointers) -> Table:
+        below: dict[int, Table] = {}
         for entry in entries:
             if entry.tag in pointers and is_directory(entry) and entry.tag not in below:
                 directory = self.directories.read(self.directories.number(entry.last))
@@ -240,7 +240,7 @@ class Reader:
     def parts(self, pages: Iterable[Page]) -> Iterator[Part]:
         """Claims to the parts of the file, of which these are the pages. Raises `TooMuch`."""
         for page in pages:
-            kept: List[Entry] = []
+            kept: list[Entry] = []
             variant = self.directories.variant
             length = 4 + 2 * variant.offset  # of an entry: its tag, its type, and two numbers
             for at, entry in zip(itertools.count(page.directory.at + variant.number, length), page.directory.entries):

@@ -8,7 +8,7 @@ from __future__ import annotations
 
 import struct
 from bisect import bisect_right
-from typing import Dict, List, NamedTuple, Optional, Tuple
+from typing import NamedTuple, Optional
 
 from ...model.tiff_types import IFD, LONG
 from .tiff_directories import Directories
@@ -21,8 +21,8 @@ _EXIF, _MAKER_NOTE = 0x8769, 0x927C
 class Table(NamedTuple):
     """A directory for a block: its entries, and the tables of the pointers among them, by their tags."""
 
-    entries: List[Entry]
-    below: "Dict[int, Table]"
+    entries: list[Entry]
+    below: "dict[int, Table]"
 
 
 def is_pointer(entry: Entry) -> bool:
@@ -51,12 +51,12 @@ class Layout:
         self._parts = _joined(
             [place for table in self._tables for entry in table.entries if (place := directories.place_of(entry)) is not None]
         )
-        self._places: Dict[int, int] = {}
+        self._places: dict[int, int] = {}
         self.length = 8
         for table in self._tables:
             self._places[id(table)] = self.length
             self.length += 6 + 12 * len(table.entries)
-        self._offsets: List[int] = []
+        self._offsets: list[int] = []
         for start, end in self._parts:
             self._offsets.append(self.length)
             self.length += end - start
@@ -102,13 +102,13 @@ class Layout:
         return self._offsets[number] + place - self._parts[number][0]
 
 
-def _joined(places: List[Tuple[int, int]]) -> List[Tuple[int, int]]:
+def _joined(places: list[tuple[int, int]]) -> list[tuple[int, int]]:
     """The parts of a file that some ranges cover, those that share bytes being one part.
 
     >>> _joined([(20, 30), (8, 12), (25, 40), (12, 20)])
     [(8, 12), (12, 20), (20, 40)]
     """
-    joined: List[Tuple[int, int]] = []
+    joined: list[tuple[int, int]] = []
     for start, end in sorted(places):
         if joined and start < joined[-1][1]:
             joined[-1] = (joined[-1][0], max(end, joined[-1][1]))

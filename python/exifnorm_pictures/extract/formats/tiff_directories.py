@@ -9,7 +9,7 @@ from __future__ import annotations
 import struct
 from bisect import bisect_left
 from itertools import count
-from typing import Dict, List, NamedTuple, Optional, Tuple
+from typing import NamedTuple, Optional
 
 from ...model.budgets import DIRECTORIES, ENTRIES, VALUE_BYTES, budget_of
 from ...model.found import Broken
@@ -21,7 +21,7 @@ class Directory(NamedTuple):
     """A directory: its offset, its entries in their order, the offset of the next one, and where it ends."""
 
     at: int
-    entries: List[Entry]
+    entries: list[Entry]
     following: int
     end: int
 
@@ -30,8 +30,8 @@ class Reached:
     """The parts of a file that its directories point to."""
 
     def __init__(self, header: int) -> None:
-        self.parts: List[Tuple[int, int]] = [(0, header)]
-        self.pixels: List[Tuple[int, int]] = []  # those of them with strips, tiles and JPEGs
+        self.parts: list[tuple[int, int]] = [(0, header)]
+        self.pixels: list[tuple[int, int]] = []  # those of them with strips, tiles and JPEGs
         self.end: Optional[int] = header  # after all of them; None if it is unknown
 
     def add(self, end: int, start: Optional[int] = None) -> None:
@@ -54,12 +54,12 @@ class Directories:
             raise Broken("its offsets have another size")
         self.first = self.number(head[-variant.offset :])
         self._row = struct.Struct(self.order + variant.row)
-        self._starts: List[int] = [0]  # of the header and of the directories that were read
-        self._ends: Dict[int, int] = {0: variant.header}
+        self._starts: list[int] = [0]  # of the header and of the directories that were read
+        self._ends: dict[int, int] = {0: variant.header}
         self.budget = budget_of(stream)
-        self._values: List[Tuple[int, int]] = []
-        self._in_entries: Dict[int, int] = {}  # where values begin and end that are in an entry here, and not in one of a block
-        self._shared: Dict[Tuple[int, int], bytes] = {}
+        self._values: list[tuple[int, int]] = []
+        self._in_entries: dict[int, int] = {}  # where values begin and end that are in an entry here, and not in one of a block
+        self._shared: dict[tuple[int, int], bytes] = {}
 
     def number(self, data: bytes) -> int:
         """A number in the file's byte order."""
@@ -93,7 +93,7 @@ class Directories:
         self._starts.insert(place, start)
         self._ends[start] = end
 
-    def _entries(self, table: bytes, start: int) -> List[Entry]:
+    def _entries(self, table: bytes, start: int) -> list[Entry]:
         """The entries of a table, which is at `start` in the file. Raises `Broken`."""
         rows = self._row.iter_unpack(table)
         if self.variant is CLASSIC:
@@ -107,7 +107,7 @@ class Directories:
             entries.append(entry)
         return entries
 
-    def place_of(self, entry: Entry) -> Optional[Tuple[int, int]]:
+    def place_of(self, entry: Entry) -> Optional[tuple[int, int]]:
         """The range of a value; None if it is in its entry, or the file doesn't contain all of it."""
         if entry.size <= IN_ENTRY:
             return None
@@ -152,7 +152,7 @@ class Directories:
         """Whether an entry is a list of offsets or lengths that is all in the file."""
         return entry.type in self.variant.codes and (entry.size <= IN_ENTRY or self.place_of(entry) is not None)
 
-    def numbers(self, entry: Entry) -> List[int]:
+    def numbers(self, entry: Entry) -> list[int]:
         """The values of an entry with a type of offsets; none for other types. Raises `Broken`."""
         code = self.variant.codes.get(entry.type)
         data = self.value(entry) if code else b""

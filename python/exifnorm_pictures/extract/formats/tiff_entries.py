@@ -7,13 +7,13 @@ where the number fits. So a BigTIFF and a TIFF with equal fields have equal bloc
 from __future__ import annotations
 
 import struct
-from typing import Dict, NamedTuple
+from typing import NamedTuple
 
 from ...model.found import Broken
 from ...model.tiff_types import BIG_TIFF, IFD, IFD8, LONG, LONG8, SHORT, SLONG, SLONG8, TIFF, Type
 
 SUB_IFDS = 0x014A
-PIXELS: Dict[int, str] = {  # of offsets and lengths
+PIXELS: dict[int, str] = {  # of offsets and lengths
     0x0111: "StripOffsets",
     0x0117: "StripByteCounts",
     0x0120: "FreeOffsets",
@@ -40,11 +40,11 @@ class Variant(NamedTuple):
     number: int  # of the number of a directory's entries
     offset: int  # of an offset, and of the last field of an entry
     row: str  # the tag, the type, the number of elements and the last field of an entry, for `struct`
-    sizes: Dict[int, int]  # of an element, by the types that there are
-    codes: Dict[int, str]  # of a number, by the types that offsets and lengths have
+    sizes: dict[int, int]  # of an element, by the types that there are
+    codes: dict[int, str]  # of a number, by the types that offsets and lengths have
 
 
-def _variant(header: int, count: int, offset: int, row: str, types: Dict[int, Type]) -> Variant:
+def _variant(header: int, count: int, offset: int, row: str, types: dict[int, Type]) -> Variant:
     sizes = {number: kind.size for number, kind in types.items()}
     return Variant(header, count, offset, row, sizes, {number: types[number].code for number in _OFFSETS if number in types})
 

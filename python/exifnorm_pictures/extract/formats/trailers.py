@@ -9,7 +9,7 @@ from __future__ import annotations
 
 import re
 import struct
-from typing import Callable, Dict, List, NamedTuple, Optional, Tuple
+from typing import Callable, NamedTuple, Optional
 
 from ...model.budgets import RESOURCE_BYTES, RESOURCES, budget_of
 from ...model.found import IPTC, XMP, Blocks, Broken
@@ -33,8 +33,8 @@ _SIGNS = (  # regular expressions, which are compiled at the first trailer
 )
 _LONGEST = 64
 
-Block = Tuple[str, bytes]  # its kind, and its bytes
-_Read = Callable[[Stream, int], Tuple[int, List[Block]]]  # of the trailer that ends at an offset: where it begins, and its blocks
+Block = tuple[str, bytes]  # its kind, and its bytes
+_Read = Callable[[Stream, int], tuple[int, list[Block]]]  # of the trailer that ends at an offset: where it begins, and its blocks
 
 
 def known_trailer(stream: Stream, end: int) -> Optional[Trailer]:
@@ -64,9 +64,9 @@ def add_blocks(blocks: Blocks, stream: Stream, start: int, end: int) -> bool:
     return True
 
 
-def _all(stream: Stream, start: int, end: int) -> List[Block]:
+def _all(stream: Stream, start: int, end: int) -> list[Block]:
     """The blocks of the trailers from `start` to `end`. Raises `Broken` if they don't fill it, or one isn't read here."""
-    read: List[Block] = []
+    read: list[Block] = []
     last = end
     while end > start:
         budget_of(stream).spend(RESOURCES)
@@ -91,14 +91,14 @@ def _octets(stream: Stream, start: int, end: int) -> bytes:
     return read_at(stream, start, end - start)
 
 
-def _photo_mechanic(stream: Stream, end: int) -> Tuple[int, List[Block]]:
+def _photo_mechanic(stream: Stream, end: int) -> tuple[int, list[Block]]:
     """DataSets, their length, and the mark."""
     (length,) = struct.unpack(">I", _octets(stream, end - 12, end - 8))
     start = end - 12 - length
     return start, [(IPTC, _octets(stream, start, end - 12))]
 
 
-def _foto_station(stream: Stream, end: int) -> Tuple[int, List[Block]]:
+def _foto_station(stream: Stream, end: int) -> tuple[int, list[Block]]:
     """One of several records: bytes, the number of their kind, the length of the record, and the mark."""
     number, length = struct.unpack(">HI", _octets(stream, end - 10, end - 4))
     start = end - length
@@ -107,7 +107,7 @@ def _foto_station(stream: Stream, end: int) -> Tuple[int, List[Block]]:
     return start, [(IPTC, _octets(stream, start, end - 10))] if number == 1 else []
 
 
-def _afcp(stream: Stream, end: int) -> Tuple[int, List[Block]]:
+def _afcp(stream: Stream, end: int) -> tuple[int, list[Block]]:
     """A directory of parts with their offsets in the file, these parts, and the offset of the directory."""
     mark = _octets(stream, end - 12, end - 8)
     order = ">" if mark[3:] == b"!" else "<"
@@ -128,14 +128,14 @@ _CANON = b"CANON OPTIONAL DATA\0"
 _CANON_XMP = 0xFFFF00F6
 
 
-def _canon(stream: Stream, end: int) -> Tuple[int, List[Block]]:
+def _canon(stream: Stream, end: int) -> tuple[int, list[Block]]:
     """A header, parts that begin with the number of their kind and their length, and a footer."""
     foot = end - _FOOT
     (length,) = struct.unpack(">I", _octets(stream, foot + len(_CANON), foot + len(_CANON) + 4))
     start = foot - length - _HEAD
     if start < 0 or read_at(stream, start, len(_CANON)) != _CANON:
         raise Broken("Canon's trailer doesn't begin where its end says")
-    read: List[Block] = []
+    read: list[Block] = []
     at = start + _HEAD
     while at < foot:
         budget_of(stream).spend(RESOURCES)
@@ -148,7 +148,7 @@ def _canon(stream: Stream, end: int) -> Tuple[int, List[Block]]:
     return start, read
 
 
-def _samsung(stream: Stream, end: int) -> Tuple[int, List[Block]]:
+def _samsung(stream: Stream, end: int) -> tuple[int, list[Block]]:
     """Sounds, depths and the like, which have no blocks; a directory of them, which says how many bytes before it they begin; and marks."""
     foot = end - (2 if read_at(stream, end - 2, 2) == b"BS" else 0)
     while True:
@@ -168,7 +168,7 @@ def _samsung(stream: Stream, end: int) -> Tuple[int, List[Block]]:
     return start - before, []
 
 
-_READERS: Dict[str, _Read] = {
+_READERS: dict[str, _Read] = {
     "AFCP": _afcp,
     "FotoStation": _foto_station,
     "PhotoMechanic": _photo_mechanic,

@@ -4,7 +4,7 @@ and some end the name XMP by a zero byte."""
 from __future__ import annotations
 
 import struct
-from typing import Iterable, Iterator, Tuple
+from typing import Iterable, Iterator
 
 from ...model.budgets import CHUNKS, CHUNK_BYTES, Budget, budget_of
 from ...model.found import EXIF, SIX, XMP, Blocks, Broken
@@ -80,7 +80,7 @@ def parts(found: Iterable[Chunk]) -> Iterator[Part]:
 _CLASSES = {**dict.fromkeys(PIXELS, PICTURE), **dict.fromkeys((*_XMP, b"EXIF"), METADATA), b"VP8X": STRUCTURE}
 
 
-def _class_of(chunk: Chunk) -> Tuple[str, str]:
+def _class_of(chunk: Chunk) -> tuple[str, str]:
     """The class of a chunk's content, and the name of a rest."""
     kind = chunk[1]
     return _CLASSES.get(kind, REST), "" if kind in _CLASSES else _NAMES.get(kind) or f"{word(kind)} chunk"
