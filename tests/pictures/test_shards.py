@@ -96,7 +96,7 @@ def make_shards(folder, are_apart):
 
 
 def merged(folder, all_):
-    status, _, errors = called(f"merge {' '.join(f'{folder}/{name}' for name in FOLDERS)} --catalogue {all_}")
+    status, _, errors = called(f"catalogue merge {' '.join(f'{folder}/{name}' for name in FOLDERS)} --catalogue {all_}")
     assert status == 0, errors
 
 
@@ -161,7 +161,7 @@ def named(answer, *names):
 
 def exported(name):
     """The rows of an export, each with the path of its picture in place of its number."""
-    status, _, errors = called(f"export {name} {name}.tables --quiet")
+    status, _, errors = called(f"catalogue export {name} {name}.tables --quiet")
     assert status == 0, errors
     with contextlib.closing(sqlite3.connect(f"{name}.tables")) as base:
         paths = dict(base.execute("SELECT id, path FROM pictures"))

@@ -75,7 +75,8 @@ def test_what_needs_another_program_is_named():
 
 
 @pytest.mark.parametrize(
-    "status, words", [(0, ["show", BEFORE / BOWL]), (0, ["captions", BEFORE / BOWL]), (1, ["compare", BEFORE / BOWL, AFTER / BOWL])]
+    "status, words",
+    [(0, ["show", BEFORE / BOWL]), (0, ["show", "--captions", BEFORE / BOWL]), (1, ["compare", BEFORE / BOWL, AFTER / BOWL])],
 )
 def test_a_command_prints_the_same(status, words, called):
     assert told(COMMAND, *words, status=status) == called(*map(str, words))[1]
