@@ -199,7 +199,7 @@ COMMANDS = {
     "changed old c": [],
     "changed p q --csv": [],
     "changed p q --undo undo.args": ["undo.args", FILE],
-    "changed --picture p/a.jpg old c": [],
+    "changed --picture p/a.jpg old c old": [],
     "compare p/a.jpg q/a.jpg": [],
     "list c --with title": ASKED,
     "list d --with title": SHARDS,
@@ -223,7 +223,7 @@ COMMANDS = {
     "catalogue export c tables": ["tables", FILE, *ASKED],
     "mend p/refused.jpg copy.jpg": ["copy.jpg", FILE],
     "mend p out": ["out", "out/*"],
-    "mend c p out": ["out", "out/*"],
+    "mend c out": ["out", "out/*"],
 }
 
 
@@ -253,7 +253,7 @@ def tree(top):
 def words_of(line):
     """A command line, with a spreadsheet if its command has any. A new command, or one with another name of a file, fails until a line has it."""
     given = parser.parsed(line.split())
-    return [*line.split(), *["--xlsx", "table.xlsx"] * (getattr(given, "xlsx", "") is None and not given.csv)]
+    return [*line.split(), *["--xlsx", "table.xlsx"] * (getattr(given, "xlsx", "") is None and not given.csv and "--picture" not in line)]
 
 
 def test_each_command_is_there_with_each_name_of_a_file():

@@ -63,7 +63,7 @@ READ = {
     "--since",
     "--rules",
 }
-READ |= {"--bag", "old", "new"}
+READ |= {"--bag", "--picture", "old", "new", "more"}
 KEEPS = (
     "index",
     "index, new",
