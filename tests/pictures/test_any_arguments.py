@@ -25,6 +25,7 @@ VALUES = (
     "**[",
     "a" * 70000,
     "/dev/null",
+    "@/dev/zero",
     "pipe",
     "socket",
     "loop",
@@ -32,7 +33,6 @@ VALUES = (
     "=cmd|' /C calc'!A0",
 )
 STATUSES = range(5)
-LISTS = ("--files-from",)  # which may be pipes, as `<(find ..)`, and wait for who writes
 COMMANDS = parsers()[1]
 
 
@@ -68,7 +68,7 @@ def calls(command: str, parser: argparse.ArgumentParser):
             option = action.option_strings[-1:]
             if not option or option[0] in ("--jobs", "--scheduler"):  # which take seconds
                 continue
-            if not (value == "pipe" and option[0] in LISTS):
+            if (value, option[0]) != ("pipe", "--files-from"):  # which waits for who writes
                 yield [*words, f"{option[0]}={value}"]
         for at in range(names):
             replaced = [*words[:at], value, *words[at + 1 :]]
@@ -122,13 +122,13 @@ def test_any_value_of_any_argument(command, end, folder, checks):
     assert 3 in statuses and statuses & {0, 1, 2}, "it never did what it is for"
 
 
-@pytest.mark.parametrize(
-    "option, words, line", zip(LISTS, (["show"], *[["compare", "p/a.jpg", "p/a.jpg"]] * 2), ("p/a.jpg", "Make", "Make"))
-)
-def test_a_list_may_be_a_pipe(option, words, line, end, folder):
-    writing = threading.Thread(target=(folder / "pipe").write_text, args=(f"{line}\n",), daemon=True)
+@pytest.mark.parametrize("words", ("show --files-from pipe", "compare Make Make --only @pipe", "compare Make Make --ignore @pipe"))
+def test_a_list_may_be_a_pipe(words, end, folder):
+    """As of `<(find ..)`. The line that is read from it is the name of a picture, and of a field."""
+    shutil.copy("p/a.jpg", "Make")
+    writing = threading.Thread(target=(folder / "pipe").write_text, args=("Make\n",), daemon=True)
     writing.start()
-    assert end([*words, option, "pipe"])[0] == 0
+    assert end(words.split())[0] == 0
     writing.join(600)
     assert not writing.is_alive(), "nobody has read it"
 
