@@ -12,7 +12,7 @@ import pytest
 from growing import FORMATS, IN_EACH_FORMAT, OTHERS
 from made_blocks import segment, with_exif
 from made_files import app1, exif, jpeg
-from studio import SMALL_JPEG, put
+from studio import SMALL_JPEG, name_of, put
 from test_maker_notes import noted
 from test_repairs import REFUSED
 
@@ -67,7 +67,7 @@ def works():
 
 
 def test_all_commands_are_tried():
-    assert {*READS, *OTHERS_READ} == set(parsers()[1])
+    assert {*map(name_of, {**READS, **OTHERS_READ}.values())} == set(parsers()[1])
 
 
 @pytest.fixture

@@ -62,7 +62,7 @@ CATALOGUES["d"] = [INDEX.format("Q", "d"), "catalogue relocate d Q P"]
 
 
 def test_all_commands_and_formats_are_tried():
-    assert set(COMMANDS) == set(parsers()[1]) and set(SIZES) == set(FORMATS)
+    assert {*map(name_of, COMMANDS.values())} == set(parsers()[1]) and set(SIZES) == set(FORMATS)
 
 
 def choice():

@@ -30,7 +30,7 @@ COMMANDS = [
     "catalogue merge cat d --catalogue tmp/all",
     "mend cat tmp/copies",
 ]
-OF_PICTURES = {"compare", "show", "explain"}  # which read no catalogue
+OF_PICTURES = {"compare", "explain"}  # which read no catalogue
 WRITE_TO_IT = {"index", "nightly", "catalogue forget", "catalogue relocate"}
 MENDS = ("index", "Remove", "is no catalogue")  # one of these is in each message
 RAW = ("readonly", "unable to open", "disk I/O")  # what SQLite says
