@@ -169,7 +169,7 @@ class _Reader(Reader):
         at = self._at
         if self._takes("except") and "/" not in self._up_to(lambda: self._next.word in _ENDS).text:
             self._at = at + 1
-            return self._labels()
+            return self._compared(self._labels())
         self._at = at
         return ()
 
@@ -208,7 +208,7 @@ class _Reader(Reader):
         """The words of the predicate that is next; empty if none is."""
         return next((words for words in _PREDICATES if self._follows(*words)), ())
 
-    def _predicate(self, labels: Sequence[str]) -> tuple[str, tuple[str, ...]]:
+    def _predicate(self, labels: tuple[str, ...]) -> tuple[str, tuple[str, ...]]:
         words = self._predicate_words()
         if not words:
             known = (" ".join(words) for words in _PREDICATES if words != ("needs",))
@@ -219,9 +219,9 @@ class _Reader(Reader):
             self._fail("only `every picture` needs something: every picture needs " + ", ".join(labels), *self._tokens[:1])
         return kind, self._values(words, kind, labels)
 
-    def _values(self, words: tuple[str, ...], kind: str, labels: Sequence[str]) -> tuple[str, ...]:
+    def _values(self, words: tuple[str, ...], kind: str, labels: tuple[str, ...]) -> tuple[str, ...]:
         if kind in (NEVER, AGREE):
-            return self._refuse_others(labels) if kind == AGREE else ()
+            return self._compared(labels)[:0] if kind == AGREE else ()
         if kind == LENGTH:
             return (self._length(),)
         if kind in (AFTER, BEFORE):
@@ -236,11 +236,11 @@ class _Reader(Reader):
         except ValueError as error:
             self._fail(str(error), value)
 
-    def _refuse_others(self, labels: Sequence[str]) -> tuple[str, ...]:
-        """Refuses labels that aren't kept in several of Exif, IPTC and XMP."""
+    def _compared(self, labels: tuple[str, ...]) -> tuple[str, ...]:
+        """These labels, all of which have to be among those that Exif, IPTC and XMP may have."""
         if others := [label for label in labels if label not in COMPARED]:
             self._fail(f"{others[0]} is none of the labels that are compared: {', '.join(COMPARED)}", *self._tokens[:1])
-        return ()
+        return labels
 
     def _length(self) -> str:
         number = self._next
