@@ -85,7 +85,6 @@ class Commands(InProcess):
 
     def test_show(self):
         names = self.named("a.jpg", "c.jpg", "d.png", "e.jpg", "f.jpg", "j\n.jpg", "nothing.jpg", "a.jpg")
-        write(self.path("block"), K)
         self.golden(
             "show.txt",
             self.transcript(

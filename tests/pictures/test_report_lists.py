@@ -47,6 +47,6 @@ def test_captions_are_compared_whole_and_listed_short(called, folder, monkeypatc
         texts = f"<dc:description><rdf:Alt><rdf:li xml:lang='x-default'>A view of the {place}</rdf:li></rdf:Alt></dc:description>"
         (folder / "p" / f"{place}.jpg").write_bytes(jpeg(app1_xmp(xmp(texts))))
     called("index", "p", "--catalogue", "c", "--quiet", "--pixels", "--jobs", "1")
-    assert called("report", "--catalogue", "c", "--html", "page.html", "--no-look")[0] == 0
+    assert called("report", "c", "--html", "page.html", "--no-look")[0] == 0
     page = (folder / "page.html").read_text(encoding="utf-8").partition('<section id="captioned"')[2].partition("</section>")[0]
     assert page.count(">A view of  ..<") == 2 and "view of the" not in page
