@@ -40,8 +40,8 @@ SOURCES = (
     "docs/screenshots.py",
     "docs/exifnorm.html",
     "python/exifnorm_pictures/report/**/*.*",
-    "python/exifnorm_pictures/comparison/edit*.py",
-    "python/exifnorm_pictures/comparison/group_sentence.py",
+    "python/exifnorm_pictures/comparison/changed/edit*.py",
+    "python/exifnorm_pictures/comparison/same/group_sentence.py",
 )
 RECORD = DOCS / "screenshots.txt"
 

@@ -15,7 +15,7 @@ TOP = Path(__file__).resolve().parent.parent
 sys.path[:0] = [str(TOP / "python")]
 
 from exifnorm._causes import OF_HEADS, OF_PACKETS
-from exifnorm_pictures.comparison import edits
+from exifnorm_pictures.comparison.changed import edits
 from exifnorm_pictures.extract import structure
 from exifnorm_pictures.extract.formats import heif, heif_items, jpeg_segments, tiff_entries, trailers
 from exifnorm_pictures.fields import labels, listing, names, own_texts, plain_names, plain_values, typed, xmp_types

@@ -96,7 +96,7 @@ def make(name: str, count: int) -> None:
 def measured(words: Sequence[str]) -> Tuple[float, float, int]:
     """The processor time of a command in a process of its own, the most memory in MB, and the number of lines that it prints."""
     read, write = os.pipe()
-    importlib.import_module("exifnorm_pictures.cli.list")  # which isn't measured
+    importlib.import_module("exifnorm_pictures.cli.commands.list")  # which isn't measured
     child = os.fork()
     if not child:
         out = io.TextIOWrapper(io.BytesIO(), encoding="utf-8")

@@ -13,7 +13,7 @@ import pytest
 from exifnorm_pictures.cli import main
 
 NOW = datetime.datetime(2026, 1, 3, 4, 5, 6, tzinfo=datetime.timezone.utc)
-CLOCKS = ("report.rendering", "cli.verify", "cli.export", "scan.index")  # the modules that print or keep the time of now
+CLOCKS = ("report.rendering", "cli.commands.verify", "cli.commands.export", "scan.index")  # the modules that print or keep the time of now
 CATALOGUES = ("before", "plain", "full", "full.before", "few")
 KEPT = ("one", "archive", "bag")
 WHOLE = " --pixels --maker-notes --sidecars"

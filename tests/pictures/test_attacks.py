@@ -426,7 +426,7 @@ def test_an_edit_within_a_tick(later, archive):
 def test_a_signal_in_a_long_query(number, archive):
     """A signal ends a command also while SQLite works."""
     code = (
-        "import sys\nfrom exifnorm_pictures.comparison.groups import Groups\n"
+        "import sys\nfrom exifnorm_pictures.comparison.same.groups import Groups\n"
         "def endless(groups, *_, **__):\n"
         "    groups.catalogue.base.create_function('begun', 0, lambda: print('begun', flush=True), deterministic=True)\n"
         "    yield from groups.catalogue.rows('WITH RECURSIVE n(i) AS (SELECT begun() UNION ALL SELECT 0 FROM n) SELECT i FROM n WHERE i')\n"

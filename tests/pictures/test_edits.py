@@ -12,14 +12,14 @@ from exact_fields import field
 from made_files import jpeg, with_record
 
 from exifnorm_pictures.cli import summary as page
-from exifnorm_pictures.comparison import edit_groups, summary
-from exifnorm_pictures.comparison.changed import Compared
+from exifnorm_pictures.comparison.changed import edit_groups, summary
+from exifnorm_pictures.comparison.changed.states import Compared
 from exifnorm_pictures.comparison.differing import differences
-from exifnorm_pictures.comparison.edit_groups import Kinds
-from exifnorm_pictures.comparison.edit_words import line_of
-from exifnorm_pictures.comparison.edits import edits_of
-from exifnorm_pictures.comparison.marking import Marker
-from exifnorm_pictures.comparison.summary_lines import lacking_of
+from exifnorm_pictures.comparison.changed.edit_groups import Kinds
+from exifnorm_pictures.comparison.changed.edit_words import line_of
+from exifnorm_pictures.comparison.changed.edits import edits_of
+from exifnorm_pictures.comparison.changed.marking import Marker
+from exifnorm_pictures.comparison.changed.summary_lines import lacking_of
 from exifnorm_pictures.comparison.wording import look
 from exifnorm_pictures.model.results import Result
 from exifnorm_pictures.model.texts import safe

@@ -14,7 +14,8 @@ from made_files import xmp as packet_of
 from studio import name_of
 
 from exifnorm_pictures import xmp
-from exifnorm_pictures.cli import names, page_file, parser, report
+from exifnorm_pictures.cli import names, page_file, parser
+from exifnorm_pictures.cli.commands import report
 from exifnorm_pictures.cli.options import Files
 from exifnorm_pictures.comparison import differing
 from exifnorm_pictures.extract import exiftool, programs

@@ -10,7 +10,7 @@ import pytest
 from exifnorm_pictures.catalogue import store
 from exifnorm_pictures.catalogue.store import Catalogue, NoCatalogue
 from exifnorm_pictures.cli import main
-from exifnorm_pictures.comparison import changed, pairs
+from exifnorm_pictures.comparison.changed import states as changed, pairs
 from exifnorm_pictures.extract import extraction, readers
 from exifnorm_pictures.extract.formats import png
 from exifnorm_pictures.files import opening, signals

@@ -17,7 +17,8 @@ from made_files import app1_xmp, chunk, exif, page, png, tiff, title
 from studio import TOP, WithPictures, needs, put, read, tool, write
 
 from exifnorm_pictures.catalogue.store import Catalogue, NoCatalogue
-from exifnorm_pictures.cli import main, mend as mend_cli, same
+from exifnorm_pictures.cli import main
+from exifnorm_pictures.cli.commands import mend as mend_cli, same
 from exifnorm_pictures.cli.options import Output
 from exifnorm_pictures.comparison import differing
 from exifnorm_pictures.extract import exiftool, programs

@@ -17,8 +17,8 @@ import made_raw
 from studio import Studio, needs, run, write
 
 from exifnorm_pictures.catalogue.store import Catalogue
-from exifnorm_pictures.comparison.group import Basis
-from exifnorm_pictures.comparison.groups import Groups
+from exifnorm_pictures.comparison.same.group import Basis
+from exifnorm_pictures.comparison.same.groups import Groups
 from exifnorm_pictures.model import budgets
 
 

@@ -19,11 +19,12 @@ from studio import SMALL_JPEG, TOP, Studio, needs, put, read
 from test_list import record
 from test_nights import CUT, NEVER_WHOLE
 
-from exifnorm_pictures.comparison import absent as absent_
+from exifnorm_pictures.comparison.nightly import absent as absent_
 from exifnorm_pictures.catalogue import nights
 from exifnorm_pictures.catalogue.store import Catalogue
-from exifnorm_pictures.cli import letter, nightly
-from exifnorm_pictures.comparison.news import Kind, Named, News
+from exifnorm_pictures.cli import letter
+from exifnorm_pictures.cli.commands import nightly
+from exifnorm_pictures.comparison.nightly.news import Kind, Named, News
 
 PLACE = "<exif:GPSLatitude>47,30.0N</exif:GPSLatitude><exif:GPSLongitude>8,15.0E</exif:GPSLongitude>"
 HERE = app1_xmp(xmp(PLACE, "xmlns:exif='http://ns.adobe.com/exif/1.0/'"))

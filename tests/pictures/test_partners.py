@@ -6,7 +6,7 @@ import os
 import shutil
 
 import pytest
-from exifnorm_pictures.comparison.partners import File, partners
+from exifnorm_pictures.comparison.changed.partners import File, partners
 from hypothesis import given
 from hypothesis import strategies as st
 from studio import put

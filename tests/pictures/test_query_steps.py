@@ -17,7 +17,7 @@ from test_scale import many_rows
 from exifnorm_pictures.catalogue import store
 from exifnorm_pictures.catalogue.store import Catalogue, NoCatalogue
 from exifnorm_pictures.cli.parser import parsers
-from exifnorm_pictures.comparison.groups import Groups, but_for_notes
+from exifnorm_pictures.comparison.same.groups import Groups, but_for_notes
 from exifnorm_pictures.fields.field import Field
 from exifnorm_pictures.fields.packing import packed
 from exifnorm_pictures.model.found import EXIF

@@ -264,8 +264,8 @@ class Scale(WithPictures):
         fields = {"dataclasses", "difflib", "inspect", "textwrap"}
         names = (
             "catalogue.label_texts",
-            "comparison.changed",
-            "comparison.groups",
+            "comparison.changed.states",
+            "comparison.same.groups",
             "extract.readers",
             "refusals.explain",
             "refusals.mend",
@@ -275,11 +275,11 @@ class Scale(WithPictures):
         watched = {"exifnorm", "html", "jinja2", "logging", "multiprocessing", "subprocess", "urllib", "xml", *reading, *fields}
         watched.update(f"exifnorm_pictures.{it}" for it in names)
         for words, needed in (
-            (["same", "c"], {*fields, "exifnorm_pictures.comparison.groups"}),
+            (["same", "c"], {*fields, "exifnorm_pictures.comparison.same.groups"}),
             (["index", "p", "--catalogue", "c", "--quiet"], set()),
             (["index", "p", "--catalogue", "e", "--quiet"], {"exifnorm", "xml", *reading}),
             (["catalogue", "merge", "c", "--catalogue", "d"], set()),
-            (["changed", "c", "c"], {*fields, "exifnorm_pictures.comparison.changed"}),
+            (["changed", "c", "c"], {*fields, "exifnorm_pictures.comparison.changed.states"}),
             (["show", "p/0000.jpg"], {"exifnorm", "xml", reading[0], "exifnorm_pictures.judge.repairs"}),
         ):
             with self.subTest(words[0]):

@@ -6,7 +6,7 @@ import pytest
 from attacks import sharing
 from made_files import iim, title, xmp
 
-from exifnorm_pictures.comparison import block_pairs
+from exifnorm_pictures.comparison.changed import block_pairs
 from exifnorm_pictures.judge import judge
 
 COMMANDS = (

@@ -13,7 +13,7 @@ from unittest import mock
 
 from studio import WithPictures, put, read, write
 
-from exifnorm_pictures.cli import index, mend as mend_cli
+from exifnorm_pictures.cli.commands import index, mend as mend_cli
 from exifnorm_pictures.cli.options import Files, Output
 from exifnorm_pictures.extract import named, programs
 from exifnorm_pictures.files import tempdir

@@ -14,8 +14,8 @@ from made_files import jpeg, with_record
 from studio import SMALL_JPEG, needs, tool
 
 from exifnorm_pictures.cli import summary as page
-from exifnorm_pictures.comparison import summary
-from exifnorm_pictures.comparison.changed import Compared
+from exifnorm_pictures.comparison.changed import summary
+from exifnorm_pictures.comparison.changed.states import Compared
 from exifnorm_pictures.comparison.differing import differences
 from exifnorm_pictures.model.results import Result
 

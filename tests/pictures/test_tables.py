@@ -17,10 +17,11 @@ from studio import WithPictures
 
 from exifnorm_pictures.catalogue import store
 from exifnorm_pictures.catalogue.store import VERSION, Catalogue, NoCatalogue
-from exifnorm_pictures.comparison import changed, groups, pairs as pairing
+from exifnorm_pictures.comparison.changed import states as changed, pairs as pairing
+from exifnorm_pictures.comparison.same import groups
 from exifnorm_pictures.comparison.differing import bare
-from exifnorm_pictures.comparison.group_sentence import sentence_of
-from exifnorm_pictures.comparison.groups import Groups
+from exifnorm_pictures.comparison.same.group_sentence import sentence_of
+from exifnorm_pictures.comparison.same.groups import Groups
 from exifnorm_pictures.fields import normal_form
 from exifnorm_pictures.fields.field import Field
 from exifnorm_pictures.fields.listing import numbers_text
@@ -707,7 +708,7 @@ class Forms(unittest.TestCase):
 class EqualChanges(unittest.TestCase):
     def test_equal_ones_are_together(self):
         """Also where more are known than are kept in memory, and in the order in which they came."""
-        from exifnorm_pictures.comparison.changed import Equal
+        from exifnorm_pictures.comparison.changed.states import Equal
 
         equal, most = Equal(), 0
         self.addCleanup(equal.close)

@@ -8,8 +8,8 @@ import subprocess
 import made_museum
 import pytest
 from exifnorm_pictures.comparison.differing import FieldDifference
-from exifnorm_pictures.comparison.edits import BY_THEMSELVES
-from exifnorm_pictures.comparison.undo import arguments
+from exifnorm_pictures.comparison.changed.edits import BY_THEMSELVES
+from exifnorm_pictures.comparison.changed.undo import arguments
 from exifnorm_pictures.fields.field import Field
 from exifnorm_pictures.fields.labels import label_of_fields
 from exifnorm_pictures.model.texts import escaped

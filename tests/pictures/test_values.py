@@ -14,7 +14,7 @@ from made_files import exif, jpeg, xmp
 from studio import WithPictures, run
 
 from exifnorm_pictures.catalogue.store import BLOCK_COLUMNS, PICTURE_COLUMNS, Catalogue, NoCatalogue
-from exifnorm_pictures.comparison import changed
+from exifnorm_pictures.comparison.changed import states as changed
 from exifnorm_pictures.comparison.differing import bare
 from exifnorm_pictures.extract.formats import jpeg as jpeg_
 from exifnorm_pictures.files import signals

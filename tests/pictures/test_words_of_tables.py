@@ -12,8 +12,8 @@ from pathlib import Path
 import exifnorm_pictures
 from exifnorm_pictures.cli import letter
 from exifnorm_pictures.cli.exit_codes import status_of_results
-from exifnorm_pictures.cli.verify import _READERS
-from exifnorm_pictures.comparison import keeping
+from exifnorm_pictures.cli.commands.verify import _READERS
+from exifnorm_pictures.comparison.same import keeping
 from exifnorm_pictures.fields import rules
 from exifnorm_pictures.fields.labels import LABELS, fields_by_label
 from exifnorm_pictures.model.budgets import LIMITS

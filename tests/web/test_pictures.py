@@ -19,7 +19,7 @@ from pairs import DIFFERENT, SAME, UNDECIDED
 
 import exifnorm
 from exifnorm_pictures.comparison import two_pictures
-from exifnorm_pictures.comparison.edits import PROGRAMS, edits_of
+from exifnorm_pictures.comparison.changed.edits import PROGRAMS, edits_of
 import made_files as made
 import odd_heads
 import test_bigtiff as big

@@ -5,13 +5,13 @@ from __future__ import annotations
 from collections import Counter
 from typing import TYPE_CHECKING, Iterable, Optional, Sequence
 
-from ..comparison.changed import Compared
+from ..comparison.changed.states import Compared
 from ..comparison.coded import Coded
 from ..comparison.differing import FieldDifference, exact_side
-from ..comparison.edit_groups import Counted, Group
-from ..comparison.edit_words import line_of
-from ..comparison.edits import edit_of
-from ..comparison.summary import Summary
+from ..comparison.changed.edit_groups import Counted, Group
+from ..comparison.changed.edit_words import line_of
+from ..comparison.changed.edits import edit_of
+from ..comparison.changed.summary import Summary
 from ..comparison.wording import plain_sides
 from ..fields.choosing import Choice
 from ..fields.left_out import lines, members_of

@@ -11,7 +11,7 @@ from ..model.texts import escaped, shown_path
 from ..scan.parts import Outcome, Plan, indexed, plan, together
 from . import objects
 from .exit_codes import SUCCESS, UNKNOWN
-from .index import not_read_again, printing_options, say_unused
+from .commands.index import not_read_again, printing_options, say_unused
 from .looking import how_of
 from .options import Output, Run
 from .output import counted, print_line, print_lines, record_lines, say_notes

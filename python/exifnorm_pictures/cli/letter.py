@@ -5,9 +5,9 @@ from __future__ import annotations
 from itertools import groupby
 from typing import Iterator, Sequence
 
-from ..comparison.edit_groups import Group
-from ..comparison.edit_words import line_of
-from ..comparison.news import Kind, Named, News
+from ..comparison.changed.edit_groups import Group
+from ..comparison.changed.edit_words import line_of
+from ..comparison.nightly.news import Kind, Named, News
 from ..comparison.wording import moved
 from ..model.texts import escaped, pictures_in_words, safe, shown_path
 from .columns import width

@@ -82,7 +82,7 @@ def _run(words: Optional[Sequence[str]]) -> int:
         # importing the modules of all commands would take longer than most commands do
         command = arguments.command
         goes_on = command in ("index", "nightly") or bool(getattr(arguments, "state", None))
-        module = importlib.import_module(f".{command.split()[-1]}", __package__)
+        module = importlib.import_module(f".commands.{command.split()[-1]}", __package__)
         gc.freeze()
         gc.set_threshold(COLLECTED)
         with session:

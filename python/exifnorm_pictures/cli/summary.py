@@ -7,20 +7,12 @@ from collections import Counter
 from itertools import chain, islice
 from typing import Iterator, NamedTuple, Optional, Sequence
 
-from ..comparison.edit_groups import KINDS, Group
-from ..comparison.edit_words import BRACKETS, head_of, steps_of
-from ..comparison.edits import Edit
-from ..comparison.marking import IN, KEPT, OUT, Step
-from ..comparison.summary import MOST_NAMES, Summary
-from ..comparison.summary_lines import (
-    LONGEST_NAMES,
-    fitting,
-    lacking_of,
-    results_of,
-    sentence,
-    sentence_of_partners,
-    shown_name,
-)
+from ..comparison.changed.edit_groups import KINDS, Group
+from ..comparison.changed.edit_words import BRACKETS, head_of, steps_of
+from ..comparison.changed.edits import Edit
+from ..comparison.changed.marking import IN, KEPT, OUT, Step
+from ..comparison.changed.summary import MOST_NAMES, Summary
+from ..comparison.changed.summary_lines import LONGEST_NAMES, fitting, lacking_of, results_of, sentence, sentence_of_partners, shown_name
 from ..model.results import Result
 from ..model.texts import pictures_in_words, safe
 from .columns import width

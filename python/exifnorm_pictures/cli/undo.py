@@ -8,8 +8,8 @@ import shlex
 import shutil
 from typing import IO, Iterable, Iterator, Sequence
 
-from ..comparison.changed import Compared
-from ..comparison.undo import arguments
+from ..comparison.changed.states import Compared
+from ..comparison.changed.undo import arguments
 from ..files import atomic
 from ..model.results import Result
 from ..model.texts import pictures_in_words, shown_path

@@ -25,9 +25,9 @@ from ..scan.batches import How
 from ..scan.looking import look
 from ..scan.walk import FoundFile
 from . import proved
-from .changed import Compared, compared
+from .changed.states import Compared, compared
 from .differing import FieldDifference, exact_side
-from .pairs import Pair
+from .changed.pairs import Pair
 from .proved import Answers, head_of_file
 from .wording import plain_sides
 

@@ -9,9 +9,9 @@ from typing import Iterator, NamedTuple, Optional, Sequence
 from ..catalogue.store import Catalogue
 from ..catalogue.texts import texts_of
 from ..comparison.conflicts import conflicts
-from ..comparison.group_sentence import sentence_of
-from ..comparison.groups import Groups
-from ..comparison.keeping import Keep, keeping
+from ..comparison.same.group_sentence import sentence_of
+from ..comparison.same.groups import Groups
+from ..comparison.same.keeping import Keep, keeping
 from ..fields.block_fields import packed_fields
 from ..fields.field import Field
 from ..fields.labels import Caption, names_camera, word_of

@@ -7,17 +7,17 @@ from collections import Counter
 from typing import Iterable, Iterator, NamedTuple, Optional, Sequence, Union
 
 from ..catalogue.store import Known
-from ..comparison import changed
+from ..comparison.changed import states as changed
 from ..comparison.coded import Coded, sentence_of_coded
 from ..comparison.differing import FieldDifference
-from ..comparison.marking import Marker, Piece, Pieces
-from ..comparison.moved_folders import MovedFolders
-from ..comparison.pairs import AFTER, BEFORE, heads_of
-from ..comparison.edit_groups import KINDS, Group
-from ..comparison.edit_words import head_of
-from ..comparison.edits import Edit, lists_of, place_of
-from ..comparison.summary import NOW, Summary, name_of
-from ..comparison.summary_lines import lacking_of
+from ..comparison.changed.marking import Marker, Piece, Pieces
+from ..comparison.changed.moved_folders import MovedFolders
+from ..comparison.changed.pairs import AFTER, BEFORE, heads_of
+from ..comparison.changed.edit_groups import KINDS, Group
+from ..comparison.changed.edit_words import head_of
+from ..comparison.changed.edits import Edit, lists_of, place_of
+from ..comparison.changed.summary import NOW, Summary, name_of
+from ..comparison.changed.summary_lines import lacking_of
 from ..comparison.wording import sides, tell_apart
 from ..fields.left_out import lines
 from ..model.records import Stamp, is_as_before

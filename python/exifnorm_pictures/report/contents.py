@@ -7,10 +7,11 @@ from dataclasses import dataclass
 from typing import Any, Iterable, Iterator, Optional, Sequence
 
 from ..catalogue.store import Catalogue, Run
-from ..comparison import changed, groups
+from ..comparison.changed import states as changed
+from ..comparison.same import groups
 from ..comparison.conflicts import Conflict
 from ..comparison.differing import bare
-from ..comparison.group_sentence import sentence_of
+from ..comparison.same.group_sentence import sentence_of
 from ..fields.choosing import EVERYTHING, Choice
 from ..fields.rules import Rule
 from ..files.session import Session

@@ -14,13 +14,13 @@ from typing import Iterator, NamedTuple, Sequence
 from ..catalogue.checking import Broken, Checked
 from ..catalogue.store import PICTURE_COLUMNS
 from ..catalogue.texts import texts_of
-from ..comparison import groups
-from ..comparison.changed import Equal
+from ..comparison.same import groups
+from ..comparison.changed.states import Equal
 from ..comparison.conflicts import Conflict
-from ..comparison.edits import digest
-from ..comparison.group import Group
-from ..comparison.group_sentence import sentence_of
-from ..comparison.keeping import Keep, keeping
+from ..comparison.changed.edits import digest
+from ..comparison.same.group import Group
+from ..comparison.same.group_sentence import sentence_of
+from ..comparison.same.keeping import Keep, keeping
 from ..fields.labels import LABEL_WORDS
 from ..fields.rules import Rule
 from ..model.found import each_kind

@@ -6,8 +6,8 @@ from collections import Counter
 from pathlib import Path
 from typing import TYPE_CHECKING, Any, Callable
 
-from ..comparison.edit_words import head_of, steps_of
-from ..comparison.groups import of_notes
+from ..comparison.changed.edit_words import head_of, steps_of
+from ..comparison.same.groups import of_notes
 from ..fields.left_out import of_maker_notes
 from ..model.errors import Failure
 from ..model.problems import COUNTED, TEXTS

@@ -1,0 +1,89 @@
+"""The command `export`."""
+
+from __future__ import annotations
+
+import argparse
+import os
+import shutil
+import sys
+from datetime import datetime, timezone
+from typing import Sequence
+
+import exifnorm
+
+from ...catalogue.store import Catalogue
+from ...export.rows import Export
+from ...export.tables import VERSION, Tables, head_is_ours, tables
+from ...fields.left_out import of_maker_notes
+from ...files import atomic
+from ...model.errors import WrongUse
+from ...model.texts import in_words, path_members, shown_path
+from ..exit_codes import SUCCESS
+from ..looking import files_of, opened
+from ..names import chosen_paths, say_unknown
+from ..objects import print_object
+from ..options import Files, Output, Run, group_of
+from ..output import print_line
+
+
+def run(arguments: argparse.Namespace) -> int:
+    """Writes a catalogue as plain tables of SQLite."""
+    _refuse_table(arguments.file)
+    files, run = group_of(Files, arguments), group_of(Run, arguments)
+    chosen = chosen_paths(files)
+    name = arguments.source
+    with opened(name, run) as catalogue:
+        file = os.path.join(run.session.room, "export")
+        with tables(file) as written:
+            _add_about(written, catalogue)
+            only = None if chosen is None else catalogue.choose(chosen)
+            work = Export(catalogue, written, only, None if arguments.no_look else run.session)
+            work.all(run.quiet or not sys.stderr.isatty())
+        _put(file, arguments.file, files_of(name))
+        say_unknown(chosen or (), catalogue.has)
+    counts = {name: written.counts.get(name, 0) for name in ("pictures", "fields", "captions", "conflicts", "groups")}
+    if group_of(Output, arguments).json:
+        left_out = {"texts_not_kept": work.missing, "absent_groups": work.groups.absent, "maker_notes_not_read": work.maker_notes}
+        print_object("export", "summary", {**path_members(os.fsencode(arguments.file)), "rows": counts, **left_out})
+    else:
+        rows = ", ".join(f"{in_words(count, 'row')} of {name}" for name, count in counts.items())
+        print_line(f"{shown_path(arguments.file)}: {rows}")
+        if work.missing:
+            which = "picture has" if work.missing == 1 else "pictures have"
+            print_line(f"{work.missing:,} {which} a text that is NULL: it is too long for the catalogue")
+        if work.maker_notes:
+            print_line(of_maker_notes(work.maker_notes))
+        if work.groups.absent:
+            which = "group is left out, because its" if work.groups.absent == 1 else "groups are left out, because their"
+            print_line(f"{work.groups.absent:,} {which} files are gone or have changed since they were indexed")
+    return SUCCESS
+
+
+def _refuse_table(name: str) -> None:
+    """Raises `WrongUse` for the name of a file that a program for spreadsheets would open."""
+    ending = os.path.splitext(name)[1].lower()
+    if ending in (".csv", ".tsv", ".xls", ".xlsx", ".ods", ".json"):
+        tables_ = "show --captions, changed, check and same print tables with --csv, and write them with --xlsx"
+        raise WrongUse(f"{shown_path(name)}: export writes a database of SQLite, whose name doesn't end with {ending}; {tables_}")
+
+
+def _add_about(written: Tables, catalogue: Catalogue) -> None:
+    """What was written, from what, when and by which version."""
+    now = datetime.now(timezone.utc).strftime("%Y-%m-%d %H:%M:%S")
+    runs = catalogue.runs()
+    last = next((it for it in reversed(runs) if it[2]), None)
+    about = {
+        "schema": str(VERSION),
+        "exifnorm": exifnorm.version(),
+        "exported": now,
+        "catalogue": os.path.abspath(catalogue.name),
+        "indexed": runs[-1][0] if runs else "",
+        "indexed by": (last[2] if last else None) or "",
+    }
+    written.add("about", list(about.items()))
+
+
+def _put(text: str, name: str, kept: Sequence[str]) -> None:
+    """Copies the tables to their place, where they may replace an earlier export and no other file."""
+    with open(text, "rb") as whole:
+        atomic.put(name, lambda file: shutil.copyfileobj(whole, file), head_is_ours, tuple(kept))

@@ -1,0 +1,41 @@
+"""The command `forget`."""
+
+from __future__ import annotations
+
+import argparse
+import os
+
+from ...catalogue.store import Catalogue, roll_back
+from ...model.texts import path_members, shown_path
+from ..exit_codes import SUCCESS
+from ..looking import written_files_of
+from ..names import named
+from ..objects import print_object
+from ..options import Files, Output, group_of
+from ..output import print_line
+from ..sources import settle_first
+
+
+def run(arguments: argparse.Namespace) -> int:
+    """Removes folders and pictures from a catalogue; the files stay."""
+    name, others = settle_first(group_of(Files, arguments))
+    names = named(others)
+    files = written_files_of(name) or [name]
+    for file in files:
+        roll_back(file)
+        with Catalogue(file):  # it is one; a missing one isn't made
+            pass
+    for folder in names:
+        count = sum(_forgotten(file, os.path.abspath(folder)) for file in files)
+        plural = "s" * (count != 1)
+        if group_of(Output, arguments).json:
+            print_object("forget", "folder", {**path_members(folder), "forgotten": count})
+        else:
+            print_line(f"{shown_path(folder)}: {count} picture{plural} forgotten")
+    return SUCCESS
+
+
+def _forgotten(file: str, path: bytes) -> int:
+    """How many pictures a catalogue forgets."""
+    with Catalogue(file, make=True) as catalogue:
+        return catalogue.forget(path)

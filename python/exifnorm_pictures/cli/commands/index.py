@@ -1,0 +1,145 @@
+"""The command `index`."""
+
+from __future__ import annotations
+
+import argparse
+import os
+import shlex
+from collections import Counter
+from typing import Iterable, Iterator, Sequence
+
+from ...catalogue import shards
+from ...catalogue.nights import copy_over
+from ...catalogue.store import Catalogue
+from ...model.errors import WrongUse
+from ...model.problems import NOT_READABLE
+from ...model.texts import escaped, kind_of_part, moved_line, pictures_in_words, shown_path
+from ...scan.excluded import Excluded
+from ...scan.index import DAMAGED, OF_LAST_RUN, OF_XMP, REFUSED, IndexOptions, index, lacking, number_of
+from .. import objects
+from ..exit_codes import SUCCESS, UNKNOWN
+from ..looking import how_of, xmp_files_alone
+from ..names import is_catalogue, named
+from ..options import Files, Output, Run, group_of
+from ..output import counted, print_line, print_lines, record_lines, say_notes
+from ..sources import settle_first, with_first
+
+
+def going_on(run: Run, catalogue: Catalogue) -> Run:
+    """Goes on with XMP sidecars, and with digests of coded pictures, in a catalogue that has them. Raises `WrongUse`."""
+    if run.sidecars and not catalogue.has_sidecars() and not catalogue.is_empty():
+        raise WrongUse(f"{catalogue.name} was made without --sidecars: make a new catalogue")
+    # of the pictures that changed, too
+    return run._replace(sidecars=run.sidecars or catalogue.has_sidecars(), pixels=run.pixels or catalogue.has_digests())
+
+
+def run(arguments: argparse.Namespace) -> int:
+    """Looks at pictures and keeps the results."""
+    files, run, output = group_of(Files, arguments), group_of(Run, arguments), group_of(Output, arguments)
+    name, files = (arguments.shards, with_first(files)) if arguments.shards else settle_first(files)
+    if arguments.shards or shards.is_folder(name):
+        from .. import index_shards  # which few need
+
+        return index_shards.indexed_shards(name, named(files), run, output, arguments.keep_old)
+    names, excluded = _names(name, files, run), Excluded(run.exclude)
+    has_words = not output.json and not run.quiet
+    with Catalogue(name, make=True) as catalogue:
+        if arguments.keep_old:
+            _keep_old(catalogue, arguments.keep_old, run)
+        run = going_on(run, catalogue)
+        options = printing_options(run, output, names)._replace(excluded=excluded)
+        counts, unread = index(options, catalogue), lacking(options, catalogue)
+        parts = _parts(catalogue) if has_words else []
+        damaged = number_of(catalogue, f"{DAMAGED} AND {OF_LAST_RUN}")
+        steps = list(_next_steps(catalogue, name, excluded.known)) if has_words else []
+    if excluded.count:
+        counts["excluded"] = excluded.count
+    say_unused(excluded.unused())
+    say_notes(*not_read_again(unread))
+    if output.json:
+        objects.print_object("index", "summary", {"counts": dict(counts), "damaged": damaged})
+    else:
+        print_lines([*parts, counted(counts, damaged), *steps])
+    are_special = any(os.path.exists(it) and not (os.path.isfile(it) or os.path.isdir(it)) for it in names)  # as pipes and devices
+    return UNKNOWN if are_special or any(counts[it] for it in NOT_READABLE) else SUCCESS
+
+
+def not_read_again(counts: "Counter[str]") -> Iterator[str]:
+    """What options left as it was, because the files are unchanged: it would seem that it was done for them, too."""
+    for option, count in counts.items():
+        if count:
+            yield f"{pictures_in_words(count)} unchanged, and not read again by {option}: index --again {option} reads all"
+
+
+def _keep_old(catalogue: Catalogue, old: str, run: Run) -> None:
+    """Copies the catalogue, unless it has a part of what a run was to find that was stopped: the copy from before that run is compared with."""
+    if catalogue.was_stopped() and is_catalogue(old):
+        say_notes(f"{escaped(old)} stays as it was: the last run was stopped, and this one goes on")
+    else:
+        copy_over(catalogue, old, run.session.room)
+
+
+def printing_options(run: Run, output: Output, names: Sequence[bytes]) -> IndexOptions:
+    """The options of a run, with the lines that are printed about pictures."""
+    lines = objects.record_lines if output.json else None if run.quiet else record_lines
+    moved = None if output.json or run.quiet else moved_line
+    how = how_of(run, run.session.room, lines)
+    return IndexOptions(names, run.again, run.quiet, how, print_line, moved_line=moved, lines=lines or record_lines)
+
+
+def say_unused(patterns: Iterable[str]) -> None:
+    """Says which patterns of --exclude have fitted nothing."""
+    say_notes(*(f"--exclude {pattern} fits no file and no folder" for pattern in patterns))
+
+
+def _names(catalogue: str, files: Files, run: Run) -> list[bytes]:
+    """The names that are given. Raises `WrongUse`."""
+    names = named(files)
+    if run.scheduler:
+        raise WrongUse("--scheduler is for a catalogue of each folder: give --shards DIR in place of a catalogue")
+    if not any(map(os.path.lexists, names)) and not _are_known(names, catalogue):
+        raise WrongUse(f"there is no folder or file {', '.join(map(shown_path, names))}")
+    return names
+
+
+def _are_known(names: Sequence[bytes], catalogue: str) -> bool:
+    """Whether a catalogue has a picture that a name leads to, or led to before a folder was removed or unmounted."""
+    if not os.path.lexists(catalogue):
+        return False
+    with Catalogue(catalogue) as known:
+        paths = [os.path.abspath(name) for name in names]
+        return any(known.has(path) or any(True for _ in known.below(path)) for path in paths)
+
+
+def _next_steps(catalogue: Catalogue, name: str, excluded: int) -> Iterator[str]:
+    """What can be done with the catalogue, a line for each."""
+    from ...comparison.same import groups  # which takes long to import, and --quiet needs none of it
+
+    word = escaped(shlex.quote(name))
+    count, _ = groups.totals(catalogue)
+    if count:
+        yield f"{count:,} group{'s' * (count > 1)} of pictures whose metadata mean the same: exifnorm-pictures same {word}"
+    refused = number_of(catalogue, REFUSED)
+    if damaged := number_of(catalogue, DAMAGED):
+        yield f"{damaged:,} cut off or damaged: exifnorm-pictures report {word} --html report.html"
+    if refused:
+        yield f"{refused:,} refused or unreadable: exifnorm-pictures report {word} --html report.html"
+    if count := 0 if catalogue.has_sidecars() else number_of(catalogue, OF_XMP):
+        yield f"{xmp_files_alone(count)}: index --sidecars, with a new catalogue, takes those beside pictures as metadata of them"
+    if excluded:
+        yield f"{excluded:,} excluded, and in the catalogue from an earlier run: exifnorm-pictures catalogue forget {word} FOLDER"
+
+
+def _parts(catalogue: Catalogue) -> list[str]:
+    """The parts that were not read of the pictures of this run, a line for each kind of part, the most frequent first."""
+    query = f"SELECT picture, what FROM not_read JOIN pictures ON id = picture WHERE {OF_LAST_RUN} ORDER BY picture"
+    kinds: "Counter[str]" = Counter()
+    pictures = last = 0
+    for number, what in catalogue.rows(query):
+        kinds[kind_of_part(what)] += 1
+        pictures += number != last
+        last = number
+    if not pictures:
+        return []
+    head = f"{pictures:,} picture{'s' * (pictures > 1)} not wholly read: they can only be the same as others if these parts have the same bytes:"
+    return [head, *(f"  {count:>6,}  {what}" for what, count in kinds.most_common(12)), *["  .."] * (len(kinds) > 12)]

@@ -1,0 +1,52 @@
+"""The command `relocate`."""
+
+from __future__ import annotations
+
+import argparse
+import os
+from collections import Counter
+
+from ...catalogue import shards
+from ...catalogue.store import Catalogue, NoCatalogue, roll_back
+from ...model.errors import WrongUse
+from ...model.texts import path_members, shown_path
+from ...scan.relocating import ABSENT, AS_BEFORE, CHANGED, relocated
+from ..exit_codes import DIFFERENCE, SUCCESS
+from ..objects import print_object
+from ..options import Output, group_of
+from ..output import print_line
+
+
+def run(arguments: argparse.Namespace) -> int:
+    """Gives pictures of a catalogue their names below another folder; the files stay."""
+    name, old, new = arguments.source, os.fsencode(arguments.old), os.fsencode(arguments.new)
+    if not os.path.isdir(new):
+        raise WrongUse(f"{shown_path(new)} is no folder: give the folder where the pictures of {shown_path(old)} are now")
+    if os.path.abspath(new).startswith(os.path.abspath(old).rstrip(b"/") + b"/"):
+        raise WrongUse(f"{shown_path(new)} lies below {shown_path(old)}, where the catalogue may have other pictures")
+    if shards.is_of_folder(name):
+        raise NoCatalogue(
+            f"{shown_path(os.fsencode(name))}: each catalogue of a folder is named after its folder of pictures, by which index finds it, so none"
+            " is relocated. Merge them, and relocate the merged one: exifnorm-pictures catalogue merge FOLDER --catalogue NEW"
+        )
+    roll_back(name)
+    with Catalogue(name) as catalogue:  # it is one; a missing one isn't made
+        if next(catalogue.below(os.path.abspath(old)), None) is None:
+            raise WrongUse(f"{name} has no picture below {shown_path(old)}")
+    with Catalogue(name, make=True) as catalogue:
+        counts = relocated(catalogue, os.path.abspath(old), os.path.abspath(new))
+    _print(group_of(Output, arguments), old, new, counts)
+    return DIFFERENCE if counts[CHANGED] or counts[ABSENT] else SUCCESS
+
+
+def _print(output: Output, old: bytes, new: bytes, counts: "Counter[str]") -> None:
+    numbers = {"as_before": counts[AS_BEFORE], "changed": counts[CHANGED], "absent": counts[ABSENT]}
+    if output.json:
+        print_object("relocate", "summary", {"old": path_members(old), "new": path_members(new), **numbers})
+        return
+    total = sum(numbers.values())
+    print_line(f"{shown_path(old)}: {total:,} picture{'s' * (total != 1)} now below {shown_path(new)}")
+    if counts[CHANGED]:
+        print_line(f"{counts[CHANGED]:,} with another size or modification time: the next index reads them again")
+    if counts[ABSENT]:
+        print_line(f"{counts[ABSENT]:,} not there: the next index misses them")

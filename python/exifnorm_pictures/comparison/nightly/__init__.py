@@ -1,0 +1,1 @@
+"""What is new in an archive since the last night."""

@@ -1,0 +1,264 @@
+"""What is new in an archive between two nights, counted by what it means for its pictures, with the first names of each."""
+
+from __future__ import annotations
+
+import os
+from collections import Counter
+from dataclasses import dataclass, field
+from typing import Iterator, NamedTuple, Optional
+
+from ...catalogue.label_texts import rows_of
+from ...catalogue.store import Catalogue
+from ...fields.labels import POSITION, fields_by_label
+from ...files.session import Session
+from ...model.problems import NOT_READABLE, Problem
+from ...model.records import PictureRecord
+from ...model.rest import counting
+from ...model.results import Result
+from ...model.texts import shown_path
+from ...model.words import Word
+from ...scan.moved import moved_together
+from .absent import Absent
+from ..changed.states import Compared, changed, total
+from ..coded import Coded
+from ..changed.edit_groups import Kinds
+from ..changed.summary import standards_of
+
+SHOWN = 3  # pictures of each kind of news that are named
+
+
+class Kind(Word):
+    """A kind of news. A letter has them in this order."""
+
+    is_open: bool  # whether something can't be decided tonight that could be at the last whole night
+
+    ABSENT = ("folder not there", True)
+    CLOSED = ("folder not readable", True)
+    LOST = ("text lost",)
+    POSITION = ("position",)
+    DAMAGED = ("damaged",)
+    RULE = ("rule broken",)
+    OTHER_PICTURE = ("other picture",)
+    PARTS = ("other parts",)  # the same coded picture in a file of which another part came, went or changed
+    UNREADABLE = ("not readable", True)
+    OPEN = ("not comparable", True)
+    UNREAD = ("not wholly read", True)  # so that it may break a rule
+    CHANGED = ("text changed",)
+    ADDED = ("text added",)
+    OTHER = ("other fields",)
+    WRITTEN = ("other bytes",)  # of a file of a format that isn't read
+    UNSEEN = ("other bytes, the same metadata",)  # of a format whose pictures aren't read
+    GONE = ("gone",)
+    MOVED_FOLDER = ("folder moved",)
+    MOVED = ("moved",)
+    RENUMBERED = ("renumbered",)
+    NEW = ("new",)
+    READABLE = ("readable again",)
+
+
+class Named(NamedTuple):
+    """A picture by its name, and its new name if it has moved."""
+
+    path: bytes
+    to: Optional[bytes] = None
+
+
+@dataclass
+class News:
+    """One kind of news, and what it is about: a label, a rule or a folder."""
+
+    kind: Kind
+    about: str = ""  # or a part of files and what became of it
+    count: int = 0
+    names: list[Named] = field(default_factory=list)  # the first ones
+    to: str = ""  # the new place of a folder
+
+
+class Tally:
+    """All news."""
+
+    def __init__(self) -> None:
+        self._news: dict[tuple[Kind, str, str], News] = {}
+
+    def add(self, kind: Kind, name: bytes, about: str = "", to: Optional[bytes] = None, count: int = 1, folder_to: str = "") -> None:
+        """Counts a picture, or some of a folder."""
+        news = self._news.setdefault((kind, about, folder_to), News(kind, about, to=folder_to))
+        news.count += count
+        if len(news.names) < SHOWN:
+            news.names.append(Named(name, to))
+
+    def all(self) -> list[News]:
+        """The news, the first kind first, and of each kind what is about the most pictures."""
+        order = {kind: number for number, kind in enumerate(Kind)}
+        return sorted(self._news.values(), key=lambda it: (order[it.kind], -it.count, it.about, it.to))
+
+
+class Between:
+    """What has happened between two catalogues of an archive, of the last night and of tonight."""
+
+    def __init__(self, before: Catalogue, now: Catalogue, folders: list[bytes], session: Session) -> None:
+        """Compares all pictures. Folders that aren't there are looked for below `folders`."""
+        self.tally = Tally()
+        self.moves: dict[bytes, bytes] = {}  # full paths
+        self._renumbered: set[bytes] = set()  # those of them whose names other pictures had or have
+        self.coded: "Counter[Coded]" = Counter()
+        self.pictures = 0
+        self.with_news = 0
+        self.kinds = Kinds()
+        self._sides = (before, now)
+        roots = [it.roots() for it in self._sides]
+        is_one = all(len(it) <= 1 for it in roots)  # then names are below it, as `Pairs` has them
+        self._roots = [it[0] if is_one and it else b"" for it in roots]
+        self.absent = Absent(folders)
+        counts: "Counter[Result]" = Counter()
+        for comparison in changed(before, now, counts, session=session, pictures=self.coded):
+            self.with_news += self._add(comparison)
+        self.pictures = total(counts)
+        self._settle()
+
+    def shown(self, path: bytes, side: int = 1) -> bytes:
+        """The name of a picture or a folder, by its full path."""
+        root = self._roots[side].rstrip(b"/")
+        if root and path == root:
+            return os.path.basename(path)
+        return path[len(root) + 1 :] if root and path.startswith(root + b"/") else path
+
+    def _full(self, side: int, name: bytes) -> bytes:
+        return os.path.join(self._roots[side], name)
+
+    def _picture(self, side: int, name: bytes) -> PictureRecord:
+        return self._sides[side].picture(self._full(side, name)) or PictureRecord()
+
+    def _texts(self, side: int, name: bytes) -> dict[str, set[str]]:
+        """The texts of a picture by label, also its position, serial numbers and owner."""
+        catalogue = self._sides[side]
+        texts: dict[str, set[str]] = {}
+        with catalogue.guarded():
+            for label, text, *_ in rows_of(catalogue.blocks_with_fields(self._picture(side, name))):
+                texts.setdefault(label, set()).add(text)
+        texts.pop("", None)
+        return texts
+
+    # The news of a picture
+
+    def _add(self, comparison: Compared) -> bool:
+        """Counts the news of a picture; whether it has any."""
+        name = comparison.name
+        of_one = {Result.MISSING_BEFORE: self._came, Result.MISSING_AFTER: self._went, Result.NOT_READ: self._not_read}
+        if comparison.result in of_one:
+            return of_one[comparison.result](name)
+        if not comparison.result.are_pictures:
+            return False
+        if comparison.moved_to is not None:
+            self._moved(name, comparison.moved_to, comparison.result == Result.RENUMBERED)
+        kinds = list(_kinds(comparison))
+        for kind, part in kinds:
+            self.tally.add(kind, comparison.moved_to or name, part)
+        has_news = bool(kinds) or comparison.moved_to is not None
+        return bool(comparison.changes and self._changes(comparison, bool(kinds))) or has_news
+
+    def _came(self, name: bytes) -> bool:
+        picture = self._picture(1, name)
+        if picture.problem == Problem.NO_PICTURE:
+            return False
+        if picture.problem in NOT_READABLE:
+            self.tally.add(Kind.UNREADABLE, name)
+            return True
+        self.tally.add(Kind.NEW, name)
+        if picture.damage:
+            self.tally.add(Kind.DAMAGED, name)
+        if POSITION in self._texts(1, name):
+            self.tally.add(Kind.POSITION, name)
+        return True
+
+    def _went(self, name: bytes) -> bool:
+        """Counts a picture that isn't there, unless it seems to be on a disk that isn't: that is known once all are compared."""
+        picture = self._picture(0, name)
+        if picture.problem == Problem.NO_PICTURE:
+            return False
+        if not self.absent.add(self._full(0, name), name, picture.device):
+            self.tally.add(Kind.GONE, name)
+        return True
+
+    def _moved(self, name: bytes, to: bytes, is_renumbered: bool) -> None:
+        self.moves[self._full(0, name)] = self._full(1, to)
+        if is_renumbered:
+            self._renumbered.add(self._full(0, name))
+        self.absent.has_moved(self._full(0, name))
+
+    def _not_read(self, name: bytes) -> bool:
+        """Counts a file that wasn't read at one of two nights."""
+        was, now = self._picture(0, name).problem, self._picture(1, name).problem
+        if now in NOT_READABLE:
+            kind = Kind.OPEN if was in NOT_READABLE else Kind.UNREADABLE
+        elif now == Problem.NO_PICTURE:
+            kind = Kind.DAMAGED
+        elif was == Problem.NO_PICTURE:
+            kind = Kind.NEW
+        else:
+            kind = Kind.READABLE if was and not now else Kind.OPEN
+        self.tally.add(kind, name)
+        return True
+
+    def _changes(self, comparison: Compared, has_kind: bool) -> bool:
+        """Counts the texts by label that a picture has lost, got or changed; or else that other fields have changed."""
+        name = comparison.moved_to or comparison.name
+        before, now = self._texts(0, comparison.name), self._texts(1, name)
+        self.kinds.add(name, comparison.changes, standards_of(comparison))
+        labels = [label for label in _labels(comparison) if before.get(label) != now.get(label)]
+        for label in labels:
+            kind = _kind_of_text(label, label in before, label in now)
+            self.tally.add(kind, name, "" if kind == Kind.POSITION else label)
+        if not labels and not has_kind:
+            self.tally.add(Kind.OTHER, name)
+        return True
+
+    # Once all are compared
+
+    def _settle(self) -> None:
+        together = moved_together(self.moves)
+        for (old, new), paths in together.items():
+            self.tally.add(Kind.MOVED_FOLDER, self.shown(old, 0), shown_path(old), self.shown(new), len(paths), shown_path(new))
+        in_folders = {path for paths in together.values() for path in paths}
+        for old, new in self.moves.items():
+            if old not in in_folders:
+                self.tally.add(Kind.RENUMBERED if old in self._renumbered else Kind.MOVED, self.shown(old, 0), "", self.shown(new))
+        for folder in self.absent.settled():
+            if folder.is_held:
+                self.tally.add(Kind.ABSENT, self.shown(folder.path, 0), shown_path(folder.path), count=folder.count)
+                self.with_news -= folder.count
+            else:
+                for name in folder.names:
+                    self.tally.add(Kind.GONE, name, count=0)
+                self.tally.add(Kind.GONE, folder.names[0], count=folder.count)
+
+
+def _kinds(comparison: Compared) -> Iterator[tuple[Kind, str]]:
+    """What a comparison itself says, besides the fields; of each part of the file by itself."""
+    kind = _OF_CODED.get(comparison.picture)
+    if kind:
+        yield from ((kind, part) for part in (counting(comparison.parts) if kind == Kind.PARTS else [""]))
+    if comparison.is_unseen:
+        yield Kind.UNSEEN, ""
+    if comparison.result == Result.FILE_DIFFERENT:
+        yield Kind.WRITTEN, ""
+    elif comparison.result.is_open and comparison.result not in (Result.DAMAGED, Result.DAMAGED_BEFORE):
+        yield Kind.OPEN, ""
+
+
+def _kind_of_text(label: str, was_there: bool, is_there: bool) -> Kind:
+    """What has become of the texts of a label, which aren't as they were."""
+    if not is_there:
+        return Kind.LOST
+    if was_there:
+        return Kind.CHANGED
+    return Kind.POSITION if label == POSITION else Kind.ADDED
+
+
+_OF_CODED = {Coded.DAMAGED: Kind.DAMAGED, Coded.DAMAGED_BEFORE: Kind.READABLE, Coded.OTHER: Kind.OTHER_PICTURE, Coded.BESIDE: Kind.PARTS}
+
+
+def _labels(comparison: Compared) -> list[str]:
+    """The labels of which a field differs. What may be behind the end of a file that is cut off isn't known to differ."""
+    names = {change.name.partition(" (")[0] for change in comparison.changes}
+    return [label for label, fields in fields_by_label().items() if not names.isdisjoint(fields)]
