@@ -340,7 +340,7 @@ def test_options_that_exclude_each_other_are_refused_by_name(command, pair, arch
 @needs("exiftool")
 @pytest.mark.parametrize(
     "line",
-    ["changed old c --all", "changed q p --jobs 1 --equal-numbers", "compare q/work/retitled.jpg p/work/retitled.jpg", "check p"],
+    ["changed old c --all", "changed q p --jobs 1 --equal-numbers", "compare q/work/retitled.jpg p/work/retitled.jpg"],
 )
 @pytest.mark.parametrize("word", ["title", "creator", "keywords"])
 def test_only_and_ignore_make_the_whole(line, word, archive):
@@ -350,11 +350,9 @@ def test_only_and_ignore_make_the_whole(line, word, archive):
 
 
 def differing(lines):
-    """The name of each picture with each field that differs, or each label that contradicts."""
+    """The name of each picture with each field that differs."""
     objects = [it for it in objects_of(lines) if it["record"] in ("picture", "comparison")]
-    return {
-        (it.get("path"), part.get("name") or part["label"]) for it in objects for part in (*it.get("fields", []), *it.get("conflicts", []))
-    }
+    return {(it.get("path"), part["name"]) for it in objects for part in it.get("fields", [])}
 
 
 COMPANIONS = {"--title": "--html page.html", "--link-to": "--html page.html", "--form": "--evidence sums", "--null": "--files-from names"}
