@@ -74,7 +74,7 @@ def test_what_may_fit_is_named(museum, called, folder):
     """The status is 2 where a picture is named that may fit, and only there; in lines up to 20 of them are."""
     (folder / "rules").write_text("position, serial never in web/\nserial never in pages/\ncredit at most 20 characters in nested/\n")
     asked = [("list", str(museum / "full"), option, label) for label in LABELS for option in ("--without", "--count")]
-    asked += [("check", str(folder / "rules"), str(museum / "full"))]
+    asked += [("check", str(museum / "full"), "--rules", str(folder / "rules"))]
     for words in asked:
         status, lines, _ = called(*words, "--json")
         summary = json.loads(lines.splitlines()[-1])
@@ -176,7 +176,7 @@ def test_names_of_no_field_and_of_several(asked, called, folder):
         for words in (("compare", one, other), ("changed", "a.c", "b.c"), ("same", "a.c"))
         for option in ("--only", "--ignore")
     ]
-    for words in (*listing, *choosing, ("check", "rules", "a.c")):
+    for words in (*listing, *choosing, ("check", "a.c", "--rules", "rules")):
         for option in ((), ("--csv",)):
             assert said in "".join(called(*words, *option)[1:]), (words, option)
         summary = json.loads(called(*words, "--json")[1].splitlines()[-1])

@@ -36,7 +36,7 @@ def test_export_to_a_table(pictures, called, name):
 
 
 def test_help(called, capsys):
-    for words, usage in ((["help"], "usage: exifnorm-pictures [-h]"), (["help", "mend"], "usage: exifnorm-pictures mend [-h]")):
+    for words, usage in ((["help"], "usage: exifnorm-pictures [-h]"), (["help", "mend"], "usage: exifnorm-pictures mend [")):
         with pytest.raises(SystemExit) as ended:
             called(*words)
         assert ended.value.code == 0 and capsys.readouterr().out.startswith(usage)

@@ -50,7 +50,7 @@ def test_a_word_that_fits_what_is_the_same(folders, called):
         assert "No picture has" not in called("changed", "p", "q", "--only", name)[1]
 
 
-@pytest.mark.parametrize("words", (*COMMANDS, ("check", "p"), ("report", "c", "--html", "page.html")), ids=" ".join)
+@pytest.mark.parametrize("words", (*COMMANDS, ("report", "c", "--html", "page.html")), ids=" ".join)
 @pytest.mark.parametrize("option", ("--only", "--ignore"))
 def test_a_word_that_no_standard_has(folders, called, words, option):
     status, _, messages = called(*words, option, "nonsense")
