@@ -15,7 +15,15 @@ TOP = Path(__file__).resolve().parent.parent.parent
 DOCUMENTS = sorted(
     {*TOP.glob("*.md"), *TOP.glob("docs/**/*.md"), *TOP.glob("crates/*/*.md"), *TOP.glob("*/README.md"), *TOP.glob("tests/*/README.md")}
 )
-MADE = {"crates/NAME/specs", "crates/NAME/src", "proofs/MODULE/FUNCTION/", "Proof.antt", "FOLDER/", "2024/web/"}  # examples
+MADE = {
+    "crates/NAME/specs",
+    "crates/NAME/src",
+    "proofs/MODULE/FUNCTION/",
+    "Proof.antt",
+    "FOLDER/",
+    "2024/web/",
+    "Picture.json",
+}  # examples, and an attribute
 ELSEWHERE = ("/", "./", "..", "out/", "bin/", "lib/", "share/", "include/", "usr/", "etc/")  # what is built or installed
 WORD = re.compile(r"[^\W\d][\w-]*")
 FILE = re.compile(r"[\w.*-]*(?:/[\w.*-]*)+|[\w-]+\.(?:rt|antt|py|md|json|sh|c|h|txt|edit)")
