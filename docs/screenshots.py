@@ -74,7 +74,7 @@ def report(command: str, folder: Path) -> str:
         [command, "index", "museum", *words, "--keep-old", "yesterday.catalogue"], cwd=folder, check=True, stdout=subprocess.DEVNULL
     )
     subprocess.run(
-        [command, "report", "--catalogue", "museum.catalogue", "--since", "yesterday.catalogue", "--html", "report.html"],
+        [command, "report", "museum.catalogue", "--since", "yesterday.catalogue", "--html", "report.html"],
         cwd=folder,
         check=True,
     )

@@ -65,9 +65,9 @@ def catalogue() -> str:
         yield from arrow(180, 47, 308, 47, "index")
         yield from arrow(500, 47, 658, 47, "--keep-old")
         yield from box(20, 140, 220, ["verify", "Is a file damaged?"])
-        several = "list, check, same, conflicts, report"
+        several = "list, check, same, report"
         yield from box(270, 140, 270, [several, "Which? By our rules? Twice?"])
-        yield from box(570, 140, 270, ["changed, history", "What changed?"])
+        yield from box(570, 140, 270, ["changed", "What changed?"])
         for x, to_x in ((100, 100), (340, 200), (405, 405), (470, 620), (750, 750)):
             yield from arrow(x, 74, to_x, 138)
         nightly = "nightly: index, changed and check in one run, and a mail if there is news"

@@ -6,7 +6,7 @@
 
 LIBRARY is a folder such as out/lib, which both use. The instructions, which Valgrind counts, hardly depend on the machine: those of each
 command on the samples, and those of `index` on JPEG files that are made here, with captions of up to so many characters in IPTC and XMP. The
-size is that of the catalogue of these files, which `export` writes as tables.
+size is that of the catalogue of these files, which `catalogue export` writes as tables.
 
 With folders of pictures it is `index` of these alone: its instructions, and its processor time with that of ExifTool, the median of so many
 rounds, in each of which both trees have a turn.
@@ -129,7 +129,7 @@ def rows(trees: Tuple[Tree, Tree], folder: Path, count: int, longest: int) -> It
         yield (f"instructions of `index`, {what}", *(it.instructions(*words) for it in trees))
         yield (f"bytes of their catalogue, {what}", *((it.folder / "new").stat().st_size for it in trees))
         words = ["catalogue", "export", "new", "tables", "--no-look", "--quiet"]
-        yield (f"instructions of `export` of their catalogue, {what}", *(it.instructions(*words, makes="tables") for it in trees))
+        yield (f"instructions of `catalogue export` of their catalogue, {what}", *(it.instructions(*words, makes="tables") for it in trees))
 
 
 def main() -> None:
