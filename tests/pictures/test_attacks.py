@@ -29,7 +29,7 @@ CALLS = """
 import importlib, json, os, resource, sys
 from exifnorm_pictures.cli.main import main
 commands, ended = json.loads(sys.argv[1]), []
-for name in {words[0] for words in commands}:
+for name in {words[words[0] == "catalogue"] for words in commands}:
     if name.isalpha():
         importlib.import_module("exifnorm_pictures.cli." + name)  # once for all of them
 for number, words in enumerate(commands):
@@ -546,18 +546,15 @@ def test_texts_of_a_catalogue(archive):
         ).encode()
         base.execute("UPDATE blocks SET fields = ?, digest = 'x'", (fields,))
     commands = [
-        ["same"],
+        ["same", "c"],
         ["changed", "good", "c", "--all"],
         ["changed", "c", "good", "--all"],
-        ["report", "--html", "page"],
-        ["report", "--html", "changes", "--since", "good"],
-        ["index", "p"],
-        ["catalogue", "forget", "p"],
+        ["report", "c", "--html", "page"],
+        ["report", "c", "--html", "changes", "--since", "good"],
+        ["index", "p", "--catalogue", "c"],
+        ["catalogue", "forget", "c", "p"],
     ]
-    for ended in run_each(
-        archive,
-        [it if it[0] == "changed" else [*it[: 1 + (it[0] == "catalogue")], "c", *it[1 + (it[0] == "catalogue") :]] for it in commands],
-    ):
+    for ended in run_each(archive, commands):
         no_control(ended.check(0, 1, 2, 4))
     for name in ("page", "changes"):
         if (archive / name).exists():
