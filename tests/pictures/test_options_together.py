@@ -162,7 +162,7 @@ def rows(able, groups):
     return found
 
 
-KEPT = ("p", "q", "bag", "rules", "fields", "names", "block")
+KEPT = ("p", "q", "bag", "rules", "names")
 
 
 @pytest.fixture(scope="session")
@@ -189,9 +189,8 @@ def make(folder):
     done(f"index p --jobs 1 --catalogue .c --quiet{WHOLE}", folder)
     made_museum.put("q", first)
     put_bag(folder / "bag")
-    for name, text in (("rules", RULES), ("names", "p/work/retitled.jpg"), ("fields", "IFD0:Artist\n")):
+    for name, text in (("rules", RULES), ("names", "p/work/retitled.jpg")):
         (folder / name).write_text(text, encoding="utf-8")
-    (folder / "block").write_bytes(made_museum.BLOCKS["Overlap"])
 
 
 def fresh(folder):
