@@ -51,7 +51,7 @@ COMMANDS = (
 )
 
 
-OF_TEXTS = [it for it in COMMANDS if it[0] in ("list", "check", "merge", "relocate", "forget", "index")]  # others don't read these
+OF_TEXTS = [it for it in COMMANDS if it[0] in ("list", "check", "index") or it[1] in ("merge", "relocate", "forget")]  # others don't read these
 ROWS_OF = {
     "pictures": "WHERE rowid = 1",
     "texts": "WHERE picture = 1",

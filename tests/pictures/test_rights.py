@@ -100,10 +100,10 @@ def test_a_replaced_file_keeps_its_rights(called, catalogue, folder, words, mode
 
 def test_a_replaced_file_takes_no_list_from_its_folder(called, catalogue, folder):
     (folder / "out").touch()
-    assert called(*WRITING["export"])[0] == 0
+    assert called(*WRITING["catalogue export"])[0] == 0
     (folder / "out").chmod(0o640)
     subprocess.run(["setfacl", "-d", "-m", "u:4003:rwx", folder], check=True)
-    assert called(*WRITING["export"])[0] == 0
+    assert called(*WRITING["catalogue export"])[0] == 0
     assert ("the named user", "read") not in allowed(folder / "out")
 
 

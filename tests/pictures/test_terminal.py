@@ -31,7 +31,7 @@ COMMANDS = (
     "show p/ceramics/2003-12-bowl.jpg",
     "show --captions p",
     "check p --all",
-    "check p --ignore title",
+    "check p --rules rules",
     "explain p",
     "explain p/arrivals/IMG_20240502.jpg",
     "catalogue export c c.sqlite",
@@ -78,6 +78,7 @@ def samples(tmp_path_factory):
         shutil.copytree(os.path.join(TOP, "samples", side), folder / name)
     vase = (folder / "p" / "ceramics" / "1998-7-vase.jpg").read_bytes()
     write(str(folder / "q" / "ceramics" / "1998-7-vase.jpg"), vase[:-300])
+    write(str(folder / "rules"), b"every picture needs credit, rights end\nlabels agree except title\n")
     run(["exifnorm-pictures", "index", "p", "--catalogue", "c", "--pixels", "--quiet"], str(folder))
     return folder
 
