@@ -279,7 +279,7 @@ def test_forget(asked, folder):
     assert names_of(group["pictures"]) == ["c.jpg", "b.jpg"]
     assert [it["forgotten"] for it in asked("catalogue", "forget", "c", "p/c.jpg")] == [1]
     assert (folder / "p/c.jpg").exists()
-    asked("catalogue", "forget", "nothing", "p", status=4)
+    asked("catalogue", "forget", "nothing", "p", status=3)
     assert not (folder / "nothing").exists()
 
 
