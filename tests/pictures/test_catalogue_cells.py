@@ -51,7 +51,8 @@ COMMANDS = (
 )
 
 
-OF_TEXTS = [it for it in COMMANDS if it[0] in ("list", "check", "index") or it[1] in ("merge", "relocate", "forget")]  # others don't read these
+# Others don't read these
+OF_TEXTS = [it for it in COMMANDS if it[0] in ("list", "check", "index") or it[1] in ("merge", "relocate", "forget")]
 ROWS_OF = {
     "pictures": "WHERE rowid = 1",
     "texts": "WHERE picture = 1",
