@@ -38,7 +38,7 @@ def filter_times(program: str, whole: str, path: Path, folder: Path, rounds: int
 def memory(program: str, shim: str, block: bytes) -> Iterator[Tuple[str, float]]:
     """The most bytes that each command has allocated at once, over its input."""
     files = {"a": block, "b": block}
-    for words in ([], ["check", "a"], ["show", "a"], ["show", "--captions", "a"], ["normalise", "a", "OUT"], ["compare", "a", "b"]):
+    for words in ([], ["check", "a"], ["show", "a"], ["captions", "a"], ["normalise", "a", "OUT"], ["compare", "a", "b"]):
         case = Case("", words=words, files=files, input_from="" if words else "a")
         _, counts = watched(program, shim, case)
         inputs = 2 if "b" in words else 1

@@ -36,7 +36,7 @@ BOWL = "samples/{}/ceramics/2003-12-bowl.jpg"
 COMMANDS: Dict[str, List[str]] = {
     "--version": [],
     "show": [BOWL.format("before")],
-    "captions": [BOWL.format("before")],
+    "show --captions": [BOWL.format("before")],
     "compare": [BOWL.format("before"), BOWL.format("after")],
     "changed": ["before", "after"],
     "same": ["--catalogue", "before"],
@@ -121,7 +121,7 @@ def rows_of_folder(trees: Tuple[Tree, Tree], pictures: Path, rounds: int) -> Ite
 def rows(trees: Tuple[Tree, Tree], folder: Path, count: int, longest: int) -> Iterator[Tuple[str, int, int]]:
     """What was measured, in the other tree and in this one."""
     for command, words in COMMANDS.items():
-        yield (f"instructions of `{command}` on samples", *(it.instructions(command, *words) for it in trees))
+        yield (f"instructions of `{command}` on samples", *(it.instructions(*command.split(), *words) for it in trees))
     for name, most in (("short", 60), ("long", longest)):
         make_pictures(folder / name, count, most)
         words = ["index", str(folder / name), "--catalogue", "new", "--jobs", "1", "--quiet"]
