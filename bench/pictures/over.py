@@ -39,7 +39,7 @@ COMMANDS: Dict[str, List[str]] = {
     "show --captions": [BOWL.format("before")],
     "compare": [BOWL.format("before"), BOWL.format("after")],
     "changed": ["before", "after"],
-    "same": ["--catalogue", "before"],
+    "same": ["before"],
     "index": ["samples/before", "--catalogue", "new", "--jobs", "1", "--quiet"],
 }
 
