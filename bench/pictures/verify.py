@@ -45,7 +45,7 @@ def main() -> None:
         catalogue = os.path.join(folder, "catalogue")
         seconds([*command, "index", *names, "--catalogue", catalogue, "--pixels", "--quiet"], {})
         commands = {
-            "verify": [*command, "verify", *names, "--catalogue", catalogue, "--jobs", "1"],
+            "verify": [*command, "verify", catalogue, *names, "--jobs", "1"],
             "sha256sum": ["sha256sum", *names],
             "openssl dgst -sha256": ["openssl", "dgst", "-sha256", *names],
         }
