@@ -371,7 +371,7 @@ def test_a_program_that_is_killed_has_no_answer():
 
 
 def test_a_program_has_no_more_memory_than_this_process(monkeypatch):
-    monkeypatch.setattr(programs.resource, "getrlimit", lambda _: (300 << 20, 400 << 20))
+    monkeypatch.setattr("resource.getrlimit", lambda _: (300 << 20, 400 << 20))
     with pytest.raises(programs.Failed, match=" 300 MB"):
         programs.run([tool_path("perl"), "-e", '$x = "a" x 4e8'], 60)
 
