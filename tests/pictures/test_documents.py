@@ -1,5 +1,5 @@
 """The examples of the manual pages of the commands, with what they print, and those in the modules. The page of refusals is that of the
-program's own texts, and the manual page has each option and status."""
+program's own texts, and the manual page has each option."""
 
 import doctest
 import hashlib
@@ -90,17 +90,7 @@ class Documents(WithPictures):
         commands = parser.parsers()[1]
         options = {word for it in commands.values() for one in it._actions for word in one.option_strings} | {"--version"}
         self.assertEqual(set(re.findall(r"(?<![\w-])--[a-z][a-z-]*[a-z]", page)), {it for it in options if it.startswith("--")})
-        self.assertEqual(re.findall(r'(?m)^\.TP\n\.BI "(\w+) ', page), [*commands])
-
-    def test_statuses_of_the_manual_page(self):
-        """It and --help have the same ones, and name the same commands at 1 and 2."""
-        whole, commands = parser.parsers()
-        page = read(os.path.join(TOP, "docs", "exifnorm-pictures.1")).decode().partition(".SH EXIT STATUS\n")[2].partition(".SH ")[0]
-        parts = re.split(r"(?m)^\.TP\n\.B (\d+)\n", page)
-        stated = {number: set(re.findall(r"\w+", text)) & set(commands) for number, text in zip(parts[1::2], parts[2::2])}
-        helps = {name: re.findall(r"(?m)^  (\d+)  ", it.format_help().partition("\nStatuses:")[2]) for name, it in commands.items()}
-        self.assertEqual([*stated], re.findall(r"(?m)^  (\d+)  ", whole.format_help().partition("\nStatuses:")[2]))
-        self.assertEqual([stated[it] for it in "12"], [{name for name, numbers in helps.items() if it in numbers} for it in "12"])
+        self.assertEqual(re.findall(r'(?m)^\.TP\n\.BI "([a-z ]+) ', page), [*commands])
 
     def test_each_command_has_statuses(self):
-        self.assertEqual([*statuses.STATUSES], [*parser.parsers()[1]])
+        self.assertEqual({*statuses.STATUSES}, {*parser.parsers()[1]})
