@@ -157,16 +157,16 @@ def test_two_merged_are_one_and_twice_is_once(pictures, in_archive):
         archive.lines(f"index p/{part} --jobs 1 --catalogue {part}.c --quiet --pixels")
     others = [f"p/{part.name}" for part in (archive.folder / "p").iterdir() if part.name not in ("0", "1")]
     archive.lines(f"index {' '.join(others)} --jobs 1 --catalogue 1.c --quiet --pixels") if others else None
-    archive.lines("merge 0.c 1.c --catalogue merged")
-    asked = [
-        f"{it} --catalogue"
-        for it in ("same", "same --kind pixels", "list --columns title,creator", "conflicts", "show --captions --csv", "report --json")
-    ]
-    found = {line: archive.lines(f"{line} whole") for line in asked}
-    assert {line: archive.lines(f"{line} merged") for line in asked} == found
+    archive.lines("catalogue merge 0.c 1.c --catalogue merged")
+    asked = (
+        *("same {}", "same --kind pixels {}", "list {} --columns title,creator", "check {}"),
+        *("show --captions --csv {}", "report --json {}"),
+    )
+    found = {line: archive.lines(line.format("whole")) for line in asked}
+    assert {line: archive.lines(line.format("merged")) for line in asked} == found
     (summary,) = archive.objects("index p --jobs 1 --catalogue whole --quiet")[-1:]
     assert {*summary["counts"]} == {"unchanged"}, summary
-    assert {line: archive.lines(f"{line} whole") for line in asked} == found
+    assert {line: archive.lines(line.format("whole")) for line in asked} == found
 
 
 @needs("exiftool")

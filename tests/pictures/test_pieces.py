@@ -2,6 +2,7 @@
 
 import contextlib
 import os
+import resource
 import sqlite3
 import subprocess
 from types import SimpleNamespace
@@ -260,11 +261,11 @@ class Sessions(WithPictures):
         with contextlib.ExitStack() as mocks:
             libc = mocks.enter_context(mock.patch.object(programs, "_libc"))
             mask = mocks.enter_context(mock.patch.object(programs.signal, "pthread_sigmask"))
-            limit = mocks.enter_context(mock.patch.object(programs.resource, "setrlimit"))
+            limit = mocks.enter_context(mock.patch.object(resource, "setrlimit"))
             begin()
         self.assertEqual(libc.mock_calls, [mock.call.prctl(1, 9)])  # PR_SET_PDEATHSIG, SIGKILL
         ((which, (soft, _)), _) = limit.call_args
-        self.assertTrue(which == programs.resource.RLIMIT_AS and 0 < soft <= 1 << 30, (which, soft))
+        self.assertTrue(which == resource.RLIMIT_AS and 0 < soft <= 1 << 30, (which, soft))
         self.assertEqual(
             mask.mock_calls, [mock.call(programs.signal.SIG_SETMASK, programs.signal.pthread_sigmask(programs.signal.SIG_BLOCK, ()))]
         )
