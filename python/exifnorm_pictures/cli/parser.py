@@ -367,7 +367,7 @@ def _changed_arguments(parser: argparse.ArgumentParser) -> None:
     _example(parser, "changed last.catalogue archive.catalogue")
     _path(parser, "before", "BEFORE", "a catalogue or a folder")
     _path(parser, "after", "AFTER", "a catalogue or a folder")
-    _path(parser, "more", "CATALOGUE", "a further catalogue, with --picture", nargs="*")
+    _path(parser, "more", "CATALOGUE", "a further catalogue, with --picture", nargs="*", default=[])
     words = "what changed in one picture from catalogue to catalogue, even if it moved"
     _path(parser, "--picture", "PATH", words)
     _flag(parser, "--each", "list each picture with its fields, in place of the summary")
