@@ -47,7 +47,7 @@ GIVEN = {
     "changed": ["c", "c"],
     "compare": ["p/a.jpg", "p/a.jpg"],
     "list": ["c", "--where", "title = x"],
-    "check": ["rules", "c"],
+    "check": ["c", "--rules", "rules"],
     "nightly": ["p", "--catalogue", "c", "--rules", "rules"],
     "show": ["p/a.jpg"],
     "explain": ["p/a.jpg"],

@@ -31,7 +31,7 @@ from exifnorm_pictures.cli.main import main
 commands, ended = json.loads(sys.argv[1]), []
 for name in {words[words[0] == "catalogue"] for words in commands}:
     if name.isalpha():
-        importlib.import_module("exifnorm_pictures.cli." + name)  # once for all of them
+        importlib.import_module("exifnorm_pictures.cli.commands." + name)  # once for all of them
 for number, words in enumerate(commands):
     process = fork()
     if not process:

@@ -264,8 +264,8 @@ def test_index_list_and_report(archives, asked, checks, folder):
     listed, in_list = asked("list", "after.catalogue", "--json")[1], asked("list", "after.catalogue")[1]
     objects = {it["path"].rpartition("/")[2]: it["damage"] for it in map(json.loads, listed) if "path" in it}
     (folder / "rules").write_text("every picture needs credit\n")
-    broken = [json.loads(it) for it in asked("check", str(folder / "rules"), "after.catalogue", "--json")[1]]
-    in_check = asked("check", str(folder / "rules"), "after.catalogue")[1]
+    broken = [json.loads(it) for it in asked("check", "after.catalogue", "--rules", str(folder / "rules"), "--json")[1]]
+    in_check = asked("check", "after.catalogue", "--rules", str(folder / "rules"))[1]
     report = [json.loads(it) for it in asked("report", "after.catalogue", "--json", "--no-look", "--html", str(folder / "page.html"))[1]]
     page = (folder / "page.html").read_text()
     for case in CASES:
@@ -348,12 +348,12 @@ def test_only_what_may_be_behind_the_cut(asked, checks, words):
 def test_rules(asked, checks, folder, rule):
     """A keyword that may be behind a cut breaks no rule, and keeps none: such a picture is counted, and the status is 2."""
     (folder / "rules").write_text(rule + "\n")
-    status, lines = asked("check", str(folder / "rules"), "after.catalogue", "--json")
+    status, lines = asked("check", "after.catalogue", "--rules", str(folder / "rules"), "--json")
     *broken, summary = map(json.loads, lines)
     for it in broken:
         case = it["path"].rpartition("/")[2]
         checks.equal(f"{rule}: {case}", it["text"] or ("iptc" not in lost(*CASES[case]) or None), it["text"] or True)
     open_ones = [case for case, it in CASES.items() if "iptc" in lost(*it)]
     assert status == 2 and summary["not_known"] >= len(open_ones) > 50
-    text = asked("check", str(folder / "rules"), "after.catalogue")[1]
+    text = asked("check", "after.catalogue", "--rules", str(folder / "rules"))[1]
     assert f"{summary['not_known']:,} pictures may break more rules" in "\n".join(text)

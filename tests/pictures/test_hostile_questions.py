@@ -170,7 +170,7 @@ def test_rules_that_are_no_regular_file(archive, called):
     os.symlink("nowhere", archive / "link")
     os.symlink("loop", archive / "loop")
     for name in ("pipe", "/dev/zero", "p", "link", "loop", "c"):
-        status, printed, messages = called("check", name, "c")
+        status, printed, messages = called("check", "c", "--rules", name)
         assert status in (3, 4) and not printed and len(messages.splitlines()) == 1, (name, messages)
 
 

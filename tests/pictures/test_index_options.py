@@ -161,7 +161,7 @@ def test_a_night_that_was_stopped_takes_no_note_with_it(step, option, folder, ca
     run = ("nightly", "p", "--catalogue", "c")
     called(*run)
     with monkeypatch.context() as stopped:
-        stopped.setattr(f"exifnorm_pictures.cli.{step}", mock.Mock(side_effect=KeyboardInterrupt))
+        stopped.setattr(f"exifnorm_pictures.cli.commands.{step}", mock.Mock(side_effect=KeyboardInterrupt))
         notes = called(*run, option)[2]
     assert f"by {option}" in notes + called(*run, option)[2]
 

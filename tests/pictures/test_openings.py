@@ -36,7 +36,7 @@ CALLS = {
     "changed": [("p", "q", "--pixels"), ("c", "q")],
     "compare": [(it, "q/a.jpg") for it in EACH[:3]],
     "list": [("p",), ("p", "--with", "damage")],
-    "check": [("rules", "p")],
+    "check": [("p", "--rules", "rules")],
     "nightly": [("p", "--catalogue", "new", "--pixels")],
     "show": [EACH, *(("--captions", *it) for it in (EACH, ("p",), ("c",), ("p/a.jpg", "--csv")))],
     "explain": [EACH],

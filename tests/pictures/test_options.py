@@ -77,7 +77,7 @@ def test_each_option_is_looked_at(command, archive, capsys, monkeypatch):
     arguments = type("Recorded", (argparse.Namespace,), {})(**given, session=Session(), least=Least())
     for kind in (type(arguments), Files, Fields, Output, Run):
         recorded(kind, read, monkeypatch)
-    importlib.import_module(f"exifnorm_pictures.cli.{command.split()[-1]}").run(arguments)
+    importlib.import_module(f"exifnorm_pictures.cli.commands.{command.split()[-1]}").run(arguments)
     assert accepted <= read, "an option of this command is never looked at"
 
 
@@ -136,7 +136,7 @@ def test_a_traceback_of_each_command(command, option, archive, called, monkeypat
         raise RuntimeError("broken here")
 
     monkeypatch.delenv("EXIFNORM_DEBUG", raising=False)
-    monkeypatch.setattr(importlib.import_module(f"exifnorm_pictures.cli.{command.split()[-1]}"), "run", fail)
+    monkeypatch.setattr(importlib.import_module(f"exifnorm_pictures.cli.commands.{command.split()[-1]}"), "run", fail)
     for words, has_traceback in (((), False), ((option,), True)):
         status, printed, messages = called(*command.split(), *COMMANDS[command], *words)
         assert (status, printed) == (4, "") and "broken here" in messages
@@ -148,7 +148,7 @@ def test_the_time_limit_of_each_command(command, option, archive, called, monkey
     """It is that of the session, in which the programs run."""
     limits = []
     monkeypatch.setattr(
-        importlib.import_module(f"exifnorm_pictures.cli.{command.split()[-1]}"),
+        importlib.import_module(f"exifnorm_pictures.cli.commands.{command.split()[-1]}"),
         "run",
         lambda arguments: limits.append(arguments.session.seconds) or 0,
     )

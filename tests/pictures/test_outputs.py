@@ -82,7 +82,7 @@ from exifnorm_pictures.cli.main import main
 import exifnorm_pictures.catalogue.store, exifnorm_pictures.scan.looking
 for line in sys.stdin:
     folder, words, setup = json.loads(line)
-    importlib.import_module("exifnorm_pictures.cli." + words[words[0] == "catalogue"])
+    importlib.import_module("exifnorm_pictures.cli.commands." + words[words[0] == "catalogue"])
     pipes = [os.pipe() for _ in "oe"]  # no command prints more than a pipe has room for
     process = os.fork()
     if not process:
