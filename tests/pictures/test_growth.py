@@ -16,6 +16,7 @@ import shutil
 from collections import Counter
 
 import pytest
+from formats_page import WORDS
 from growing import FOLDERS, FORMATS as MAKERS, IN_EACH_FORMAT, KINDS, OF_SHARED, OTHERS, Whole
 from work import COUNTED, Work
 
@@ -248,8 +249,8 @@ def test_pictures_of_a_format(name, growth, counting, start, folder, is_long):
 
     size = growth.long if is_long else growth.short
     is_first = is_long or name == FIRST
-    format = next(it for it in FORMATS if it.name == name)
-    has = {kind for kind, places in zip(KINDS, (format.exif, format.iptc, format.xmp)) if places}
+    places = WORDS[name]
+    has = {kind for kind, where in zip(KINDS, (places.exif, places.iptc, places.xmp)) if where}
     expected = {kind: count for kind, count in growth.make(size, b"qa").texts.items() if kind in has}
     if name == "NAME.xmp" and growth.make.__name__ == "of_packets":
         expected = {"xmp": 1}  # the file is the packet

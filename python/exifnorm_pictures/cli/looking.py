@@ -143,7 +143,7 @@ def catalogue_of_pictures(names: Sequence[bytes], run: Run) -> ContextManager[Ca
 
 def is_picture(name: bytes) -> bool:
     """Whether a name is that of a file which is no catalogue."""
-    return os.path.isfile(name) and not is_catalogue(os.fsdecode(name))
+    return os.path.isfile(name) and not is_catalogue(os.fsdecode(name), decides=True)
 
 
 def keep_texts(name: str, run: Run) -> None:

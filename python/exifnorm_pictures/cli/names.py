@@ -67,8 +67,9 @@ def is_list(files: Files) -> bool:
     return bool(files.files_from) or len(set(files.names)) > 1
 
 
-def is_catalogue(name: str) -> bool:
-    """Whether a name is that of a file of SQLite, such as a catalogue, or of a folder of catalogues."""
+def is_catalogue(name: str, decides: bool = False) -> bool:
+    """Whether a name is that of a file of SQLite, such as a catalogue, or of a folder of catalogues. A file that can't be read is none;
+    if this decides what a command does, it raises OSError."""
     if os.path.isdir(name):
         from ..catalogue import shards  # which takes long to import, and most names are those of files
 
@@ -76,7 +77,9 @@ def is_catalogue(name: str) -> bool:
     try:
         with reading(os.fsencode(name)) as file:
             return file.read(16) == b"SQLite format 3\0"
-    except OSError:
+    except OSError as error:
+        if decides and os.path.lexists(name):
+            raise OSError(error.errno, error.strerror, os.fsencode(name)) from None
         return False
 
 

@@ -3,7 +3,7 @@
 from __future__ import annotations
 
 import argparse
-from typing import TYPE_CHECKING, NamedTuple, Optional, Sequence, Type, TypeVar
+from typing import TYPE_CHECKING, NamedTuple, Optional, Sequence, TypeVar
 
 from ..files.session import Session
 from ..model.budgets import PROGRAM_SECONDS
@@ -69,7 +69,7 @@ class Run(NamedTuple):
 Group = TypeVar("Group", Files, Fields, Output, Run)
 
 
-def group_of(kind: Type[Group], arguments: argparse.Namespace) -> Group:
+def group_of(kind: type[Group], arguments: argparse.Namespace) -> Group:
     """A group of the options of a command. Those that the command lacks are as if they weren't given.
 
     >>> group_of(Output, argparse.Namespace(json=True, columns="title"))

@@ -28,8 +28,9 @@ def settle_first(files: Files) -> tuple[str, Files]:
         return files.catalogue, files
     if not files.names:
         refuse(files.command, f"give a catalogue: exifnorm-pictures {_line(files.command, files.names)}")
-    if not is_catalogue(files.names[0]):
-        raise WrongUse(_why(files.command, files.names[0]) + f". Write: exifnorm-pictures {_line(files.command, files.names)}")
+    if not is_catalogue(files.names[0], decides=True):
+        why = _why(files.command, files.names[0])
+        raise WrongUse(f"{why}. Write: exifnorm-pictures {_line(files.command, files.names)}")
     return files.names[0], files._replace(names=files.names[1:])
 
 

@@ -15,7 +15,7 @@ from __future__ import annotations
 import difflib
 import re
 from dataclasses import dataclass
-from typing import Callable, Iterable, Iterator, Optional, Sequence, Type, Union
+from typing import Callable, Iterable, Iterator, Optional, Sequence, Union
 
 from ..model.errors import WrongUse
 from ..model.texts import safe
@@ -211,7 +211,7 @@ class _Reader(Reader):
     def _read_any(self) -> Question:
         return self._read_joined("or", Any, lambda: self._read_joined("and", All, self._read_factor))
 
-    def _read_joined(self, word: str, joined: "Type[Union[All, Any]]", read: Callable[[], Question]) -> Question:
+    def _read_joined(self, word: str, joined: "type[Union[All, Any]]", read: Callable[[], Question]) -> Question:
         questions = [read()]
         while self._takes(word):
             questions.append(read())

@@ -4,7 +4,7 @@ A field that is a column is declared as `Annotated[type, "what it is"]`, or with
 """
 
 from operator import itemgetter
-from typing import Any, Callable, Generic, Iterable, NamedTuple, Type, TypeVar, get_args
+from typing import Any, Callable, Generic, Iterable, NamedTuple, TypeVar, get_args
 
 
 class Damaged(Exception):
@@ -32,7 +32,7 @@ Record = TypeVar("Record", bound=tuple[Any, ...])
 class Columns(Generic[Record]):
     """The columns of a record, in order: its fields up to the last one that is declared as a column. The others have defaults."""
 
-    def __init__(self, record: Type[Record], first: Iterable[str] = (), last: Iterable[str] = ()) -> None:
+    def __init__(self, record: type[Record], first: Iterable[str] = (), last: Iterable[str] = ()) -> None:
         """`first` and `last` are further definitions in SQL, each with what it is after `--`."""
         declared: dict[str, Any] = {name: kind for name, kind in record.__annotations__.items() if hasattr(kind, "__metadata__")}
         about = [(name, kind, more) for name, kind in declared.items() for more in kind.__metadata__]  # of which each has one

@@ -7,7 +7,7 @@ import threading
 from collections import deque
 from concurrent.futures import Future, ThreadPoolExecutor
 from itertools import chain, islice
-from typing import Deque, Iterable, Iterator, Optional
+from typing import Iterable, Iterator, Optional
 
 from ..catalogue.store import Catalogue
 from ..files import opening
@@ -50,7 +50,7 @@ def _hashed(work: Iterator[FoundFile], threads: int) -> Iterator[tuple[FoundFile
     if threads == 1 or len(begin) < 2:
         yield from ((file, digest(file.path)) for file in files)
         return
-    waiting: "Deque[tuple[FoundFile, Future[str]]]" = deque()
+    waiting: "deque[tuple[FoundFile, Future[str]]]" = deque()
     is_stopped = threading.Event()
     with ThreadPoolExecutor(threads) as pool:
         try:

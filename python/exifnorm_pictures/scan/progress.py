@@ -5,7 +5,7 @@ from __future__ import annotations
 import sys
 import time
 from collections import deque
-from typing import Deque, Optional, TextIO
+from typing import Optional, TextIO
 
 from ..files.signals import drop
 
@@ -40,7 +40,7 @@ class Progress:
         self.last = 0.0
         self.is_shown = False  # whether a line that will change is on the terminal
         self._is_over = False  # whether the last line was printed
-        self._reports: Deque[tuple[float, int]] = deque()  # when how many were done, the newest last
+        self._reports: deque[tuple[float, int]] = deque()  # when how many were done, the newest last
 
     def start(self) -> None:
         """Shows on a terminal that a run has begun."""

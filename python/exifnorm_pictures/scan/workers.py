@@ -15,7 +15,7 @@ from concurrent.futures import Future, ProcessPoolExecutor, wait
 from concurrent.futures.process import BrokenProcessPool
 from contextvars import ContextVar
 from multiprocessing import util
-from typing import Deque, Iterable, Iterator, Mapping, NamedTuple, Sequence, Union
+from typing import Iterable, Iterator, Mapping, NamedTuple, Sequence, Union
 
 from ..extract import programs
 from ..files import signals
@@ -58,7 +58,7 @@ class Task(NamedTuple):
 def in_several_processes(work: Iterable[FoundFile], how: How) -> Iterator[Result]:
     """The results for these files. If no process can be started, this one looks at them."""
     files = iter(work)
-    waiting: Deque[FoundFile] = deque()  # those that are taken, and have no result yet
+    waiting: deque[FoundFile] = deque()  # those that are taken, and have no result yet
 
     def taken() -> Iterator[FoundFile]:
         for file in files:
@@ -144,7 +144,7 @@ def _begin(how: How, parent: int, mask: set[int]) -> None:
 
 def _by_processes(chunks: Iterator[Sequence[FoundFile]], how: How, files: Iterator[str], unfinished: list[Task]) -> Iterator[Result]:
     """The results of several processes. If one of them dies, the tasks that have no result are left in `unfinished`, without files."""
-    waiting: "Deque[Future[Union[Batch, Few]]]" = deque()  # in the order of `unfinished`, which has a task before it is given to the pool
+    waiting: "deque[Future[Union[Batch, Few]]]" = deque()  # in the order of `unfinished`, which has a task before it is given to the pool
     pool = _pool(how, how.processes)
     try:
         while True:

@@ -6,7 +6,7 @@ import argparse
 import os
 import shlex
 from collections import Counter
-from typing import Iterator, Optional, Sequence, Type
+from typing import Iterator, Optional, Sequence
 
 from ...extract import programs
 from ...files import atomic
@@ -74,7 +74,7 @@ def _mend_one(
     try:
         mended = mend.mend(picture, out, session, folder, lossless)
     except (mend.NotWritten, programs.Failed, programs.Missing, TooMuch) as error:
-        names: dict[Type[Exception], str] = {mend.NotWritten: "NotWritten", TooMuch: Problem.TOO_MUCH, programs.TooSlow: Problem.TOO_SLOW}
+        names: dict[type[Exception], str] = {mend.NotWritten: "NotWritten", TooMuch: Problem.TOO_MUCH, programs.TooSlow: Problem.TOO_SLOW}
         names.update({programs.Missing: Problem.NEEDS_EXIFTOOL, mend.NeedsExifTool: Problem.NEEDS_EXIFTOOL})
         problem = names.get(type(error), Problem.TOOL_FAILED)
         line = f"{shown_path(picture)}: {atomic.not_written(shown_path(out), error)}"

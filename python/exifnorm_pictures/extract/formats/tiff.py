@@ -11,7 +11,7 @@ import contextlib
 import hashlib
 import itertools
 from collections import deque
-from typing import Deque, Iterable, Iterator, NamedTuple
+from typing import Iterable, Iterator, NamedTuple
 
 from exifnorm import LIMIT
 
@@ -122,7 +122,7 @@ class Reader:
 
     def _below(self, page: Directory, part: str) -> Iterator[Page]:
         """The SubIFDs of a page, each with those that follow it and those below it."""
-        waiting: Deque[_Place] = deque(self._named(page, part))
+        waiting: deque[_Place] = deque(self._named(page, part))
         while waiting:
             at, name, number = waiting.popleft()
             directory = self._read(at)
