@@ -65,15 +65,15 @@ def boxes(stream: Stream, start: int, end: int, is_file: bool = False) -> Iterat
         at += length
 
 
-def boxes_to_fault(stream: Stream) -> tuple[list[Box], Optional[Broken]]:
-    """The boxes of a file up to the first fault, and that. Raises `TooMuch`."""
+def boxes_to_fault(stream: Stream) -> tuple[list[Box], str]:
+    """The boxes of a file up to the first fault, and the text of that. Raises `TooMuch`."""
     every: list[Box] = []
     try:
         for box in boxes(stream, 0, size_of(stream), is_file=True):
             every.append(box)
     except Broken as fault:
-        return every, fault
-    return every, None
+        return every, str(fault)
+    return every, ""
 
 
 def boxes_of_file(blocks: Blocks, stream: Stream, is_whole: Callable[[set[bytes]], bool]) -> list[Box]:
@@ -82,9 +82,9 @@ def boxes_of_file(blocks: Blocks, stream: Stream, is_whole: Callable[[set[bytes]
     every, fault = boxes_to_fault(stream)
     is_picture = is_whole({it.kind for it in every})
     if fault and not is_picture:
-        raise fault
+        raise Broken(fault)
     if fault:
-        _leave_rest(blocks, stream, every[-1].end, str(fault))
+        _leave_rest(blocks, stream, every[-1].end, fault)
     elif not is_picture:
         raise Broken("the file has no picture" if any(it.kind in _PIXELS for it in every) else f"{CUT}before its picture")
     return every
