@@ -60,6 +60,10 @@ if not TYPE_CHECKING:  # a type checker would take any name for one of these
         from importlib import import_module
 
         found = globals()[name] = getattr(import_module(f"exifnorm_pictures.{_MODULES.get(name, 'api')}"), name)
+        if name == "Caption":  # commands import its module without this package, which takes long
+            from ._words import documented
+
+            documented(found)
         return found
 
 

@@ -60,7 +60,7 @@ COMMANDS = (
     "list C --with damage --columns damage",
     "list C --where title=x",
     "check --rules rules C",
-    "check one C",
+    "check --rules one C",
     "changed --picture /archive/one/00000016.jpg C D",
     "changed --picture /archive/one/00000017.jpg C D",
     "show --captions C --json",
@@ -188,7 +188,7 @@ def test_a_part_that_does_not_count_costs_three_times_as_much(works):
 
 
 def test_twenty_texts_of_a_rule_that_no_picture_has_cost_little_more_than_one(works):
-    one, twenty = (works[f"check {name} C", SIZES[1]].steps for name in ("one", "rules"))
+    one, twenty = (works[f"check --rules {name} C", SIZES[1]].steps for name in ("one", "rules"))
     assert twenty <= 1.5 * one, (one, twenty)
 
 
