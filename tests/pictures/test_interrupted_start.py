@@ -48,7 +48,7 @@ def test_a_query_that_is_open_when_python_ends(folder, monkeypatch):
             rows.close()
 
 
-def test_what_a_signal_raised_is_gone_before_python_ends():
+def test_what_a_signal_raised_is_gone_before_python_ends(monkeypatch):
     """With all that it knows, as a pool of processes, whose functions need modules that Python removes."""
 
     class Pool:
@@ -59,6 +59,7 @@ def test_what_a_signal_raised_is_gone_before_python_ends():
         seen.append(weakref.ref(pool))
         signal.raise_signal(signal.SIGHUP)
 
+    monkeypatch.setattr(signals, "_stopped", None)  # and again after the test, for the next ones in this process
     seen, hook = [], sys.unraisablehook
     before = {it: signal.getsignal(it) for it in signals._HEEDED}
     signal.signal(signal.SIGHUP, signal.SIG_DFL)
