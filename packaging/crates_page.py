@@ -8,6 +8,7 @@ from pathlib import Path
 
 CRATES = Path(__file__).resolve().parent.parent / "crates"
 LIST = CRATES.parent / "crates.txt"
+READING = CRATES.parent / "docs" / "READING.md"
 USED = re.compile(r"(?m)^(?:pub )?use Rattle\.(px_\w+)\.specs\.([A-Z]\w*)\b")
 # from the ground up
 GROUPS = {
@@ -67,14 +68,21 @@ def definitions(crate: str) -> list[Path]:
     return ordered
 
 
+def of_headline(crate: str) -> list[str]:
+    """The files of definitions that READING lists for the headline."""
+    listed = re.search(rf"(?m)^\| {crate} \| (.*) \|$", READING.read_text(encoding="utf-8"))
+    return re.findall(r"`(\w+)`", listed[1]) if listed else []
+
+
 def section(crate: str, uses: str) -> str:
     """What the page has of a crate."""
     (root,) = [it for name in ("lib.rt", "main.rt") if (it := CRATES / crate / "src" / name).exists()]
-    source, files = root.read_text(encoding="utf-8"), definitions(crate)
+    source, files, first = root.read_text(encoding="utf-8"), definitions(crate), of_headline(crate)
     lines = sum(len(it.read_text(encoding="utf-8").splitlines()) for it in files)
     rows = [
         ("Uses", uses.split()),
         ("Exports", [f"`{it}`" for it in exported(source)]),
+        ("Definitions of the headline", [f"`{it}`" for it in first]),
         (f"Definitions, {lines} lines", [f"`{it.stem}`" for it in files]),
     ]
     listed = "".join(f"- {title}: {', '.join(names)}\n" for title, names in rows if names)

@@ -1,8 +1,8 @@
 #!/usr/bin/env python3
 """Writes the version and the lists of causes of blocks and of packets in exifnorm.h.
 
-The version is px_engine's. The causes and what they mean are those of px_bytes and of px_xmp_forms,
-and their numbers those of px_bytes and of px_c.
+The version is px_engine's. The causes, what they mean and their numbers are those of px_bytes and of
+px_xmp_forms.
 
   packaging/header.py            writes them into the header
   packaging/header.py --check    ends with 1 if the header has others
@@ -20,10 +20,10 @@ VERSION = CRATES / "px_engine" / "src" / "version.rt"
 MACROS = re.compile(r'#define EXIFNORM_VERSION ".*"\n(?:#define EXIFNORM_VERSION_[A-Z]+ \d+\n){3}')
 MEMBER = re.compile(r"((?:    /// .*\n)+)    (\w+),\n")
 NUMBER = re.compile(r"Cause::(\w+) => (\d+),")
-# of each list how its names begin, the source with the causes, and the one with their numbers
+# of each list how its names begin, and the source with the causes
 LISTS = (
-    ("EXIFNORM_CAUSE", "px_bytes/src/causes.rt", "px_bytes/src/causes.rt"),
-    ("EXIFNORM_XMP", "px_xmp_forms/src/faults.rt", "px_c/src/xmp.rt"),
+    ("EXIFNORM_CAUSE", "px_bytes/src/causes.rt"),
+    ("EXIFNORM_XMP", "px_xmp_forms/src/faults.rt"),
 )
 
 
@@ -49,11 +49,11 @@ def meaning(comment: str) -> str:
     return f"/* {plain[0].lower()}{plain[1:]} */"
 
 
-def members(begins: str, source: str, numbered: str) -> str:
+def members(begins: str, source: str) -> str:
     """The members of a list of the header."""
     declared = re.search(r"pub enum Cause \{\n(.*?)\n\}", source, re.S)
     causes = MEMBER.findall(declared[1] + "\n" if declared else "")
-    numbers = dict(NUMBER.findall(numbered))
+    numbers = dict(NUMBER.findall(source))
     lines = [f"    {name_in_c(begins, name)} = {numbers[name]}," for _, name in causes]
     lines[-1] = lines[-1].rstrip(",")
     width = max(map(len, lines))
@@ -78,10 +78,10 @@ def macros(source: str) -> str:
 def printed(header: str) -> str:
     """The header with the printed parts as they must be."""
     parts = [(MACROS, macros(VERSION.read_text(encoding="utf-8")))]
-    for begins, source, numbered in LISTS:
-        texts = [(CRATES / it).read_text(encoding="utf-8") for it in (source, numbered)]
+    for begins, source in LISTS:
+        text = (CRATES / source).read_text(encoding="utf-8")
         listed = re.compile(rf"(?<=enum \{{\n)    {begins}_TOO_LONG = .*?(?=\}};\n)", re.S)
-        parts.append((listed, members(begins, *texts)))
+        parts.append((listed, members(begins, text)))
     for pattern, part in parts:
         header, count = pattern.subn(lambda _: part, header)
         if count != 1:

@@ -10,7 +10,7 @@ from typing import Dict, Tuple
 
 from ._errors import LIMIT
 
-_TOUCH = (
+TOUCH = (
     "`exifnorm-pictures mend`, which repairs the block and keeps the rest of the file. By hand let ExifTool add a field and remove it: it then"
     " lays the block out again"
 )
@@ -34,7 +34,7 @@ OF_BLOCKS: Dict[str, Tuple[str, str]] = {
     ),
     "Loop": (
         "An offset leads to a directory that was already read: following the offsets would never end.",
-        _TOUCH + " without the second pointer.",
+        TOUCH + " without the second pointer.",
     ),
     "DirectoryOutside": (
         "A directory is not completely inside the block.",
@@ -43,10 +43,10 @@ OF_BLOCKS: Dict[str, Tuple[str, str]] = {
     ),
     "EmptyDirectory": (
         "A directory has no entry.",
-        _TOUCH + " without the empty directory (4 of 6). If that doesn't help, use the rebuild.",
+        TOUCH + " without the empty directory (4 of 6). If that doesn't help, use the rebuild.",
     ),
-    "Overlap": ("Two parts of the block share bytes.", _TOUCH + " with a copy for each value (7 of 8; all 12 of exiv2, all 69 of piexif)."),
-    "Unsorted": ("The tags of a directory don't ascend.", _TOUCH + " in order (8 of 10); the rebuild did the other two."),
+    "Overlap": ("Two parts of the block share bytes.", TOUCH + " with a copy for each value (7 of 8; all 12 of exiv2, all 69 of piexif)."),
+    "Unsorted": ("The tags of a directory don't ascend.", TOUCH + " in order (8 of 10); the rebuild did the other two."),
     "Doubled": (
         "A directory has a tag twice.",
         "`exifnorm-pictures mend`, which keeps the first of the two, or ExifTool's rebuild (4 of 4). Look at both values "
@@ -54,7 +54,7 @@ OF_BLOCKS: Dict[str, Tuple[str, str]] = {
     ),
     "UnknownType": (
         "A field has an unknown type.",
-        _TOUCH + ", if it knows the field. Otherwise use the rebuild, which leaves the field out.",
+        TOUCH + ", if it knows the field. Otherwise use the rebuild, which leaves the field out.",
     ),
     "MisplacedOffset": (
         "A field has offsets of data outside the directory that aren't followed here.",
@@ -64,7 +64,7 @@ OF_BLOCKS: Dict[str, Tuple[str, str]] = {
     ),
     "PointerForm": (
         "A pointer, or an offset or length of the thumbnail, is not a LONG with a count of 1.",
-        _TOUCH + " with a LONG (1 of 1).",
+        TOUCH + " with a LONG (1 of 1).",
     ),
     "ValueOutside": (
         "A value passes the end of the block.",
@@ -73,7 +73,7 @@ OF_BLOCKS: Dict[str, Tuple[str, str]] = {
     ),
     "ThumbnailPair": (
         "The offset or the length of the thumbnail is missing, or the lists of strips differ in length.",
-        _TOUCH + " without the incomplete pair. Otherwise use the rebuild. `exiftool '-ThumbnailImage<=small.jpg'` writes a new thumbnail.",
+        TOUCH + " without the incomplete pair. Otherwise use the rebuild. `exiftool '-ThumbnailImage<=small.jpg'` writes a new thumbnail.",
     ),
     "ExtraDirectory": (
         "A further directory follows the thumbnail directory.",

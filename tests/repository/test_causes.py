@@ -1,7 +1,6 @@
 """Each cause of a refusal is named wherever it must be: this test prints the places that lack one.
 
-The compiler asks for the other places in the crates. header.py, names.py and refusals/causes.py print
-the rest.
+The compiler asks for the other places in the crates. header.py, names.py and pages.py print the rest.
 """
 
 from __future__ import annotations
@@ -31,11 +30,10 @@ def variants(path: str, name: str) -> list[str]:
 def places() -> Iterator[tuple[str, list[str], list[str]]]:
     """Each place with the names that it must have, in their order, and with those that it has."""
     blocks = variants("crates/px_bytes/src/causes.rt", "Cause")
-    (checks,) = found("docs/FORMAT.md", r"(?s)^## 5\. (.*?)^## ")
-    yield "docs/FORMAT.md, 5", blocks, re.findall(r"(?m)^\| (?!Cause )(\w+) \|", checks)
     yield "OF_BLOCKS in exifnorm/_causes.py", blocks, [*_causes.OF_BLOCKS]
     yield "exifnorm_pictures/refusals/causes.py", blocks, [*CAUSES]
     yield "CAUSES in blocks/reading.py", blocks, [*BLOCKS]
+    yield "DIAGRAMS in packaging/refusals_page.py", blocks, found("packaging/refusals_page.py", r'^    "(\w+)": f?"')
 
     in_c = "crates/px_c/src/names.rt"
     names = dict(found(in_c, r'^ +(\d+) => b"(\w+)",$'))
@@ -48,8 +46,6 @@ def places() -> Iterator[tuple[str, list[str], list[str]]]:
     yield "CAUSES in exifnorm/_jpeg.py", [*zip(map(int, numbers), heads)], [*_jpeg.CAUSES.items()]
 
     packets = [f"Xmp{it}" for it in variants("crates/px_xmp_forms/src/faults.rt", "Cause")]
-    numbers = found("crates/px_c/src/xmp.rt", r"^ +Cause::\w+ => (\d+),$")
-    yield in_c, packets, [names.get(it, "") for it in numbers]
     yield "OF_PACKETS in exifnorm/_causes.py", packets, [*_causes.OF_PACKETS]
 
 

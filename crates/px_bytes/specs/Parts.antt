@@ -1,4 +1,6 @@
 -- Parts of a block.
+-- Example: of the block 10 20 30 40 50, the part of 2 bytes at offset 1 is 20 30, and its first two pieces of size 2 are
+-- 10 20 and 30 40.
 use Rattle.std.specs.Prelude.{ℕ, zero, suc, ◌+◌, List, [], ◌∷◌, length, take, drop, Option, Some, None, option_map, if◌then◌else◌, nat_le}
 use Rattle.px_bytes.specs.declared.numbers.Order.{Order}
 use Rattle.px_bytes.specs.Numbers.{number}

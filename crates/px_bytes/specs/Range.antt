@@ -1,5 +1,7 @@
 -- Ranges of bytes: where each begins, and how many bytes it has. TIFF 6.0 section 7, "No Duplicate Pointers": no data is
 -- referenced from more than one place.
+-- Example: the range of 4 bytes at offset 8 has the offsets 8 to 11. So it shares a byte with that of 2 bytes at 11, and none
+-- with that of 2 bytes at 12.
 use Rattle.std.specs.Prelude.{◌≡◌, ℕ, ◌+◌, ◌<◌, ◌≤◌, nat_lt, Bool, true, not, ◌&&◌, List, [], ◌∷◌, ⊤}
 use Rattle.std.specs.List.{list_all, AllByRecursion}
 use Rattle.px_bytes.specs.Claimed.{IsFree}

@@ -20,7 +20,7 @@ pub struct AllocFailed {
 }
 
 impl From<AllocFailed> for AllocError {
-    // The same failure as the error of std, for calls that return that type.
+    // A failed allocation, as std's error, for calls that return that type.
     fn from(_: AllocFailed) -> AllocError {
         AllocError
     }
@@ -382,14 +382,14 @@ impl Model for Counters {
 }
 
 impl Counters {
-    /// Both numbers are 0.
+    /// The counts before the first request: no allocation has failed, and no byte was asked for.
     pub fn none() -> Counters
         ensures { (result.failed_allocations ≡ 0) × (result.asked ≡ 0) }
     {
         Counters {}
     }
 
-    /// One more failed allocation.
+    /// The counts after one more failed allocation.
     #[inline(always)]
     pub fn one_more(&self) -> Counters
         ensures { (result.failed_allocations ≡ self.now.failed_allocations + 1) × (result.asked ≡ self.now.asked) }

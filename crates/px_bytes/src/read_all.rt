@@ -62,7 +62,7 @@ fn larger_capacity(capacity: usize) -> usize
     capacity + capacity / 8 + 1
 }
 
-// Makes space for so many more bytes. A short vector doubles. A long one grows by an eighth, which is more than
+// Makes space for `more` further bytes. A short vector doubles. A long one grows by an eighth, which is more than
 // one read: doubling it could leave nearly half of it unused. Neither grows past `most`.
 fn reserve_more(
     memory: &mut Memory,

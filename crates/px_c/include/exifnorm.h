@@ -90,23 +90,23 @@ enum {
 /* The causes of a refusal, in the order of docs/FORMAT.md. */
 enum {
     EXIFNORM_CAUSE_TOO_LONG = 1,           /* the block is longer than EXIFNORM_LIMIT */
-    EXIFNORM_CAUSE_UNKNOWN_KIND = 2,       /* the block is empty, or its first bytes begin neither a TIFF header nor a DataSet */
-    EXIFNORM_CAUSE_HEADER_CUT = 3,         /* the header has fewer than eight bytes */
-    EXIFNORM_CAUSE_LOOP = 4,               /* a pointer leads to a directory that was read before */
-    EXIFNORM_CAUSE_DIRECTORY_OUTSIDE = 5,  /* a directory's count of entries or its table passes the block's end */
+    EXIFNORM_CAUSE_UNKNOWN_KIND = 2,       /* the block is empty, or its first bytes, up to four, don't begin 49 49 2A 00 or 4D 4D 00 2A */
+    EXIFNORM_CAUSE_HEADER_CUT = 3,         /* the block has fewer than eight bytes, those of the header */
+    EXIFNORM_CAUSE_LOOP = 4,               /* a pointer has the offset of a directory that was already read */
+    EXIFNORM_CAUSE_DIRECTORY_OUTSIDE = 5,  /* the number of a directory's entries, or its table, isn't completely inside the block */
     EXIFNORM_CAUSE_EMPTY_DIRECTORY = 6,    /* a directory has no entry */
     EXIFNORM_CAUSE_OVERLAP = 7,            /* two ranges share a byte */
     EXIFNORM_CAUSE_UNSORTED = 8,           /* a tag is less than the one before it */
     EXIFNORM_CAUSE_DOUBLED = 9,            /* a tag is equal to the one before it */
-    EXIFNORM_CAUSE_UNKNOWN_TYPE = 10,      /* the type is not a known one */
-    EXIFNORM_CAUSE_MISPLACED_OFFSET = 11,  /* a tag contains offsets that this directory doesn't follow */
-    EXIFNORM_CAUSE_POINTER_FORM = 12,      /* a pointer or an entry of the thumbnail doesn't have the expected type or count */
-    EXIFNORM_CAUSE_VALUE_OUTSIDE = 13,     /* a value passes the block's end */
-    EXIFNORM_CAUSE_THUMBNAIL_PAIR = 14,    /* one entry of a thumbnail's pair is missing, or their counts differ */
-    EXIFNORM_CAUSE_EXTRA_DIRECTORY = 15,   /* the thumbnail directory has a next directory */
-    EXIFNORM_CAUSE_THUMBNAIL_OUTSIDE = 16, /* a thumbnail's picture or strip passes the block's end */
-    EXIFNORM_CAUSE_NO_MARKER = 17,         /* a DataSet doesn't begin with the tag marker */
-    EXIFNORM_CAUSE_LENGTH_FORM = 18,       /* an extended DataSet's length has no bytes or more than four */
+    EXIFNORM_CAUSE_UNKNOWN_TYPE = 10,      /* the type of an entry is none of the thirteen */
+    EXIFNORM_CAUSE_MISPLACED_OFFSET = 11,  /* a tag is forbidden in this directory: it has offsets that aren't followed there */
+    EXIFNORM_CAUSE_POINTER_FORM = 12,      /* a pointer or an entry of the thumbnail has a wrong type or count */
+    EXIFNORM_CAUSE_VALUE_OUTSIDE = 13,     /* a value at an offset isn't completely inside the block */
+    EXIFNORM_CAUSE_THUMBNAIL_PAIR = 14,    /* one entry of a thumbnail's pair is missing, or the two lists of strips differ in count */
+    EXIFNORM_CAUSE_EXTRA_DIRECTORY = 15,   /* the next offset of the thumbnail directory is not 0 */
+    EXIFNORM_CAUSE_THUMBNAIL_OUTSIDE = 16, /* the offset plus the length of a thumbnail's JPEG or strip passes the block's end */
+    EXIFNORM_CAUSE_NO_MARKER = 17,         /* there is no 1C where a DataSet must begin */
+    EXIFNORM_CAUSE_LENGTH_FORM = 18,       /* an extended length has no bytes or more than four */
     EXIFNORM_CAUSE_DATASET_CUT = 19        /* a DataSet passes the block's end */
 };
 

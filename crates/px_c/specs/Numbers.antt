@@ -2,6 +2,8 @@
 use Rattle.std.specs.Prelude.{ℕ, List, [], codes, nat_lt, ◌==◌, if◌then◌else◌, Option, Some, None}
 use Rattle.px_bytes.specs.declared.Cause.{Cause}
 use Rattle.px_bytes.specs.Causes.{name_of, cause_of}
+use Rattle.px_xmp_forms.specs.declared.faults.Cause.{Cause as PacketCause}
+use Rattle.px_xmp_forms.specs.Causes.{name_of as packet_name_of, cause_of as packet_cause_of}
 use Rattle.px_engine.specs.declared.kind.BlockKind.{BlockKind}
 use Rattle.px_engine.specs.declared.kind.BlockKind.TheVariants as kind
 
@@ -10,43 +12,14 @@ abbrev pub text_of : Option Cause → List ℕ
 text_of (Some c) = name_of c
 text_of None = []
 
--- of a packet of XMP that is wrong; no other cause has one of these numbers
-unfoldable pub xmp_fault_name : ℕ → List ℕ
-xmp_fault_name n =
-    if n == 201 then codes "XmpTooLong"
-    else if n == 202 then codes "XmpBadCharacter"
-    else if n == 203 then codes "XmpBadMarkup"
-    else if n == 204 then codes "XmpBadReference"
-    else if n == 205 then codes "XmpDocumentType"
-    else if n == 206 then codes "XmpOtherEnd"
-    else if n == 207 then codes "XmpAttributeTwice"
-    else if n == 208 then codes "XmpBadPrefix"
-    else if n == 209 then codes "XmpNoRoot"
-    else if n == 210 then codes "XmpTooDeep"
-    else if n == 211 then codes "XmpNoRdf"
-    else if n == 212 then codes "XmpSeveralSubjects"
-    else []
+-- the name of a cause of a packet of XMP; the empty text if there is no cause
+abbrev pub text_of_packet : Option PacketCause → List ℕ
+text_of_packet (Some c) = packet_name_of c
+text_of_packet None = []
 
--- of a packet of XMP that is left to another reader
-unfoldable pub xmp_rare_name : ℕ → List ℕ
-xmp_rare_name n =
-    if n == 251 then codes "XmpRareEncoding"
-    else if n == 252 then codes "XmpRareName"
-    else if n == 253 then codes "XmpRareNamespace"
-    else if n == 254 then codes "XmpRareCount"
-    else if n == 255 then codes "XmpRareElement"
-    else if n == 256 then codes "XmpRareAttribute"
-    else if n == 257 then codes "XmpRareText"
-    else if n == 258 then codes "XmpRareLanguage"
-    else if n == 259 then codes "XmpRareResource"
-    else if n == 260 then codes "XmpRareRepeated"
-    else if n == 261 then codes "XmpRareLength"
-    else if n == 262 then codes "XmpRareDepth"
-    else []
-
--- of a block, or of a packet of XMP
+-- of a block, or of a packet of XMP: these numbers follow 200
 abbrev pub other_cause_name : ℕ → List ℕ
-other_cause_name n = if nat_lt 250 n then xmp_rare_name n else if nat_lt 200 n then xmp_fault_name n else text_of (cause_of n)
+other_cause_name n = if nat_lt 200 n then text_of_packet (packet_cause_of n) else text_of (cause_of n)
 
 -- of a JPEG's head: the numbers are those of `head_cause`, and 105 for too many joined bytes
 unfoldable pub cause_name : ℕ → List ℕ

@@ -35,7 +35,7 @@ pub struct ExifnormJpegSizes {
     pub joined: usize,
 }
 
-// A place in C.
+// The place of a block, as the structure of C has it.
 fn seen_place(place: &BlockPlace) -> ExifnormJpegBlock
     ensures { result ≡ seen_place place.now }
 {

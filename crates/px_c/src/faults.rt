@@ -15,7 +15,7 @@ pub struct ExifnormFault {
     pub place: u32,
 }
 
-// A refusal as numbers.
+// The refusal of a block, as the structure of C has it.
 pub(crate) fn fault_from(cause: Cause, place: u32) -> ExifnormFault
     ensures cause { cause_of result.cause ≡ Some cause }
     ensures place { result.place ≡ place }

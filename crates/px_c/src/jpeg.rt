@@ -49,7 +49,7 @@ pub struct ExifnormPhotoshopResource {
     pub size: usize,
 }
 
-// A cause as a number.
+// The number that C has for the cause of a head's fault.
 pub(crate) fn head_cause(cause: HeadCause) -> u32
     ensures { result ≡ head_cause cause }
 {
@@ -61,7 +61,7 @@ pub(crate) fn head_cause(cause: HeadCause) -> u32
     }
 }
 
-// A kind as a number.
+// The number that C has for what a segment contains.
 pub(crate) fn piece_kind(kind: SegmentKind) -> u32
     ensures { result ≡ piece_kind kind }
 {
@@ -73,7 +73,7 @@ pub(crate) fn piece_kind(kind: SegmentKind) -> u32
     }
 }
 
-// A part in C.
+// A part of the head, with its piece, as the structure of C has it.
 fn seen_part(found: &HeadPart) -> ExifnormJpegPart
     ensures { result ≡ seen_part found.now }
 {
@@ -96,7 +96,7 @@ fn seen_part(found: &HeadPart) -> ExifnormJpegPart
     }
 }
 
-// A resource in C.
+// One of Photoshop's image resources, as the structure of C has it.
 fn seen_resource(found: &Resource) -> ExifnormPhotoshopResource
     ensures { result ≡ seen_resource found.now }
 {

@@ -1,7 +1,8 @@
 // The names of causes.
 ghost use Rattle.std.specs.Prelude.{◌≡◌};
 ghost use Rattle.px_bytes.specs.Causes.{cause_of};
-ghost use Rattle.px_c.specs.Numbers.{cause_name, other_cause_name, text_of, xmp_fault_name, xmp_rare_name};
+ghost use Rattle.px_xmp_forms.specs.Causes.{cause_of as packet_cause_of};
+ghost use Rattle.px_c.specs.Numbers.{cause_name, other_cause_name, text_of, text_of_packet};
 
 use px_bytes::Cause;
 
@@ -15,47 +16,13 @@ fn block_cause_name(number: u32) -> &'static [u8]
     }
 }
 
-// The name of the cause of a packet of XMP that is wrong.
-#[tactic(auto, unfolding(crate::specs::Numbers::xmp_fault_name))]
-fn xmp_fault_name(number: u32) -> &'static [u8]
-    ensures { result.now ≡ xmp_fault_name number }
+// The name of the cause of a packet of XMP.
+fn packet_cause_name(number: u32) -> &'static [u8]
+    ensures { result.now ≡ text_of_packet (packet_cause_of number) }
 {
-    match number {
-        201 => b"XmpTooLong",
-        202 => b"XmpBadCharacter",
-        203 => b"XmpBadMarkup",
-        204 => b"XmpBadReference",
-        205 => b"XmpDocumentType",
-        206 => b"XmpOtherEnd",
-        207 => b"XmpAttributeTwice",
-        208 => b"XmpBadPrefix",
-        209 => b"XmpNoRoot",
-        210 => b"XmpTooDeep",
-        211 => b"XmpNoRdf",
-        212 => b"XmpSeveralSubjects",
-        _ => b"",
-    }
-}
-
-// The name of the cause of a packet of XMP that is left to another reader.
-#[tactic(auto, unfolding(crate::specs::Numbers::xmp_rare_name))]
-fn xmp_rare_name(number: u32) -> &'static [u8]
-    ensures { result.now ≡ xmp_rare_name number }
-{
-    match number {
-        251 => b"XmpRareEncoding",
-        252 => b"XmpRareName",
-        253 => b"XmpRareNamespace",
-        254 => b"XmpRareCount",
-        255 => b"XmpRareElement",
-        256 => b"XmpRareAttribute",
-        257 => b"XmpRareText",
-        258 => b"XmpRareLanguage",
-        259 => b"XmpRareResource",
-        260 => b"XmpRareRepeated",
-        261 => b"XmpRareLength",
-        262 => b"XmpRareDepth",
-        _ => b"",
+    match px_xmp_forms::Cause::of(number) {
+        Some(cause) => cause.name(),
+        None => b"",
     }
 }
 
@@ -63,11 +30,8 @@ fn xmp_rare_name(number: u32) -> &'static [u8]
 fn other_cause_name(number: u32) -> &'static [u8]
     ensures { result.now ≡ other_cause_name number }
 {
-    if number > 250 {
-        return xmp_rare_name(number);
-    }
     if number > 200 {
-        return xmp_fault_name(number);
+        return packet_cause_name(number);
     }
     block_cause_name(number)
 }

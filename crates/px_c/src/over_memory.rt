@@ -301,7 +301,7 @@ pub(crate) fn jpeg_same_blocks_in(
     compare_pictures_in(memory, Compared::Blocks, pictures, same, unread, fault)
 }
 
-// The same as `jpeg_same_blocks_in`, with XMP.
+// Whether two JPEG pictures have the same Exif, IPTC and XMP, and whether all of it is read.
 pub(crate) fn jpeg_same_in(
     memory: &mut Memory,
     first: &[u8],

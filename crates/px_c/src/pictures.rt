@@ -45,7 +45,7 @@ pub(crate) struct Pair<'a> {
     pub second: &'a [u8],
 }
 
-// Compares two pictures.
+// Compares two pictures: their Exif and IPTC, or their XMP too.
 pub(crate) fn compare_in(
     memory: &mut Memory,
     compared: Compared,

@@ -16,7 +16,7 @@ pub struct ExifnormUnreadPart {
     pub start: usize,
 }
 
-// A place in C.
+// The first place that isn't read, if there is one, as the structure of C has it.
 pub(crate) fn seen_unread(found: Option<Unread>) -> ExifnormUnreadPart
     ensures { result ≡ seen_unread found }
 {

@@ -7,45 +7,13 @@ ghost use Rattle.px_xmp.specs.Laws.{HasForm, IsReadableForm};
 ghost use Rattle.px_xmp.specs.Accepted.{FormFits, PacketFits};
 ghost use Rattle.px_xmp.specs.Asking.{AsksOnlyForRdf};
 ghost use Rattle.px_c.specs.Numbers as status;
-ghost use Rattle.px_c.specs.Xmp.{xmp_cause, PutsXmp, PutsUnsorted, Stores, RefusesPacket, LeavesPacket};
+ghost use Rattle.px_c.specs.Xmp.{PutsXmp, PutsUnsorted, Stores, RefusesPacket, LeavesPacket};
 
 use crate::faults::ExifnormFault;
 use crate::giving::give;
 use crate::statuses::{DONE, NO_MEMORY, RARE, REFUSED};
 use px_bytes::Memory;
 use px_xmp::{Cause, LIMIT, Refusal};
-
-// A cause as a number. Those of packets that are left to another reader follow 250.
-fn xmp_cause(cause: Cause) -> u32
-    ensures { result ≡ xmp_cause cause }
-{
-    match cause {
-        Cause::TooLong => 201,
-        Cause::BadCharacter => 202,
-        Cause::BadMarkup => 203,
-        Cause::BadReference => 204,
-        Cause::DocumentType => 205,
-        Cause::OtherEnd => 206,
-        Cause::AttributeTwice => 207,
-        Cause::BadPrefix => 208,
-        Cause::NoRoot => 209,
-        Cause::TooDeep => 210,
-        Cause::NoRdf => 211,
-        Cause::SeveralSubjects => 212,
-        Cause::RareEncoding => 251,
-        Cause::RareName => 252,
-        Cause::RareNamespace => 253,
-        Cause::RareCount => 254,
-        Cause::RareElement => 255,
-        Cause::RareAttribute => 256,
-        Cause::RareText => 257,
-        Cause::RareLanguage => 258,
-        Cause::RareResource => 259,
-        Cause::RareRepeated => 260,
-        Cause::RareLength => 261,
-        Cause::RareDepth => 262,
-    }
-}
 
 // Stores a refusal. Returns its status.
 fn refuse(cause: Cause, place: usize, fault: &mut ExifnormFault) -> u32
@@ -55,7 +23,7 @@ fn refuse(cause: Cause, place: usize, fault: &mut ExifnormFault) -> u32
     ensures rare { result ≡ status.rare → is_rare cause ≡ true }
 {
     *fault = ExifnormFault {
-        cause: xmp_cause(cause),
+        cause: cause.number(),
         place: place.min(LIMIT) as u32,
     };
     if cause.is_rare() {

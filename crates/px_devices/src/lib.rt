@@ -18,7 +18,7 @@ pub struct KeepsBack {
 }
 
 impl KeepsBack {
-    /// No bytes and no flush so far.
+    /// A writer that has taken no byte and no flush so far.
     pub fn new() -> KeepsBack
         ensures { result ≡ record { count = 0; flushes = 0 } }
     {

@@ -1,6 +1,8 @@
 -- The meaning of a file. A file is an Exif block, perhaps after the six bytes that precede one in the APP1 segment of a JPEG
 -- file (CIPA DC-008, "Exif Identifier Code"), or a block of DataSets (IIM 4.2, chapter 1). How the two are distinguished is
 -- this project's profile.
+-- Example: 1C 02 78 00 03 61 62 63 is a block of DataSets. 45 78 69 66 00 00 and the block of the example in `Says` mean what that block
+-- means alone.
 use Rattle.std.specs.Prelude.{ℕ, nat_eq, Bool, if◌then◌else◌, List, [], ◌∷◌, drop}
 use Rattle.std.specs.List.{starts_with}
 use Rattle.px_bytes.specs.declared.Cause.{Cause}

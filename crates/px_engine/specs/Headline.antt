@@ -1,4 +1,5 @@
 -- The headline: two files, and the normal forms that are written for them.
+-- Example: f and g are the two blocks of the example in `Says`. Then m and n are the same bytes, those of f, since f is its own form.
 use Rattle.std.specs.Prelude.{◌≡◌, ◌↔◌, ℕ, Bool, IsTrue, List, Option, Some, Ok}
 use Rattle.std.specs.Io.KnownBytes.{Appends}
 use Rattle.px_engine.specs.Files.{Said, Says, normal}

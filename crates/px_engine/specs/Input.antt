@@ -1,4 +1,5 @@
 -- What reading a file returns.
+-- Example: 1C 02 78 00 03 61 62 is read as a block of DataSets, and refused: its only DataSet lacks a byte of its data.
 use Rattle.std.specs.Prelude.{◌≡◌, ◌<◌, ◌≤◌, ◌+◌, ◌*◌, ℕ, List, length, Result, Ok, Err, ⊤}
 use Rattle.px_bytes.specs.declared.Cause.{Cause}
 use Rattle.px_bytes.specs.declared.Refusal.{Refusal}

@@ -1,4 +1,6 @@
 -- What calls over files in memory return.
+-- Example: into a buffer of 30 bytes a form of 26 is put whole, and the last four bytes stay. A buffer of 20 stays as it is, and the
+-- caller is told that 26 are needed.
 use Rattle.std.specs.Prelude.{◌≡◌, ◌↔◌, ◌<◌, ◌≤◌, ◌*◌, ◌++◌, ℕ, Bool, IsTrue, List, length, drop}
 use Rattle.px_bytes.specs.Parts.{limit}
 use Rattle.px_engine.specs.declared.error.Fault.{Fault}

@@ -1,4 +1,5 @@
 -- Types. TIFF 6.0 section 2, "Types": twelve; Exif 3.0 adds 129, UTF-8.
+-- Example: 3 is the number of SHORT, two bytes for each element. 13 is the number of none.
 use Rattle.std.specs.Prelude.{ℕ, ◌==◌, Option, List, [], ◌∷◌, find}
 use Rattle.px_field.specs.declared.forms.Form.{Form}
 use Rattle.px_field.specs.declared.forms.Form.TheVariants.{Byte, Ascii, Short, Long, Rational, SByte, Undefined, SShort, SLong, SRational}

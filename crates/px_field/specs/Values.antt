@@ -1,4 +1,6 @@
 -- Values: the elements that bytes encode. TIFF 6.0 section 2, "Types".
+-- Example: 00 01 00 02, most significant byte first, are as SHORT the elements 1 and 2, and as LONG the element 65,538.
+-- 00 00 00 01 00 00 00 02 is as RATIONAL one element, 1/2, and another one than 2/4.
 use Rattle.std.specs.Prelude.{ℕ, ◌^◌, ◌/◌, ◌<◌, Bool, true, false, List, [], ◌∷◌, ◌++◌, length, map, take, drop, flat_map, slice_index}
 use Rattle.std.specs.Prelude.{FitsSigned}
 use Rattle.std.specs.List.{AllByRecursion}

@@ -309,7 +309,7 @@ fn byte_or_zero(raw: &[u8], i: usize) -> u8
     }
 }
 
-// At most four bytes, then zeros.
+// The bytes, which are at most four, and then zeros, so that there are four.
 #[tactic(auto, using(crate::proofs::TurnLaws::four_bytes))]
 fn padded_four(raw: &[u8]) -> [u8; 4]
     requires { length raw.now ≤ 4 }

@@ -1,5 +1,7 @@
 -- DataSets and their encodings. IIM 4.2, chapter 1: the tag (marker, record number, DataSet number and length), standard and
 -- extended, and the data.
+-- Example: 1C 02 78 00 03 61 62 63 is the DataSet 2:120 with the data `abc`. 1C 02 78 80 04 00 00 00 03 61 62 63 is it too, with an
+-- extended length: 80 04 says that four bytes of length follow.
 use Rattle.std.specs.Prelude.{◌≡◌, ◌⊎◌, ◌<◌, ◌≤◌, ◌+◌, ℕ, List, [], ◌∷◌, ◌++◌, length, drop}
 use Rattle.px_bytes.specs.declared.Order.TheVariants.{Most}
 use Rattle.px_bytes.specs.Numbers.{number}

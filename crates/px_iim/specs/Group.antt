@@ -1,5 +1,7 @@
 -- Groups of DataSets. The order of DataSets matters only inside a group; IIM 4.2, chapter 6, relates some DataSets of record 2 to
 -- others by their order.
+-- Example: of the DataSets 2:25 `a`, 2:80 `b`, 2:25 `c`, 2:85 `d`, in this order, the groups are 2:25 with `a` and `c`, and 2:80
+-- with 80 `b` and 85 `d`.
 use Rattle.std.specs.Prelude.{◌≡◌, ◌<◌, ◌≤◌, ◌==◌, ℕ, nat_lt, Bool, true, ◌&&◌, ◌||◌, if◌then◌else◌, Option, Some, None, List, [], ◌∷◌}
 use Rattle.std.specs.Prelude.{◌++◌, length, filter_map, ⊤}
 use Rattle.std.specs.List.{AllByRecursion}

@@ -1,4 +1,6 @@
--- The record of a block, and its normal form.
+-- The record of a block, and its normal form. IIM 4.2, chapter 1: DataSets follow one another.
+-- Example: the normal form of the record of 1C 02 78 80 04 00 00 00 03 61 62 63 00 is 1C 02 78 00 03 61 62 63: the length is the
+-- shortest, and the zero after the last DataSet isn't kept.
 use Rattle.std.specs.Prelude.{◌≡◌, ◌≤◌, ◌+◌, ◌-◌, ◌==◌, ℕ, zero, suc, nat_lt, nat_le, Bool, ◌&&◌, ◌||◌, if◌then◌else◌, Option, Some, None}
 use Rattle.std.specs.Prelude.{option_map, List, [], ◌∷◌, ◌++◌, length, drop, slice_index, flat_map}
 use Rattle.std.specs.List.{AllByRecursion, list_all}

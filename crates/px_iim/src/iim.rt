@@ -58,7 +58,7 @@ impl<'a> Iim<'a> {
         }
     }
 
-    // A record without a DataSet, with capacity for so many.
+    // A record without a DataSet, with capacity for `count` of them.
     pub(crate) fn with_capacity(memory: &mut Memory, count: usize) -> Result<Iim<'a>, AllocFailed>
         requires { 5 * count ≤ limit }
         ensures none { IfOk result (λ i. i ≡ []) }
@@ -111,7 +111,7 @@ impl<'a> Iim<'a> {
         Ok(())
     }
 
-    /// Whether it has no DataSet. It allocates nothing.
+    /// Whether the record has no DataSet. It allocates nothing.
     pub fn is_empty(&self) -> bool
         ensures { result ≡ (length self.now == 0) }
     {

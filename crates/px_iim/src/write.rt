@@ -172,8 +172,8 @@ fn append_record(memory: &mut Memory, iim: &Iim, out: &mut Vec<u8>) -> Result<()
     Ok(())
 }
 
-/// Appends the normal form, of at most twice `LIMIT` bytes (`normal_len` is Some). `Err`: an allocation
-/// failed, and the vector's items are unchanged.
+/// Appends the normal form, of at most twice `LIMIT` bytes (`normal_len` is Some). It asks for memory only if
+/// the vector lacks space for the form. `Err`: an allocation failed, and the vector's items are unchanged.
 pub fn append_iim_in(memory: &mut Memory, iim: &Iim, out: &mut Vec<u8>) -> Result<(), AllocFailed>
     requires { length (normal_iim iim.now) ≤ longest_counted }
     ensures done { OnOk result (out.new.items ≡ out.old.items ++ normal_iim iim.now) }

@@ -1,4 +1,5 @@
 -- The head of a JPEG picture: what stands before its first scan. ITU-T T.81, B.1.1 and B.2.
+-- Example: FF D8 FF E1 00 04 61 62 FF D9 is a head of two parts: APP1 with the data 61 62, at offset 6, and EOI.
 use Rattle.std.specs.Prelude.{◌≡◌, ◌≢◌, ◌⊎◌, ◌+◌, ◌*◌, ◌==◌, ℕ, Bool, true, false, ◌&&◌, ◌||◌, nat_le, List, [], ◌∷◌, ◌++◌, length}
 use Rattle.std.specs.List.{AllByRecursion}
 use Rattle.px_jpeg.specs.declared.parts.Part.{Part}

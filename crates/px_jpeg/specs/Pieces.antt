@@ -1,4 +1,5 @@
 -- The parts of a head that contain Exif or Photoshop's image resources, and the blocks that they make up.
+-- Example: an APP1 segment with the data 45 78 69 66 00 00 and a block has a piece of Exif, which is the block.
 use Rattle.std.specs.Prelude.{◌≤◌, ◌+◌, ◌-◌, ◌==◌, ◌&&◌, ◌||◌, ℕ, Bool, true, false, if◌then◌else◌, nat_eq}
 use Rattle.std.specs.Prelude.{Option, Some, None, List, [], ◌∷◌}
 use Rattle.std.specs.Prelude.{◌++◌, codes, length, take, drop}

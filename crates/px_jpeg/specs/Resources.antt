@@ -1,4 +1,5 @@
 -- Photoshop's image resources. Adobe Photoshop File Formats Specification, "Image Resource Blocks".
+-- Example: 38 42 49 4D 04 04 00 00 00 00 00 02 61 62 is the resource 0404, IPTC, with no name and the data 61 62.
 use Rattle.std.specs.Prelude.{◌≡◌, ◌≤◌, ◌+◌, ◌*◌, ◌%◌, ℕ, true, List, [], ◌∷◌, ◌++◌, length, drop}
 use Rattle.std.specs.List.{AllByRecursion}
 use Rattle.px_jpeg.specs.declared.resources.Resource.{Resource}

@@ -90,7 +90,7 @@ impl<'a> Head<'a> {
         self.bytes
     }
 
-    /// The same parts as a front.
+    /// The parts of the head as a `Front`, the type of the first parts of a picture that may have a fault.
     pub fn front(&self) -> Front<'a>
         ensures value { result ≡ self.now }
         ensures front { HasFront self.now.octets self.now.parts }

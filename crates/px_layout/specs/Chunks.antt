@@ -1,5 +1,7 @@
 -- The chunks of a meaning: the parts that have an offset, each with its size in bytes. TIFF 6.0 section 2, "Image File Directory"
 -- and "Value/Offset"; section 8, "StripOffsets"; CIPA DC-008 4.5.5 (the thumbnail).
+-- Example: a main directory with ImageDescription of ten bytes and Orientation has two chunks: its table, of 30 bytes, and the text,
+-- of 10. Orientation is in its entry, and so no chunk.
 use Rattle.std.specs.Prelude.{ℕ, ◌+◌, ◌==◌, ◌&&◌, Bool, true, false, nat_lt, if◌then◌else◌, Option, Some, None, List, [], ◌∷◌, ◌++◌, length}
 use Rattle.std.specs.Prelude.{filter_map, flat_map}
 use Rattle.px_meaning.specs.declared.Dir.{Dir}

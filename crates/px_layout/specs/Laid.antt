@@ -1,5 +1,7 @@
 -- The block that a plan lays out. TIFF 6.0 section 2, "Image File Header", "Image File Directory", "IFD Entry" and
 -- "Value/Offset".
+-- Example: by that legal plan, most significant byte first, the entry of the text ends with its offset, 00 00 00 26, and that of
+-- Orientation with 00 01 and two bytes of filler.
 use Rattle.std.specs.Prelude.{ℕ, ◌+◌, ◌-◌, nat_lt, nat_le, ◌&&◌, if◌then◌else◌, Option, Some, None, List, [], ◌∷◌, ◌++◌, length, map}
 use Rattle.std.specs.Prelude.{replicate, filter_map, flat_map, slice_index}
 use Rattle.std.specs.List.{range_with_len}

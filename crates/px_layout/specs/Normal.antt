@@ -1,5 +1,7 @@
 -- The normal form of a meaning: most significant byte first, the chunks in one order, each directly after the one before and
 -- padded to an even number of bytes, because TIFF 6.0 section 2, "IFD Entry", requires even offsets.
+-- Example: the table of 30 bytes is at 8, after the header, and the text at 38, and the form has 48 bytes. With a text of nine bytes
+-- it has as many: a zero follows the text.
 use Rattle.std.specs.Prelude.{ℕ, ◌+◌, ◌%◌, if◌then◌else◌, Option, Some, None, List, [], ◌∷◌, ◌++◌, length, replicate, flat_map}
 use Rattle.px_bytes.specs.declared.Order.TheVariants.{Most}
 use Rattle.px_meaning.specs.Tree.{Meaning}

@@ -1,5 +1,7 @@
 -- Plans: the offset of each chunk, and which plans are legal. TIFF 6.0 section 2 leaves offsets free; section 7, "No Duplicate
 -- Pointers".
+-- Example: for these two chunks, 30 and 10 bytes, the plan with the offsets 8 and 38 and the length 48 is legal. With 37 in place of
+-- 38 it isn't, since the byte at 37 would be of both.
 use Rattle.std.specs.Prelude.{ℕ, ◌+◌, ◌≤◌, ◌↔◌, Option, unwrap_or, List, ◌∷◌, map, Contains, IsSome}
 use Rattle.std.specs.List.{AllByRecursion}
 use Rattle.px_bytes.specs.Parts.{limit}

@@ -74,7 +74,8 @@ fn pass<'m, 'a>(extra: &Option<Extra<'m, 'a>>, i: usize) -> Step<'m, 'a>
     Step::Under(i - 1)
 }
 
-// The same with two further entries, of which `upper` was inserted after `lower`.
+// What is at index `i` of a list of entries into which two further entries are inserted, as far as there are
+// these, `lower` and then `upper`: one of the two, or the index in the list without them.
 fn pass_both<'m, 'a>(
     upper: &Option<Extra<'m, 'a>>,
     lower: &Option<Extra<'m, 'a>>,

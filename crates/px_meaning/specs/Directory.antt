@@ -1,5 +1,7 @@
 -- The header, and the offsets of the directories. TIFF 6.0 section 2, "Image File Header" and "Image File Directory"; CIPA DC-008
 -- 4.6.3 (the pointers to the Exif, GPS and Interoperability IFDs), 4.5.5 (the thumbnail IFD).
+-- Example: 4D 4D 00 2A 00 00 00 08 is a header, most significant byte first, whose main directory is at offset 8. An entry
+-- 87 69 00 04 00 00 00 01 00 00 00 1A of it is the pointer to the Exif directory, at offset 26.
 use Rattle.std.specs.Prelude.{ℕ, ◌==◌, if◌then◌else◌, ◌&&◌, Bool, Option, Some, None, option_map, option_and_then, List, [], ◌∷◌, find}
 use Rattle.px_bytes.specs.declared.Order.{Order}
 use Rattle.px_bytes.specs.declared.Order.TheVariants.{Least, Most}

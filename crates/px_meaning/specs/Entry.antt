@@ -1,5 +1,8 @@
 -- Tables, entries and their values. TIFF 6.0 section 2, "Image File Directory", "IFD Entry", "Sort Order", "Types" and
 -- "Value/Offset".
+-- Example, most significant byte first: 01 12 00 03 00 00 00 01 00 01 00 00 is the entry with tag 0112 (Orientation), type 3
+-- (SHORT) and count 1. Its value has two bytes, so it is in the entry: 00 01, the first of the last four. A table with this
+-- entry alone is 00 01, these twelve bytes, and 00 00 00 00, since no directory follows: 18 bytes.
 use Rattle.std.specs.Prelude.{◌≡◌, ℕ, ◌+◌, ◌*◌, ◌<◌, ◌==◌, nat_lt, nat_le, Bool, true, false, if◌then◌else◌, ◌&&◌, ◌||◌, Option, Some, None}
 use Rattle.std.specs.Prelude.{is_some, option_map, option_and_then, List, [], ◌∷◌, length, map, take, drop, filter_map, ⊤}
 use Rattle.std.specs.List.{AllByRecursion}

@@ -1,5 +1,7 @@
 -- The footprint: the bytes that the block's structure covers, one range for each owner. TIFF 6.0 section 7, "No Duplicate
 -- Pointers": no data is referenced from more than one place.
+-- Example: a block with one directory at offset 8, whose only entry has its value in it, has two ranges: the header, 0 to 7, and the
+-- table, 8 to 25.
 use Rattle.std.specs.Prelude.{ℕ, if◌then◌else◌, Option, Some, None, option_map, option_to_list, List, [], ◌∷◌, ◌++◌, filter_map, flat_map}
 use Rattle.px_bytes.specs.declared.Order.{Order}
 use Rattle.px_bytes.specs.Parts.{part}

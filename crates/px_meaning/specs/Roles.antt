@@ -1,6 +1,8 @@
 -- The role of a tag in a directory. TIFF 6.0 section 8 ("StripOffsets", "StripByteCounts", "RowsPerStrip", "ImageWidth",
 -- "ImageLength"); CIPA DC-008 4.6.3 (the pointers to the Exif, GPS and Interoperability IFDs), 4.5.5 (the thumbnail), and its
 -- tags relating to recording offset and to image data structure. Which tags are refused is this project's profile.
+-- Example: 0112, Orientation, is plain in each directory. 8769 leads from the main directory to the Exif directory, and is
+-- forbidden in the others. 0100, ImageWidth, is widened in the main directory: SHORT 640 and LONG 640 mean the same there.
 use Rattle.std.specs.Prelude.{ℕ, ◌==◌, if◌then◌else◌, Option, Some, None, List, [], ◌∷◌}
 use Rattle.px_meaning.specs.declared.roles.Dir.{Dir}
 use Rattle.px_meaning.specs.declared.roles.Dir.TheVariants.{Main, Exif, Interop, Gps, Thumb}

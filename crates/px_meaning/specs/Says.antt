@@ -1,5 +1,7 @@
 -- The meaning of a block. TIFF 6.0 section 2 and section 7, "No Duplicate Pointers"; CIPA DC-008 4.6.3 and 4.5.5. The greatest
 -- length of a block, and the record at its tag, are this project's profile.
+-- Example: 4D 4D 00 2A 00 00 00 08 00 01 01 12 00 03 00 00 00 01 00 01 00 00 00 00 00 00 means a main directory with Orientation 1. So
+-- does 49 49 2A 00 08 00 00 00 01 00 12 01 03 00 01 00 00 00 01 00 00 00 00 00 00 00, least significant byte first.
 use Rattle.std.specs.Prelude.{◌≡◌, ℕ, ◌≤◌, Option, option_map, option_and_then, List, length, map, take, IfSome}
 use Rattle.std.specs.List.{AllByRecursion}
 use Rattle.px_bytes.specs.declared.Order.{Order}

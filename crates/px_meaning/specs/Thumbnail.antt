@@ -1,5 +1,7 @@
 -- The thumbnail's bytes: a JPEG, or strips. CIPA DC-008 4.5.5, and its tags relating to recording offset; TIFF 6.0 section 8,
 -- "StripOffsets" and "StripByteCounts".
+-- Example: JPEGInterchangeFormat 200 and JPEGInterchangeFormatLength 50 are a JPEG, the bytes 200 to 249. StripOffsets 300, 340 and
+-- StripByteCounts 40, 12 are two strips, the bytes 300 to 339 and 340 to 351.
 use Rattle.std.specs.Prelude.{◌≡◌, ℕ, ◌+◌, ◌≤◌, Bool, true, false, Option, Some, None, option_map, List, [], ◌∷◌, length, map, IfSome}
 use Rattle.std.specs.List.{AllByRecursion}
 use Rattle.px_bytes.specs.declared.Order.{Order}

@@ -1,5 +1,7 @@
 -- The meaning of a block: a tree of directories. CIPA DC-008 4.6.3 (the Exif, GPS and Interoperability IFDs), 4.5.5 (the
 -- thumbnail IFD).
+-- Example: the meaning of a block that has only Orientation 1 is the main directory with one pair, 0112 and SHORT 1, and
+-- nothing else.
 use Rattle.std.specs.Prelude.{ℕ, Option, List}
 use Rattle.px_field.specs.Values.{Value}
 use Rattle.px_meaning.specs.Iim.{Iim}

@@ -1,5 +1,6 @@
 -- The meanings that can be written, and the entries that a directory needs for one. TIFF 6.0 section 2, "IFD Entry" and
 -- "Types"; section 8, "StripOffsets" and "StripByteCounts"; CIPA DC-008 4.6.3 and 4.5.5.
+-- Example: a main directory with Orientation 1 can be written. An empty GPS directory can't, because a table has an entry.
 use Rattle.std.specs.Prelude.{◌≡◌, ℕ, ◌*◌, ◌^◌, ◌<◌, ◌≤◌, nat_lt, if◌then◌else◌, Option, Some, None, option_map, option_and_then, List, []}
 use Rattle.std.specs.Prelude.{◌∷◌, length, map, IfSome}
 use Rattle.std.specs.List.{AllByRecursion}

@@ -51,7 +51,7 @@ impl<'a> Fields<'a> {
         self.list.len()
     }
 
-    /// Whether there are none. It allocates nothing.
+    /// Whether there are no fields. It allocates nothing.
     pub fn is_empty(&self) -> bool
         ensures { IsTrue result ↔ (self.now ≡ []) }
     {

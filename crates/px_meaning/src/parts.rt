@@ -59,7 +59,7 @@ pub fn magic_of(order: Order) -> [u8; 4]
     }
 }
 
-/// Whether a value of so many bytes is at an offset, because it doesn't fit into its entry.
+/// Whether a value of `len` bytes is at an offset, because it doesn't fit into its entry.
 pub fn needs_place(len: u64) -> bool
     ensures { result ≡ needs_place len }
 {

@@ -42,7 +42,7 @@ impl<'a> Strips<'a> {
         }
     }
 
-    /// The strips that a block names. Allocates nothing.
+    /// The strips that a block names by two lists, of their offsets and of their lengths. Allocates nothing.
     pub fn of_lists(memory: &Memory, lists: StripLists<'a>) -> Strips<'a>
         requires { AreNamed lists }
         ensures { result ≡ named_strips (Some lists.entry) }

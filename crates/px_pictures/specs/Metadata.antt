@@ -1,5 +1,6 @@
 -- The Exif and IPTC blocks of a JPEG picture, and what they mean. CIPA DC-008, 4.7.2; Adobe Photoshop File Formats Specification,
 -- "Image Resource IDs".
+-- Example: a picture with an APP1 segment of Exif, and an APP13 segment with the resource 0404, has one block of each kind.
 use Rattle.std.specs.Prelude.{◌≡◌, ◌≤◌, ◌+◌, ◌*◌, ℕ, nat_lt, Bool, true, ◌&&◌, if◌then◌else◌, List, [], ◌∷◌}
 use Rattle.std.specs.Prelude.{length, filter, None, ⊤}
 use Rattle.px_bytes.specs.Parts.{limit}

@@ -1,4 +1,6 @@
 -- Whether two pictures have the same Exif and IPTC.
+-- Example: if two pictures have one block of Exif each, and these differ only in the byte order, they are the same. If one of them
+-- has a block of IPTC too, they are different.
 use Rattle.std.specs.Prelude.{◌≡◌, ◌↔◌, ◌⊎◌, ℕ, Bool, true, false, IsTrue, Some, None, List, [], ◌∷◌, ⊤}
 use Rattle.px_iim.specs.Group.{Record}
 use Rattle.px_meaning.specs.Tree.{Meaning}

@@ -70,7 +70,7 @@ pub(crate) fn runs_of<'b, 'a>(octets: &'b [u8], front: &'b Front<'a>) -> Runs<'b
 }
 
 impl<'b, 'a> Runs<'b, 'a> {
-    // The next block. None: no block is left.
+    // The next block, with all of its pieces. None: no block is left.
     pub(crate) fn next_run(&mut self) -> Option<Run<'b>>
         ensures { MatchOption result ((self.old ≡ []) × (self.new ≡ [])) (λ r. self.old ≡ block_of r ∷ self.new) }
     {

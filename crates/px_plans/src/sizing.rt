@@ -1,8 +1,9 @@
 // The chunks of a meaning, each with its size in bytes.
 //
-// `out` is the list so far. A chunk and its size take 16 bytes there, and the list doubles: so a
-// function here asks for at most 64 bytes for each chunk (`chunks_request`), less what earlier
-// chunks have paid for (`asked_and_paid`). `Err`: an allocation failed.
+// `out` is the list so far. A chunk and its size take 16 bytes there. The list asks for twice its length
+// whenever it is full, so it asks seldom and then for much. To bound the sum, each chunk pays 64 bytes
+// (`chunks_request`) when it is appended. `asked_and_paid 16` is what was asked for, and what is paid and not
+// yet asked for: no function here raises it by more than its chunks pay. `Err`: an allocation failed.
 ghost use Rattle.std.specs.Prelude.{◌≡◌, [], ◌∷◌, ◌++◌, ◌+◌, ◌*◌, ◌<◌, ◌≤◌, ◌^◌, IfOk, OnOk, IfSome, length, filter_map};
 ghost use Rattle.std.specs.Prelude.{option_map};
 ghost use Rattle.std.specs.Option.{option_to_list};
@@ -21,7 +22,7 @@ use px_bytes::{AllocFailed, Memory};
 use px_layout::{Chunk, Entries, Entry, entries_in, table_len};
 use px_tree::{Dir, Meaning, Strips, Thumb, needs_place};
 
-// Appends a chunk.
+// Appends a chunk. It asks for no more than 64 bytes and what earlier chunks have paid for.
 fn push_chunk(
     memory: &mut Memory,
     out: &mut Vec<(Chunk, u64)>,

@@ -9,11 +9,11 @@ use Rattle.px_xmp.specs.Laws.{HasNoMeaning}
 use Rattle.px_xmp.specs.Packet.{IsPacket}
 use Rattle.px_xmp.specs.Refusals.{IfRefused, IsRefused}
 use Rattle.px_xmp_forms.specs.Allocations.{CountsAllocFailureInPacket}
-use Rattle.px_xmp_forms.specs.Causes.{is_rare, IfWrong, FailsByMemory}
+use Rattle.px_xmp_forms.specs.Causes.{is_rare, name_of, IfWrong, FailsByMemory}
 use Rattle.px_xmp_forms.specs.declared.faults.Cause.{Cause}
 use Rattle.px_xmp_forms.specs.declared.faults.Refusal.{Refusal}
 use Rattle.px_xmp_forms.specs.declared.faults.Refusal.TheVariants.{Content, OutOfMemory}
-use Rattle.px_xmp_lines.specs.Lines.{cause_name, is_packet, ArePrinted}
+use Rattle.px_xmp_lines.specs.Lines.{is_packet, ArePrinted}
 use Rattle.px_runs.specs.Lines.{Reports, ReportsFault}
 
 -- whether a file is refused as a block and begins as a packet does
@@ -33,7 +33,7 @@ end_of_packet false = codes "\n"
 -- the line of a packet that is refused, with its line feed
 abbrev pub packet_line : Cause → ℕ → List ℕ
 packet_line cause place =
-    codes "refused: " ++ (cause_name cause ++ (codes " at " ++ (decimal place ++ end_of_packet (is_rare cause))))
+    codes "refused: " ++ (name_of cause ++ (codes " at " ++ (decimal place ++ end_of_packet (is_rare cause))))
 
 -- the text of a packet; or the line of its first fault, or of a failed allocation
 abbrev pub ReportsPacket : Result (List ℕ) Refusal → ℕ → Device → Type 0

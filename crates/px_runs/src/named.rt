@@ -42,7 +42,7 @@ pub struct Named<'a> {
 }
 
 impl<'a> Named<'a> {
-    /// These files. None is written.
+    /// Files with these names and bytes, none of which is written yet.
     pub fn new(alloc: Global, files: &'a [NamedFile<'a>]) -> Named<'a> {
         Named {
             alloc,

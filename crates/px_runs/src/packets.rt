@@ -21,7 +21,7 @@ use itoa::Buffer;
 use px_bytes::{CAPACITY, Failed, Memory, Pending, Sink};
 use px_engine::Fault;
 use px_xmp_forms::{Cause, Refusal};
-use px_xmp_lines::{cause_name, is_packet};
+use px_xmp_lines::is_packet;
 
 /// A text of a packet.
 #[derive(Clone, Copy, Debug, PartialEq, Eq)]
@@ -52,7 +52,7 @@ fn put_packet_refusal<L: Sink>(
 {
     let mut digits = Buffer::new();
     pending.put(lines, b"refused: ")?;
-    pending.put(lines, cause_name(cause))?;
+    pending.put(lines, cause.name())?;
     pending.put(lines, b" at ")?;
     pending.put(lines, digits.format(place).as_bytes())?;
     pending.put(lines, packet_ending(cause.is_rare()))

@@ -159,7 +159,7 @@ fn job_of(what: One) -> Job
     }
 }
 
-// A job whose reader ends with it.
+// Does a job on a file, and then lets go of its reader. Returns the exit status.
 fn run_job<F: Source + Drop, W: Sink, L: Sink>(
     memory: &mut Memory,
     job: Job,
@@ -176,7 +176,7 @@ fn run_job<F: Source + Drop, W: Sink, L: Sink>(
     run_one_in(memory, job, &mut reader, out, lines)
 }
 
-// A comparison whose readers end with it.
+// Compares two files, and then lets go of their readers. Returns the exit status.
 fn run_pair<F: Source + Drop, S: Source + Drop, L: Sink>(
     memory: &mut Memory,
     mut first: F,
@@ -320,7 +320,7 @@ fn run_other<O: Opens, L: Sink>(
     }
 }
 
-// Compares two files.
+// Opens two files by their names and compares them. Returns the exit status.
 fn run_files<O: Opens, L: Sink>(
     files: &mut O,
     memory: &mut Memory,

@@ -49,7 +49,7 @@ impl<'a> Captions<'a> {
         self.list.len()
     }
 
-    /// Whether there are none. It allocates nothing.
+    /// Whether there are no captions. It allocates nothing.
     pub fn is_empty(&self) -> bool
         ensures { IsTrue result ↔ (self.now.1 ≡ []) }
     {

@@ -1,6 +1,8 @@
 // Which texts of a file are captions.
 //
-// `list` are the captions so far. `Err` of a function here: an allocation failed.
+// `list` are the captions so far. A caption takes 24 bytes there, and the list doubles: so a function here asks
+// for at most 96 bytes for each caption (`caption_bytes`), less what earlier captions have paid for
+// (`asked_and_paid`). `Err` of a function here: an allocation failed.
 ghost use Rattle.std.specs.Prelude.{◌≡◌, ◌≤◌, ◌+◌, ◌*◌, [], ◌∷◌, ◌++◌, length, map, filter_map, option_map, if◌then◌else◌};
 ghost use Rattle.std.specs.Prelude.{Some, None, bytes_eq, is_ok, vec_len, vec_capacity, OnOk, IfOk};
 ghost use Rattle.px_bytes.specs.Allocations.{CountsAllocFailure, AsksAtMost};

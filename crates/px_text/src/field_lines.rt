@@ -39,7 +39,7 @@ fn form_word(form: Form) -> &'static [u8]
     }
 }
 
-// The same for a kind: a type, or WHOLE at a tag that treats SHORT and LONG as one.
+// The name of a kind between two spaces: its type, or WHOLE at a tag that treats SHORT and LONG as one.
 fn type_word(kind: Kind) -> &'static [u8]
     ensures { result.now ≡ codes " " ++ type_word kind ++ codes " " }
 {

@@ -131,7 +131,7 @@ pub struct Entries<'a> {
     pub uses: Uses,
 }
 
-// An empty list, with capacity for so many fields if fields are kept.
+// An empty list, with capacity for `count` fields if fields are kept.
 fn list_for<'a>(
     memory: &mut Memory,
     keeps_fields: bool,

@@ -1,5 +1,7 @@
 -- What a document means, apart from how it is read: its properties, by the productions of RDF/XML, 7.2, that XMP part 1, 7, lets
 -- programs use. Names and languages are as they are written; one with a reference is for another reader.
+-- Example: in rdf:RDF, `<rdf:Description xmp:Rating="5"/>` means the property xmp:Rating with the text `5`. So does
+-- `<rdf:Description><xmp:Rating>5</xmp:Rating></rdf:Description>`.
 use Rattle.std.specs.Prelude.{◌≡◌, ◌≢◌, ◌⊎◌, ◌+◌, ◌-◌, ℕ, true, codes, if◌then◌else◌, Option, Some, None}
 use Rattle.std.specs.Prelude.{List, [], ◌∷◌, ◌++◌, length, drop, ⊤}
 use Rattle.std.specs.Str.{str_to_ascii_lowercase}

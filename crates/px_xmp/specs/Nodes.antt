@@ -1,4 +1,5 @@
 -- The elements of a document with their namespaces, and the texts between them. XML 1.0, 3.1; RDF/XML, 6.
+-- Example: `<a>b<c/></a>` is an element in which the text `b` is, and then an element in which nothing is.
 use Rattle.std.specs.Prelude.{◌≡◌, ◌⊎◌, ◌+◌, ◌-◌, ℕ, true, false, Some, List, [], ◌++◌, length}
 use Rattle.px_xmp_text.specs.Texts.{text_of}
 use Rattle.px_xmp_text.specs.declared.pieces.TextKind.{TextKind}

@@ -1,4 +1,5 @@
 -- A packet: its document, and what is around it.
+-- Example: of a line feed, `<a/>` and two zeros, `<a/>` is the document; the other octets are padding.
 use Rattle.std.specs.Prelude.{◌≡◌, ◌≢◌, ◌≤◌, ◌==◌, ◌||◌, ◌⊎◌, ◌++◌, ℕ, Bool, true, nat_eq, List, [], ◌∷◌, length}
 use Rattle.std.specs.List.{starts_with}
 use Rattle.px_bytes.specs.Parts.{limit}

@@ -1,4 +1,4 @@
-// The causes of documents, as those of packets.
+// The cause for which a packet is refused whose document has a fault.
 ghost use Rattle.std.specs.Prelude.{◌≡◌, ◌≤◌, length};
 ghost use Rattle.px_xmp.specs.Refusals.{IsNestingCause, attribute_cause, space_cause, IsDocumentCause, IsCauseOf};
 
@@ -6,7 +6,7 @@ use crate::why::mark_cause;
 use px_xmp_document::{Cause as DocumentCause, Fault};
 use px_xmp_forms::Cause;
 
-// Of nested elements. `octets` begin where the fault is.
+// The cause for a fault of the nesting of elements. `octets` begin where the fault is.
 fn nesting_cause(cause: px_xmp_tree::Cause, octets: &[u8]) -> Cause
     ensures { IsNestingCause cause octets.now result }
 {
@@ -22,7 +22,7 @@ fn nesting_cause(cause: px_xmp_tree::Cause, octets: &[u8]) -> Cause
     }
 }
 
-// Of attributes.
+// The cause for a fault of attributes.
 fn attributes_cause(cause: px_xmp_attributes::Cause) -> Cause
     ensures { result ≡ attribute_cause cause }
 {
@@ -32,7 +32,7 @@ fn attributes_cause(cause: px_xmp_attributes::Cause) -> Cause
     }
 }
 
-// Of prefixes.
+// The cause for a fault of prefixes.
 fn spaces_cause(cause: px_xmp_spaces::Cause) -> Cause
     ensures { result ≡ space_cause cause }
 {
@@ -47,7 +47,7 @@ fn spaces_cause(cause: px_xmp_spaces::Cause) -> Cause
     }
 }
 
-// Of a document. `octets` begin where the fault is.
+// The cause for a fault of a document. `octets` begin where the fault is.
 fn document_cause(cause: DocumentCause, octets: &[u8]) -> Cause
     ensures { IsDocumentCause cause octets.now result }
 {

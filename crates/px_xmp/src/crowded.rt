@@ -11,8 +11,9 @@ use px_xmp_marks::{StartTag, len_before, next_attribute};
 // The most attributes of a tag that this reader judges, as px_xmp_spaces does.
 const ATTRIBUTE_LIMIT: usize = 256;
 
-// An attribute has five octets or more, with the space before it. So a tag with more of them than this reader judges covers such
-// windows, one after another from the start, and outside of those it has no room for all of its equals signs.
+// Octets are cut into windows of so many. An attribute has five octets or more, with the space before it. So a tag
+// with more of them than this reader judges covers whole windows, has no `<` there, and outside of these it has no room for
+// all of its equals signs.
 const WINDOW: usize = 640;
 
 // Whether octets have an equals sign and no `<`.
@@ -25,7 +26,7 @@ fn has_sign_alone(octets: &[u8]) -> bool
     octets.contains(&b'=')
 }
 
-// Whether such a window has.
+// Whether a window has an equals sign and no `<`. If none has, no tag has too many attributes.
 fn has_long_run(octets: &[u8]) -> bool
     ensures { result ≡ false → (n : ℕ) → IsInRun 640 octets.now n → ⊥ }
 {
@@ -115,7 +116,8 @@ fn has_many(tag: Option<StartTag>) -> bool
     }
 }
 
-// The offset of the first tag with so many attributes, of the marks up to the first place where none is.
+// The offset of the first tag with more attributes than this reader judges, among the marks up to the first place
+// where no mark is. None: there is no such tag.
 pub(crate) fn first_crowded(octets: &[u8]) -> Option<usize>
     ensures { MatchOption result (NoneCrowded octets.now) (IsFirstCrowded octets.now) }
 {

@@ -17,38 +17,38 @@ pub fn kinds_are_read()
     px_xmp_marks::laws::instructions_are_read();
 }
 
-/// What is in scope in an element is what `px_xmp_spaces` judges.
+/// The namespaces in scope in an element are those that `px_xmp_spaces` finds for its tag, if it finds no fault.
 pub fn scopes_are_judged()
     ensures { ScopesAreJudged }
 {}
 
-/// Octets are a packet with one document.
+/// Octets are a packet in at most one way: what precedes the document, the document, and what follows it are determined.
 pub fn one_packet()
     ensures { OnePacket }
 {}
 
-/// Octets are one row of nodes.
+/// Octets at an offset are at most one row of nodes.
 pub fn one_reading()
     ensures { OneReading }
 {
     kinds_are_read();
 }
 
-/// A document is a row of nodes.
+/// Each document is a row of nodes.
 pub fn files_have_nodes()
     ensures { FilesHaveNodes }
 {
     px_xmp_text::laws::fault_or_text();
 }
 
-/// The nodes of a document mean one thing that a normal form can have.
+/// The nodes of a document have at most one meaning that a normal form can have.
 pub fn nodes_mean_once()
     ensures { NodesMeanOnce }
 {
     px_xmp_text::laws::packet_is_injective();
 }
 
-/// A document means one thing that a normal form can have.
+/// A document has at most one meaning that a normal form can have.
 pub fn one_meaning()
     ensures { OneMeaning }
 {

@@ -27,7 +27,7 @@ fn is_same(a: Name, b: Name) -> bool
     a.size == b.size && a.local == b.local && a.prefix == b.prefix
 }
 
-// Whether one of the attributes at the start has a name.
+// Whether one of the attributes at the start has the name `name`.
 fn has_name(octets: &[u8], name: Name) -> bool
     ensures among { (attributes : List Attr) → AreListed attributes octets.now → result ≡ true → IsAmong (name_view name.entry) attributes }
     ensures none { (attributes : List Attr) → AreListed attributes octets.now → result ≡ false
@@ -58,7 +58,7 @@ fn has_repeated(octets: &[u8]) -> bool
     false
 }
 
-// Whether one of some names is a certain one.
+// Whether `name` is one of `names`.
 fn is_among(names: &[Name], name: Name) -> bool
     ensures { result ≡ is_among (name_view name.entry) (map name_view names.now) }
 {
@@ -70,7 +70,7 @@ fn is_among(names: &[Name], name: Name) -> bool
     false
 }
 
-// Whether one of some names is there twice.
+// Whether two of `names` are the same.
 fn has_twice(names: &[Name]) -> bool
     ensures { result ≡ has_twice (map name_view names.now) }
 {
@@ -82,7 +82,7 @@ fn has_twice(names: &[Name]) -> bool
     false
 }
 
-// Whether one of some attributes has a certain name.
+// Whether one of `attributes` has the name `name`.
 fn is_name_of(attributes: &[Attribute], name: Name) -> bool
     ensures { result ≡ is_among (name_view name.entry) (names_of (map attribute_view attributes.now)) }
 {
@@ -131,7 +131,7 @@ fn tag_repeats<'a>(tag: StartTag<'a>, names: &mut [Name<'a>]) -> bool
     }
 }
 
-// As `tag_repeats`, with a large space for the names.
+// Whether a tag has an attribute twice, as `tag_repeats` finds it, with a space for 256 names.
 #[inline(never)]
 fn large_tag_repeats(tag: StartTag) -> bool
     ensures repeated { (attributes : List Attr) → option_map (λ r. r.0) (attributes_of tag.entry.rest.now) ≡ Some attributes

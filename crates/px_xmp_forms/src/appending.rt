@@ -20,14 +20,14 @@ pub const LIMIT: usize = 16777216;
 // The most octets of a form that is not finished. White space between elements is among them, until the next element.
 const MOST: usize = 33554432;
 
-// Whether so many octets may be followed by so many more.
+// Whether `more` octets may follow `len`: a form that isn't finished has at most `MOST`.
 fn has_space(len: usize, more: usize) -> bool
     ensures { len + more ≤ most → result ≡ true }
 {
     len <= MOST && more <= MOST - len
 }
 
-// Makes space for so many octets more, which then are appended without growing again.
+// Makes space for `more` further octets, which then are appended without growing again.
 pub(crate) fn reserve(memory: &mut Memory, out: &mut Vec<u8>, more: usize) -> Result<(), Refusal>
     ensures items { OnOk result (out.new.items ≡ out.old.items) }
     ensures memory { CountsAllocFailureInPacket result memory.old memory.new }

@@ -35,7 +35,7 @@ pub(crate) struct Element {
 // resource besides the URI, and what is around members or properties is no longer.
 const MARKUP: usize = 26;
 
-// The space for the element of a label and so many octets.
+// The space for the element of a label around `more` octets.
 fn element_size(label: Label, more: usize) -> usize {
     label_size(label)
         .saturating_add(MARKUP)

@@ -33,7 +33,7 @@ pub(crate) struct Item {
 // So many octets are compared one after another: most names differ in these.
 const NEAR: usize = 16;
 
-// The order of octets.
+// Compares two rows of octets at the first place where they differ. One that begins the other is the lesser.
 fn order(a: &[u8], b: &[u8]) -> Ordering
     ensures { result ≡ slice_cmp nat_cmp a.now b.now }
 {

@@ -246,7 +246,7 @@ pub(crate) fn append_stop(
     }
 }
 
-// Whether an octet is among others.
+// Whether one of `octets` is `octet`.
 pub(crate) fn has(octets: &[u8], octet: u8) -> bool
     ensures { result ≡ has octet octets.now }
 {

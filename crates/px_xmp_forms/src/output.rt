@@ -95,7 +95,7 @@ pub struct Output {
 }
 
 impl Output {
-    /// Nothing.
+    /// An output without a property, in which no element is open.
     pub fn new(memory: &Memory, order: BagOrder) -> Output
         ensures { order ≡ Sorted → Has result (record { opened = []; properties = End }) }
     {
@@ -117,7 +117,7 @@ impl Output {
         self.levels.pop()
     }
 
-    // Opens an element.
+    // Opens an element inside those that are open.
     fn push(&mut self, memory: &mut Memory, level: Level) -> Result<(), Refusal>
         ensures value { (s : State) (o : Open) → Has self.old s → IsLevel level o → OnOk result (Has self.new (begun o s)) }
         ensures memory { CountsAllocFailureInPacket result memory.old memory.new }

@@ -84,7 +84,7 @@ impl Model for Piece {
 }
 
 impl Piece {
-    // None.
+    // The piece without a property or a member.
     pub(crate) fn new(memory: &Memory) -> Piece
         ensures { result ≡ [] }
     {
@@ -93,7 +93,7 @@ impl Piece {
         }
     }
 
-    // The octets of the piece.
+    // The piece that has these octets.
     pub(crate) fn of(octets: Vec<u8>) -> Piece
         requires { IsForm octets.items }
         ensures { result ≡ octets.items }
@@ -101,7 +101,7 @@ impl Piece {
         Piece { octets }
     }
 
-    // Their octets.
+    // The octets of the properties or members.
     pub(crate) fn octets(&self) -> &[u8]
         ensures form { IsForm result.now }
         ensures value { result.now ≡ self.now }

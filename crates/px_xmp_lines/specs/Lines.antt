@@ -1,14 +1,7 @@
 -- What the contracts about the lines of a packet cite.
-use Rattle.std.specs.Prelude.{◌≡◌, ◌==◌, ◌||◌, ◌&&◌, nat_eq, nat_le, ℕ, Bool, true, false, List, [], ◌∷◌, codes}
+use Rattle.std.specs.Prelude.{◌≡◌, ◌==◌, ◌||◌, ◌&&◌, nat_eq, nat_le, ℕ, Bool, true, false, List, [], ◌∷◌}
 use Rattle.std.specs.List.{starts_with, AllByRecursion}
 use Rattle.px_xmp.specs.Packet.{is_around}
-use Rattle.px_xmp_forms.specs.declared.faults.Cause.{Cause}
-use Rattle.px_xmp_forms.specs.declared.faults.Cause.TheVariants.{TooLong, BadCharacter, BadMarkup, BadReference}
-use Rattle.px_xmp_forms.specs.declared.faults.Cause.TheVariants.{DocumentType, OtherEnd, AttributeTwice, BadPrefix}
-use Rattle.px_xmp_forms.specs.declared.faults.Cause.TheVariants.{NoRoot, TooDeep, NoRdf, SeveralSubjects}
-use Rattle.px_xmp_forms.specs.declared.faults.Cause.TheVariants.{RareEncoding, RareName, RareNamespace, RareCount}
-use Rattle.px_xmp_forms.specs.declared.faults.Cause.TheVariants.{RareElement, RareAttribute, RareText, RareLanguage}
-use Rattle.px_xmp_forms.specs.declared.faults.Cause.TheVariants.{RareResource, RareRepeated, RareLength, RareDepth}
 
 -- the first octet that may not precede a packet's document is `<`
 abbrev pub begins_mark : List ℕ → Bool
@@ -34,30 +27,3 @@ ArePrinted x = AllByRecursion (λ o. is_printed o ≡ true) x
 -- a call adds no other octets to lines
 abbrev pub KeepsPrinted : List ℕ → List ℕ → Type 0
 KeepsPrinted old new = ArePrinted old → ArePrinted new
-
--- the name of a cause
-abbrev pub cause_name : Cause → List ℕ
-cause_name TooLong = codes "XmpTooLong"
-cause_name BadCharacter = codes "XmpBadCharacter"
-cause_name BadMarkup = codes "XmpBadMarkup"
-cause_name BadReference = codes "XmpBadReference"
-cause_name DocumentType = codes "XmpDocumentType"
-cause_name OtherEnd = codes "XmpOtherEnd"
-cause_name AttributeTwice = codes "XmpAttributeTwice"
-cause_name BadPrefix = codes "XmpBadPrefix"
-cause_name NoRoot = codes "XmpNoRoot"
-cause_name TooDeep = codes "XmpTooDeep"
-cause_name NoRdf = codes "XmpNoRdf"
-cause_name SeveralSubjects = codes "XmpSeveralSubjects"
-cause_name RareEncoding = codes "XmpRareEncoding"
-cause_name RareName = codes "XmpRareName"
-cause_name RareNamespace = codes "XmpRareNamespace"
-cause_name RareCount = codes "XmpRareCount"
-cause_name RareElement = codes "XmpRareElement"
-cause_name RareAttribute = codes "XmpRareAttribute"
-cause_name RareText = codes "XmpRareText"
-cause_name RareLanguage = codes "XmpRareLanguage"
-cause_name RareResource = codes "XmpRareResource"
-cause_name RareRepeated = codes "XmpRareRepeated"
-cause_name RareLength = codes "XmpRareLength"
-cause_name RareDepth = codes "XmpRareDepth"

@@ -26,7 +26,7 @@ pub(crate) fn append(
     memory.extend_from_slice(out, octets)
 }
 
-// Whether an octet is printed as it is.
+// Whether an octet is printed as it is: it is from 20 to 7E, and no backslash.
 fn is_plain(octet: u8) -> bool
     ensures { result ≡ true → is_printed octet ≡ true }
 {

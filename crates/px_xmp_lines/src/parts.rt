@@ -61,7 +61,7 @@ pub(crate) fn advance<'a>(octets: &'a [u8], size: usize) -> &'a [u8]
     octets.split_at(size.max(1).min(octets.len())).1
 }
 
-// The number of octets before the first of a kind, or of all.
+// The number of octets before the first that is `mark`, or of all if none is.
 fn len_before(octets: &[u8], mark: u8) -> usize {
     for (n, octet) in octets.iter().enumerate() {
         if *octet == mark {
@@ -71,7 +71,7 @@ fn len_before(octets: &[u8], mark: u8) -> usize {
     octets.len()
 }
 
-// The octets at the first of a kind.
+// The octets before the first that is `mark`, and those after it.
 fn cut_at<'a>(octets: &'a [u8], mark: u8) -> Cut<'a> {
     let (before, rest) = octets.split_at(len_before(octets, mark).min(octets.len()));
     Cut {

@@ -192,7 +192,7 @@ pub(crate) fn ncname_len(octets: &[u8]) -> Option<usize>
     Some(name_len(octets))
 }
 
-// Whether octets begin with a certain one.
+// Whether octets begin with `octet`.
 pub(crate) fn begins_with(octets: &[u8], octet: u8) -> bool
     ensures { result ≡ begins_with octet octets.now }
 {

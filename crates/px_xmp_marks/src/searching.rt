@@ -7,7 +7,7 @@ ghost use Rattle.px_xmp_marks.specs.Sections.{find};
 use crate::sections::find;
 use memchr::{memchr, memchr3};
 
-/// The number of octets before the first of a kind. It allocates nothing.
+/// The number of octets before the first that is `mark`, or of all if none is. It allocates nothing.
 pub fn len_before(octets: &[u8], mark: u8) -> usize
     ensures value { result ≡ run (λ o. not (o == mark)) octets.now }
     ensures within { result ≤ length octets.now }

@@ -1,4 +1,5 @@
 -- Whether two pictures have the same Exif, IPTC and XMP.
+-- Example: two pictures without Exif and IPTC, whose packets have the same properties under other prefixes, are the same.
 use Rattle.std.specs.Prelude.{◌≡◌, ◌⊎◌, ℕ, List}
 use Rattle.px_pictures.specs.declared.faults.Comparison.{Comparison}
 use Rattle.px_pictures.specs.declared.faults.Comparison.TheVariants.{Same, Different, NotRead}

@@ -186,7 +186,7 @@ pub(crate) fn total_of(bytes: &[u8], portions: &[Portion]) -> Option<usize>
     Some(total)
 }
 
-// Whether a portion with so many octets of text says how long the extension is, begins at an offset, and has an octet.
+// Whether a portion whose text has `size` octets says that the extension has `total`, begins at the offset `at`, and isn't empty.
 fn follows(portion: &Portion, total: usize, at: usize, size: usize) -> bool
     ensures value { result ≡ true → (portion.now.total ≡ total) × (portion.now.offset ≡ at) × (0 < size) }
     ensures all { portion.now.total ≡ total → portion.now.offset ≡ at → 0 < size → result ≡ true }

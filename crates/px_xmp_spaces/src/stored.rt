@@ -116,7 +116,8 @@ impl<'a> Scope<'a> {
         }
     }
 
-    // Whether no two of some attributes have both in common, by a look at each pair. Each namespace is looked up once.
+    // Whether no two of some attributes have both local name and namespace in common, by a look at each pair.
+    // Each namespace is looked up once.
     #[inline(never)]
     fn is_each_pair_unique(&self, attributes: &[Attribute<'a>]) -> bool
         requires { length attributes.now ≤ attribute_limit }
@@ -127,7 +128,7 @@ impl<'a> Scope<'a> {
         are_keys_unique(keys.split_at(attributes.len()).0)
     }
 
-    // Whether no two of some attributes have both in common.
+    // Whether no two of some attributes have both local name and namespace in common.
     fn is_each_unique(&self, attributes: &[Attribute<'a>]) -> bool
         requires { length attributes.now ≤ attribute_limit }
         ensures { result ≡ are_unique self.now (map attribute_view attributes.now) }

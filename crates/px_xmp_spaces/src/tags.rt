@@ -32,14 +32,14 @@ pub(crate) fn no_name<'a>(octets: &'a [u8]) -> Name<'a> {
     }
 }
 
-// Whether a namespace's name can contain an octet, that it is compared by this reader.
+// Whether an octet is plain: this reader compares a namespace's name only if all of its octets are.
 fn is_plain(octet: u8) -> bool
     ensures { result ≡ is_plain octet }
 {
     33 <= octet && octet <= 126 && octet != b'&'
 }
 
-// Whether each octet is so.
+// Whether each octet is plain (`is_plain`).
 fn are_plain(octets: &[u8]) -> bool
     ensures { result ≡ every is_plain octets.now }
 {
@@ -98,7 +98,7 @@ fn declared_prefix<'a>(name: Name<'a>) -> Option<&'a [u8]>
     None
 }
 
-// Whether two namespaces are there and the same.
+// Whether there are two namespaces, which are the same.
 pub(crate) fn are_same_spaces(a: Option<&[u8]>, b: Option<&[u8]>) -> bool
     ensures { result ≡ are_same_spaces (option_map (λ u. u.now) a.entry) (option_map (λ u. u.now) b.entry) }
 {
@@ -270,7 +270,7 @@ impl<'a> Scope<'a> {
         }
     }
 
-    // As `judge`, with space of its own for 256 names.
+    // What is wrong with the names of a tag, as `judge` finds it, with space of its own for 256 names.
     #[inline(never)]
     fn judge_large(&self, tag: StartTag) -> Option<Cause>
         ensures { (attributes : List Attr) → AreListed tag.entry.rest.now attributes
@@ -280,7 +280,8 @@ impl<'a> Scope<'a> {
         self.judge(tag, &mut names)
     }
 
-    // As `judge`, with a smaller space for the names of attributes. If there are more, they get a larger one.
+    // What is wrong with the names of a tag, as `judge` finds it, with a smaller space for the names of
+    // attributes. If there are more, they get a larger one.
     fn judge_sized<'b>(&self, tag: StartTag<'b>, names: &mut [Name<'b>; STORED]) -> Option<Cause>
         ensures { (attributes : List Attr) → AreListed tag.entry.rest.now attributes
             → Gives result self.now (judged (name_view tag.entry.name) attributes self.now) }

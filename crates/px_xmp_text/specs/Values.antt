@@ -1,4 +1,6 @@
 -- The values of properties (XMP part 1, 6.3), and the octets in which a normal packet has them.
+-- Example: xmp:Rating with the text `5` is Flat, with a label of the namespace http://ns.adobe.com/xap/1.0/ and the local name Rating,
+-- and a literal without a language.
 use Rattle.std.specs.Prelude.{◌≡◌, ◌≢◌, ◌↔◌, ℕ, List, [], ◌∷◌, ◌++◌, codes, ⊤}
 use Rattle.std.specs.List.{AllByRecursion}
 use Rattle.px_xmp_text.specs.Texts.{normal_text}

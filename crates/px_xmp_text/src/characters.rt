@@ -41,7 +41,7 @@ fn is_usual(last: u8, octet: u8) -> bool
         && !(last == 0xEF && octet == 0xBF)
 }
 
-// Whether each octet is so.
+// Whether each octet is usual after the one before it (`is_usual`).
 fn are_usual(octets: &[u8]) -> bool
     ensures { result ≡ are_usual 0 octets.now }
 {
