@@ -22,7 +22,7 @@ from dist_info import metadata
 
 PYTHON, SOURCES = TOP / "python", TOP / "packaging" / "sdist"
 IN_C = ("exifnorm.c", "machine.h", "module.c", "exifnorm.h")
-KEPT = {".py", ".c", ".json", ".typed", ".html", ".css"}  # the suffixes of the packages' files
+KEPT = {".py", ".c", ".h", ".json", ".typed", ".html", ".css"}  # the suffixes of the packages' files
 
 
 def copy(source: Path, target: Path) -> None:

@@ -8,6 +8,7 @@ PROGRAM is one such as out/exifnorm. Each PACKET is a file with a packet; withou
 """
 
 import argparse
+import os
 import subprocess
 import sys
 import tempfile
@@ -54,7 +55,7 @@ PACKETS: Dict[str, bytes] = {
 
 def main() -> None:
     words = argparse.ArgumentParser(description=__doc__.splitlines()[0])
-    words.add_argument("program")
+    words.add_argument("program", type=os.path.abspath)
     words.add_argument("packets", nargs="*", metavar="PACKET")
     given = words.parse_args()
     packets = {name: Path(name).read_bytes() for name in given.packets} or PACKETS

@@ -26,7 +26,7 @@ from packets import PACKET as USUAL
 
 # What a packet goes through in Python.
 STEPS = {
-    "the library, and statements in Python": "reading.by_library(packet)",
+    "the library, and statements in Python": "reading.of_form(reading.form_of(packet, sort=False))",
     "expat, statements and their digest, in Python": "digest_of_statements(reader.statements(packet))",
     "expat and statements": "reader.statements(packet)",
     "expat, as xml.etree.ElementTree": "ElementTree.fromstring(packet.strip(b'\\0 \\t\\r\\n'))",

@@ -301,15 +301,20 @@ def by_four(folder: str, count: int) -> Iterator[ROW]:
 
 
 def counted(folder: str, count: int) -> Iterator[ROW]:
-    """The instructions of `index` and of ExifTool for the start and for each further picture."""
-    costs = []
+    """The instructions of `index`, of ExifTool, and of exiv2's library where it is installed, for the start and for each further picture."""
+    costs: List[Tuple[int, ...]] = []
+    exiv2 = exiv2_reader(folder)
+    names = ["index", "exiftool -b -Exif", *["exiv2's library"] * bool(exiv2)]
     for number in (count // 5, count):
         there, catalogue = os.path.join(folder, f"counted{number}"), os.path.join(folder, f"counted{number}.catalogue")
         os.mkdir(there)
         make_pictures(there, number)
         index = instructions(pictures("index", there, "--catalogue", catalogue, "--jobs", "1", "--quiet"))
-        costs.append((index, instructions(["perl", str(shutil.which("exiftool")), *EXIFTOOL, there])))
-    for column, name in enumerate(("index", "exiftool -b -Exif")):
+        listed = Path(f"{there}.names")
+        listed.write_text("".join(f"{it}\n" for it in sorted(Path(there).rglob("*.jpg"))), encoding="utf-8")
+        others = [["perl", str(shutil.which("exiftool")), *EXIFTOOL, there], [exiv2, str(listed)]]
+        costs.append((index, *map(instructions, others[: len(names) - 1])))
+    for column, name in enumerate(names):
         each = (costs[1][column] - costs[0][column]) / (count - count // 5)
         start = costs[1][column] - each * count
         yield f"instructions of `{name}`", f"{each / 1e3:,.0f} thousand for a picture, {start / 1e6:,.0f} million for the start", ""

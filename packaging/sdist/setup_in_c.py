@@ -21,7 +21,14 @@ setup(
             py_limited_api=True,
         ),
         # without it, ctypes makes the calls
-        Extension("exifnorm._native", ["exifnorm/_native.c"], include_dirs=["c"], py_limited_api=True, optional=True),
+        Extension(
+            "exifnorm._native",
+            ["exifnorm/_native.c"],
+            include_dirs=["c"],
+            depends=["exifnorm/_packed.h"],
+            py_limited_api=True,
+            optional=True,
+        ),
     ],
     options={"bdist_wheel": {"py_limited_api": "cp39"}},
 )

@@ -418,6 +418,8 @@ end:
     return made;
 }
 
+#include "_packed.h"
+
 static PyMethodDef of_library[] = {
     {"check", check, METH_O, "The number of a block's kind."},
     {"normalise", normalise, METH_O, "The normal form of a block."},
@@ -431,8 +433,12 @@ static PyMethodDef of_library[] = {
     {"jpeg_blocks", jpeg_blocks, METH_O, "Where the blocks of a JPEG are, and the bytes of those in several pieces."},
     {"xmp_normalise", xmp_normalise, METH_O, "The normal form of a packet of XMP."},
     {"xmp_unsorted", xmp_unsorted, METH_O, "The form of a packet for showing."},
+    {"packed", packed, METH_VARARGS, "What a catalogue keeps of a block's form."},
+    {"xmp_packed", xmp_packed, METH_VARARGS, "What a catalogue keeps of a packet."},
+    {"jpeg_head", jpeg_head, METH_VARARGS, "The blocks of the head of a usual JPEG."},
 };
 #define COUNT ((Py_ssize_t)(sizeof of_library / sizeof of_library[0]))
+#define ADDRESSES 12
 
 static void free_calls(PyObject *capsule)
 {
@@ -485,15 +491,15 @@ static PyObject *functions_of(PyObject *capsule)
 static PyObject *functions(PyObject *module, PyObject *arguments)
 {
     struct state *state = PyModule_GetState(module);
-    Py_ssize_t at[COUNT];
+    Py_ssize_t at[ADDRESSES];
     PyObject *capsule, *made;
 
     if (!PyArg_ParseTuple(arguments, "nnnnnnnnnnnn:functions", &at[0], &at[1], &at[2], &at[3], &at[4], &at[5], &at[6], &at[7], &at[8],
                           &at[9], &at[10], &at[11])) {
         return NULL;
     }
-    for (Py_ssize_t i = 0; i < COUNT; i++) {
-        if (at[i] == 0 && i < COUNT - 1) { /* the last one may be missing: Python then doesn't call it */
+    for (Py_ssize_t i = 0; i < ADDRESSES; i++) {
+        if (at[i] == 0 && i < ADDRESSES - 1) { /* the last one may be missing: Python then doesn't call it */
             PyErr_SetString(PyExc_ValueError, "an address is null");
             return NULL;
         }

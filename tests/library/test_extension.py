@@ -1,6 +1,7 @@
 """The extension module by itself: its arguments, its memory, each of its allocations failing in turn, and what it needs of Python."""
 
 import ctypes
+import hashlib
 import inspect
 import itertools
 import os
@@ -17,7 +18,7 @@ from commands import TOP, run
 from compiling import HERE
 from exifnorm import _calls, _library
 from meanings import ASCII, SHORT, Exif, Layout, Record, Value, laid
-from jpeg_made import VASE, exif, packet, picture
+from jpeg_made import PICTURE, VASE, exif, packet, picture
 from small_blocks import CAPTION, LOOP, ONE, long_form, outcome
 from small_packets import small_packets
 
@@ -69,6 +70,12 @@ PICTURES = {
 MOST = [-(1 << 63), -1, 0, 1, 2, 63, 64, 65, 999, 1000, 1001, (1 << 63) - 1]
 PACKETS = [*small_packets(), b"", b"x", b"<a>", small_packets()[0] + 20_000 * b" "]
 OF_PACKETS = ("xmp_normalise", "xmp_unsorted")
+# What is made for catalogues, whose results test_packed.py compares with Python's
+PACKED = {
+    "packed": [(it, hashlib.sha256) for it in (ONE, CAPTION, BLOCKS["a text in 8,191 bytes"], b"", b"x")],
+    "xmp_packed": [(it, hashlib.sha256, str, lambda octets: b"[]") for it in PACKETS],
+    "jpeg_head": [(it, 100, ((0xE0, b"JFIF"),)) for it in (PICTURE, *PICTURES.values())],
+}
 # The arguments of each call of the library.
 ARGUMENTS = {
     **dict.fromkeys(OF_ONE_BLOCK, [(it,) for it in BLOCKS.values()]),
@@ -208,6 +215,8 @@ def check_no_leak(act, times):
 
 def often(name):
     """The arguments of many calls: some that succeed, some that fail, and wrong ones."""
+    if name in PACKED:
+        return [*PACKED[name][:9], (None, *PACKED[name][0][1:])]
     if name in OF_JPEGS:
         return [*itertools.product(JPEGS.values(), (1, 100_000))]
     if name in PAIRS:
@@ -217,7 +226,7 @@ def often(name):
     return [(it,) for it in (ONE, LOOP, BLOCKS["three times as many bytes"], None)]  # whose captions are longer than expected
 
 
-@pytest.mark.parametrize("name", [*OF_ONE_BLOCK, "compare", "normal", *OF_JPEGS, *PAIRS])
+@pytest.mark.parametrize("name", [*OF_ONE_BLOCK, "compare", "normal", *OF_JPEGS, *PAIRS, *PACKED])
 def test_memory_after_many_calls(call_of, name):
     """Nothing stays allocated or referred to, whether a call succeeds, fails, or gets a wrong argument."""
     call = call_of(name)
@@ -269,12 +278,12 @@ def outcomes(refusing, function, argument):
             return found
 
 
-@pytest.mark.parametrize("name", ["normal", *ARGUMENTS])
+@pytest.mark.parametrize("name", ["normal", *ARGUMENTS, *PACKED])
 def test_allocations_of_a_call_that_fail(call_of, refusing, name):
     call = call_of(name)
     few = {"normal": [(it,) for it in (ONE, CAPTION, BLOCKS["twice as many bytes"])]}
     few.update(dict.fromkeys(OF_JPEGS, [(it, 100_000) for it in JPEGS.values()]))
-    for first, *rest in few.get(name, ARGUMENTS.get(name)):
+    for first, *rest in few.get(name, {**ARGUMENTS, **PACKED}.get(name)):
         expected = unpacked(name, call(first, *rest))
         *failed, last = outcomes(refusing, (lambda it, rest=rest: call(it, *rest)) if rest else call, first)
         assert failed == [("MemoryError",)] * len(failed) and unpacked(name, last) == expected
@@ -295,15 +304,16 @@ def test_allocations_of_functions_that_fail(loaded, native, refusing):
 # The part of the stable ABI that it uses, with what CPython 3.9 has of it: "Contents of Limited API" in Python's documentation.
 STABLE = """PyArg_UnpackTuple PyBytes_AsString PyBytes_AsStringAndSize PyBytes_FromStringAndSize PyBytes_Type PyCMethod_New
     PyCapsule_GetPointer PyCapsule_New PyErr_NoMemory PyErr_SetString PyEval_RestoreThread PyEval_SaveThread PyExc_ValueError
-    PyLong_FromUnsignedLong PyMem_Calloc PyMem_Free PyMem_Malloc PyModuleDef_Init PyModule_GetState PyTuple_GetItem PyTuple_New
-    PyTuple_SetItem PyTuple_Size Py_DecRef Py_IncRef _PyArg_ParseTupleAndKeywords_SizeT _PyArg_ParseTuple_SizeT
+    PyLong_AsLong PyLong_FromUnsignedLong PyMem_Calloc PyMem_Free PyMem_Malloc PyMem_Realloc PyModuleDef_Init PyModule_GetState
+    PyObject_IsTrue PyTuple_GetItem PyTuple_New PyTuple_SetItem PyTuple_Size PyTuple_Type PyUnicode_AsUTF8String PyUnicode_DecodeUTF8
+    Py_DecRef Py_IncRef _PyArg_ParseTupleAndKeywords_SizeT _PyArg_ParseTuple_SizeT _PyObject_CallFunction_SizeT
     _PyObject_CallMethod_SizeT _Py_BuildValue_SizeT _Py_Dealloc""".split()
 
 
 def test_symbols(extension):
     """It needs nothing that the oldest CPython of the package might not have."""
     needed = subprocess.run(["nm", "-D", "--undefined-only", extension], capture_output=True, text=True, check=True).stdout
-    assert {*re.findall(r" U (\w+)", needed)} <= {*STABLE}
+    assert {*re.findall(r" U (\w+)", needed)} <= {*STABLE, "memchr", "memcmp", "memcpy", "qsort", "strchr", "strcmp", "strlen"}
     shown = subprocess.run(["nm", "-D", "--defined-only", extension], capture_output=True, text=True, check=True).stdout
     assert re.findall(r" [A-Z] (\w+)", shown) == ["PyInit__native"]
 

@@ -20,7 +20,7 @@ PAGE = text_of("docs", "exifnorm.3")
 VERSION = re.search(r'VERSION: &str = "(.*)";', text_of("crates", "px_engine", "src", "version.rt"))[1]
 STATUSES = dict(re.findall(r"pub const (\w+): u32 = (\d+);", text_of("crates", "px_c", "src", "statuses.rt")))
 OF_JPEG = text_of("crates", "px_c", "src", "jpeg.rt")
-OF_XMP = text_of("crates", "px_c", "src", "xmp.rt")
+OF_XMP = text_of("crates", "px_xmp_forms", "src", "faults.rt")
 OF_PICTURES = text_of("crates", "px_c", "src", "pictures.rt")
 WITH_STRUCTS = ("faults.rt", "jpeg.rt", "packets.rt", "pictures.rt", "blocks.rt", "unread.rt")
 

@@ -18,7 +18,7 @@ from .formats.boxes import XMP_UUID, Box, Fields, boxes, boxes_to_fault, content
 from .formats.heif_items import PICTURES
 from .formats.packet_start import begins_packet
 from .formats.parts import CREDENTIALS, METADATA, PICTURE, PROFILE, REST, STRUCTURE, Joined, Part, Range
-from .formats.streams import Stream, pieces, read_at, size_of
+from .formats.streams import Stream, add_to, read_at, size_of
 
 _EXIF_HEAD = 10  # bytes before a block of Exif, as most programs write them
 
@@ -114,8 +114,7 @@ class _Heif:
             raise NotFollowed("pictures that share bytes")
         coded.update(b"%b%d" % (kind, length))
         for start, end in ranges:
-            for data in pieces(self.stream, start, end):
-                coded.update(data)
+            add_to(coded, self.stream, start, end)
 
     def _kind_of(self, box: Box) -> tuple[str, str]:
         """The class of a property, and the name of a rest."""
@@ -182,8 +181,7 @@ def add_jxl(stream: Stream, coded: "hashlib.blake2b") -> list[Part]:
     if not codestream:
         raise NotFollowed("no codestream")
     for start, end in codestream:
-        for data in pieces(stream, start, end):
-            coded.update(data)
+        add_to(coded, stream, start, end)
     return [*(Part(PICTURE, *it) for it in codestream if it[1] > it[0]), *claims]
 
 

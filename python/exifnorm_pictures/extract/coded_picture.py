@@ -23,7 +23,7 @@ from . import coded_boxes, coded_tiff, raw_files
 from .coded_tiff import NotFollowed
 from .formats import heif, jpeg, jxl, parts, png, tiff, webp
 from .formats.jpeg_segments import Head, read_head
-from .formats.streams import File, Stream, pieces, read_at
+from .formats.streams import File, Stream, add_to, pieces, read_at
 from .formats.tiff_directories import Directories
 from .formats.tiff_entries import BIG
 
@@ -59,11 +59,6 @@ def of_stream(stream: Stream, budget: Budget, name: bytes = b"") -> CodedPicture
         return CodedPicture(damage=str(why) or "its structure is broken")
 
 
-def digest(stream: Stream, budget: Budget) -> str:
-    """The same of a file that is open. Raises `Broken` and `TooMuch`."""
-    return followed(stream, budget)[0]
-
-
 def followed(stream: Stream, budget: Budget) -> tuple[str, list[parts.Part]]:
     """The digest, and all parts of the file; none in a format that isn't followed here. Raises `Broken` and `TooMuch`."""
     stream.seek(0)
@@ -89,11 +84,6 @@ def followed(stream: Stream, budget: Budget) -> tuple[str, list[parts.Part]]:
     return coded.hexdigest(), parts.whole(stream, claims)
 
 
-def _add(stream: Stream, hasher: "hashlib.blake2b", start: int, end: int) -> None:
-    for data in pieces(stream, start, end):
-        hasher.update(data)
-
-
 # JPEG
 
 _JFIF, _ADOBE = 0xE0, 0xEE
@@ -106,12 +96,12 @@ def _jpeg(stream: Stream, coded: "hashlib.blake2b", budget: Budget) -> list[part
     picture = [it for it in claims if it.kind == parts.PICTURE]
     for part in picture:
         if part.name != jpeg.SCAN:
-            _add(stream, coded, part.start, part.end)
+            add_to(coded, stream, part.start, part.end)
     if _jfif_decides(head):
         coded.update(b"JFIF")
     for part in picture:
         if part.name == jpeg.SCAN:
-            _add(stream, coded, part.start, part.end)
+            add_to(coded, stream, part.start, part.end)
     return claims
 
 
@@ -177,7 +167,7 @@ def _webp(stream: Stream, coded: "hashlib.blake2b", budget: Budget) -> Iterator[
             if not flags & _ALPHA and _has_alpha(kind, read_at(stream, at + 8, min(length, 5))):
                 coded.update(b"opaque")  # readers leave out what VP8X doesn't name
             coded.update(kind + length.to_bytes(4, "little"))
-            _add(stream, coded, at + 8, at + 8 + length)
+            add_to(coded, stream, at + 8, at + 8 + length)
     return webp.parts(chunks)
 
 

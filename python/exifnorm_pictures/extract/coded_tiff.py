@@ -16,7 +16,7 @@ from ..model.found import IN_PICTURE, Broken
 from ..model.tiff_types import IFD, LONG, LONG8, SHORT
 from .formats import tiff
 from .formats.parts import Part
-from .formats.streams import pieces
+from .formats.streams import add_to
 from .formats.tiff_directories import Directories, Directory
 from .formats.tiff_entries import IN_ENTRY, Entry
 
@@ -61,8 +61,7 @@ def add(directories: Directories, coded: "hashlib.blake2b", budget: Budget) -> I
             if left < 0 or strips > STRIPS:
                 raise Broken("the strips are more than the file")
             budget.check_time()
-            for data in pieces(directories.stream, start, end):
-                coded.update(data)
+            add_to(coded, directories.stream, start, end)
     return reader.parts(pages)
 
 

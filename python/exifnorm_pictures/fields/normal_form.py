@@ -2,15 +2,18 @@
 
 from __future__ import annotations
 
+import hashlib
 from itertools import islice, starmap
 from typing import Iterable
 
 from exifnorm._forms import _READ, Place, places
+from exifnorm._library import library
 
-from ..model.budgets import ALL_FIELDS, FIELDS, LEAST_FIELD, Budget
+from ..model.budgets import ALL_FIELDS, FIELD_BYTES, FIELDS, Budget
 from ..model.xmp_values import Long
 from .field import DeclaredField, Field, Identity
 from .listing import OCTETS, digest_of
+from .packing import Packed, packed
 
 
 def fields_of_form(form: bytes) -> list[Field]:
@@ -19,20 +22,26 @@ def fields_of_form(form: bytes) -> list[Field]:
     >>> fields_of_form(b"\\x1c\\x02\\x78\\x00\\x04Vase")
     [Field(name='IPTC:Caption-Abstract', text='Vase')]
     """
-    each = contents(form)
+    every = places(form)
+    each = _read(form, islice(every, FIELDS))  # 16 MB can be three million DataSets, for which Python needs 1 GB
+    if next(every, None) is not None:
+        each.append(("iptc", "more", "octets", len(form), Long(digest_of(form), b"")))
     declared = [it[4] for it in each if it[1] == "1:90"] if form.startswith(b"\x1c") else []
     return list(starmap(DeclaredField if declared == [b"\x1b%G"] else Field, each))
 
 
-def contents(form: bytes) -> list[Identity]:
-    """What identifies each field of a normal form, where the time for objects matters."""
-    each = places(form)
-    if len(form) <= LEAST_FIELD * FIELDS:
-        return _read(form, each)
-    first_fields = _read(form, islice(each, FIELDS))  # 16 MB can be three million DataSets, for which Python needs 1 GB
-    if next(each, None) is not None:
-        first_fields.append(("iptc", "more", "octets", len(form), Long(digest_of(form), b"")))
-    return first_fields
+def packed_form(form: bytes) -> Packed:
+    """The fields of a normal form as JSON: by the extension module, unless it isn't there or leaves them to Python.
+
+    >>> packed_form(b"\\x1c\\x02\\x78\\x00\\x04Vase").octets
+    b'[["iptc","2:120","octets",4,"Vase"]]'
+    """
+    made = library().packed(form, hashlib.sha256)
+    if not made or len(made[0]) > FIELD_BYTES:
+        return packed(fields_of_form(form))
+    octets, note, end = made
+    others = (octets[1:note] + octets[end:-1]).lstrip(b",")
+    return Packed(octets, hashlib.blake2b(others, digest_size=32).hexdigest() if end else None)
 
 
 def count(form: bytes, budget: Budget) -> None:

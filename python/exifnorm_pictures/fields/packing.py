@@ -14,17 +14,14 @@ from __future__ import annotations
 
 import hashlib
 import json
-from itertools import starmap
-from typing import Any, Callable, Iterable, NamedTuple, Optional, Sequence
+from typing import Any, Callable, NamedTuple, Optional, Sequence
 
 from ..model.budgets import FIELD_BYTES, NESTED
 from ..model.columns import Damaged
 from ..model.xmp_values import Array, Literal, Long, Uri, Structure, XmpValue
-from .field import Content, Field, Identity
-from .listing import LONGEST_BYTES, MAKER_NOTE, OCTETS, digest_of, kept_property, kept_value, plain_text
+from .field import Content, Field
+from .listing import MAKER_NOTE, OCTETS, digest_of, kept_property, kept_value, plain_text
 
-_LONG = 64  # characters of a long text
-_ESCAPED = bytes(range(32)) + b'"\\\x7f'  # in JSON
 _NOTE = f'["{MAKER_NOTE[0]}","{MAKER_NOTE[1]}",'  # as the MakerNote begins
 
 _quoted: Callable[[str], str] = json.encoder.encode_basestring_ascii  # type: ignore[attr-defined]  # typeshed lacks it
@@ -43,12 +40,7 @@ def packed(fields: Sequence[Field]) -> Packed:
     >>> packed([Field("main", "010f", "ASCII", 4, b"abc\\0")]).octets
     b'[["main","010f","ASCII",4,"abc"]]'
     """
-    return packed_contents([field.identity for field in fields])
-
-
-def packed_contents(contents: Iterable[Identity]) -> Packed:
-    """The same of what identifies each field."""
-    lines = list(starmap(_json_of_field, contents))
+    lines = [_json_of_field(*field.identity) for field in fields]
     text = f"[{','.join(lines)}]"
     octets = text.encode("ascii")
     if len(octets) > FIELD_BYTES:
@@ -65,14 +57,8 @@ def left_out(octets: bytes, count: int = 0) -> bytes:
 
 
 def _json_of_field(directory: str, tag: str, kind: str, count: int, content: Content) -> str:
-    if kind in OCTETS:
-        if type(content) is bytes and len(content) <= LONGEST_BYTES and directory != "thumb":  # as most are, so it needn't be asked
-            text = plain_text(content)
-            value = _quoted(text) if text is not None else f'["{content.hex()}"]'
-        else:
-            value = _json_of_octets(directory, tag, kind, count, content)
-    else:
-        value = _json_of_others(directory, tag, kind, count, content)
+    of_kind = _json_of_octets if kind in OCTETS else _json_of_others
+    value = of_kind(directory, tag, kind, count, content)
     key = _quoted(tag) if directory == "xmp" else f'"{tag}"'  # others are numbers
     return f'["{directory}",{key},"{kind}",{count},{value}]'
 
@@ -80,33 +66,16 @@ def _json_of_field(directory: str, tag: str, kind: str, count: int, content: Con
 def _json_of_octets(directory: str, tag: str, kind: str, count: int, content: Content) -> str:
     value = kept_value(Field(directory, tag, kind, count, content))
     if isinstance(value, bytes):
-        bare = value[:-1] if value.endswith(b"\0") else value
-        if len(value) > _LONG and _is_plain(bare):
-            return f'"{bare.decode("ascii")}"'
         text = plain_text(value)
         return _quoted(text) if text is not None else f'["{value.hex()}"]'
     assert isinstance(value, Long) and isinstance(value.begins, bytes)
     return f'["{value.digest}","{value.begins.hex()}"]'
 
 
-def _json_of_text(text: str) -> str:
-    """The text in quotes. A long one in which nothing is escaped takes a fourth of the time."""
-    is_plain = len(text) > _LONG and text.isascii() and _is_plain(text.encode("ascii"))
-    return f'"{text}"' if is_plain else _quoted(text)
-
-
-def _is_plain(octets: bytes) -> bool:
-    """Whether bytes are letters of ASCII, and JSON escapes none of them."""
-    return octets.isascii() and len(octets.translate(None, _ESCAPED)) == len(octets)
-
-
 def _json_of_others(directory: str, tag: str, kind: str, count: int, content: Any) -> str:
     value: Any = content
     if directory == "xmp" and not isinstance(value, Long):
         return f"[{','.join([_json_of_property(kept_property(one)) for one in value])}]"
-    if count == 1 and not isinstance(value, Long):
-        number = value[0]
-        return f"[{number[0]},{number[1]}]" if isinstance(number, tuple) else str(number)
     value = kept_value(Field(directory, tag, kind, count, content))
     if isinstance(value, Long):
         return f'["{value.digest}",{_quoted(str(value.begins))}]'
@@ -118,7 +87,7 @@ def _json_of_others(directory: str, tag: str, kind: str, count: int, content: An
 def _json_of_property(value: XmpValue) -> str:
     if isinstance(value, Literal):
         if not value.language and not value.datatype:
-            return _json_of_text(value.text)
+            return _quoted(value.text)
         return f"[{_quoted(value.text)},{_quoted(value.language)}" + (f",{_quoted(value.datatype)}]" if value.datatype else "]")
     if isinstance(value, Uri):
         return f'{{"uri":{_quoted(value.uri)}}}'

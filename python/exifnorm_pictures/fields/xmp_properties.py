@@ -3,12 +3,19 @@
 from __future__ import annotations
 
 import hashlib
+from typing import Optional
 
+from exifnorm._library import library
+from exifnorm._properties import _HEAD, _TAIL
+
+from ..model.budgets import Budget
 from ..model.xmp_names import short_name
+from ..xmp.reading import SMALL, of_form
 from ..xmp.tree import MEMBER, Literal, Node, Uri, Statement, Statements, Value, key_of, unique
 from ..model.xmp_values import Array, LongStructure, Structure, XmpValue, exact, texts_in
 from .field import Field
 from .listing import DIGITS
+from .packing import packed
 
 WHERE = "xmp"
 LONGEST_STRUCTURE = 400  # characters of the exact form of a value without texts that is kept whole
@@ -24,6 +31,22 @@ def fields_of_statements(statements: Statements) -> list[Field]:
     for predicate, value in unique(statements):
         by_property.setdefault(short_name(predicate), []).append(value)
     return [_field(name, values) for name, values in sorted(by_property.items())]
+
+
+def packed_packet(packet: bytes, budget: Budget) -> Optional[tuple[str, bytes]]:
+    """The digest of a packet's statements and its packed fields by the extension module; None if that isn't there, or leaves the packet to
+    Python."""
+    is_small = budget.small_packets and len(packet) <= SMALL
+    made = is_small and library().xmp_packed(packet, hashlib.sha256, short_name, _line_of)
+    if not made:
+        return None
+    budget.small_packets -= 1
+    return made  # type: ignore[no-any-return]
+
+
+def _line_of(octets: bytes) -> bytes:
+    """The packed field of one property of a form."""
+    return packed(fields_of_statements(of_form(_HEAD.encode() + octets + _TAIL.encode()))).octets[1:-1]
 
 
 def _field(name: str, values: list[Value]) -> Field:
@@ -59,20 +82,9 @@ def _value(value: Value) -> XmpValue:
     word = value.container
     members = [it for it in statements if word and MEMBER.match(it.predicate)]
     if word and len(members) + 1 == len(statements):  # nothing but its type
-        members.sort(key=_place)
+        members.sort(key=lambda it: (len(it.predicate), it.predicate))
         return Array(word, tuple([_value(it.value) for it in members]))
     named = [(short_name(it.predicate), _value(it.value)) for it in statements]
-    named.sort(key=_name if len({name for name, _ in named}) == len(named) else _name_and_value)
+    is_each_once = len(dict(named)) == len(named)
+    named.sort(key=lambda it: f"{it[0]}={'' if is_each_once else exact(it[1])}")
     return Structure(tuple(named))
-
-
-def _place(statement: Statement) -> tuple[int, str]:
-    return len(statement.predicate), statement.predicate
-
-
-def _name(member: tuple[str, XmpValue]) -> str:
-    return member[0] + "="
-
-
-def _name_and_value(member: tuple[str, XmpValue]) -> str:
-    return f"{member[0]}={exact(member[1])}"

@@ -13,7 +13,7 @@ from ..extract import structure
 from ..fields import normal_form, xmp_properties
 from ..fields.block_fields import Fields
 from ..fields.lines import is_short
-from ..fields.packing import left_out, packed, packed_contents
+from ..fields.packing import left_out, packed
 from ..model import steps
 from ..model.budgets import KEPT_BYTES, Budget
 from ..model.found import COMPRESSED, EXIF, FEW, IPTC, NAMES, XMP, Blocks, FoundBlock
@@ -26,24 +26,23 @@ _BY_ITSELF = FoundBlock("", b"", "", "")  # where a block is that was given with
 def judge(kind: str, block: bytes, packs: bool = False, at: FoundBlock = _BY_ITSELF, budget: Optional[Budget] = None) -> BlockRecord:
     """Judges a block that was taken as one of `kind`; a refused block never gets a digest. With `packs` its fields are packed for a catalogue,
     otherwise they are made when they are asked for. Raises `TooMuch` if a picture's budget is used up."""
-    octets = hashlib.sha256(block).hexdigest()
+    length, octets = len(block), hashlib.sha256(block).hexdigest()
     if block.startswith(COMPRESSED):
-        return _unreadable(kind, at, len(block), octets, "Compressed")
-    misplaced = _misplaced(kind, block)
-    if misplaced:
-        return BlockRecord(kind, *at[2:5], Status.REFUSED, None, misplaced, 0, len(block), octets)
+        return _unreadable(kind, at, length, octets, "Compressed")
+    record = partial(BlockRecord, kind, *at[2:5])
+    if misplaced := _misplaced(kind, block):
+        return record(Status.REFUSED, None, misplaced, 0, length, octets)
     try:
         form = exifnorm.normal(block)
     except exifnorm.Refused as refused:
-        result = BlockRecord(kind, *at[2:5], Status.REFUSED, None, refused.cause, refused.offset, len(block), octets)
+        result = record(Status.REFUSED, None, refused.cause, refused.offset, length, octets)
         return _repaired(result, block, packs, budget) if kind == EXIF else result
     except exifnorm.NormalTooLong:
-        return BlockRecord(kind, *at[2:5], Status.TOO_LONG, None, "NormalTooLong", None, len(block), octets)
+        return record(Status.TOO_LONG, None, "NormalTooLong", None, length, octets)
     except MemoryError:
-        return BlockRecord(kind, *at[2:5], Status.FAILED, None, "OutOfMemory", None, len(block), octets)
+        return record(Status.FAILED, None, "OutOfMemory", None, length, octets)
     digest = octets if form == block else hashlib.sha256(form).hexdigest()
-    accepted = BlockRecord(kind, *at[2:5], Status.ACCEPTED, digest, None, None, len(block), octets)
-    return _with_form(accepted, form, packs, budget)
+    return record(Status.ACCEPTED, digest, None, None, length, octets, None, None, None, *_kept(form, packs, budget))
 
 
 def _misplaced(kind: str, block: bytes) -> str:
@@ -55,14 +54,11 @@ def _misplaced(kind: str, block: bytes) -> str:
     return "NoMarker" if kind == IPTC else "UnknownKind"
 
 
-def _with_form(block: BlockRecord, form: bytes, packs: bool, budget: Optional[Budget]) -> BlockRecord:
-    """A block with the fields of its normal form."""
+def _kept(form: bytes, packs: bool, budget: Optional[Budget]) -> tuple[Optional[bytes], Optional[str], Optional[Fields]]:
+    """The fields of a normal form: packed with a digest of all but the MakerNote, or as they are made when somebody asks for them."""
     if budget is not None:
         normal_form.count(form, budget)
-    if not packs:
-        return block._replace(fresh=Fields(partial(normal_form.fields_of_form, form)))
-    kept = packed_contents(normal_form.contents(form))
-    return block._replace(fields=kept.octets, but_note=kept.but_note)
+    return (*normal_form.packed_form(form), None) if packs else (None, None, Fields(partial(normal_form.fields_of_form, form)))
 
 
 def _repaired(refused: BlockRecord, block: bytes, packs: bool, budget: Optional[Budget]) -> BlockRecord:
@@ -72,8 +68,9 @@ def _repaired(refused: BlockRecord, block: bytes, packs: bool, budget: Optional[
     repair = repairs.repaired(block, budget)
     if repair is None:
         return refused
-    known = refused._replace(repair=steps.packed(repair.steps), repaired=hashlib.sha256(repair.form).hexdigest())
-    return _with_form(known, repair.form, packs, budget)
+    fields, but_note, fresh = _kept(repair.form, packs, budget)
+    digest = hashlib.sha256(repair.form).hexdigest()
+    return refused._replace(repair=steps.packed(repair.steps), repaired=digest, fields=fields, but_note=but_note, fresh=fresh)
 
 
 def _says_nothing(block: FoundBlock) -> bool:
@@ -102,7 +99,7 @@ def _with_notes(block: BlockRecord, at: FoundBlock, blocks: Blocks) -> BlockReco
 def judge_all(blocks: Blocks, packs: bool = False) -> list[BlockRecord]:
     """Judges all blocks of a picture, in their order. Extended XMP is judged with the packet that refers to it. Raises `TooMuch`."""
     blocks.blocks = [it for it in blocks.blocks if it.kind == XMP or not _says_nothing(it)]
-    extended = _Extended(blocks) if any([it.extends for it in blocks.blocks]) else None
+    extended = _Extended(blocks) if any(it.extends for it in blocks.blocks) else None
     known: dict[tuple[str, bytes], BlockRecord] = {}
     many = len(blocks.blocks) > FEW
     judged: list[BlockRecord] = []
@@ -182,23 +179,27 @@ def judge_packet(packet: bytes) -> BlockRecord:
 
 def _judge_xmp(at: FoundBlock, extensions: xmp.Extensions, left: dict[str, bytes], packs: bool) -> BlockRecord:
     """Reads a packet with its extended XMP, which is taken out of `left`."""
+    length = len(at.data)
+    record = partial(BlockRecord, XMP, *at[2:5], Status.ACCEPTED)
+    if packs and (made := xmp_properties.packed_packet(at.data, extensions.budget)):
+        return record(made[0], None, None, length, hashlib.sha256(at.data).hexdigest(), fields=made[1])
     used: set[str] = set()
     try:
         statements: Optional[xmp.Statements] = xmp.statements(at.data, extensions, used)
         cause = ""
     except xmp.Unreadable as error:
         statements, cause = None, error.cause
-    octets = hashlib.sha256(at.data)
-    for name in sorted(used):
-        octets.update(extensions.data.get(name, b""))
+    octets = hashlib.sha256(b"".join([at.data, *(extensions.data.get(name, b"") for name in sorted(used))])).hexdigest()
+    for name in used:
         left.pop(name, None)
     if statements is None:
-        return _unreadable(XMP, at, len(at.data), octets.hexdigest(), cause)
-    digest = xmp.digest_of_statements(statements)
-    accepted = (XMP, *at[2:5], Status.ACCEPTED, digest, None, None, len(at.data), octets.hexdigest())
-    if packs:
-        return BlockRecord(*accepted, None, None, None, *packed(xmp_properties.fields_of_statements(statements)))
-    return BlockRecord(*accepted, fresh=Fields(partial(xmp_properties.fields_of_statements, statements)))
+        return _unreadable(XMP, at, length, octets, cause)
+    accepted = record(xmp.digest_of_statements(statements), None, None, length, octets)
+    make = partial(xmp_properties.fields_of_statements, statements)
+    if not packs:
+        return accepted._replace(fresh=Fields(make))
+    fields, but_note = packed(make())
+    return accepted._replace(fields=fields, but_note=but_note)
 
 
 def _unreadable(kind: str, at: FoundBlock, length: int, octets: str, cause: str) -> BlockRecord:

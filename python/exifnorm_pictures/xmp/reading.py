@@ -16,7 +16,7 @@ from .tree import CONTAINERS, RDF, TYPE, Literal, Node, Statement, Statements, U
 NOTE = "http://ns.adobe.com/xmp/note/HasExtendedXMP"
 
 
-_SMALL = 1 << 16  # bytes of a packet that needs no count
+SMALL = 1 << 16  # bytes of a packet that needs no count
 
 
 class Extensions:
@@ -49,7 +49,7 @@ def statements(packet: bytes, extensions: Extensions, used: set[str]) -> Stateme
     >>> statements(rdf + b"<r:Description r:about='' d:a='1'/></r:RDF>", Extensions({}), set())
     (Statement(predicate='http://d/a', value=Literal(text='1', language='', datatype='')),)
     """
-    if len(packet) <= _SMALL and extensions.budget.small_packets:
+    if len(packet) <= SMALL and extensions.budget.small_packets:
         extensions.budget.small_packets -= 1
     else:
         spend(packet, extensions.budget)
@@ -66,7 +66,7 @@ def statements(packet: bytes, extensions: Extensions, used: set[str]) -> Stateme
 
 def _parsed(packet: bytes) -> Statements:
     try:
-        return by_library(packet)
+        return of_form(form_of(packet, sort=False))
     except XmpRefused:
         from . import reader  # which imports a parser of XML, and few packets are rare
 
@@ -81,14 +81,10 @@ def _named(statements: Statements) -> tuple[str, ...]:
 _TYPES = {word: Statement(TYPE, Uri(uri)) for uri, word in CONTAINERS.items()}
 
 
-def by_library(packet: bytes) -> Statements:
-    """The statements of a packet in a usual form of RDF/XML, as XMP writers use them (XMP part 1, 7), in which the members of a Bag are in the packet's order. Raises `XmpRefused`.
-
-    >>> rdf = b"<r:RDF xmlns:r='http://www.w3.org/1999/02/22-rdf-syntax-ns#' xmlns:d='http://d/'>"
-    >>> by_library(rdf + b"<r:Description r:about='' d:a='1'/></r:RDF>")
-    (Statement(predicate='http://d/a', value=Literal(text='1', language='', datatype='')),)
-    """
-    return tuple(made_of_form(form_of(packet, sort=False), _STATEMENTS))
+def of_form(form: bytes) -> Statements:
+    """The statements of a form of the library, which has those of a packet in a usual form of RDF/XML, as XMP writers use them (XMP part 1, 7).
+    The members of a Bag are in the packet's order."""
+    return tuple(made_of_form(form, _STATEMENTS))
 
 
 def _container(kind: str, members: tuple[Value, ...]) -> Node:

@@ -78,10 +78,10 @@ def unique(statements: Statements) -> "list[Statement]":
     >>> len(unique((Statement("a", Literal("1")), Statement("a", Literal("1")), Statement("a", Node(())), Statement("a", Node(())))))
     3
     """
-    if len({predicate for predicate, _ in statements}) == len(statements):  # as in most packets
-        return list(statements)
-    plain = dict.fromkeys([it for it in statements if not isinstance(it.value, Node)])
-    return [*plain, *[it for it in statements if isinstance(it.value, Node)]]
+    return [
+        *dict.fromkeys(it for it in statements if not isinstance(it.value, Node)),
+        *(it for it in statements if isinstance(it.value, Node)),
+    ]
 
 
 def digest_of_statements(statements: Statements, is_bag: bool = False) -> str:

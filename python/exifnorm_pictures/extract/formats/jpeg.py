@@ -9,18 +9,21 @@ from __future__ import annotations
 
 import contextlib
 import re
-from typing import Iterator
+from typing import Iterator, Sequence
+
+from exifnorm._library import library
 
 from ...model.budgets import RESOURCES, Budget, budget_of
-from ...model.found import CUT, EXIF, REST, SIX, XMP, XMP_HEAD, Blocks, Broken, NotRead
+from ...model.found import CUT, EXIF, IPTC, REST, SIX, XMP, XMP_HEAD, Blocks, Broken, NotRead
 from ...model.texts import in_words
 from . import mpf, photoshop
 from .extended_xmp import HEAD as EXTENDED, Pieces
 from .jpeg_segments import APP0, APP1, APP13, APP14, APP15, APP2, APP3, COM, SOI
-from .jpeg_segments import EXIF_PIECE, PHOTOSHOP_PIECE, XMP_PACKET, XMP_PIECE, Head, blocks_of, not_compared, read_head
-from .jpeg_tail import ALONE, WINDOW, Markers, Tail, is_scan, segments, tail
+from .jpeg_segments import EXIF_PIECE, NOT_COMPARED, PHOTOSHOP_PIECE, XMP_PACKET, XMP_PIECE
+from .jpeg_segments import Head, blocks_of, not_compared, read_head, read_up_to
+from .jpeg_tail import ALONE, WINDOW, Markers, Tail, segments, tail
 from .parts import COMMENT, CREDENTIALS, METADATA, PICTURE, REST as THE_REST, STRUCTURE, Part, Range, word
-from .streams import Stream, digest_of, digest_of_rest, read_at, size_of
+from .streams import HEAD, Stream, digest_of, digest_of_rest, read_at, size_of
 from .trailers import add_blocks, known_trailer
 
 START = b"\xff\xd8\xff"
@@ -39,7 +42,9 @@ def read(stream: Stream, whole: bool = False) -> Blocks:
     end = size_of(stream)
     head = _Head(blocks)
     try:
-        head.read(stream, 0, budget)
+        first = read_up_to(stream, 0, HEAD)
+        if not head.read_usual(first, end):
+            head.read(stream, 0, budget, first)
     except Broken as why:  # a lenient form: what a damaged file has before its fault
         if not blocks.blocks:
             raise
@@ -73,12 +78,24 @@ class _Head:
         self._exif: list[tuple[str, bytes]] = []  # the position of each block, and its bytes
         self._runs: list[tuple[str, bytes]] = []  # Photoshop resources, the same way
         self._pieces = Pieces()
-        self._octets, self._start = b"", 0  # what was read of the file, and where that begins
+        self.is_all = False  # whether nothing follows but one plain scan and the end mark, as far as that is known
 
-    def read(self, stream: Stream, start: int, budget: Budget) -> None:
-        """Reads the picture that begins at `start`. Raises `Broken` once the blocks before the fault are added."""
-        head = read_head(stream, start, budget)
-        self._octets, self._start = head.octets, start
+    def read_usual(self, first: bytes, end: int) -> bool:
+        """Reads the first picture of a file, of whose bytes these are the first, by the extension module, which leaves one with an unusual head
+        to `read`."""
+        found = library().jpeg_head(first, end, NOT_COMPARED)
+        if not found:
+            return False
+        self.end, self.is_all, *blocks, self.blocks.iptc_digest = found
+        self.has_scan = True
+        for kind, where, (at, data) in zip((XMP, EXIF, IPTC), _WHERE, blocks):
+            if data is not None:
+                self.blocks.add(kind, data, where % at)
+        return True
+
+    def read(self, stream: Stream, start: int, budget: Budget, first: bytes = b"") -> None:
+        """Reads the picture that begins at `start`, perhaps with these bytes. Raises `Broken` once the blocks before the fault are added."""
+        head = read_head(stream, start, budget, first)
         blocks = iter(blocks_of(head))
         for marker, kind, begins, at, size in head.parts:
             if begins:
@@ -94,10 +111,6 @@ class _Head:
             raise Broken(head.fault)
         self.has_scan = head.has_scan
 
-    def ends_at(self, end: int) -> bool:
-        """Whether the bytes that were read show that the picture has one plain scan, and ends at `end`."""
-        return self.has_scan and is_scan(self._octets, self.end - self._start, end - self._start)
-
     def _block(self, kind: int, at: int, data: bytes) -> None:
         """Adds a block. Its first segment begins as many bytes before `at` as the mark of its kind has."""
         if kind == EXIF_PIECE:
@@ -107,7 +120,7 @@ class _Head:
         elif kind == XMP_PACKET:
             self.blocks.add(XMP, data, f"APP1 segment at {at - len(XMP_HEAD)}", self.part)
         elif not self._pieces.add(data, f"APP1 segment at {at - len(EXTENDED)}"):
-            self._leave("piece of extended XMP that does not fit the others", EXTENDED + data)
+            self.blocks.leave(f"piece of extended XMP that does not fit the others{self.of}", EXTENDED + data)
 
     def _segment(self, marker: int, start: int, data: bytes) -> None:
         """Adds what a segment of no known kind has."""
@@ -121,17 +134,17 @@ class _Head:
         elif kind == _INDEX:
             self.indexes.append((start + 4 + mark, data[mark:]))
         elif not not_compared(marker, data):
-            self._leave(kind, data)
-
-    def _leave(self, what: str, data: bytes) -> None:
-        self.blocks.leave(what + self.of, data)
+            self.blocks.leave(kind + self.of, data)
 
 
 _RESOURCES, _INDEX = "Photoshop resources", "MPF index"
+_WHERE = ("APP1 segment at %d", "APP1 segment at %d", "Photoshop resource 0404 in the APP13 segment at %d")
 
 
 def _kind_of(marker: int, data: bytes) -> tuple[str, int]:
-    """What a segment of an application has whose mark the library doesn't know, and the length of the mark; or its name."""
+    """What a segment has whose mark the library doesn't know, and the length of the mark; or its name."""
+    if marker == COM:
+        return COMMENT, 0
     if marker == APP1 and (like := _EXIF_LIKE.match(data)):  # a lenient form: a mark that is written in another way
         return EXIF, like.end()
     if marker == APP1 and (like := _XMP_LIKE.match(data)):
@@ -151,22 +164,28 @@ def _further(stream: Stream, head: _Head, end: int) -> list[int]:
     starts: set[int] = set()
     for at, data in head.indexes:
         try:
-            places = mpf.further_pictures(data, at)
-            for number, (start, length) in enumerate(places, 2):
-                if start + length > end > start + 3 and read_at(stream, start, 3) == START:
-                    head.blocks.name(NotRead(f"{REST} ({CUT}inside MPF picture {number})", digest_of(stream, start, end)))
-                if start < head.end or start + length > end or read_at(stream, start, 3) != START:
-                    raise Broken(f"no picture at {start}")
-            starts.update(start for start, _ in places)
+            starts.update(_pictures(head.blocks, stream, (at, data), head.end, end))
         except Broken as why:
             head.index_is_wrong = True
             head.blocks.leave(f"MPF index that does not fit the file ({why})", data)
     return sorted(starts)
 
 
+def _pictures(blocks: Blocks, stream: Stream, index: tuple[int, bytes], first: int, end: int) -> list[int]:
+    """The offsets of the further pictures of one index, with the offset of its header. Raises `Broken` if it doesn't fit the file."""
+    places = mpf.further_pictures(index[1], index[0])
+    for number, (start, length) in enumerate(places, 2):
+        is_picture = end > start + 3 and read_at(stream, start, 3) == START
+        if is_picture and start + length > end:
+            blocks.name(NotRead(f"{REST} ({CUT}inside MPF picture {number})", digest_of(stream, start, end)))
+        if start < first or start + length > end or not is_picture:
+            raise Broken(f"no picture at {start}")
+    return [start for start, _ in places]
+
+
 def _read_after(stream: Stream, head: _Head, end: int, whole: bool) -> None:
     """Reads the part after a picture's first scan, up to the next picture or the end of the file."""
-    if head.ends_at(end):
+    if head.is_all:
         return
     rest = tail(stream, head.end, end, whole) if head.has_scan else Tail([], min(head.end, end), True)
     for at, length in rest.segments:
@@ -203,16 +222,14 @@ SCAN = "scan"  # the name of the parts from the first scan on
 def parts(stream: Stream, head: Head, budget: Budget) -> Iterator[Part]:
     """Claims to the parts of a JPEG with this head, in their order but for those of Photoshop's resources. The pictures of its index are rest.
     Raises `Broken` and `TooMuch`."""
-    end = 0
-    for part in _of_picture(stream, head, 0, size_of(stream), budget):
-        yield part
-        end = max(end, part.end)
+    yield from _of_picture(stream, head, 0, size_of(stream), budget)
     starts: set[int] = set()
     for marker, _, _, at, length in head.parts:
         data = head.octets[at : at + length]
         if marker == APP2 and data.startswith(mpf.HEAD):
             with contextlib.suppress(Broken):  # what a wrong index leads to is rest in any case
-                starts.update(start for start, _ in mpf.further_pictures(data[len(mpf.HEAD) :], at + len(mpf.HEAD)) if start >= end)
+                index = at + len(mpf.HEAD), data[len(mpf.HEAD) :]
+                starts.update(_pictures(Blocks(), stream, index, head.end, size_of(stream)))
     places = [*sorted(starts), size_of(stream)]
     for number, (start, end) in enumerate(zip(places, places[1:]), 2):
         following = read_head(stream, start, budget)
@@ -253,34 +270,43 @@ def _of_head(head: Head, start: int, budget: Budget) -> Iterator[Part]:
     at, last = start, ""
     runs: list[list[Range]] = []
     for marker, piece, begins, first, length in head.parts[:-1]:
-        data, first = head.octets[first : first + length], start + first
+        first += start
         end = first + length
-        what, mark = (_PIECES[piece], 0) if piece else (COMMENT, 0) if marker == COM else _kind_of(marker, data)
         if marker == SOI:
             raise Broken(f"no segment at {first - 2}")
+        if marker not in _BESIDE:
+            begin = end if marker in ALONE else first - 4
+            yield Part(STRUCTURE, at, begin)
+            yield Part(PICTURE, begin, end)
+            at = end
+            continue
+        data = head.octets[first - start : end - start]
+        what, mark = _PIECES.get(piece) or _kind_of(marker, data)
+        kind = _CLASSES.get(what, THE_REST)
+        yield Part(STRUCTURE, at, first + mark)
+        at = end
         if what == _RESOURCES:
             runs += [[]] if begins or not piece else []
             runs[-1].append((first + mark, end))
-            yield Part(STRUCTURE, at, first + mark)
-        elif what in (EXIF, XMP):
-            yield from (Part(STRUCTURE, at, first + mark), Part(METADATA, first + mark, end))
-        elif marker in ALONE or what == _INDEX:
-            yield Part(STRUCTURE, at, end)
-        elif marker in _BESIDE:
-            last = CREDENTIALS if _is_credentials(what, data, last) else what
-            yield from (Part(STRUCTURE, at, first), Part(THE_REST, first, end, last))
+        elif kind == THE_REST:
+            last = _name_of(what, data, last)
+            yield Part(kind, first, end, last)
         else:
-            yield from (Part(STRUCTURE, at, first - 4), Part(PICTURE, first - 4, end))
-        at = end
-    octets = [b"".join(head.octets[one - start : other - start] for one, other in run) for run in runs]
-    yield from photoshop.parts(runs, octets, budget.left[RESOURCES])
+            yield Part(kind, first + mark, end)
     yield Part(STRUCTURE, at, start + head.parts[-1][3] - 4)
+    yield from photoshop.parts(runs, [_joined(head, start, it) for it in runs], budget.left[RESOURCES])
 
 
+def _joined(head: Head, start: int, ranges: Sequence[Range]) -> bytes:
+    """The bytes of some ranges of a head."""
+    return b"".join(head.octets[first - start : end - start] for first, end in ranges)
+
+
+_CLASSES = {EXIF: METADATA, XMP: METADATA, _INDEX: STRUCTURE}  # all others are rest, but resources, which have parts of their own
 # What the segments of the kinds that the library knows have; their marks aren't in their ranges
-_PIECES = {EXIF_PIECE: EXIF, PHOTOSHOP_PIECE: _RESOURCES, XMP_PACKET: XMP, XMP_PIECE: XMP}
+_PIECES = {EXIF_PIECE: (EXIF, 0), PHOTOSHOP_PIECE: (_RESOURCES, 0), XMP_PACKET: (XMP, 0), XMP_PIECE: (XMP, 0)}
 
 
-def _is_credentials(what: str, data: bytes, last: str) -> bool:
-    """Whether a segment has content credentials, or goes on with those of the segment before it."""
-    return what == "JUMBF" and (b"c2pa" in data[:64] or last == CREDENTIALS)
+def _name_of(what: str, data: bytes, last: str) -> str:
+    """The name of a rest: content credentials may go on in the segments behind their first one."""
+    return CREDENTIALS if what == "JUMBF" and (b"c2pa" in data[:64] or last == CREDENTIALS) else what

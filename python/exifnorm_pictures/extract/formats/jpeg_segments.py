@@ -55,16 +55,16 @@ class Head(NamedTuple):
         return bool(self.parts) and self.parts[-1][0] == SOS
 
 
-def read_head(stream: Stream, start: int, budget: Budget) -> Head:
+def read_head(stream: Stream, start: int, budget: Budget, first: bytes = b"") -> Head:
     """The head of the picture that begins at `start`. The pictures of an index can overlap, so all share a budget.
 
-    The first bytes of a file are read, and twice as many while the head isn't whole: what was found in them doesn't change. A file may end
-    after a whole segment, which is no fault here. Raises `TooMuch`.
+    The first bytes of a file are read, unless they are given, and twice as many while the head isn't whole: what was found in them doesn't
+    change. A file may end after a whole segment, which is no fault here. Raises `TooMuch`.
     """
-    octets = _read(stream, start, HEAD)
+    octets = first or read_up_to(stream, start, HEAD)
     while True:
         parts, cause, place = _parts(octets, budget)
-        more = _read(stream, start + len(octets), len(octets)) if cause == "JpegCut" else b""
+        more = read_up_to(stream, start + len(octets), len(octets)) if cause == "JpegCut" else b""
         if not more:
             break
         if len(octets) > budget.left[SEGMENT_BYTES]:
@@ -88,9 +88,8 @@ def blocks_of(head: Head) -> list[bytes]:
     >>> [len(blocks_of(read_head(BytesIO(picture), 0, Budget()))) for picture in pictures]
     [1, 1, 1, 1]
     """
-    pieces = [part for part in head.parts if part[1]]
-    if all([begins for _, _, begins, _, _ in pieces]):  # each block in one segment, as in most pictures
-        return [head.octets[start : start + size] for _, _, _, start, size in pieces]
+    if all(begins for _, kind, begins, _, _ in head.parts if kind):  # each block in one segment, as in most pictures
+        return [head.octets[start : start + size] for _, kind, _, start, size in head.parts if kind]
     last, *_, start, size = head.parts[-1]
     octets = head.octets if last in (SOS, EOI) else head.octets[: start + size] + END_MARK
     return [data for _, data in whole_blocks(octets)]
@@ -114,6 +113,7 @@ def _parts(octets: bytes, budget: Budget) -> tuple[list[PartRow], str, int]:
         raise
 
 
-def _read(stream: Stream, at: int, length: int) -> bytes:
+def read_up_to(stream: Stream, at: int, length: int) -> bytes:
+    """So many bytes of a file, or those up to its end."""
     stream.seek(at)
     return stream.read(length)

@@ -44,17 +44,6 @@ def tail(stream: Stream, start: int, end: int, whole: bool) -> Tail:
     return _scanned(Markers(stream, start, end))
 
 
-def is_scan(octets: bytes, start: int, end: int) -> bool:
-    """Whether bytes from the first scan's header on are only picture data, up to the end mark at their end. What `tail` finds of them in more
-    calls.
-
-    >>> is_scan(b"..\\xff\\0.\\xff\\xd9", 1, 7), is_scan(b"..\\xff\\0.\\xff\\xd9", 1, 8), is_scan(b"\\xff\\xdb..\\xff\\xd9", 0, 6)
-    (True, False, False)
-    """
-    mark = _MARKER.search(octets, start)
-    return mark is not None and mark.end() == end and octets[end - 1] == EOI
-
-
 class Markers:
     """The markers of a part of a file, in their order. Each piece of the file is read once."""
 

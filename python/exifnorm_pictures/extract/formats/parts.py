@@ -11,10 +11,11 @@ import hashlib
 from bisect import bisect_right
 from heapq import heappop, heappush
 from itertools import accumulate
+from operator import itemgetter, le
 from typing import Callable, Iterable, Iterator, NamedTuple, Sequence
 
 from ...model.budgets import BYTES_READ, budget_of
-from .streams import Stream, is_blank, pieces, size_of
+from .streams import Stream, add_to, is_blank, size_of
 
 METADATA, PICTURE, STRUCTURE, REST = "metadata", "picture", "structure", "rest"
 COMMENT, CREDENTIALS, PROFILE, TRAILER, UNCLAIMED = (
@@ -58,7 +59,11 @@ def whole(stream: Stream, claims: Iterable[Part]) -> list[Part]:
 
 def _disjoint(claims: Iterable[Part], size: int) -> list[Part]:
     """What the claims get, in their order in the file."""
-    waiting = sorted((it.start, number, min(it.end, size), it) for number, it in enumerate(claims) if it.start < min(it.end, size))
+    every = [it for it in claims if it[1] < min(it[2], size)]
+    ordered = sorted(every, key=itemgetter(1))
+    if all(map(le, [it[2] for it in ordered], [*(it[1] for it in ordered[1:]), size])):
+        return ordered  # as of nearly all files
+    waiting = sorted((it.start, number, min(it.end, size), it) for number, it in enumerate(every))
     bounds = sorted({bound for start, _, end, _ in waiting for bound in (start, end)})
     open_: list[tuple[int, int, Part]] = []  # the claims to the bytes at a bound, the first one in front
     taken: list[Part] = []
@@ -138,7 +143,6 @@ def digests(stream: Stream, parts: Iterable[Part]) -> dict[str, str]:
         is_known = budget.may_digest(length) and length <= budget.left[BYTES_READ]
         for part in ours if is_known else ():
             digest.update(b"%d:" % (part.end - part.start))
-            for data in pieces(stream, part.start, part.end):
-                digest.update(data)
+            add_to(digest, stream, part.start, part.end)
         known[name] = digest.hexdigest() if is_known else ""
     return known

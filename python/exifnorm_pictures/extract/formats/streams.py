@@ -154,6 +154,12 @@ def pieces(stream: Stream, start: int, end: int) -> Iterator[bytes]:
         start += len(data)
 
 
+def add_to(digest: hashlib._Hash, stream: Stream, start: int, end: int) -> None:
+    """Adds a part of a file to a digest."""
+    for data in pieces(stream, start, end):
+        digest.update(data)
+
+
 def digest_of(stream: Stream, start: int, end: int) -> str:
     """SHA-256 of a part of a file.
 
@@ -162,8 +168,7 @@ def digest_of(stream: Stream, start: int, end: int) -> str:
     'ba7816bf'
     """
     digest = hashlib.sha256()
-    for piece in pieces(stream, start, end):
-        digest.update(piece)
+    add_to(digest, stream, start, end)
     return digest.hexdigest()
 
 
@@ -203,8 +208,7 @@ def digest_of_parts(stream: Stream, parts: Iterable[tuple[int, int]]) -> str:
         if not budget.may_digest(length):
             return ""
         budget.spend(BYTES_READ, end - start)
-        for piece in pieces(stream, start, end):
-            digest.update(piece)
+        add_to(digest, stream, start, end)
     return digest.hexdigest()
 
 

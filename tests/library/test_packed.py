@@ -1,0 +1,133 @@
+"""What the extension module makes for catalogues is what Python makes where the module isn't there, or leaves it to Python."""
+
+import hashlib
+import io
+import random
+
+import pytest
+
+import made_by_tools
+from exifnorm import _library
+from exifnorm_pictures.extract.formats import jpeg
+from exifnorm_pictures.judge import judge
+from jpeg_made import COMMENT, EXTENSION, PICTURE, SCAN, exif, iptc, packet, photoshop, picture, resource, segment
+from meanings import ASCII, SHORT, UNDEFINED, Exif, Layout, Record, Value, laid
+from small_blocks import CAPTION, ONE, outcome
+from small_packets import small_packets
+
+BEHIND = SCAN + b"data\xff\x00data\xff\xd9"
+NUMBERS = [*range(2000)]
+FIELDS = {
+    0x010E: Value(ASCII, "Krüge \u2028 \U0001f3fa".encode() + b"\0"),
+    0x010F: Value(ASCII, b'a "b" \\ \x1b\0'),
+    0x0110: Value(UNDEFINED, b"text of a field that has no text, longer than a few bytes"),
+    0x0111: Value(UNDEFINED, bytes(range(200))),
+    0x0116: Value(SHORT, NUMBERS[:6]),
+    0x0117: Value(SHORT, NUMBERS),
+    0x9286: Value(UNDEFINED, b"ASCII\0\0\0" + b"Vase" * 500),
+}
+BLOCKS = [ONE, laid(Exif(FIELDS), Layout(">")), *(made.block for made in made_by_tools.ALL if made.block[:1] != b"\x1c")]
+RECORDS = [CAPTION, Record([(2, 120, bytes(40_000)), (1, 90, b"\x1b%G"), (2, 25, "Krüge".encode()), (9, 1, b"\xff" * 40)]).spelled()]
+PACKETS = [*small_packets(), small_packets()[0].replace(b"Vase", b"Vase " * 2000)]
+PICTURES = [
+    PICTURE,
+    picture(COMMENT, end=BEHIND),
+    *(picture(exif(block), packet(PACKETS[0]), iptc(RECORDS[0]), end=BEHIND) for block in BLOCKS if len(block) < 60_000),
+    *(picture(iptc(record), end=BEHIND) for record in RECORDS),
+    *(picture(packet(one), end=BEHIND) for one in PACKETS),
+    picture(exif(ONE), exif(ONE), end=BEHIND),
+    picture(packet(PACKETS[0]), packet(PACKETS[1]), end=BEHIND),
+    picture(segment(0xE1, EXTENSION + bytes(60)), end=BEHIND),
+    picture(segment(0xE2, b"ICC_PROFILE\0"), segment(0xE2, b"MPF\0"), segment(0xE0, b"JFIF\0"), end=BEHIND),
+    picture(segment(0xE0, b"JFIF\0"), segment(0xEE, b"Adobe"), exif(b""), iptc(b""), end=BEHIND),
+    *(picture(photoshop(resource(number, ONE) + resource(0x0404, CAPTION) + b"\0\0"), end=BEHIND) for number in range(0x0421, 0x0427)),
+    picture(photoshop(resource(0x0404, CAPTION) + b"more"), end=BEHIND),
+    picture(*[b"\xff\x01"] * 70, exif(ONE), end=BEHIND),
+    picture(exif(ONE), end=SCAN + b"data\xff\xdbdata\xff\xd9"),
+    picture(exif(ONE), end=SCAN + b"data\xff\xd9behind"),
+]
+
+
+@pytest.fixture
+def both(native, shared, monkeypatch):
+    """What is made of a picture by the module, and what by Python alone."""
+    _library.library()  # which stays for other tests, without the module
+    monkeypatch.setattr(_library, "_native", native)
+    library = _library.Library(str(shared))
+    made = {name: getattr(library, name) for name in ("packed", "xmp_packed", "jpeg_head")}
+    for module in ("extract.formats.jpeg", "fields.normal_form", "fields.xmp_properties"):
+        monkeypatch.setattr(f"exifnorm_pictures.{module}.library", lambda: library)
+
+    def results(octets):
+        for name, function in made.items():
+            setattr(library, name, function)
+        by_module = outcome(read, octets)
+        for name in made:
+            setattr(library, name, _library._left)
+        return by_module, outcome(read, octets)
+
+    return results
+
+
+def read(octets):
+    blocks = jpeg.read(io.BytesIO(octets))
+    about = blocks.blocks[:], blocks.not_read[:], blocks.damage, blocks.iptc_digest, blocks.counts, blocks.has_more
+    return about, judge.judge_all(blocks, True), blocks.not_read
+
+
+def changed(octets, chance):
+    """The same with a few bytes changed, left out or doubled, or cut."""
+    new = bytearray(octets)
+    for _ in range(chance.randint(1, 4)):
+        at = chance.randrange(max(len(new), 1))
+        way = chance.randrange(5)
+        if way < 3:
+            new[at : at + 1] = bytes((chance.choice((0, 1, 0x1C, 0xD9, 0xFF, chance.randrange(256))),))
+        elif way == 3:
+            new[at : at + chance.randint(1, 8)] = b"" if chance.random() < 0.5 else 2 * new[at : at + 8]
+        else:
+            del new[at if chance.random() < 0.1 else len(new) :]
+    return bytes(new)
+
+
+@pytest.mark.parametrize("number", range(len(PICTURES)))
+def test_pictures(both, number):
+    """Also with changed bytes."""
+    chance = random.Random(number)
+    for octets in [PICTURES[number], *(changed(PICTURES[number], chance) for _ in range(40))]:
+        by_module, by_python = both(octets)
+        assert by_module == by_python, octets.hex()[:2000]
+
+
+def test_usual_pictures_are_not_left(native, shared, monkeypatch):
+    """The module makes all of a picture as programs write it."""
+    monkeypatch.setattr(_library, "_native", native)
+    library = _library.Library(str(shared))
+    assert library.jpeg_head(PICTURE, len(PICTURE), ())[0] == len(PICTURE) - len(b"data\xff\xd9")
+    forms = [form for form in map(library.normalise, BLOCKS + RECORDS) if isinstance(form, bytes)]
+    assert len(forms) > 4 and all(library.packed(form, hashlib.sha256) for form in forms)
+    assert sum(library.xmp_packed(it, hashlib.sha256, str, lambda octets: b"[]") is not None for it in PACKETS) > 10
+
+
+JFIF = picture(segment(0xE0, b"JFIF\0"), end=BEHIND)
+WRONG = [
+    ("packed", (ONE,)),
+    ("packed", ("", hashlib.sha256)),
+    ("packed", (BLOCKS[1], None)),
+    ("packed", (BLOCKS[1], lambda octets: 5)),
+    ("xmp_packed", (PACKETS[0], None, str, bytes)),
+    ("xmp_packed", (PACKETS[0], hashlib.sha256, None, bytes)),
+    ("xmp_packed", (PACKETS[4], hashlib.sha256, str, lambda octets: 5)),
+    ("jpeg_head", (PICTURE, 1)),
+    ("jpeg_head", (PICTURE, 1, [])),
+    ("jpeg_head", (JFIF, 1, (5,))),
+    ("jpeg_head", (JFIF, 1, (("", b"JFIF"),))),
+    ("jpeg_head", (JFIF, 1, ((0xE0, "JFIF"),))),
+]
+
+
+@pytest.mark.parametrize("name, arguments", WRONG)
+def test_wrong_arguments(native, shared, monkeypatch, name, arguments):
+    monkeypatch.setattr(_library, "_native", native)
+    call = getattr(_library.Library(str(shared)), name)
+    assert outcome(call, *arguments)[0] in ("TypeError", "AttributeError", "SystemError"), arguments
