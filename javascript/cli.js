@@ -2,16 +2,14 @@
 /** `npx exifnorm a.jpg b.jpg`: whether two pictures have the same metadata; of one picture, what it has. @module */
 import { closeSync, fstatSync, openSync, readSync } from "node:fs";
 import { compare, read, version } from "./node.js";
-import tables from "./tables.js";
 
 const USAGE = `Usage: exifnorm PICTURE [PICTURE]
 
 Says whether two pictures have the same Exif, IPTC and XMP, and what differs. Of one
 picture it prints the fields. JPEG, PNG, WebP, TIFF, DNG, HEIC, AVIF and files of XMP.
 
-Status: 0 the same, or read; 1 different; 2 not known, or an error.
+Status: 0 the same, or read; 1 different; 2 not known, no metadata, or an error.
 `;
-const ANSWERS = Object.fromEntries(Object.values(tables.results)), DIFFERENT = "Different metadata"; // of `exifnorm-pictures compare`
 const STATUSES = { same: 0, different: 1 };
 
 /** A text without characters that control a terminal. */
@@ -45,9 +43,9 @@ function ofOne(name) {
 }
 
 function ofTwo(first, second) {
-  const { verdict, differences, refusals, notRead } = withFile(first, (one) => withFile(second, (other) => compare(one, other)));
+  const { verdict, sentence, differences, refusals, notRead } = withFile(first, (one) => withFile(second, (other) => compare(one, other)));
   const nameOf = ({ side }) => side === 1 ? first : second, shown = (text) => text === null ? "not there" : safe(text);
-  console.log(ANSWERS[verdict] || `${DIFFERENT}${differences.length ? `: ${counted(differences.length, "field")}` : ""}.`);
+  console.log(differences.length ? `${sentence.slice(0, -1)}: ${counted(differences.length, "field")}.` : sentence);
   for (const { name, before, after } of differences) console.log(`${safe(name)}: ${shown(before)} -> ${shown(after)}`);
   for (const one of refusals) console.log(safe(`${nameOf(one)}: ${refusalLine(one)}`));
   for (const one of notRead) console.log(safe(`${nameOf(one)}: not read: ${one.what}`));

@@ -198,10 +198,13 @@ export interface Difference {
 /** How two pictures compare. */
 export interface Comparison {
   /**
-   * The words of `exifnorm-pictures changed`: "same"; "different", also if a block of another kind is refused; "not wholly read": no field
-   * differs, but not everything was read; "refused": a block has no meaning, and nothing else differs; "not read": one of the pictures wasn't.
+   * "same": the same Exif, IPTC and XMP, whatever the pixels; "no metadata" in either, so nothing was compared; "different", also if a block of
+   * another kind is refused; "not wholly read": no field differs, but not everything was read; "refused": a block has no meaning, and nothing
+   * else differs; "not read": one of the pictures wasn't. But for "no metadata" they are words of `exifnorm-pictures changed`.
    */
-  verdict: "same" | "different" | "not wholly read" | "refused" | "not read";
+  verdict: "same" | "no metadata" | "different" | "not wholly read" | "refused" | "not read";
+  /** The verdict for people, as "The same metadata. Pixels are not compared." */
+  sentence: string;
   differences: Difference[];
   /** Whether the verdict is that of jpegSame alone, which is proved: of two JPEGs without extended XMP, and if they are the same, without parts beside it. */
   proved: boolean;

@@ -7,7 +7,7 @@ import { readTiff } from "./tiff.js";
 import { readWebp } from "./webp.js";
 import { inUtf8 } from "./xmp.js";
 
-const HEAD = 4096, MOST_PACKET = 1 << 24;
+const HEAD = 4096;
 // by how a file begins: the name of its format, and its reader, if there is one
 const FORMATS = [
   [/^\x89PNG\r\n\x1a\n/, "PNG", readPng], [/^RIFF[^]{4}WEBP/, "WebP", readWebp], [/^(?:II\*\0[^]{4}CR)/, "CR2", null],
@@ -23,7 +23,7 @@ function isSidecar(parts) {
 }
 
 function readSidecar(parts) {
-  if (parts.size > MOST_PACKET) throw new Broken("it has more than 16,777,216 bytes of XMP");
+  if (parts.size > tables.limits.packet) throw new Broken("it has more than 16,777,216 bytes of XMP");
   return { format: "XMP", blocks: [{ kind: "xmp", data: parts.at(0, parts.size) }], notRead: [] };
 }
 

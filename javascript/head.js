@@ -14,8 +14,8 @@ import tables from "./tables.js";
 import { inUtf8, xmpProperties } from "./xmp.js";
 import { inOrder } from "./xmp_values.js";
 
-const MOST_PARTS = 100_000; // of a head
-const FIRST_READ = 1 << 18, MOST_READ = 1 << 26, MOST_TRAILER = 1 << 20; // bytes
+const MOST_PARTS = tables.limits.segments;
+const FIRST_READ = 1 << 18, MOST_READ = 1 << 26; // bytes
 const MOST_FORMS = 1 << 25; // bytes of the forms of all XMP in a head: of a packet and the longest extended XMP there are fewer
 export const KINDS = ["exif", "iptc", "xmp"];
 export const KIND_NAMES = { exif: "Exif", iptc: "IPTC", xmp: "XMP" };
@@ -134,16 +134,14 @@ function judgedAll(engine, some) {
 
 /** The head of a JPEG. XMP that isn't read is in `further` by its kind, and in `others` segments that may have XMP in another way. */
 function jpegHead(engine, bytes, source) {
-  const trailer = bytes[0] === 0xff && bytes[1] === 0xd8 && trailerOf(source); // asked for before the work that would begin anew
   const parts = engine.jpegParts(bytes, MOST_PARTS), dataOf = ({ start, size }) => bytes.subarray(start, start + size);
   const packets = parts.filter(({ kind }) => kind === "xmp").map((part) => ({ kind: "xmp", data: dataOf(part) }));
-  const more = besides(engine, parts, bytes, source), [blocks, judge] = judgedAll(engine, [...engine.jpegBlocks(bytes, MOST_PARTS), ...packets, ...more.blocks]);
-  if (trailer) more.notRead.push(left(`${trailer} trailer`, source.part(Math.max(parts.at(-1).start + parts.at(-1).size, source.size - MOST_TRAILER), source.size)));
+  const more = besides(engine, parts, bytes, source), trailers = trailerOf(parts, source), [blocks, judge] = judgedAll(engine, [...engine.jpegBlocks(bytes, MOST_PARTS), ...packets, ...more.blocks]);
   const pieces = parts.filter(({ kind }) => kind === "extended xmp").map(dataOf), inResources = resourcesOf(engine, parts, dataOf);
   const extended = extend(blocks.filter(({ kind }) => kind === "xmp"), pieces, judge) ? [] : [new Uint8Array(0), ...pieces]; // also if it is missing
   const others = unknownIn(parts, bytes);
   const resources = inResources.hasXmp ? parts.filter(({ kind }) => kind === "photoshop").map(dataOf) : [];
-  return { format: "JPEG", bytes, blocks, pieces, further: { extended, resources }, others, unread: engine.jpegUnread(bytes), notRead: [...more.notRead, ...inResources.notRead, ...reached(blocks)] };
+  return { format: "JPEG", bytes, blocks, pieces, further: { extended, resources }, others, unread: engine.jpegUnread(bytes), notRead: [...more.notRead, ...trailers, ...inResources.notRead, ...reached(blocks)] };
 }
 
 const NOTHING = { bytes: null, blocks: [], pieces: [], further: { extended: [], resources: [] }, others: [], unread: null, notRead: [] };
@@ -220,7 +218,8 @@ const ofKind = ({ blocks }, kind) => blocks.filter((block) => block.kind === kin
 /** Whether a block of a kind that only the other head shows may be in a part that isn't read of one that shows none, and that the other one lacks. */
 export function mayHide(kind, head, other) {
   const mayHave = ({ what, key }) => tables.mayHave.some(([words, kinds]) => what.includes(words) && kinds.includes(kind)) && !(key && other.notRead.some((one) => one.key === key));
-  return head.notRead.some(mayHave) || kind === "xmp" && head.others.some((octets) => !other.others.some((one) => areEqual(octets, one)));
+  if (head.notRead.some(mayHave) || kind !== "xmp" && head.unread) return true;
+  return kind === "xmp" && head.others.some((octets) => !other.others.some((one) => areEqual(octets, one)));
 }
 
 /** Whether one of two heads has a block of a kind which the other one is known not to have. */
@@ -276,9 +275,9 @@ export function noteDoubt([first, second]) {
 const isOpen = (first, second) => Boolean(first.unread || second.unread || mayLeftDiffer(first, second) || noteDoubt([first, second]));
 
 /**
- * The verdict on two heads, which is the engine's for Exif and IPTC: `same` if nothing else is there that could differ, `partly` if what is
- * read is the same, but their XMP isn't read, or one has more that other programs may read; `different`, also if a block of another pair is
- * refused; `refused`, and `unread`.
+ * The verdict on two heads, which is the engine's for Exif and IPTC: `same` if nothing else is there that could differ, and `none` if neither
+ * has anything; `partly` if what is read is the same, but their XMP isn't read, one has more that other programs may read, or nothing is read;
+ * `different`, also if a block of another pair is refused; `refused`, and `unread`.
  */
 export function verdict(engine, first, second) {
   if (first.problem || second.problem) return "unread";
@@ -292,7 +291,9 @@ export function verdict(engine, first, second) {
     isPartly = true;
   }
   if (found === "different" || xmp === "different") return "different";
-  return found === "refused" ? "refused" : isPartly ? "partly" : "same";
+  if (found === "refused" || isPartly) return found === "refused" ? "refused" : "partly";
+  if (first.blocks.length || second.blocks.length) return "same";
+  return [first, second].some(({ notRead, others }) => notRead.length || others.length) ? "partly" : "none";
 }
 
 /** The same for one picture. */

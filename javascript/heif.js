@@ -3,8 +3,6 @@ import { Fields, boxes, itemOf, partOf, placesOf, referencesOf } from "./heif_it
 import { bareExif, Broken, left, startsWith } from "./parts.js";
 import tables from "./tables.js";
 
-const MOST_ITEM = 1 << 26;
-const WITHOUT = ["ftyp", "mdat", "free", "skip", "wide"], WITHOUT_IN_META = ["hdlr", "pitm", "iinf", "iloc", "idat", "iref", "iprp", "dinf", "grpl", "free", "skip"];
 const XMP_UUID = [0xbe, 0x7a, 0xcf, 0xcb, 0x97, 0xa9, 0x42, 0xe8, 0x9c, 0x71, 0x99, 0x94, 0x91, 0xe3, 0xaf, 0xac];
 
 /** The bytes of an item; null if it is in another file, or made of other items. */
@@ -12,7 +10,7 @@ function dataOf(parts, place, idat) {
   if (!place || place.isElsewhere || place.method > 1 || place.method === 1 && !idat) return null;
   const [start, end] = place.method ? [idat.start, idat.end] : [0, parts.size], size = place.extents.reduce((sum, [from, to]) => sum + to - from, 0);
   if (place.extents.some(([, to]) => start + to > end)) throw new Broken("the file ends inside an item");
-  if (size > MOST_ITEM) throw new Broken("an item is longer than is read here");
+  if (size > tables.limits.bytes_of_boxes) throw new Broken("an item is longer than is read here");
   const data = new Uint8Array(size);
   let at = 0;
   for (const [from, to] of place.extents) data.set(parts.at(start + from, start + to), (at += to - from) - (to - from));
@@ -30,13 +28,13 @@ export function readHeif(parts) {
   const blocks = [], notRead = [];
   const top = [...boxes(parts, 0, parts.size)], metas = top.filter(({ kind }) => kind === "meta");
   if (metas.length > 1) throw new Broken("the file has two meta boxes");
-  for (const { kind, start, end } of top.filter(({ kind: one }) => one !== "meta" && !WITHOUT.includes(one))) {
+  for (const { kind, start, end } of top.slice(1).filter(({ kind: one }) => one !== "meta" && !tables.boxes.includes(one))) { // the first one is ftyp
     const isXmp = kind === "uuid" && end - start >= 16 && startsWith(parts.at(start, start + 16), XMP_UUID);
     if (isXmp) blocks.push({ kind: "xmp", data: parts.at(start + 16, end).slice() }); else notRead.push(left(`${kind} box`, parts.short(start, end)));
   }
   if (!metas.length) return { blocks, notRead };
   const inside = [...boxes(parts, metas[0].start + 4, metas[0].end)], of = (kind) => inside.find((box) => box.kind === kind);
-  notRead.push(...inside.filter(({ kind }) => !WITHOUT_IN_META.includes(kind)).map(({ kind, start, end }) => left(`${kind} box in meta`, parts.short(start, end))));
+  notRead.push(...inside.filter(({ kind }) => !tables.boxesInMeta.includes(kind)).map(({ kind, start, end }) => left(`${kind} box in meta`, parts.short(start, end))));
   if (!of("iinf") || !of("iloc")) return { blocks, notRead };
   const list = new Fields(parts, of("iinf"));
   list.number(list.version ? 4 : 2);

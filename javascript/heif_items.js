@@ -2,12 +2,10 @@
 import { Broken } from "./parts.js";
 import tables from "./tables.js";
 
-const MOST_BOXES = 10_000;
-
 /** The boxes from an offset to another. */
 export function* boxes(parts, start, end) {
   for (let at = start, count = 0; at < end; count++) {
-    if (count > MOST_BOXES || at + 8 > end) throw new Broken(`no box at ${at}`);
+    if (count > tables.limits.boxes || at + 8 > end) throw new Broken(`no box at ${at}`);
     const short = parts.number(at, 4), head = short === 1 ? 16 : 8, size = short === 1 ? parts.number(at + 8, 8) : short === 0 ? end - at : short;
     if (size < head || at + size > end) throw new Broken(`the box at ${at} is longer than what it is in`);
     yield { kind: parts.text(at + 4, 4), start: at + head, end: at + size };

@@ -4,19 +4,20 @@
  * @module
  */
 import { HeadRefused } from "./engine.js";
-import { Broken, Parts, bareExif, latin, left, startsWith } from "./parts.js";
+import { Broken, MOST_DIGESTED, Parts, bareExif, latin, left, startsWith } from "./parts.js";
 import tables from "./tables.js";
 
-const MOST_PARTS = 100_000, MOST_HEAD = 1 << 22, LAST = 64;
+const MOST_PARTS = tables.limits.segments, MOST_HEAD = 1 << 22, LAST = 64;
 const TRAILERS = tables.trailers.map(([sign, name]) => [new RegExp(sign, "s"), name]);
 const XMP_RESOURCE = 0x0424, APP0 = 0xe0, APP1 = 0xe1, APP2 = 0xe2, APP3 = 0xe3, APP13 = 0xed, APP15 = 0xef;
 const INDEX = [0x4d, 0x50, 0x46, 0], ENTRIES = 0xb002, ENTRY = 16; // of an index: its mark, the tag of its list, and the bytes for each picture
 const { notCompared: WITHOUT, sizes: SIZES } = tables; // segments without Exif, IPTC and XMP: their markers, and how they begin
 
-/** The name of the trailer at the end of a file, by its last bytes; undefined without one. */
-export function trailerOf(source) {
-  const last = latin(source.part(Math.max(0, source.size - LAST), source.size));
-  return TRAILERS.find(([sign]) => sign.test(last))?.[1];
+/** The trailer at the end of a file, as a list. Where it begins isn't known, so all that follows the head is compared with it. */
+export function trailerOf(parts, source) {
+  const last = latin(source.part(Math.max(0, source.size - LAST), source.size)), [, name] = TRAILERS.find(([sign]) => sign.test(last)) ?? [];
+  const start = Math.min(parts.at(-1).start + parts.at(-1).size, source.size);
+  return name ? [left(`${name} trailer`, source.size - start > MOST_DIGESTED ? null : source.part(start, source.size))] : [];
 }
 
 /** The name of a segment of an application. */
@@ -88,7 +89,7 @@ export function resourcesOf(engine, parts, dataOf) {
     const whole = new Uint8Array(run.reduce((size, data) => size + data.length, 0));
     let end = 0;
     for (const data of run) whole.set(data, (end += data.length) - data.length);
-    const found = engine.photoshopResources(whole, MOST_PARTS), last = found.at(-1);
+    const found = engine.photoshopResources(whole, tables.limits.Photoshop_resources), last = found.at(-1);
     const rest = whole.slice(last ? last.start + last.size + last.size % 2 : 0);
     hasXmp ||= found.some(({ number, size }) => number === XMP_RESOURCE && size > 0);
     if (rest.some(Boolean)) notRead.push(left("bytes behind the Photoshop resources", rest));

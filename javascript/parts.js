@@ -1,9 +1,11 @@
 /** Parts of a file, which is read only where a reader asks for it, and never more than some bytes in all. @module */
 import { sha256 } from "./sha256.js";
+import tables from "./tables.js";
 
-const WINDOW = 1 << 16, MOST = 1 << 27, MOST_READS = 200_000, MOST_DIGESTED = 1 << 24;
+const WINDOW = 1 << 16, MOST = 1 << 27, MOST_READS = 200_000;
+export const MOST_DIGESTED = 1 << 26; // bytes of a part that isn't read, of which two are compared
 const EXIF_MARK = [0x45, 0x78, 0x69, 0x66, 0, 0];
-const IPTC = 0x0404, EXIF = 0x0422, MORE_EXIF = 0x0423, XMP = 0x0424, MOST_RESOURCES = 100_000;
+const IPTC = 0x0404, EXIF = 0x0422, MORE_EXIF = 0x0423, XMP = 0x0424;
 
 /** A file doesn't follow its format, so that nobody knows which blocks it has. */
 export class Broken extends Error {}
@@ -74,7 +76,7 @@ export class Parts {
 export function inResources(engine, bytes) {
   const blocks = [], notRead = [];
   let end = 0;
-  for (const { number, start, size } of engine.photoshopResources(bytes, MOST_RESOURCES)) {
+  for (const { number, start, size } of engine.photoshopResources(bytes, tables.limits.Photoshop_resources)) {
     const data = bytes.slice(start, start + size);
     end = start + size + size % 2;
     if (number === IPTC) blocks.push({ kind: "iptc", data });

@@ -186,9 +186,9 @@ export const pictureOf = (engine, picture) => withHeads(engine, [picture], ([hea
 /** Whether the verdict is that of calls which are proved: of two JPEGs without extended XMP, and if they are the same, with nothing beside it. */
 function isProved(engine, heads, found) {
   const isAll = ({ blocks, notRead }) => !notRead.length && !blocks.some(({ part }) => part);
-  if (!heads.every((head) => head.bytes && !head.pieces.length && (found === "different" || found === "same" && isAll(head)))) return false;
+  if (!heads.every((head) => head.bytes && !head.pieces.length && (found === "different" || ["same", "none"].includes(found) && isAll(head)))) return false;
   try {
-    return engine.jpegSame(...heads.map(({ bytes }) => bytes)) === (found === "same");
+    return engine.jpegSame(...heads.map(({ bytes }) => bytes)) === (found !== "different");
   } catch (error) {
     if (error instanceof NotRead || error.name === "PictureRefused") return false;
     throw error;
@@ -222,7 +222,7 @@ function comparisonOfHeads(engine, heads) {
   const doubt = found === "partly" ? noteDoubt(heads) : "";
   const ofSides = (list) => heads.flatMap((head, i) => list(head).map((one) => ({ side: i + 1, ...one })));
   return {
-    verdict: tables.results[found][0], differences, proved: isProved(engine, heads, found),
+    verdict: tables.results[found][0], sentence: tables.results[found][1] || "Different metadata.", differences, proved: isProved(engine, heads, found),
     refusals: ofSides((head) => refusalsOf(head)), notRead: [...ofSides((head) => notReadOf(head).map((what) => ({ what }))), ...doubt ? [{ side: 2, what: doubt }] : []],
   };
 }

@@ -1,9 +1,10 @@
 /** PNG: Exif in eXIf chunks, XMP in iTXt chunks, and the raw profiles of other programs in text chunks (exifnorm_pictures' png.py). @module */
 import { inflated } from "./inflate.js";
 import { bareExif, Broken, inResources, latin, left } from "./parts.js";
+import tables from "./tables.js";
 
 const FIRST = 8, XMP_KEYWORD = "xml:com.adobe.xmp", PROFILE = "raw profile type ", XMP_HEAD = "http://ns.adobe.com/xap/1.0/\0";
-const TEXTS = ["tEXt", "zTXt", "iTXt"], MOST_CHUNK = 1 << 26;
+const TEXTS = ["tEXt", "zTXt", "iTXt"];
 const MOST_TEXT = 36_000_000; // bytes of a text that was compressed: of the longest block in hexadecimal digits, in lines
 const CRC = Int32Array.from({ length: 256 }, (_, number) => {
   for (let i = 0; i < 8; i++) number = number & 1 ? number >>> 1 ^ 0xedb88320 : number >>> 1;
@@ -70,7 +71,7 @@ export function readPng(parts, engine) {
     kind = parts.text(at + 4, 4);
     if (end > parts.size) throw new Broken(`the file ends inside the chunk at ${at}`);
     if (kind === "eXIf" || kind === "zxIf" || TEXTS.includes(kind)) {
-      if (length > MOST_CHUNK) throw new Broken(`the chunk at ${at} is longer than is read here`);
+      if (length > tables.limits.bytes_of_chunks) throw new Broken(`the chunk at ${at} is longer than is read here`);
       const chunk = parts.at(at + 4, end), data = chunk.slice(4, 4 + length);
       if (crcOf(chunk.subarray(0, 4 + length)) !== new DataView(chunk.buffer, chunk.byteOffset + 4 + length, 4).getUint32(0)) throw new Broken(`wrong check sum of the chunk at ${at}`);
       if (kind === "eXIf") found.blocks.push({ kind: "exif", data: bareExif(data) });

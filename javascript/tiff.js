@@ -10,8 +10,7 @@ import { Directories } from "./tiff_directories.js";
 
 const LONG = 4, PIXELS = tables.pixels, SUB_IFDS = 0x014a;
 const XMP = 0x02bc, IPTC = 0x83bb, PHOTOSHOP = 0x8649, LAYERS = 0x935c, DNG_VERSION = 0xc612, MAKER_NOTE = 0x927c;
-const POINTERS = { 0x8769: { 0xa005: {} }, 0x8825: {} };
-const OTHERS = [0x0190, 0x8290, 0x8606, 0x888a, 0xfe00]; // pointers that aren't followed
+const { otherPointers: OTHERS } = tables; // that aren't followed
 const SONY = 0xc634, ORIGINAL = 0xc68c, PROFILES = 0xc6f5, SAMSUNG = 0xa010; // private entries, of which no value counts
 const MOST_BETWEEN = 1 << 24;
 
@@ -48,13 +47,13 @@ export function readTiff(parts, engine) {
       } else if (entry.tag === LAYERS && entry.size > 4) found.notRead.push(left("Photoshop's layers", directories.placeOf(entry) && parts.short(...directories.placeOf(entry))));
       else if (isPrivate(entry)) found.notRead.push(left(`what tag ${entry.tag.toString(16)} leads to`, entry.tag === ORIGINAL ? directories.bytesOf(entry) : null));
       else if (!PIXELS.includes(entry.tag)) {
-        if (OTHERS.includes(entry.tag)) found.notRead.push(left(`what tag ${entry.tag.toString(16).padStart(4, "0")} leads to`));
+        if (OTHERS[entry.tag]) found.notRead.push(left(OTHERS[entry.tag]));
         return true;
       }
       return false;
     });
     if (!kept.length) return;
-    const table = directories.table(kept, POINTERS);
+    const table = directories.table(kept, tables.pointers);
     const note = table.below.get(0x8769)?.entries.find(({ tag, size }) => tag === MAKER_NOTE && size > 4)?.value ?? null;
     if (note !== null) notes.add(note);
     add({ kind: "exif", data: directories.block(table), note });

@@ -3,8 +3,8 @@ import { Broken } from "./parts.js";
 import tables from "./tables.js";
 
 const LONG = 4, IFD = 13;
-const SIZES = tables.sizes, NUMBERS = { 3: 2, 4: 4, 13: 4 }, PIXELS = [[0x0111, 0x0117], [0x0144, 0x0145], [0x0201, 0x0202]], MOST_STRIPS = 100_000;
-const MOST_DIRECTORIES = 1000, MOST_BLOCK = 1 << 24, NOWHERE = 0xffffffff;
+const SIZES = tables.sizes, NUMBERS = { 3: 2, 4: 4, 13: 4 }, MOST_STRIPS = 100_000;
+const MOST_BLOCK = 1 << 24, NOWHERE = 0xffffffff;
 
 /** The directories of a file, each read once. */
 export class Directories {
@@ -25,7 +25,7 @@ export class Directories {
   read(at) {
     const count = at < 8 ? 0 : this.number(at, 2), end = at + 6 + 12 * count;
     if (at < 8 || this.#taken.some(([start, stop]) => at < stop && start < end)) throw new Broken(`the directory at ${at} shares bytes with another one`);
-    if (this.#taken.push([at, end]) > MOST_DIRECTORIES) throw new Broken("it has more directories than are read here");
+    if (this.#taken.push([at, end]) > tables.limits.directories) throw new Broken("it has more directories than are read here");
     const entries = Array.from({ length: count }, (_, i) => {
       const start = at + 2 + 12 * i, type = this.number(start + 2, 2), elements = this.number(start + 4, 4);
       return { tag: this.number(start, 2), type, elements, size: (SIZES[type] ?? 0) * elements, last: this.parts.at(start + 8, start + 12).slice(), value: this.number(start + 8, 4) };
@@ -38,7 +38,7 @@ export class Directories {
   /** Notes where a directory, its values and its pixels are. */
   #reach({ at, entries }, end) {
     this.ranges.push([at, end], ...entries.map((entry) => this.placeOf(entry)).filter(Boolean));
-    for (const [starts, sizes] of PIXELS) {
+    for (const [starts, sizes] of tables.ofPixels) {
       const pair = [starts, sizes].map((tag) => entries.find((entry) => entry.tag === tag)).filter(Boolean);
       if (!pair.length || pair[0].tag !== starts) continue;
       const isKnown = pair.length === 2 && pair[0].elements === pair[1].elements && pair[0].elements <= MOST_STRIPS && pair.every((entry) => this.isList(entry));

@@ -284,7 +284,8 @@ function titleOf(look) {
   const { verdict, sides } = look, hasNone = haveNone(look), open = readXmp(look);
   if (look.isSameFile) return "The same bytes";
   const none = `No Exif, IPTC or XMP${sides.some(({ others }) => others) ? " that is read" : ""}`;
-  if (verdict === "same") return hasNone ? none : "Same Exif, IPTC and XMP";
+  if (verdict === "none") return none;
+  if (verdict === "same") return "Same Exif, IPTC and XMP";
   if (verdict === "valid") return hasNone ? open || none : `${fieldsOf(look)}${open && `, ${open}`}`;
   if (verdict === "partly") {
     const isXmpAlone = open && !sides.some(({ unread, notRead }) => unread || notRead.length);
@@ -298,14 +299,15 @@ function titleOf(look) {
 function meaningOf(look) {
   const [differing, equal] = look.counts, isPair = look.sides.length === 2, hasNone = haveNone(look), isXmpOpen = look.xmp.verdict === "unread";
   if (look.isSameFile) return "Nothing differs, whatever the bytes mean: both files have the same.";
+  if (look.verdict === "none") return RESULTS.none[1];
   const fields = (count, noun = "field") => (look.isCut ? "at least " : "") + many(count, noun);
   const there = [...new Set(look.sides.flatMap(({ blocks }) => blocks.map(({ kind }) => kind)))];
   const isRead = (kind) => kind !== "xmp" || !isXmpOpen || !isPair && readXmp(look) !== "XMP not read";
   const kinds = there.filter(isRead).map((kind) => KINDS[kind]);
   if (look.verdict === "same" || look.verdict === "partly") {
-    if (hasNone || !kinds.length) return `Neither picture has ${isXmpOpen ? "Exif or IPTC" : "Exif, IPTC or XMP"} that is read here${isXmpOpen ? "" : ", so nothing was compared"}.`;
+    if (hasNone || !kinds.length) return `Neither picture has ${isXmpOpen ? "Exif or IPTC" : "Exif, IPTC or XMP"} that is read here.`;
     const layout = look.sameBytes && (isXmpOpen || look.xmp.sameBytes) ? "Even their bytes are equal." : "Their bytes differ, because programs arranged them differently.";
-    return `The ${listed(kinds)} of both pictures ${kinds.length > 1 ? "mean" : "means"} the same: ${fields(equal - (isXmpOpen ? look.xmp.equal : 0))}. ${layout}`;
+    return `${look.verdict === "same" ? `${RESULTS.same[1]} ` : ""}The ${listed(kinds)} of both pictures ${kinds.length > 1 ? "mean" : "means"} the same: ${fields(equal - (isXmpOpen ? look.xmp.equal : 0))}. ${layout}`;
   }
   if (look.verdict === "different") {
     const names = look.differing.slice(0, 4).map(({ name }) => name);
@@ -349,7 +351,9 @@ function unreadOf(look) {
   const found = kinds.map(([what, has]) => [what, look.sides.map(has)]).filter(([, has]) => has.some(Boolean));
   const xmp = found.map(([what, has]) => `${what} (${whose(has)}), `).join("");
   const named = look.sides.flatMap(({ notRead }) => notRead).length ? `${safe([...new Set(look.sides.flatMap(({ notRead }) => notRead))].slice(0, 9).join(", "))}, ` : "";
-  return `Not read: ${xmp}${named}what is inside a MakerNote, pixels, and what follows the head of a JPEG: previews, trailers.${cut}`;
+  const note = look.sides.some(({ hasNote }) => hasNote) ? "what is inside a MakerNote, " : "";
+  const rest = look.sides.some(({ format }) => format === "JPEG") ? ", and what follows the head of a JPEG: previews, trailers" : "";
+  return `Not read: ${xmp}${named}${note}pixels${rest}.${cut}`;
 }
 
 /** Why a picture isn't read, and what helps. */
@@ -486,7 +490,7 @@ function imagesOf(look, names, files) {
 function show(look, names, files, areOfFolders) {
   const isOne = look.sides.length === 1, alike = !isOne && names[0] === names[1];
   const called = alike ? SIDES.map((side) => `the ${side}`) : names, heads = isOne ? ["Value"] : alike ? ["First", "Second"] : names;
-  const verdict = haveNone(look) && (look.verdict === "same" || look.verdict === "valid") ? "none" : look.verdict;
+  const verdict = haveNone(look) && look.verdict === "valid" ? "none" : look.verdict;
   const isUnread = look.sides.every(({ problem }) => problem), main = card(verdict, SIGNS[verdict], titleOf(look), areOfFolders && element("p", "small", [...new Set(names)].join(" and ")), element("p", "", meaningOf(look)),
     !isOne && look.verdict === "partly" && doubts(look, called), ...faultsOf(look, called), !isUnread && element("p", "small", unreadOf(look)));
   const [differing, equal, open] = look.counts, isDifferent = look.verdict === "different";
@@ -565,9 +569,9 @@ document.onkeydown = (event) => {
 
 // ---- folders
 
-const VERDICTS = ["different", "refused", "moved", "missing", "partly", "unread", "same", "valid"];
+const VERDICTS = ["different", "refused", "moved", "missing", "partly", "unread", "none", "same", "valid"];
 const RESULTS = JSON.parse($("results").textContent); // the words of `exifnorm-pictures changed`, and its sentences
-const LABELS = { ...Object.fromEntries(Object.entries(RESULTS).map(([verdict, [word]]) => [verdict, word])), same: "the same", missing: "in one folder only", valid: "valid" };
+const LABELS = { ...Object.fromEntries(Object.entries(RESULTS).map(([verdict, [word]]) => [verdict, word])), same: "same metadata", missing: "in one folder only", valid: "valid" };
 
 const resultOf = (verdict) => RESULTS[verdict]?.[0] ?? verdict;
 const wordOf = (row) => row.verdict === "missing" ? `only in the ${SIDES[row.side]}` : LABELS[row.verdict];
@@ -672,12 +676,12 @@ function summaryCard(rows, counts, others, isPair, stoppedOf) {
   const look = isWhole ? worst : ["different", "refused"].includes(worst) ? worst : "unread";
   const heads = words.filter((_, i) => there[i] !== "same" || there.length < 3).join(", ");
   const title = !rows.length ? "No pictures" : isWhole ? (isPair ? "All have the same Exif, IPTC and XMP" : "All valid") : heads;
-  const notInTitle = title === heads && counts.same && there.length > 2 ? `; ${counted(counts.same)} ${LABELS.same}` : "";
+  const notInTitle = title === heads && counts.same && there.length > 2 ? `; ${counted(counts.same)} ha${counts.same === 1 ? "s" : "ve"} the same metadata` : "";
   const rest = `${notInTitle}${others ? `; ${many(others, "other file")} left out` : ""}.`;
   const stopped = stoppedOf ? ` Stopped before the end: there are ${many(stoppedOf, "file")}.` : "";
   return card(look, SIGNS[look], title,
     element("p", "", `${many(rows.length, "picture")}${isPair ? ", paired by path" : ""}${rest}${stopped}`),
-    element("p", "small", `${isPartial ? PARTIAL : ""}${counts.moved ? "Moved: the same Exif, IPTC and XMP at another path; pixels are not compared. " : ""}Not read: ${open ? `some XMP (of ${many(open, "picture")}), ` : ""}some formats, what is inside a MakerNote, and what follows the head of a JPEG.`));
+    element("p", "small", `${isPartial ? PARTIAL : ""}${counts.moved ? "Moved: the same Exif, IPTC and XMP at another path; pixels are not compared. " : ""}Not read: ${open ? `some XMP (of ${many(open, "picture")}), ` : ""}some formats, what is inside a MakerNote, pixels, and what follows the head of a JPEG.`));
 }
 
 /** The link of a row to the comparison of its pictures. */
@@ -743,9 +747,9 @@ function waysSection(ways, open) {
     const isOdd = group.length === 1, part = element("span", isOdd ? "odd" : ""), edits = isOdd ? group[0].edits : sharedBy(group);
     part.style.flexGrow = group.length;
     bar.append(part);
-    return element("li", "", button(isOdd ? safeName(group[0].path) : many(group.length, "picture"), () => open(group)), ...edits.slice(0, 9).map(editLine));
+    return element("li", "", button(isOdd ? safeName(group[0].path) : many(group.length, "picture"), () => open(group)), ...edits.length ? edits.slice(0, 9).map(editLine) : [element("p", "edit", "no field that is listed here")]);
   });
-  const others = alike ? `${odd ? "The others" : "The pictures"} changed in ${many(alike, "way")}. ` : "";
+  const others = alike && odd ? `The others changed in ${many(alike, "way")}. ` : "";
   return element("section", "ways", element("h2", "", `${many(total, "picture")} changed, in ${many(ways.length, "way")}`),
     element("p", "", odd > 0 && `${many(odd, "picture")} changed like no other: look here first. `, others, "Words that were left out are ", element("del", "", "struck through"), ", new ones are ", element("ins", "", "underlined"), "."),
     alike > 0 && ways.length > 1 && bar, element("ul", "", ...lines), ways.length > MOST_WAYS && element("p", "small", `And ${many(ways.length - MOST_WAYS, "further way")}: see the list.`));

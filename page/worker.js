@@ -26,9 +26,9 @@ function read(file) {
   }
 }
 
-/** Whether two files whose comparison has another verdict than `same` and `different` have the same bytes. */
+/** Whether two files that aren't known to have the same metadata or other ones have the same bytes. */
 function haveSameOctets(found, first, second) {
-  if (!["partly", "refused", "unread"].includes(found) || !second || first.size !== second.size || first.size > MOST_COMPARED) return false;
+  if (["same", "different"].includes(found) || !second || first.size !== second.size || first.size > MOST_COMPARED) return false;
   const [one, other] = [first, second].map((file) => new Uint8Array(new FileReaderSync().readAsArrayBuffer(file)));
   return one.every((octet, i) => octet === other[i]);
 }
@@ -75,7 +75,7 @@ const CALLS = {
       captions: heads.length === 1 ? captionTable(engine, heads[0]) : pairsOf(heads).flatMap(([one, other]) => captionRows(engine, one, other, heads.map((head) => cameraOf(engine, head)))),
       sameBytes: haveSameBytes(heads), xmp: { ...xmpOf(heads), equal: equal.filter(({ isXmp }) => isXmp).length },
       sides: heads.map(({ problem: why = null, format, blocks, further, others, unread, notRead }, i) => ({
-        problem: why && { ...why, about: tables.heads[why.cause] ?? [] }, format, extended: further.extended.length > 0, resources: further.resources.length > 0, others: others.length > 0, unread, notRead: [...notRead.map(({ what }) => what), ...i && doubt ? [doubt] : []],
+        problem: why && { ...why, about: tables.heads[why.cause] ?? [] }, format, extended: further.extended.length > 0, resources: further.resources.length > 0, others: others.length > 0, hasNote: blocks.some(({ note }) => note !== null), unread, notRead: [...notRead.map(({ what }) => what), ...i && doubt ? [doubt] : []],
         blocks: blocks.map(({ kind, name, index, data, refusal }) => ({ kind, name, index, size: data.length, refusal: refusal && { ...refusal, about: aboutOf(refusal.cause) } })),
       })),
     };

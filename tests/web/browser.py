@@ -26,7 +26,54 @@ STATE = (
 )
 
 
-class Browser:
+# The contrast of each text with what is behind it (WCAG 2.1, 1.4.3), by the colours that the browser has computed
+CONTRAST = """(() => {
+  const channels = (colour) => colour.match(/[\\d.]+/g).map(Number);
+  const luminance = ([r, g, b]) => [r, g, b].map((it) => it / 255).map((it) => it <= 0.04045 ? it / 12.92 : ((it + 0.055) / 1.055) ** 2.4)
+    .reduce((sum, it, at) => sum + it * [0.2126, 0.7152, 0.0722][at], 0);
+  const behind = (element) => {
+    for (let at = element; at; at = at.parentElement) {
+      const colour = channels(getComputedStyle(at).backgroundColor);
+      if (colour.length < 4 || colour[3] === 1) return colour;
+      if (colour[3] > 0) throw new Error("a colour that is seen through");
+    }
+    return [255, 255, 255];
+  };
+  const found = [];
+  const walker = document.createTreeWalker(document.body, NodeFilter.SHOW_TEXT);
+  let texts = 0;
+  while (walker.nextNode()) {
+    const element = walker.currentNode.parentElement;
+    if (!walker.currentNode.data.trim() || !element.checkVisibility()) continue;
+    texts += 1;
+    const pair = [luminance(channels(getComputedStyle(element).color)), luminance(behind(element))].sort((a, b) => b - a);
+    const contrast = (pair[0] + 0.05) / (pair[1] + 0.05);
+    if (contrast < 4.5) found.push([walker.currentNode.data.trim().slice(0, 40), element.className, contrast]);
+  }
+  return [texts, found];
+})()"""
+
+
+class Waiting:
+    """What is asked until it is true."""
+
+    def ask(self, expression: str) -> Any:
+        """The value of an expression in the page, also of a promise."""
+        raise NotImplementedError
+
+    def wait(self, expression: str) -> Any:
+        """Waits until an expression is true, and returns its value. A page that still works, by what it shows, is waited for longer."""
+        end, seen = time.monotonic() + PATIENCE, ""
+        while time.monotonic() < end:
+            if value := self.ask(expression):
+                return value
+            if (now := self.ask(STATE)) != seen:
+                end, seen = time.monotonic() + PATIENCE, now
+            time.sleep(0.02)
+        raise TimeoutError(f"{PATIENCE} seconds without a change, while this was waited for: {expression}; the page shows: {seen}")
+
+
+class Browser(Waiting):
     """One page in a browser: the addresses that it asked for, and what it logged, which is mostly a violation of a policy."""
 
     def __init__(self, folder: Path) -> None:
@@ -85,22 +132,10 @@ class Browser:
             self.log.append(event["params"])
 
     def ask(self, expression: str) -> Any:
-        """The value of an expression in the page, also of a promise."""
         result = self.call("Runtime.evaluate", expression=expression, awaitPromise=True, returnByValue=True)
         if "exceptionDetails" in result:
             raise RuntimeError(f"{expression[:200]}: {json.dumps(result['exceptionDetails'])[:1000]}")
         return result["result"].get("value")
-
-    def wait(self, expression: str) -> Any:
-        """Waits until an expression is true, and returns its value. A page that still works, by what it shows, is waited for longer."""
-        end, seen = time.monotonic() + PATIENCE, ""
-        while time.monotonic() < end:
-            if value := self.ask(expression):
-                return value
-            if (now := self.ask(STATE)) != seen:
-                end, seen = time.monotonic() + PATIENCE, now
-            time.sleep(0.02)
-        raise TimeoutError(f"{PATIENCE} seconds without a change, while this was waited for: {expression}; the page shows: {seen}")
 
     def open(self, address: str) -> None:
         self.call("Page.navigate", url=address)

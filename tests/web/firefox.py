@@ -13,6 +13,8 @@ import time
 from pathlib import Path
 from typing import Any, Dict, List
 
+from browser import Waiting
+
 WORDS = ["firefox-esr", "--headless", "--no-remote", "--remote-debugging-port", "0", "--profile"]
 PATIENCE = 120  # seconds in which the browser answers, also on a very busy machine
 LISTENS = re.compile(r"WebDriver BiDi listening on ws://127\.0\.0\.1:(\d+)")
@@ -69,7 +71,7 @@ class Socket:
         return octets
 
 
-class Firefox:
+class Firefox(Waiting):
     """One page in Firefox: the addresses that it asked for, and what it logged."""
 
     def __init__(self, folder: Path) -> None:
@@ -121,18 +123,8 @@ class Firefox:
         return found["result"]
 
     def ask(self, expression: str) -> Any:
-        """The value of an expression in the page, also of a promise."""
         text = f"(async () => JSON.stringify(await ({expression}) ?? null))()"
         return json.loads(self.evaluate(text)["value"])
-
-    def wait(self, expression: str) -> Any:
-        """Waits until an expression is true, and returns its value."""
-        end = time.monotonic() + PATIENCE
-        while time.monotonic() < end:
-            if value := self.ask(expression):
-                return value
-            time.sleep(0.02)
-        raise TimeoutError(f"{PATIENCE} seconds passed, while this was waited for: {expression}")
 
     def open(self, address: str) -> None:
         self.call("browsingContext.navigate", context=self.context, url=address, wait="complete")

@@ -6,6 +6,8 @@ from typing import List, Tuple
 
 from made_blocks import ASCII, BLOCKS, LONG, UNDEFINED, segment
 from made_files import app1, app1_xmp, app13, exif, extension, iim, jpeg, mpf, resource, small_tiff, title, xmp
+from studio import SMALL_JPEG
+from test_trailers import foto_station
 
 MARKS = (b"XMP\0://ns.adobe.com/xap/1.0/\0", b"http://ns.adobe.com/xap/2.0/\0")
 NAMES = ("Anna", "Otto", "Ida", "Зоя")
@@ -73,6 +75,16 @@ def pair(chance: Random) -> Tuple[bytes, bytes]:
     elif behind:
         behind[chance.randrange(len(behind))] = part(chance)
     return head(parts, further, ">"), head(others, behind, chance.choice("<>"))
+
+
+def pairs_behind() -> List[Tuple[bytes, bytes]]:
+    """Of other pixels, with Exif and without; of a trailer of more than a megabyte whose IPTC is at its beginning; and of a block by an unknown
+    mark before a further picture."""
+    other = SMALL_JPEG[:-3] + bytes([SMALL_JPEG[-3] ^ 1]) + SMALL_JPEG[-2:]
+    pixels = [tuple(jpeg(*some, base=base) for base in (SMALL_JPEG, other)) for some in ((), (app1(exif(b"Anna")),))]
+    block, further = exif(b"Ida"), [app13(resource(0x0404, iim(b"Ida")))]
+    marked = tuple(head([it], further, ">") for it in (app1(block), segment(0xE1, b"Exif\0\1" + block)))
+    return [*pixels, marked, tuple(jpeg(behind=foto_station((1, iim(it)), (2, bytes(3 << 19)))) for it in (b"Anna", b"Otto"))]
 
 
 def pairs_of_xmp() -> List[Tuple[bytes, bytes]]:

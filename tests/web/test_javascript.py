@@ -204,31 +204,11 @@ def test_engine(node, module, session_folder):
     assert "# fail 0" in said and "# pass 0" not in said, said
 
 
-def declared(text):
-    """What a .d.ts file declares, as declared.mjs prints what is there: constants, functions with their parameters, and classes."""
-    plain = re.sub(r"/\*.*?\*/|//[^\n]*", "", text, flags=re.S)
-    found = {name: ["const", int(number)] for name, number in re.findall(r"export const (\w+): (\d+);", plain)}
-    for name, parameters in re.findall(r"export function (\w+)\((.*?)\): ", plain):
-        found[name] = ["function", parameters.count(":")]
-    for name, body in re.findall(r"export class (\w+)[^{]*\{(.*?)\}", plain, re.S):
-        methods, getters = re.findall(r"(?m)^  (?!constructor)(\w+)\(", body), re.findall(r"(?m)^  get (\w+)\(", body)
-        found[name] = ["class", sorted([*methods, *getters, *(re.findall(r"readonly (\w+)", body) if methods else [])])]
-    return found
-
-
-def test_the_declared_types_are_those_of_the_module(node, module):
-    """Names, numbers of parameters and methods; and with tsc (Debian's package node-typescript), how each is used."""
-    for name in ("declared.mjs", "client.mts"):
-        shutil.copyfile(HERE / name, module / name)
-    there = json.loads(node("declared.mjs", folder=module))
-    texts = {name: (module / f"{name}.d.ts").read_text(encoding="utf-8") for name in there}
-    from_each = {name: re.search(r"export \{ (.*?) \} from", text)[1].split(", ") for name, text in texts.items()}
-    of_engine = {name: there["engine"][name] for name in from_each["exifnorm"]}
-    assert {**declared(texts["exifnorm"]), **of_engine} == {name: found for name, found in there["exifnorm"].items() if name != "ready"}
-    again = from_each["engine"]
-    assert {**{name: there["exifnorm"][name] for name in again}, **declared(texts["engine"])} == there["engine"]
-    if shutil.which("tsc"):
-        run("tsc", "--noEmit", "--strict", "--target", "es2022", "--module", "node16", "--lib", "es2022,dom", "client.mts", folder=module)
+@pytest.mark.skipif(not shutil.which("tsc"), reason="tsc (package node-typescript) is not installed")
+def test_the_declared_types_are_those_of_the_module(module):
+    """By how each call is used."""
+    shutil.copyfile(HERE / "client.mts", module / "client.mts")
+    run("tsc", "--noEmit", "--strict", "--target", "es2022", "--module", "node16", "--lib", "es2022,dom", "client.mts", folder=module)
 
 
 def test_a_blob_is_read_no_further_than_needed(node, module):

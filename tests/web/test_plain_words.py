@@ -26,8 +26,16 @@ from test_javascript import properties
 HERE = TOP / "tests" / "web"
 SEED, BLOCKS, PACKETS = 5, 300, 400
 RDF = "http://www.w3.org/1999/02/22-rdf-syntax-ns#"
-TEXTS = ["", "Vase", "Köln am Rhein", "日本の花瓶", "a\tb\nc", "x\x1b[31m", "2003:05:24 22:21:01", "  :  :     :  :  ", "2008-07-31T10:38+02:00"]
-TEXTS += [
+TEXTS = [
+    "",
+    "Vase",
+    "Köln am Rhein",
+    "日本の花瓶",
+    "a\tb\nc",
+    "x\x1b[31m",
+    "2003:05:24 22:21:01",
+    "  :  :     :  :  ",
+    "2008-07-31T10:38+02:00",
     "0231",
     "N",
     "W",
@@ -58,17 +66,22 @@ OCTETS = [
     b"0220",
     b"\0\2",
 ]
-COMMENTS = [b"ASCII\0\0\0Vase  ", b"UNICODE\0" + "Zürich".encode("utf-16-be"), b"UNICODE\0" + "Zürich".encode("utf-16-le"), b"\0" * 20]
-COMMENTS += [
+COMMENTS = [
+    b"ASCII\0\0\0Vase  ",
+    b"UNICODE\0" + "Zürich".encode("utf-16-be"),
+    b"UNICODE\0" + "Zürich".encode("utf-16-le"),
+    b"\0" * 20,
     b"JIS\0\0\0\0\0" + "日本".encode("iso2022_jp"),
     b"\0" * 8 + b"Z\xfcrich\0",
     b"ASCII\0\0\0\xff",
     b"\0" * 8 + b"\x81",
     b"WRONG\0\0\0abc",
-]
-COMMENTS += [b"ASCII\0\0\0" + b"long " * 20 + b"\0rest", b"UNICODE\0" + b"\0" * 9]
-COMMENTS += [b"ASCII   Vase", b"UNICODE " + "Zürich".encode("utf-16-le"), b"JIS     " + "日本".encode("iso2022_jp"), b" " * 8 + b"Vase"]
-COMMENTS += [
+    b"ASCII\0\0\0" + b"long " * 20 + b"\0rest",
+    b"UNICODE\0" + b"\0" * 9,
+    b"ASCII   Vase",
+    b"UNICODE " + "Zürich".encode("utf-16-le"),
+    b"JIS     " + "日本".encode("iso2022_jp"),
+    b" " * 8 + b"Vase",
     b"ASCII\0\0\0Z\xfcrich\0rest",
     b"Z\xfcrich am See\0\0",
     b"A bowl of clay\0rest",
@@ -78,8 +91,10 @@ COMMENTS += [
     b"Z\x81rich",
 ]
 # accents, blanks and characters that don't show
-LETTERS = "ae\u0308\u00e4\u212b\u00c5\u20dd \t\n\x85\u00a0\u1680\u2003\u2028\u2800\u3000\u00ad\u034f\u061c\u115f\u17b4\u180e\u200b\u202e\u2064\u3164\ufe0f\ufff9\ufffc\uffa0"
-LETTERS += "\U0001bca0\U0001d173\U000e0041"
+LETTERS = (
+    "ae\u0308\u00e4\u212b\u00c5\u20dd \t\n\x85\u00a0\u1680\u2003\u2028\u2800\u3000\u00ad\u034f\u061c\u115f\u17b4\u180e\u200b\u202e\u2064\u3164\ufe0f\ufff9\ufffc\uffa0"
+    "\U0001bca0\U0001d173\U000e0041"
+)
 NUMBERS = [0, 1, 2, 3, 5, 6, 10, 13, 25, 60, 100, 125, 255, 1000, 1250, 3600, 65535, 1 << 20, (1 << 31) - 1, (1 << 32) - 1]
 
 

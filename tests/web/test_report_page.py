@@ -13,7 +13,7 @@ from pathlib import Path
 from typing import Any, Dict, Iterator, List, Tuple
 
 import pytest
-from browser import Browser
+from browser import CONTRAST, Browser
 from made_blocks import BLOCKS, with_exif
 from made_files import app1, app1_xmp, exif, jpeg, xmp
 from studio import SMALL_JPEG
@@ -105,34 +105,6 @@ def opened(browser: Browser, report: Path, **words: Any) -> Browser:
     return browser
 
 
-# The contrast of each text with what is behind it (WCAG 2.1, 1.4.3), by the colours that the browser has computed
-CONTRAST = """(() => {
-  const channels = (colour) => colour.match(/[\\d.]+/g).map(Number);
-  const luminance = ([r, g, b]) => [r, g, b].map((it) => it / 255).map((it) => it <= 0.04045 ? it / 12.92 : ((it + 0.055) / 1.055) ** 2.4)
-    .reduce((sum, it, at) => sum + it * [0.2126, 0.7152, 0.0722][at], 0);
-  const behind = (element) => {
-    for (let at = element; at; at = at.parentElement) {
-      const colour = channels(getComputedStyle(at).backgroundColor);
-      if (colour.length < 4 || colour[3] === 1) return colour;
-      if (colour[3] > 0) throw new Error("a colour that is seen through");
-    }
-    return [255, 255, 255];
-  };
-  const found = [];
-  const walker = document.createTreeWalker(document.body, NodeFilter.SHOW_TEXT);
-  let texts = 0;
-  while (walker.nextNode()) {
-    const element = walker.currentNode.parentElement;
-    if (!walker.currentNode.data.trim() || !element.checkVisibility()) continue;
-    texts += 1;
-    const pair = [luminance(channels(getComputedStyle(element).color)), luminance(behind(element))].sort((a, b) => b - a);
-    const contrast = (pair[0] + 0.05) / (pair[1] + 0.05);
-    if (contrast < 4.5) found.push([walker.currentNode.data.trim().slice(0, 40), element.className, contrast]);
-  }
-  return [texts, found];
-})()"""
-
-
 UNFOLD = "document.querySelectorAll('details').forEach((it) => { it.open = true; })"
 
 
@@ -200,7 +172,7 @@ def test_contents_lead_to_each_section(browser: Browser, report: Path) -> None:
 def test_everything_is_reached_by_the_keyboard_in_the_order_of_the_page(page: str, steps: int, browser: Browser, report: Path) -> None:
     browser.open(f"file://{report}/{page}")
     browser.ask(UNFOLD)
-    reached = "[...document.querySelectorAll('a, input, select, summary')].filter((it) => it.checkVisibility())"
+    reached = "[...document.querySelectorAll('a:not([tabindex]), input, select, summary')].filter((it) => it.checkVisibility())"
     wanted = browser.ask(f"{reached}.map((it, at) => (it.dataset.at = at)).length")
     seen = []
     for _ in range(steps):
@@ -276,6 +248,16 @@ def test_a_search_finds_what_has_the_words(page: str, browser: Browser, report: 
     assert searched(browser, "captions/7.jpg") == ["captions/7.jpg"]
     assert searched(browser, "", "changed/different") == sorted(names + [HOSTILE_NAME])
     assert searched(browser, "1 new25 nowhere") == searched(browser, "number", "unread") == []
+
+
+@pytest.mark.parametrize("page", PAGES)
+def test_what_is_found_is_in_sight(page: str, browser: Browser, report: Path) -> None:
+    """Also for somebody who searches at the foot of a page."""
+    browser.open(f"file://{report}/{page}")
+    browser.ask("scrollTo(0, document.body.scrollHeight)")
+    assert len(searched(browser, "number")) > 20
+    first = "[...document.querySelectorAll('main article, #found li')].find((it) => it.checkVisibility())"
+    assert 0 < browser.ask(f"{first}.getBoundingClientRect().top") < 500
 
 
 def test_each_hit_leads_to_its_place(browser: Browser, report: Path) -> None:
