@@ -26,8 +26,8 @@ SAMPLES = DOCS.parent / "samples"
 WIDTH, HEIGHT, COLOURS, MARGIN = 920, 2600, 96, 12
 # the name of each picture, and the titles of the sections that it shows
 PICTURES = {
-    "report.png": ["What changed", "At a glance", "Changed pictures"],
-    "report-changed.png": ["Changed pictures"],
+    "report.png": ["What changed", "At a glance", "Changed or in doubt"],
+    "report-changed.png": ["Changed or in doubt"],
     "report-same.png": ["Pictures with the same metadata"],
     "report-refused.png": ["Refused blocks and what helps"],
 }

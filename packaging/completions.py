@@ -10,25 +10,29 @@ import sys
 from pathlib import Path
 from typing import Iterator
 
-from grammar import MANY, Command, Option, Program, program_of
+from grammar import MANY, Command, Option, Program, flat, program_of
 
 BASH = """# Completion of {name} in bash, made from its --help.
 {function}() {{
-    local word=${{COMP_WORDS[COMP_CWORD]}} last=${{COMP_WORDS[COMP_CWORD - 1]}} options= operands=0
+    local word=${{COMP_WORDS[COMP_CWORD]}} last=${{COMP_WORDS[COMP_CWORD - 1]}} command=${{COMP_WORDS[1]}}
+    local before=1 options= operands=0
     COMPREPLY=()
     if [ "$COMP_CWORD" -eq 1 ]; then
         mapfile -t COMPREPLY < <(compgen -W '{first}' -- "$word")
         return
     fi
-    case ${{COMP_WORDS[1]}} in
+    case $command:$((COMP_CWORD > 2)) in
+{further}
+    esac
+    case $command in
 {commands}
     esac
-    case ${{COMP_WORDS[1]}}:$last in
+    case $command:$last in
 {values}
     esac
     if [[ $word == -* ]]; then
         mapfile -t COMPREPLY < <(compgen -W "$options" -- "$word")
-    elif [ $((COMP_CWORD - 1)) -le "$operands" ]; then
+    elif [ $((COMP_CWORD - before)) -le "$operands" ]; then
         compopt -o filenames 2>/dev/null
         mapfile -t COMPREPLY < <(compgen -f -- "$word")
     fi
@@ -40,7 +44,11 @@ ZSH = """#compdef {name}
 # Completion of {name} in zsh, made from its --help.
 {function}() {{
     local -a commands
-    commands=(
+{lines}
+}}
+{function} "$@"
+"""
+ZSH_LINES = """    commands=(
 {described}
     )
     if (( CURRENT == 2 )); then
@@ -52,10 +60,7 @@ ZSH = """#compdef {name}
     (( CURRENT-- ))
     case $words[1] in
 {commands}
-    esac
-}}
-{function} "$@"
-"""
+    esac"""
 
 
 def quoted(text: str) -> str:
@@ -76,7 +81,7 @@ def names_of(options: list[Option]) -> list[str]:
 
 def bash_value(command: Command, option: Option) -> str:
     """The value of an option, if it takes one."""
-    names = " | ".join(f"{command.name}:{it}" for it in option.names)
+    names = " | ".join(quoted(f"{command.name}:{it}") for it in option.names)
     if option.choices:
         lines = [f"mapfile -t COMPREPLY < <(compgen -W '{' '.join(option.choices)}' -- \"$word\")"]
     elif option.takes_file:
@@ -87,20 +92,23 @@ def bash_value(command: Command, option: Option) -> str:
 
 
 def bash_words(command: Command) -> str:
-    """The words that may follow a command."""
-    words = " ".join([*command.words, *names_of(command.options)])
+    """The words that may follow a command that has further ones."""
+    words = " ".join([*(it.name for it in command.commands), *names_of(command.options)])
     return f"    {command.name}:{command.name}) mapfile -t COMPREPLY < <(compgen -W '{words}' -- \"$word\"); return ;;"
 
 
 def bash(program: Program) -> str:
     """The completion for bash."""
-    commands = [f"    {it.name}) options='{' '.join(names_of(it.options))}' operands={it.operands} ;;" for it in program.commands]
-    values = [bash_value(command, it) for command in program.commands for it in command.options if it.value]
-    values += map(bash_words, filter(lambda it: it.words, program.commands))
+    every = [*flat(program.commands)]
+    commands = [f"    {quoted(it.name)}) options='{' '.join(names_of(it.options))}' operands={it.operands} ;;" for it in every]
+    values = [bash_value(command, it) for command in every for it in command.options if it.value]
+    further = [it for it in program.commands if it.commands]
+    values += map(bash_words, further)
     return BASH.format(
         name=program.name,
         function=function_of(program),
         first=" ".join([*(it.name for it in program.commands), *names_of(program.options)]),
+        further="\n".join(f'    {it.name}:1) command+=" ${{COMP_WORDS[2]}}" before=2 ;;' for it in further) or "    *) ;;",
         commands="\n".join(commands),
         values="\n".join(values or ["    *) ;;"]),
     )
@@ -120,20 +128,24 @@ def zsh_option(option: Option) -> str:
 
 def zsh_command(command: Command) -> str:
     """The arguments of a command."""
-    operands = [f"'1:command:({' '.join(command.words)})'"] * bool(command.words)
-    operands += ["'*:file:_files'"] if command.operands == MANY else [f"'{i + 1}:file:_files'" for i in range(command.operands)]
+    if command.commands:
+        return f"    {command.name})\n{zsh_lines(command.commands, command.options)}\n    ;;"
+    operands = ["'*:file:_files'"] if command.operands == MANY else [f"'{i + 1}:file:_files'" for i in range(command.operands)]
     return f"    {command.name}) _arguments {' '.join([*map(zsh_option, command.options), *operands])} ;;"
+
+
+def zsh_lines(commands: list[Command], options: list[Option]) -> str:
+    """What completes one of some commands, or an option before it, and then its arguments."""
+    return ZSH_LINES.format(
+        described="\n".join(f"        {quoted(f'{it.name}:{it.text}')}" for it in commands),
+        options=" ".join(map(zsh_option, options)),
+        commands="\n".join(map(zsh_command, commands)),
+    )
 
 
 def zsh(program: Program) -> str:
     """The completion for zsh."""
-    return ZSH.format(
-        name=program.name,
-        function=function_of(program),
-        described="\n".join(f"        {quoted(f'{it.name}:{it.text}')}" for it in program.commands),
-        options=" ".join(map(zsh_option, program.options)),
-        commands="\n".join(map(zsh_command, program.commands)),
-    )
+    return ZSH.format(name=program.name, function=function_of(program), lines=zsh_lines(program.commands, program.options))
 
 
 # fish
@@ -154,14 +166,20 @@ def fish_lines(program: Program) -> Iterator[str]:
     yield f"# Completion of {program.name} in fish, made from its --help."
     yield f"{begin} -f"
     yield from (fish_option(f"{begin} -n __fish_use_subcommand", it) for it in program.options)
-    for command in program.commands:
-        yield f"{begin} -n __fish_use_subcommand -a {command.name} -d {quoted(command.text)}"
-        seen = f"{begin} -n '__fish_seen_subcommand_from {command.name}'"
-        yield from (fish_option(seen, it) for it in command.options)
-        if command.words:
-            yield f"{seen} -a {quoted(' '.join(command.words))}"
+    yield from fish_commands(begin, "__fish_use_subcommand", "", program.commands)
+
+
+def fish_commands(begin: str, first: str, before: str, commands: list[Command]) -> Iterator[str]:
+    """Some commands, which are offered under the condition `first`, and what may follow each of them."""
+    for command in commands:
+        seen = f"{before}__fish_seen_subcommand_from {command.name}"
+        yield f"{begin} -n {first} -a {command.name} -d {quoted(command.text)}"
+        names = " ".join(it.name for it in command.commands)
+        none = quoted(f"{seen}; and not __fish_seen_subcommand_from {names}") if names else quoted(seen)
+        yield from (fish_option(f"{begin} -n {none}", it) for it in command.options)
+        yield from fish_commands(begin, none, f"{seen}; and ", command.commands)
         if command.operands:
-            yield f"{seen} -F"
+            yield f"{begin} -n {quoted(seen)} -F"
 
 
 def fish(program: Program) -> str:

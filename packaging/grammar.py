@@ -5,7 +5,8 @@ from __future__ import annotations
 import os
 import re
 import subprocess
-from dataclasses import dataclass, field
+from dataclasses import dataclass, field, replace
+from functools import lru_cache
 from typing import Iterator
 
 WIDE = "1000"  # columns, so that no help text is wrapped
@@ -35,13 +36,13 @@ class Option:
 
 @dataclass
 class Command:
-    """A command: its name and text, its options, the number of its operands, and the words of which the first one is, if there are such."""
+    """A command: its name and text, its options, the number of its operands, and the commands of which the first word behind it is one, if any."""
 
     name: str
     text: str
     options: list[Option] = field(default_factory=list)
     operands: int = 0
-    words: list[str] = field(default_factory=list)
+    commands: list[Command] = field(default_factory=list)
 
 
 @dataclass
@@ -53,6 +54,7 @@ class Program:
     commands: list[Command]
 
 
+@lru_cache(maxsize=None)
 def help_of(program: str, *words: str) -> str:
     """The output of a program for --help."""
     surroundings = {**os.environ, "COLUMNS": WIDE, "LC_ALL": "C.UTF-8", "PYTHONDONTWRITEBYTECODE": "1"}
@@ -94,15 +96,21 @@ def operands_of(text: str) -> int:
     return MANY if "..." in usage or has_own else len(lines)
 
 
-def commands_of(program: str, text: str) -> Iterator[Command]:
-    """The commands in a program's help, each with its own help, which may have further commands."""
-    for name, words in COMMAND.findall(text):
-        own = help_of(program, name)
-        further = [it for it, _ in COMMAND.findall(own)]
-        yield Command(name, words.strip(), list(options_of(own)), MANY if further else operands_of(own), further)
+def commands_of(program: str, *before: str) -> Iterator[Command]:
+    """The commands in the help of a program, or of one of its commands, each with its own help, which may have further commands."""
+    for name, words in COMMAND.findall(help_of(program, *before)):
+        own = help_of(program, *before, name)
+        yield Command(name, words.strip(), list(options_of(own)), operands_of(own), list(commands_of(program, *before, name)))
+
+
+def flat(commands: list[Command], before: str = "") -> Iterator[Command]:
+    """Each command with the words that lead to it as its name, and those behind it."""
+    for command in commands:
+        yield replace(command, name=before + command.name)
+        yield from flat(command.commands, f"{before}{command.name} ")
 
 
 def program_of(path: str) -> Program:
     """The grammar of the program with this path."""
     text = help_of(path)
-    return Program(os.path.basename(path), list(options_of(text)), list(commands_of(path, text)))
+    return Program(os.path.basename(path), list(options_of(text)), list(commands_of(path)))

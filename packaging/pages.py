@@ -7,12 +7,13 @@
 
 from __future__ import annotations
 
+import argparse
 import json
 import re
 import runpy
 import sys
 from pathlib import Path
-from typing import Any, Callable, Dict, Iterator, List, Tuple
+from typing import Any, Callable, Dict, Iterator, List, Sequence, Tuple
 
 import crates_page
 import drawings
@@ -22,8 +23,9 @@ import refusals_page
 TOP = Path(__file__).resolve().parent.parent
 sys.path.insert(0, str(TOP / "python"))
 
-from exifnorm_pictures.cli import parser, statuses  # noqa: E402
+from exifnorm_pictures.cli import parser, statuses, topics  # noqa: E402
 from exifnorm_pictures.export.tables import SCHEMA as TABLES  # noqa: E402
+from exifnorm_pictures.fields import rules  # noqa: E402
 
 OBJECTS = TOP / "python" / "exifnorm_pictures" / "output.schema.json"
 PAGES: Dict[str, Callable[[], str]] = {
@@ -36,7 +38,8 @@ PAGES: Dict[str, Callable[[], str]] = {
     "docs/refusal.svg": drawings.refusal,
     "docs/trust.svg": drawings.trust,
 }
-WITH_TABLES = ("docs/CATALOGUE.md", "docs/COMPARED.md", "docs/JSON.md")
+WITH_TABLES = ("docs/CATALOGUE.md", "docs/COMPARED.md", "docs/FORMAT.md", "docs/JSON.md")
+CAUSES = TOP / "crates" / "px_bytes" / "src" / "causes.rt"
 # a comment that names a table, and the table
 MARKED = re.compile(r"(<!-- printed: ([\w-]+) -->\n\n)(?:\|.*\n)*")
 Rows = Iterator[Tuple[str, str]]
@@ -74,12 +77,13 @@ def of_objects() -> Dict[str, str]:
     """The tables of the objects of --json, by the names that the schema has for them."""
     schemas = json.loads(OBJECTS.read_text(encoding="utf-8"))["$defs"]
     commands = [name.partition("-")[0] for name in schemas]
-    found = {}
+    found, of_report = {}, []
     for name, schema in schemas.items():
         command, _, record = name.partition("-")
         title = f"Key of `{record}`" if commands.count(command) > 1 else "Key"
         found[name] = table(title, keys(schema))
-    return found
+        of_report += [(f"{record}.{key}", words) for key, words in keys(schema) if command == "report"]
+    return {**found, "report": table("Record and key", iter(of_report))}
 
 
 def columns(lines: str) -> Rows:
@@ -111,19 +115,61 @@ def of_statuses() -> str:
         texts = [(command, of_command[status]) for command, of_command in statuses.STATUSES.items() if status in of_command]
         lines.append(f".TP\n.B {status}\n" + "\n".join(f'.BR "{command}" :\n{_roff(text)};' for command, text in texts)[:-1])
     lines += [f".TP\n.B {status}\n{_roff(text)}" for status, text in statuses.COMMON.items()]
-    return "\n".join([*lines, ".PP", _roff(statuses.END).partition("\n")[2].partition(". SIGTERM")[0] + ".", ""])
+    return "\n".join([*lines, ".PP", _roff(statuses.END), ""])
+
+
+def _entry(head: str, words: str) -> str:
+    return f".TP\n{_roff(head)}\n{_roff(words[0].upper() + words[1:])}.\n"
+
+
+def _of_option(action: argparse.Action) -> str:
+    """The names of an option and its value, in the fonts of a manual page."""
+    if action.nargs == 0:
+        return ".BR " + ' ", " '.join(action.option_strings)
+    value = action.metavar or (f"{{{','.join(action.choices)}}}" if action.choices else action.dest.upper())
+    return f'.BI "{action.option_strings[-1]} " "{value}"'
+
+
+def _of_commands(commands: Sequence[str], every: int) -> str:
+    return "" if len(commands) == every else f" Commands: {', '.join(commands)}."
+
+
+def options() -> Dict[str, str]:
+    """Each option for the manual page: by its command, or once for several that have the same words for it."""
+    commands = parser.parsers()[1]
+    found: Dict[Tuple[str, str], List[Tuple[str, argparse.Action]]] = {}
+    for command, of_command in commands.items():
+        for action in of_command._get_optional_actions():
+            name = action.option_strings[-1]
+            words = topics.OPTIONS.get(name) or str(action.help)
+            found.setdefault((name, words), []).append((command, action))
+    printed = {}
+    for (name, words), having in found.items():
+        entry = _entry(_of_option(having[0][1]), words)
+        if len(having) < 3:
+            printed.update({f"{command} {name}": entry for command, _ in having})
+        elif name != "--help":
+            printed[name] = entry[:-1] + _of_commands([command for command, _ in having], len(commands)) + "\n"
+    return printed
+
+
+def commands_() -> Dict[str, str]:
+    """The head of each command for the manual page."""
+    found = {}
+    for name, of_command in parser.parsers()[1].items():
+        operands = str(of_command.usage).partition("[OPTIONS] ")[2]
+        found[name] = _entry(f'.BI "{name} " "{operands}"', str(of_command.description).partition(".\n")[0])
+    return found
 
 
 def manual() -> str:
-    """The manual page, in which the synopsis and the statuses are printed."""
-    printed = {"synopsis": synopsis(), "statuses": of_statuses()}
+    """The manual page, in which all is printed that the parser has: each part from its comment to the next one."""
+    printed = {"synopsis": synopsis(), "statuses": of_statuses(), "rules": _roff(rules.EXAMPLES), **commands_(), **options()}
     text = (TOP / "docs/exifnorm-pictures.1").read_text(encoding="utf-8")
-    return re.sub(
-        r'(\.\\" printed: (\w+)\n).*?(?=\.\\" end|\.SH DESCRIPTION|\.PP\nAfter SIGTERM)',
-        lambda it: it[1] + printed[it[2]],
-        text,
-        flags=re.S,
-    )
+    marks = r'(?m)^(\.\\" printed: (.+)\n)(?:(?!\.\\").*\n)*'
+    for name in {it[1] for it in re.findall(marks, text)} ^ {*printed}:
+        sys.exit(f"docs/exifnorm-pictures.1: '{name}' is printed nowhere, or is nothing that the parser has")
+    return re.sub(marks, lambda it: it[1] + printed[it[2]], text)
 
 
 def of_tables() -> Dict[str, str]:
@@ -132,12 +178,26 @@ def of_tables() -> Dict[str, str]:
     return {name: table("Column", columns(lines)) for name, lines in found}
 
 
+def causes(source: str) -> str:
+    r"""The table of the causes of an enum: when each comes, and the offset that is reported with it.
+
+    >>> causes("pub enum Cause {\n    /// It is odd. The offset is\n    /// the entry's.\n    Odd,\n}\n")
+    "| Cause | When | Offset (place) |\n|---|---|---|\n| Odd | it is odd | the entry's |\n"
+    """
+    declared = source.partition("pub enum Cause {")[2].partition("\n}")[0]
+    rows = []
+    for comment, name in re.findall(r"((?:    /// .*\n)+)    (\w+),", declared):
+        when, _, place = " ".join(comment.replace("///", "").split()).partition(". The offset is ")
+        rows.append(f"| {name} | {when[0].lower()}{when[1:]} | {place[:-1]} |\n")
+    return "| Cause | When | Offset (place) |\n|---|---|---|\n" + "".join(rows)
+
+
 def printed(page: str) -> str:
     """What a page is to have."""
     if page in PAGES:
         return PAGES[page]()
     of_formats = {"formats": formats_page.blocks(), "parts": formats_page.parts(), "matrix": formats_page.matrix()}
-    known = {**of_formats, **of_objects(), **of_tables()}
+    known = {**of_formats, **of_objects(), **of_tables(), "causes": causes(CAUSES.read_text(encoding="utf-8"))}
     text = (TOP / page).read_text(encoding="utf-8")
     return MARKED.sub(lambda it: it[1] + known[it[2]], text)
 

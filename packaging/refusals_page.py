@@ -8,7 +8,7 @@ from pathlib import Path
 sys.path.insert(0, str(Path(__file__).resolve().parent.parent / "python"))
 
 from exifnorm import LIMIT  # noqa: E402
-from exifnorm._causes import OF_HEADS  # noqa: E402
+from exifnorm._causes import OF_HEADS, TOUCH  # noqa: E402
 from exifnorm_pictures.refusals.causes import CAUSES, Cause  # noqa: E402
 
 MEASURED = "measured on 419 JPEG files of Debian source packages, 2026"
@@ -46,7 +46,7 @@ file is never changed. `show`, `changed` and `same` also read it after a repair 
 ![The bytes of a refused block, in which the GPS pointer leads to a directory without entries](refusal.svg)
 
 Counts of cameras and programs, by the pictures' own Make and Software, were {MEASURED}: 232 of them have an Exif block, and 35 real
-pictures had a refused one. Readers were tried on the smallest block that has the fault: {READERS}.
+pictures had a refused one. Where no writer is named, none was found. Readers were tried on the smallest block that has the fault: {READERS}.
 
 ## What helps, the least invasive first
 
@@ -90,11 +90,10 @@ exiftool -m -overwrite_original -all= -tagsfromfile @ -all:all -unsafe rebuilt.j
 def section(cause: Cause) -> str:
     """The section of the page on one cause."""
     lines = [f"## {cause.name}", "", filled(f"**{cause.sentence}** {cause.meaning}"), "", "```text", DIAGRAMS[cause.name], "```", ""]
-    if cause.writers:
-        lines += ["| Written by | Found |", "|---|---|"] + [f"| {who} | {count} |" for who, count in cause.writers] + [""]
-    else:
-        lines += ["No camera or program was found that writes it.", ""]
-    for label, text in (("Other readers", cause.readers), ("Remedy", cause.remedy), ("Cost", cause.cost)):
+    writers = "; ".join(f"{who} ({count})" for who, count in cause.writers)
+    remedy = cause.remedy.replace(TOUCH, "`exifnorm-pictures mend`, or the *touch*: ExifTool lays it out again")
+    texts = {"Written by": writers[:1].upper() + writers[1:], "Other readers": cause.readers, "Remedy": remedy, "Cost": cause.cost}
+    for label, text in ((label, text) for label, text in texts.items() if text):
         lines += [filled(f"*{label}.* {text.rstrip('.')}."), ""]
     return "\n".join(lines)
 

@@ -9,7 +9,7 @@ from __future__ import annotations
 import json
 import sys
 from pathlib import Path
-from typing import Any
+from typing import Any, Iterable
 
 TOP = Path(__file__).resolve().parent.parent
 sys.path[:0] = [str(TOP / "python")]
@@ -17,19 +17,24 @@ sys.path[:0] = [str(TOP / "python")]
 from exifnorm._causes import OF_HEADS, OF_PACKETS
 from exifnorm_pictures.comparison.changed import edits
 from exifnorm_pictures.extract import structure
-from exifnorm_pictures.extract.formats import heif, heif_items, jpeg_segments, tiff_entries, trailers
+from exifnorm_pictures.extract.formats import heif, heif_items, jpeg_segments, tiff, tiff_entries, trailers, webp
 from exifnorm_pictures.fields import labels, listing, names, own_texts, plain_names, plain_values, typed, xmp_types
-from exifnorm_pictures.model import found, tiff_types, xmp_names
+from exifnorm_pictures.model import budgets, found, tiff_types, xmp_names
 from exifnorm_pictures.model.results import Result
 from exifnorm_pictures.refusals import causes
 
-RESULTS = {  # by the words of the scripts
-    "same": Result.SAME,
+_OF_RESULTS = {  # by the words of the scripts
     "different": Result.DIFFERENT,
     "refused": Result.REFUSED,
     "moved": Result.MOVED,
     "partly": Result.NOT_WHOLLY_READ,
     "unread": Result.NOT_READ,
+}
+_PIXELS = "Pixels are not compared."
+RESULTS = {
+    "same": [Result.SAME, f"{Result.SAME.sentence} {_PIXELS}"],
+    "none": ["no metadata", f"No Exif, IPTC or XMP in either picture. {_PIXELS}"],
+    **{word: [it, it.sentence] for word, it in _OF_RESULTS.items()},
 }
 
 
@@ -60,6 +65,10 @@ def own_texts_of() -> dict[str, Any]:
     return {"texts": sorted(own_texts._TEXTS), **rules, "filling": sorted(own_texts._FILLING)}
 
 
+def _words(names: Iterable[bytes]) -> list[str]:
+    return sorted(it.decode() for it in names)
+
+
 def of_formats() -> dict[str, Any]:
     """What the readers of files know of their formats."""
     return {
@@ -70,8 +79,15 @@ def of_formats() -> dict[str, Any]:
         "notCompared": [[marker, head.decode("latin-1")] for marker, head, *_ in jpeg_segments.NOT_COMPARED],
         "trailers": [[sign.decode("latin-1").replace(r"\Z", "$"), it.name] for sign, it in trailers._SIGNS],
         "mayHave": [*found._MAY_HAVE.items()],
-        "brands": sorted(it.decode() for it in heif.BRANDS),
-        "items": sorted(it.decode() for it in heif_items.PICTURES),
+        "pointers": tiff._POINTERS,
+        "otherPointers": tiff.OTHER_POINTERS,
+        "ofPixels": tiff._PAIRS,
+        "webp": _words(webp._WITHOUT),
+        "brands": _words(heif.BRANDS),
+        "items": _words(heif_items.PICTURES),
+        "boxes": _words(heif._WITHOUT),
+        "boxesInMeta": _words({*heif_items.READERS, b"iprp", *heif._WITHOUT_IN_META}),
+        "limits": {name.replace(" ", "_"): most for name, most in budgets.LIMITS.items()} | {"packet": budgets.PACKET_BYTES},
     }
 
 
@@ -94,7 +110,7 @@ def tables() -> dict[str, Any]:
     return {
         **of_formats(),
         **of_fields(),
-        "results": {word: [it, it.sentence] for word, it in RESULTS.items()},
+        "results": RESULTS,
         "groups": plain_names._GROUPS,
         "names": {**{where: names_of(where) for where in names.TABLES}, "thumb": {**names_of("thumb"), **plain_names._PICTURES}},
         "words": plain_values.WORDS,

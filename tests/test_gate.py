@@ -91,6 +91,7 @@ def test_no_test_runs_over_what_is_not_proved(gate, command, script):
 def test_what_was_proved_is_not_proved_again_until_something_changes_but_in_ci(gate):
     assert "proving" in call(gate).stdout
     (gate / "crates/px_c/out/more").touch()
+    (gate / "crates/README.md").write_text("a page", encoding="ascii")
     ran = call(gate)
     assert ran.returncode == 0 and "proving" not in ran.stdout and "all was proved by an earlier run" in ran.stdout, ran
     assert "proving" in call(gate, CI="true").stdout

@@ -285,8 +285,8 @@ class Comparison(NamedTuple):
     - `note`: a sentence about each kind of block
     - `differences`: the fields that differ
     - `picture`: whether the data are equal from which the pixels are decoded: "the same", "the same but for other parts",
-      "other", "damaged", "damaged before" or "damaged before and after"; "not compared" if there is no reader for these data, the formats
-      differ, or a file is gone
+      "other", "damaged", "damaged before" or "damaged before and after"; "not read in files with other bytes" if there is no reader for these
+      data; "not compared" if the formats differ, or a file is gone
     - `proved`: the proved answer of `exifnorm.jpeg_same_blocks` for the Exif and IPTC in the heads of two JPEGs: "same", "different", or "not wholly
       read" (the same as far as they were read). None if there is no answer: a file is gone or is no JPEG, its head is damaged, or a block is
       refused

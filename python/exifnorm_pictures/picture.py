@@ -114,7 +114,7 @@ class Block:
     @property
     def fields(self) -> tuple[Field, ...]:
         """Its fields, which are made when they are first asked for; of a refused block those after a repair in memory, if one is known."""
-        return tuple([field.in_block(self.name) for field in fields_of(self.record)])
+        return tuple(field.in_block(self.name) for field in fields_of(self.record))
 
     @property
     def refusal(self) -> Optional[Refusal]:
@@ -227,7 +227,7 @@ class Picture(Mapping[str, "Value"]):
     @property
     def not_read(self) -> tuple[str, ...]:
         """The parts of the file that may have metadata and were not read."""
-        return tuple([it.what for it in self._read.not_read])
+        return tuple(it.what for it in self._read.not_read)
 
     @property
     def too_many(self) -> tuple[str, ...]:
@@ -256,7 +256,7 @@ class Picture(Mapping[str, "Value"]):
         """The blocks, in the order of the file."""
         if self._blocks is None:
             data = {it.name: it.data for it in self._read.blocks}
-            self._blocks = tuple([Block(it, data.get(it.name, b"")) for it in self._records])
+            self._blocks = tuple(Block(it, data.get(it.name, b"")) for it in self._records)
         return self._blocks
 
     @property
@@ -345,7 +345,7 @@ class Picture(Mapping[str, "Value"]):
         """All fields with a name, of all blocks: with its group or without, or the field's key, such as "dc:title", in capital or small letters.
         If none has it, those that ExifTool, exiv2 or the standard name so ("EXIF:Model", "Exif.Photo.FNumber", "DateTimeDigitized"), and the
         members of structures as ExifTool has them ("XMP-iptcExt:LocationCreatedCity")."""
-        return tuple([field.in_block(record.name) for record, fields in self._named(name) for field in fields])
+        return tuple(field.in_block(record.name) for record, fields in self._named(name) for field in fields)
 
     @overload
     def get(self, name: str, default: Union[Value, D] = None) -> Union[Value, D]:
@@ -499,7 +499,7 @@ class Picture(Mapping[str, "Value"]):
 
 def _value_of(fields: Sequence[Field]) -> Value:
     """The value of a field, or of one that is repeated those of all."""
-    return fields[0].value if len(fields) == 1 else tuple([it.value for it in fields])
+    return fields[0].value if len(fields) == 1 else tuple(it.value for it in fields)
 
 
 def _by_name(fields: Sequence[Field]) -> dict[str, list[Field]]:

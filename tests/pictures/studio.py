@@ -291,15 +291,35 @@ def needs(*names):
 
 
 def counts_of_summary(printed):
-    """How many pictures have each result, by the summary that `changed` prints."""
-    _, _, below = printed.partition("\n")
-    return {result: count for count, result in re.findall(r"(?m)^([\d,]+) ((?!picture)[^:\n]+)", below)}
+    """The first line that `changed` prints, how many pictures have each result, and how many changed like no other."""
+    first, _, below = printed.partition("\n")
+    results = {result: number(count) for count, result in re.findall(r"(?m)^([\d,]+) ((?!picture|more group)[^:\n]+)", below)}
+    odd = re.search(r"(?m)^([\d,]+) pictures? changed like no other:", below)
+    return first, results, number(odd[1]) if odd else 0
 
 
 def counts_of_page(page):
-    """The same by the first line of a report."""
-    text = re.sub("<.*?>", "", re.search(r"<p><b>[\d,]+ pictures? compared:(.*?)</b></p>", page)[1])
-    return {result: count for count, result in re.findall(r"([\d,]+) (.*?)(?:, (?=\d)|\.$)", text)}
+    """The same by a report, in which each further count of changes is the sum of these."""
+    found = re.search(r"(?s)<p><b>([^<]*)</b></p>\s*<p>In detail:(.*?)</p>(.*?)</section>", page)
+    results = {it: number(count) for count, it in re.findall(r"([\d,]+) (.*?)(?:, (?=\d)|\.$)", re.sub("<.*?>", "", found[2]))}
+    odd, edited = (re.search(words, found[3]) for words in (r"([\d,]+) changed like no other", r"The fields of ([\d,]+)"))
+    odd = number(odd[1]) if odd else 0
+    alike = map(number, re.findall(r"<h4>([\d,]+) pictures", found[3]))
+    assert (number(edited[1]) if edited else 0) == odd + sum(alike), "each picture is in one group"
+    listed = number(re.search(r'<a href="#changed">[^<]*</a> <span class="note">([\d,]+) ', page)[1])
+    no_pictures = results.get("no picture, different bytes", 0)
+    assert listed == not_the_same(found[1]) + no_pictures == sum(map(number, re.findall(r'kind=changed/[^"]+">([\d,]+) ', found[2])))
+    return found[1], results, odd
+
+
+def number(text):
+    return int(text.replace(",", ""))
+
+
+def not_the_same(first):
+    """How many pictures aren't the same, or not known to be, by the first line of `changed`."""
+    total, _, rest = first.partition(" pictures compared: " if " pictures compared: " in first else ": ")
+    return sum(number(total if it == "all" else it) for it in re.findall(r"(\d[\d,]*|\ball\b) ", rest))
 
 
 class WithPictures(unittest.TestCase):

@@ -47,7 +47,8 @@ def test_the_records_of_the_report(folder, called):
     called("index", "p", "--catalogue", "old", "--quiet")
     put(folder, {"p/a.jpg": picture([("title", "Vase")]), "p/h.jpg": names["b"]})
     called("index", "p", "--catalogue", "c", "--quiet")
-    found = [json.loads(it) for it in called("report", "c", "--since", "old", "--json")[1].splitlines()]
+    (folder / "rules").write_text("every picture needs credit\n")
+    found = [json.loads(it) for it in called("report", "c", "--since", "old", "--rules", "rules", "--json")[1].splitlines()]
     keys = {it.partition("-")[2]: list(OBJECTS[it]["properties"])[2] for it in OBJECTS if it.startswith("report-")}
     assert {it["record"] for it in found} == keys.keys() - {"unknown"}
     assert not [it for it in found if keys[it["record"]] not in it]
@@ -136,8 +137,10 @@ def test_a_picture_that_nobody_compares(name, folder, called):
     assert (status, f"1 was written to, and its picture isn't read: {name}" in letter) == (1, True), letter
     assert called(*run)[:2] == (0, "")
     status, printed, _ = called("changed", "q", "p", "--pixels", "--each")
-    assert status == 0 and "the file has other bytes, and its picture isn't read here" in printed and "1 same" in printed
-    assert "aren't read here" in called("compare", f"q/{name}", f"p/{name}")[1]
+    assert status == 1 and printed.startswith(f"{name}: other bytes, the same metadata"), printed
+    assert "--pixels compares" not in printed + letter
+    status, printed, _ = called("compare", f"q/{name}", f"p/{name}")
+    assert status == 1 and "aren't read" in printed, printed
 
 
 @pytest.mark.parametrize("files", [{}, {"p/note.txt": b"no picture"}], ids=["nothing", "a text"])

@@ -6,7 +6,6 @@ import re
 import shutil
 import signal
 import sqlite3
-import struct
 import subprocess
 import sys
 import tempfile
@@ -17,7 +16,9 @@ import pytest
 from attacks import FILES
 from made_blocks import BLOCKS, with_exif
 from made_files import app1, app1_xmp, exif, jpeg, packed_zeros, png, png_xmp, title, xmp
-from studio import SMALL_JPEG, TOP, Studio, interpreter_with, put, write
+from studio import SMALL_JPEG, TOP, Studio, errors, interpreter_with, put, write
+
+from exifnorm_pictures.catalogue.store import VERSION
 
 SECONDS, MEMORY = 50, 256 << 20  # none takes a tenth of this time; one that goes through its data again and again takes far more
 GUARD = 120, 3 << 30  # what ends a process, so that a fault harms nothing else
@@ -181,19 +182,6 @@ class TestCurrentFolder:
         (tmp_path / "bin").mkdir()
         return tmp_path
 
-    @pytest.mark.parametrize("path", (":/x", ".", "../{name}:/x", "/x::/y", ""))
-    def test_the_installed_command(self, folder, path):
-        (folder / "exifnorm_pictures").mkdir()
-        (folder / "exifnorm_pictures" / "__init__.py").write_text("raise SystemExit('a package of the current folder was taken')\n")
-        self.see_that_it_runs(installed_command(folder), folder, path.format(name=folder.name))
-
-    @pytest.mark.parametrize("path", ("", ":/x", ".", "/x:"))
-    def test_the_package(self, folder, path):
-        """As `python3 -m`, and as the script that pip makes."""
-        python = os.path.join(TOP, "python")
-        self.see_that_it_runs([sys.executable, "-m", "exifnorm_pictures"], folder, os.pathsep.join((python, path)))
-        self.see_that_it_runs(script_of_pip(folder), folder, os.pathsep.join((python, path)))
-
     @pytest.mark.parametrize("path", (":{}", ".:{}", "{}:", "bin:{}"))
     def test_programs(self, folder, path):
         """A program in the current folder isn't ExifTool, whatever PATH is."""
@@ -208,13 +196,21 @@ class TestCurrentFolder:
         assert b"isn't installed" in done.stdout and not (folder / "taken").exists(), done
 
     @pytest.mark.parametrize("way", WAYS)
-    def test_what_python_imports_by_itself(self, way, folder):
-        """Python imports two modules if PYTHONPATH leads to them, of which an empty part or a point is the current folder, and no other way does."""
+    def test_each_path(self, way, folder):
+        """No module of the current folder is taken, but for two that Python imports by itself, if PYTHONPATH leads to them: an empty part or a
+        point of it is the current folder."""
         own = ("sitecustomize", "usercustomize")
         for name in own:
             (folder / f"{name}.py").write_text(f"open('{name} was imported', 'w').close()\n")
         python = os.path.join(TOP, "python") if way in ("pip's script", "python3 -m") else ""  # how these find the packages here
-        for path, is_taken in {"": False, "/x": False, "..:/x": False, ":": True, ".": True, ":/x": True, "/x:": True}.items():
+        if not python:
+            put(folder, {"exifnorm_pictures/__init__.py": b"raise SystemExit('a package of the current folder was taken')\n"})
+        for path, is_taken in {
+            "": False,
+            "/x": False,
+            "..:/x": False,
+            **dict.fromkeys((":", ".", ":/x", "/x:", "/x::/y", f"../{folder.name}:/x"), True),
+        }.items():
             self.see_that_it_runs(WAYS[way](folder), folder, os.pathsep.join(filter(None, (path, python))))
             taken = [name for name in own if (folder / f"{name} was imported").exists()]
             assert taken == list(own) * is_taken, path
@@ -255,44 +251,6 @@ class TestCurrentFolder:
             [*command, "same", "nothing"], cwd=folder, capture_output=True, env={**Studio.environment(), "PYTHONPATH": path}
         )
         assert (done.returncode, done.stderr) == (4, b"exifnorm-pictures: there is no catalogue nothing\n"), done
-
-
-def journal_that_names(path, catalogue):
-    """A rollback journal without pages, after which SQLite removes the file that it names."""
-    octets, name, magic = catalogue.read_bytes(), os.fsencode(path), bytes.fromhex("d9d505f920a163d7")
-    size = int.from_bytes(octets[16:18], "big")
-    head = magic + struct.pack(">IIIII", 0, 0x1234, len(octets) // size, 512, size)
-    return head.ljust(512, b"\0") + struct.pack(">I", 0x40000000 // size + 1) + name + struct.pack(">II", len(name), sum(name)) + magic
-
-
-@pytest.mark.parametrize("is_link", (False, True))
-@pytest.mark.parametrize(
-    "words",
-    (
-        "index p --catalogue c",
-        "catalogue merge k --catalogue c",
-        "catalogue forget c p",
-        "catalogue relocate c p q",
-        "nightly c p",
-        "list c --with title",
-    ),
-)
-def test_a_journal_that_names_a_file(words, is_link, folder, called):
-    """The file stays, and so does the catalogue."""
-    (folder / "q").mkdir()
-    put(folder, {"p/a.jpg": SMALL_JPEG, "mine": b"mine"})
-    for name in "kc":
-        called("index", "p", "--catalogue", name, "--quiet")
-    beside = folder / ("d" if is_link else "c")
-    if is_link:
-        (folder / "c").rename(beside)
-        (folder / "c").symlink_to("d")
-    journal = folder / f"{beside.name}-journal"
-    journal.write_bytes(journal_that_names(folder / "mine", beside))
-    before = beside.read_bytes()
-    status, _, messages = called(*words.split())
-    assert status == 4 and "journal" in messages, messages
-    assert (folder / "mine").read_bytes() == b"mine" and beside.read_bytes() == before
 
 
 COMMANDS = (
@@ -342,33 +300,30 @@ def changed(catalogue, *statements):
 
 
 VIEW = "PRAGMA foreign_keys = OFF", "PRAGMA legacy_alter_table = ON", "ALTER TABLE {0} RENAME TO {0}2"
+# What isn't ours, and what makes it of a catalogue
 SCHEMAS = {
     "a trigger": ["CREATE TRIGGER t AFTER INSERT ON pictures BEGIN UPDATE pictures SET exif = 'x', exif_octets = 'y'; END"],
     "a view without end": [*VIEW, "CREATE VIEW {0} AS WITH RECURSIVE n(i) AS (SELECT 1 UNION ALL SELECT i + 1 FROM n) SELECT i FROM n"],
     "a view of long texts": [*VIEW, "CREATE VIEW {0} AS SELECT picture, number, hex(zeroblob(300000000)) AS what, '' AS digest FROM {0}2"],
     "a further table": ["CREATE TABLE more (x)"],
+    "many tables": ["BEGIN", *(f"CREATE TABLE t{number} (x)" for number in range(5000)), "COMMIT"],
     "a further index": ["CREATE INDEX more ON blocks (abs(length))"],
     "a further column": ["ALTER TABLE runs ADD COLUMN more TEXT DEFAULT 'x'"],
+    "an earlier release's": [f"PRAGMA user_version = {VERSION - 1}"],
+    "a later release's": [f"PRAGMA user_version = {VERSION + 1}"],
+    **{f"without {it}": ["PRAGMA foreign_keys = OFF", f"DROP TABLE {it}"] for it in ("runs", "pictures", "blocks", "not_read")},
 }
 
 
 @pytest.mark.parametrize("name", SCHEMAS)
-def test_a_schema_of_another(name, archive):
+def test_what_is_not_ours(name, archive):
     """A catalogue that is not made as ours is refused before any row is read, and nothing is written."""
     changed(archive / "c", *(it.format("not_read") for it in SCHEMAS[name]))
     before = (archive / "c").read_bytes()
     for ended in run_each(archive, COMMANDS):
-        assert "c is no catalogue" in ended.check(4).err, (ended.words, ended.err)
-    assert (archive / "c").read_bytes() == before
-
-
-def test_many_tables(archive):
-    with sqlite3.connect(archive / "c", isolation_level=None) as base:
-        base.execute("BEGIN")
-        for number in range(5000):
-            base.execute(f"CREATE TABLE t{number} (x)")
-        base.execute("COMMIT")
-    assert "is no catalogue" in run(archive, "same", "c").check(4).err
+        (said,) = errors(ended.check(4).err)
+        assert ("c is a catalogue of a" if "release" in name else "c is no catalogue") in said, (ended.words, said)
+    assert (archive / "c").read_bytes() == before and not list(archive.glob("c-*"))
 
 
 def test_a_log_of_another_state(archive):
@@ -383,15 +338,6 @@ def test_a_log_of_another_state(archive):
     for name in ("c-wal", "c-shm"):
         os.remove(archive / name)
     assert "2 pictures" in run(archive, "same", "c").check(0, 1, 2).out
-
-
-def test_the_log_of_a_killed_run_is_used(archive):
-    """The same log beside its own catalogue is what SQLite needs to complete it."""
-    code = "import os, sys\nfrom exifnorm_pictures.catalogue.store import Catalogue\nCatalogue.close = lambda _: os._exit(9)\n"
-    write(archive / "p" / "c.jpg", jpeg(app1(exif(b"Abc")), app1_xmp(title("one"))))
-    run(archive, "index", "p", "--catalogue", "c", "--quiet", code=code)
-    assert os.path.getsize(archive / "c-wal") > 0
-    assert "3 pictures" in run(archive, "same", "c").check(0, 1, 2).out
 
 
 COARSE = """
@@ -559,31 +505,6 @@ def test_texts_of_a_catalogue(archive):
     for name in ("page", "changes"):
         if (archive / name).exists():
             assert not RAW.search((archive / name).read_text("utf-8"))
-
-
-def test_names_in_messages(archive):
-    """Names of catalogues, pages and lists that are wrong."""
-    (archive / "folder\n\x1b[2J").mkdir()
-    write(archive / "p" / "x\x9b\n.jpg", b"no picture")
-    for name in (NASTY, "folder\n\x1b[2J"):
-        commands = (
-            ["same", name],
-            ["index", "p", "--catalogue", name + "/c"],
-            ["changed", name, "c"],
-            ["changed", "c", name],
-            ["report", "c", "--html", name + "/x"],
-            ["same", "c", "--files-from", name],
-            ["show", name],
-            ["catalogue", "merge", name, "--catalogue", "c"],
-            ["index", name, "--catalogue", "c"],
-            ["mend", name, name],
-            ["catalogue", "forget", "c", name],
-            ["index", "p", "--catalogue", "c", "--keep-old", name + "/x"],
-            [name],
-            ["same", f"--{name}"],
-        )
-        for ended in run_each(archive, commands):
-            no_control(ended.check(0, 1, 2, 3, 4))
 
 
 @pytest.mark.skipif(not shutil.which("exiftool"), reason="not installed: exiftool (package libimage-exiftool-perl)")

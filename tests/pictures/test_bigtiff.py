@@ -191,12 +191,12 @@ def test_the_coded_picture():
     strips = (0x0111, LONG8, (16, 20)), (0x0117, LONG8, (4, 4))
     files = [big(fields(*strips), gap=b"abcdefgh"), big(fields(*strips), gap=b"abcdefgi")]
     files.append(big(fields(*strips, (0x013B, ASCII, b"Otto\0")), gap=b"abcdefgh", behind=b"trailer"))
-    digests = [coded_picture.digest(io.BytesIO(it), budgets.Budget()) for it in files]
+    digests = [coded_picture.followed(io.BytesIO(it), budgets.Budget())[0] for it in files]
     assert digests[0] == digests[2] != digests[1] and all(digests)
 
 
 def test_where_one_strip_ends():
     """The same bytes in strips of other lengths are other strips: each is decoded by itself."""
     files = [big(fields((0x0111, LONG, (16, at)), (0x0117, LONG, (at - 16, 24 - at))), gap=b"abcdefgh") for at in (20, 21)]
-    one, other = (coded_picture.digest(io.BytesIO(it), budgets.Budget()) for it in files)
+    one, other = (coded_picture.followed(io.BytesIO(it), budgets.Budget())[0] for it in files)
     assert one != other and one and other

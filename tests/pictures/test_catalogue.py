@@ -200,9 +200,7 @@ class Archive(InFolder):
     def test_a_folder_that_is_gone_and_back(self):
         os.rename(self.path("p"), self.path("away"))
         lines = self.asked("index", "p", "--catalogue", "c", "--quiet", status=2)
-        self.assertEqual(
-            (lines[0].startswith(f"{self.path('p')}: Unreadable: "), " 4 " in lines[0], lines[1:]), (True, True, ["1 not readable"]), lines
-        )
+        self.assertEqual((lines[0].startswith("p: Unreadable: "), " 4 " in lines[0], lines[1:]), (True, True, ["1 not readable"]), lines)
         self.assertEqual(self.changed_rows(), {})
         os.rename(self.path("away"), self.path("p"))
         self.assertEqual(self.run_again(), ({}, {"unchanged": 4}))
@@ -354,7 +352,7 @@ class Processes(WithPictures):
         )
         counts, lines, left = self.indexed(ending)
         self.assertEqual(counts, {"accepted": 99, "ToolFailed": 1})
-        self.assertEqual(lines, [self.path("p", "41.jpg") + ": ToolFailed: the process that looked at it died twice"])
+        self.assertEqual(lines, ["p/41.jpg: ToolFailed: the process that looked at it died twice"])
         self.assertEqual(left, [])
         self.assertEqual(sorted(self.paths()), [it for it in sorted(os.listdir(self.path("p"))) if it != "41.jpg"])
 
@@ -447,7 +445,7 @@ class Rights(WithPictures):
         ):
             os.chmod(self.path("after", "closed"), 0)
             done = self.as_nobody(*words)
-            said = (done.returncode, done.stdout, done.stderr.decode().count(self.path("after", "closed")))
+            said = (done.returncode, done.stdout, done.stderr.count(b" after/closed "))
             self.assertEqual(said, (4, b"", 1), done.stderr)
             os.chmod(self.path("after", "closed"), 0o755)
             done = self.as_nobody(*words)

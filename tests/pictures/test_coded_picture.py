@@ -30,7 +30,7 @@ T, K = title("one"), iim(b"one")
 
 
 def digest(octets):
-    return coded_picture.digest(io.BytesIO(octets), Budget())
+    return coded_picture.followed(io.BytesIO(octets), Budget())[0]
 
 
 def pixel(data, **more):

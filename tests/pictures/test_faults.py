@@ -7,13 +7,13 @@ import signal
 import sqlite3
 import subprocess
 import sys
+from pathlib import Path
 
 from in_process import InFolder
 from made_blocks import BLOCKS, MAKE, block, with_exif
 from made_files import app1_xmp
 from studio import SMALL_JPEG, Studio, WithPictures, errors, needs, put, read, run, write
 
-from exifnorm_pictures.catalogue.store import VERSION
 
 EXV = b"\xff\x01Exiv2\xff\xd9"  # exiv2's own format, which has no reader here
 ONLY_METADATA = "Only metadata was compared: index --pixels compares the pictures, too."
@@ -264,98 +264,6 @@ class Catalogues(InFolder):
         super().setUp()
         put(self.folder, {"p/a.jpg": GOOD})
 
-    def refused(self, name, words):
-        before = read(self.path(name))
-        for call in (
-            ["index", "p", "--catalogue", name, "--quiet"],
-            ["same", name],
-            ["changed", name, name],
-            ["report", name, "--json"],
-            ["catalogue", "merge", name, "--catalogue", name],
-        ):
-            with self.subTest(name, call=call[0]):
-                self.asked(*call, status=4)
-                self.assertIn(words, self.complaint)
-                self.assertEqual(len(errors(self.complaint)), 1)
-        self.assertEqual(read(self.path(name)), before)
-        self.assertEqual([it for it in os.listdir(self.folder) if it.startswith(name + "-")], [])
-
-    def database(self, name, *statements):
-        base = sqlite3.connect(self.path(name), isolation_level=None)
-        for it in statements:
-            base.execute(it)
-        base.close()
-
-    def test_files_that_are_none_are_not_written_to(self):
-        write(self.path("text"), b"a text\n")
-        self.database("foreign", "CREATE TABLE x (y)")
-        self.database("empty", "PRAGMA application_id = 7", "VACUUM")
-        self.database("bare", "CREATE TABLE x (y)", "DROP TABLE x", "VACUUM")
-        for name in ("foreign", "empty", "bare"):
-            self.refused(name, name)
-        for call in (
-            ["index", "p", "--catalogue", "text"],
-            ["same", "text"],
-            ["catalogue", "merge", "text", "--catalogue", "text"],
-        ):
-            self.asked(*call, status=4)
-            self.assertIn("text", self.complaint)
-        self.assertEqual(read(self.path("text")), b"a text\n")
-        os.mkdir(self.path("folder"))
-        os.mkfifo(self.path("pipe"))
-        for name in ("folder", "pipe"):
-            self.asked("index", "p", "--catalogue", name, status=4)
-            self.assertRegex(self.complaint, "no regular file|is a folder")
-
-    def test_other_versions(self):
-        for version in (VERSION - 1, VERSION + 1, 99):
-            self.asked("index", "p", "--catalogue", f"v{version}", "--quiet")
-            self.database(f"v{version}", f"PRAGMA user_version = {version}")
-            self.refused(f"v{version}", f"version {version}")
-
-    def test_damaged_ones(self):
-        self.asked("index", "p", "--catalogue", "good", "--quiet")
-        faults = {
-            "text for a path": "UPDATE pictures SET path = 'p/a.jpg'",
-            "number for a word": "UPDATE blocks SET status = x'00'",
-            "unknown kind": "UPDATE blocks SET kind = 'other'",
-            "fields": "UPDATE blocks SET fields = x'0011'",
-            "place": "UPDATE blocks SET place = 'x', status = 'refused'",
-        }
-        for number, (what, statement) in enumerate(faults.items()):
-            name = f"damaged{number}"
-            shutil.copy(self.path("good"), self.path(name))
-            self.database(name, statement, "UPDATE pictures SET exif = NULL" if what != "text for a path" else "SELECT 1")
-            with self.subTest(what):
-                for call in (["changed", name, "good"], ["changed", "good", name], ["report", name, "--json"]):
-                    done = self.called(call, self.folder)
-                    self.assertIn(done.returncode, (0, 1, 2, 4), call)
-                    self.assertNotIn(b"Traceback", done.stderr)
-                    self.assertNotIn(b"internal error", done.stderr)
-        for table in ("runs", "pictures", "blocks", "not_read"):
-            shutil.copy(self.path("good"), self.path(f"no_{table}"))
-            self.database(f"no_{table}", "PRAGMA foreign_keys = OFF", f"DROP TABLE {table}")
-            self.refused(f"no_{table}", "a table is missing")
-        octets = read(self.path("good"))
-        write(self.path("cut"), octets[: len(octets) // 2])
-        for call in (["same", "cut"], ["index", "p", "--catalogue", "cut", "--quiet"]):
-            self.asked(*call, status=4)
-            self.assertEqual(len(errors(self.complaint)), 1)
-
-    def test_values_of_a_wrong_kind_in_groups(self):
-        write(self.path("p", "twin.jpg"), GOOD)
-        self.asked("index", "p", "--catalogue", "good", "--quiet")
-        known = "problem = NULL, exif = 'a', iptc = '', xmp = '', not_read = ''"
-        for number, wrong in enumerate(("path = 'x' || id", "exif = x'00'", "not_read = x'00'")):
-            name = f"wrong{number}"
-            shutil.copy(self.path("good"), self.path(name))
-            self.database(name, f"UPDATE pictures SET {known}", f"UPDATE pictures SET {wrong}")
-            with self.subTest(wrong):
-                for form in ([], ["--json"]):
-                    self.asked("same", name, *form, status=4)
-                    self.assertIn(f"{name} ", self.complaint)
-                    self.assertNotIn("internal error", self.complaint)
-
     def test_names_that_sqlite_takes_for_something_else(self):
         for name in (":memory:", "file:x?mode=memory"):
             self.asked("index", "p", "--catalogue", name, "--quiet")
@@ -407,7 +315,19 @@ class Catalogues(InFolder):
         self.assertEqual(self.asked("index", "p", "--catalogue", "c", "--quiet"), ["1 unchanged"])
 
 
-class Outputs(WithPictures):
+INTO = ("index p --quiet --catalogue", "catalogue merge d --catalogue")
+CATALOGUES = ("c", "same", "link")
+NEW = (
+    "index p --catalogue c --quiet --keep-old",
+    "report c --since d --html",
+    "catalogue export c",
+    "verify c --quiet --evidence",
+    "changed d c --undo",
+    "mend p/refused.jpg",
+)
+
+
+class Outputs(InFolder):
     """Files that are written, and those that must not be."""
 
     def setUp(self):
@@ -420,53 +340,43 @@ class Outputs(WithPictures):
             },
         )
         self.asked("index", "p", "--catalogue", "c", "--quiet")
-        self.asked("index", "p", "--catalogue", "d", "--quiet")
+        shutil.copy(self.path("c"), self.path("d"))
 
-    def kept(self, *words, files, status=4):
-        """A call that must fail and leave these files and no other."""
-        before = {it: read(self.path(it)) for it in files if not os.path.isdir(self.path(it))}
-        there = sorted(os.listdir(self.folder))
-        self.asked(*words, status=status)
-        self.assertEqual({it: read(self.path(it)) for it in before}, before)
-        self.assertEqual(sorted(os.listdir(self.folder)), there)
+    def files(self, written):
+        return {it: it.is_file() and it.read_bytes() for it in Path(self.folder).rglob("*") if it.name not in written}
 
-    def test_keep_old(self):
+    def test_what_is_not_replaced(self):
+        """Each output, by the name of something else: nothing changes, and the message has the name that was given."""
         write(self.path("text"), b"a text\n")
         sqlite3.connect(self.path("foreign")).executescript("CREATE TABLE x (y);")
         os.link(self.path("c"), self.path("same"))
-        for name in ("text", "foreign", "c", "same", "missing/old", "p", "/dev/null"):
-            with self.subTest(name):
-                self.kept("index", "p", "--catalogue", "c", "--quiet", "--keep-old", name, files=["foreign", "text", "d"])
-        self.asked("index", "p", "--catalogue", "c", "--quiet", "--keep-old", "d")
-        self.asked("index", "p", "--catalogue", "c", "--quiet", "--keep-old", "new")
-        self.assertEqual(read(self.path("new"))[18:20], b"\1\1", "no write-ahead log is needed to read it")
-        self.assertEqual(self.asked("changed", "d", "new", "--each"), ["1 same, 1 refused, the same bytes", ONLY_METADATA])
-
-    def test_a_folder_that_is_missing(self):
-        """The message has the name that was given, not that of the file that is renamed in the end."""
-        for words, name in (
-            (["index", "p", "--catalogue", "c", "--quiet", "--keep-old"], "missing/old"),
-            (["report", "c", "--html"], "missing/page"),
-            (["mend", "p/refused.jpg"], "missing/out.jpg"),
-            (["index", "p", "--catalogue", "c", "--quiet", "--keep-old"], "p/a.jpg/old"),
-        ):
-            with self.subTest(words[0], name=name):
-                said = "\n".join([*self.asked(*words, name, status=4), self.complaint])
-                self.assertIn(name, said)
-                self.assertNotIn(".part", said)
-
-    def test_page(self):
-        write(self.path("text"), b"a text\n")
         os.symlink("c", self.path("link"))
-        for name in ("c", "d", "link", "text", "p/a.jpg", "p", "/dev/null", "missing/page"):
-            with self.subTest(name):
-                self.kept("report", "c", "--since", "d", "--html", name, files=["c", "d", "text", "p/a.jpg"])
-        write(self.path("page"), PAGE)
-        self.asked("report", "c", "--html", "page")
-        self.assertIn(b"</html>", read(self.path("page")))
-        write(self.path("empty"), b"")
-        self.asked("report", "c", "--html", "empty")
-        self.assertIn(b"</html>", read(self.path("empty")))
+        os.mkfifo(self.path("pipe"))
+        for words in (*NEW, *INTO):
+            written = CATALOGUES if words == NEW[0] else ()
+            before = self.files(written)
+            into = CATALOGUES if words not in INTO else ()
+            for name in (*into, "text", "foreign", "p", "pipe", "/dev/null", "p/a.jpg", "missing/out", "p/a.jpg/out"):
+                with self.subTest(words, name=name):
+                    said = "\n".join([*self.asked(*words.split(), name, status=4), self.complaint])
+                    self.assertIn(name, said)
+                    self.assertNotIn(".part", said)
+                    self.assertEqual(self.files(written), before)
+
+    def test_what_is_replaced(self):
+        """An earlier output of its kind, an empty file, and where a link leads."""
+        os.symlink("out", self.path("link"))
+        for words in NEW[:3]:
+            self.asked(*words.split(), "link")
+            self.assertTrue(os.path.islink(self.path("link")))
+            earlier = read(self.path("out"))
+            for octets in (earlier, b""):
+                write(self.path("out"), octets)
+                self.asked(*words.split(), "out")
+                self.assertEqual(len(read(self.path("out"))), len(earlier))
+            os.remove(self.path("out"))
+        self.asked(*NEW[0].split(), "new")
+        self.assertEqual(read(self.path("new"))[18:20], b"\1\1", "no write-ahead log is needed to read it")
 
     def full(self, *words, blocks=0, **more):
         """A call that may write no file longer than some blocks of 1,024 bytes."""
@@ -486,18 +396,7 @@ class Outputs(WithPictures):
         self.assertEqual(os.listdir(own), [])
 
     def test_streams(self):
-        self.see_streams(
-            (
-                ["show", "p/a.jpg"],
-                ["index", "p", "--catalogue", "c", "--again"],
-            )
-        )
-
-    def test_streams_of_help(self):
-        self.see_streams((["--help"], ["--version"]))
-
-    def see_streams(self, calls):
-        for words in calls:
+        for words in (["show", "p/a.jpg"], ["index", "p", "--catalogue", "c", "--again"], ["--help"], ["--version"]):
             for redirected, expected in ((">/dev/full", 4), (">&-", 4), ("2>/dev/full", 0), ("2>&-", 0), ("<&-", 0)):
                 with self.subTest(words, stream=redirected):
                     line = f'exec "$0" "$@" {redirected}'
@@ -512,36 +411,9 @@ class Outputs(WithPictures):
         done = run(["bash", "-c", line, sys.executable, "-m", "exifnorm_pictures", *words], self.folder)
         self.assertIn((done.returncode, done.stderr), ((4, b""), (0, b"")))
 
-    def test_mend_keeps_the_picture_as_it_is(self):
-        for name in ("a.jpg", "refused.jpg"):
-            picture = self.path("p", name)
-            os.chmod(picture, 0o640)
-            os.utime(picture, ns=(1_000_000_007, 2_000_000_009))
-            before = read(picture), os.stat(picture)
-            self.asked("mend", picture, name)
-            after, copy = os.stat(picture), os.stat(self.path(name))
-            self.assertEqual(
-                (read(picture), after.st_mtime_ns, after.st_mode, after.st_ino, after.st_nlink),
-                (before[0], before[1].st_mtime_ns, before[1].st_mode, before[1].st_ino, 1),
-            )
-            self.assertEqual((copy.st_mode, copy.st_mtime_ns, copy.st_nlink), (after.st_mode, after.st_mtime_ns, 1))
-            self.assertNotEqual(copy.st_ino, after.st_ino)
-
 
 class Arguments(WithPictures):
-    def test_refused_arguments(self):
-        write(self.path("a.jpg"), GOOD)
-        for words, wrong in (
-            (["index", "a.jpg", "--catalogue", "c", "--jobs=-1"], "--jobs: "),
-            (["index", "a.jpg", "--catalogue", "c", "--jobs", "0"], "--jobs: "),
-            (["show", ""], "PICTURE: "),
-            (["show", "a.jpg", "--limit", "0"], "--limit: "),
-            (["show", "a.jpg", "--limit", "x"], "--limit: "),
-            (["same", "c", "--kind", "iim"], "--kind: invalid choice"),
-        ):
-            with self.subTest(words):
-                self.asked(*words, status=3)
-                self.assertIn(f"exifnorm-pictures {words[0]}: argument {wrong}", self.complaint)
+    def test_a_list_that_ends_with_nul(self):
         self.asked("show", "--files-from", "-", status=3, given=b"a.jpg\0b.jpg\0")
         self.assertIn("-0", self.complaint)
 
@@ -554,7 +426,7 @@ class Arguments(WithPictures):
     def test_one_picture_by_two_names(self):
         write(self.path("a.jpg"), GOOD)
         lines = self.asked("show", "a.jpg", "./a.jpg")
-        self.assertEqual([it for it in lines if it.startswith("==")], ["== a.jpg", "== ./a.jpg"])
+        self.assertEqual([it for it in lines if it.startswith("==")], ["== a.jpg", "== a.jpg"])
         self.assertEqual(self.asked("show", "a.jpg", "a.jpg"), self.asked("show", "a.jpg"), "one that is given twice is shown once")
 
     def test_a_name_that_leads_nowhere(self):
@@ -571,12 +443,3 @@ class Arguments(WithPictures):
         given = os.fsencode(self.path("two", "a.jpg"))
         found = [json.loads(it) for it in self.asked("report", "two.c", "--since", "one.c", "--json", "--files-from", "-", given=given)]
         self.assertEqual([it["changed"]["path"] for it in found if "changed" in it], ["a.jpg"])
-
-    def test_modules_in_the_current_folder(self):
-        for name in ("sqlite3.py", "exifnorm.py", "json.py", "argparse.py"):
-            write(self.path(name), b"raise SystemExit('a file of the current folder was taken')\n")
-        done = run([sys.executable, "-m", "exifnorm_pictures", "--version"], self.folder)
-        self.assertEqual((done.returncode, done.stderr), (0, b""))
-
-    def test_version(self):
-        self.assertRegex(self.asked("--version")[0], r"^exifnorm-pictures \d+\.\d+\.\d+$")

@@ -161,27 +161,3 @@ def test_a_copy_has_a_limit(times, whole, temporary, monkeypatch):
             pictures.read(source, whole=whole)
         assert error.value.problem == "TooMuch"
     assert pictures.read(io.BytesIO(data), whole=whole).meaning
-
-
-def test_what_a_file_object_raises(temporary):
-    """An error of the program's own file object is no error of ours, and nothing is taken for the end of the file."""
-    data = BOWL.read_bytes()
-    for error in (ValueError("damaged"), EOFError("short")):
-        for source in (io.BytesIO(data), Unseekable(data)):
-            read, calls = source.read, []
-
-            def fails(length, read=read, calls=calls, error=error):
-                calls.append(length)
-                if len(calls) > 1:
-                    raise error
-                return read(length)
-
-            objects = Counted(source) if hasattr(source, "seek") else source
-            objects.read = fails
-            with pytest.raises(OSError, match=str(error)) as raised:
-                pictures.read(objects)
-            assert raised.value.__cause__ is error
-    nothing_yet = Unseekable(data)
-    nothing_yet.read = lambda length: None
-    with pytest.raises(BlockingIOError):
-        pictures.read(nothing_yet)

@@ -310,6 +310,8 @@ ARGUMENTS = [
             ("show a -0", "argument -0/--null: not allowed without argument --files-from"),
             ("list c --null --json", "argument --json: not allowed with argument -0/--null"),
             ("--nonsense show a", "there is no option --nonsense"),
+            ("help statuse", "there is no command statuse; did you mean help statuses?"),
+            ("help rhymes", "there is no command rhymes; --help lists them"),
         )
     ),
     (given, ("changed a b", "limit", "jobs"), [60.0, 0]),
@@ -328,7 +330,9 @@ ARGUMENTS = [
     (names_given, ("index a --catalogue c b",), ["a", "b"]),
     (lambda: refused(lambda: names.named(Files("show"))).splitlines()[-1], (), "exifnorm-pictures show: give at least one name"),
     (
-        lambda: refused(lambda: report.run(argparse.Namespace(command="report", html=None, json=False))).splitlines()[-1],
+        lambda: refused(
+            lambda: report.run(argparse.Namespace(command="report", html=None, json=False, session=None, least=None))
+        ).splitlines()[-1],
         (),
         "exifnorm-pictures report: give --html PAGE, --json, or both",
     ),
@@ -443,3 +447,12 @@ def test_a_command_that_went_names_the_one_to_use(name, line):
     for words in ([name, "a", "b"], [name, "--help"], ["help", name]):
         assert f"exifnorm-pictures {line}\n" in refused(lambda: parser.parsed(words)), words
     assert vars(parser.parsed(line.replace(" ..", "").split()))["command"] == name_of(line)
+
+
+@pytest.mark.parametrize("name, words", parser.OPTIONS_WENT.items())
+def test_an_option_that_went_names_one_that_the_named_commands_have(name, words):
+    commands = parser.parsers()[1]
+    assert f"--{name}{words}\n" in refused(lambda: parser.parsed(["show", f"--{name}", "a"]))
+    named = [it for it in commands if it in re.findall(r"\w+", words)] or ["changed"]
+    for option in re.findall(r"--[\w-]+", words):
+        assert all(option in commands[it]._option_string_actions for it in named), option

@@ -72,7 +72,7 @@ def test_a_picture_that_came_later(folder, nights, states, called):
 
 def test_an_unknown_picture(nights, called):
     status, printed, messages = called("changed", "--picture", "p/nothing.jpg", *nights)
-    assert (status, printed) == (3, "") and len(messages.splitlines()) == 1 and "/p/nothing.jpg" in messages
+    assert (status, printed) == (3, "") and len(messages.splitlines()) == 1 and "p/nothing.jpg" in messages
 
 
 @pytest.mark.parametrize("words, is_told", (((), True), (("--pixels",), False)))

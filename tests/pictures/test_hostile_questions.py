@@ -1,4 +1,4 @@
-"""Questions and rules that mean harm, or that a program has made: each is answered or refused in a few lines, and costs little."""
+"""Questions, rules and lists that mean harm, or that a program has made: each is answered or refused in a few lines, and costs little."""
 
 import os
 import random
@@ -8,7 +8,11 @@ from studio import put
 from test_attacks import RAW, run_each
 from test_list import picture
 
+from exifnorm_pictures.catalogue import bags, store
+from exifnorm_pictures.cli import word_files
 from exifnorm_pictures.fields import questions, tokens
+from exifnorm_pictures.files import folders
+from exifnorm_pictures.scan import walk
 
 TEXT = "a" * 60_000  # which is kept whole
 
@@ -138,7 +142,6 @@ HARM = {
     "a device of words": b"title from /dev/zero\n",
     "a pipe of words": b"title from pipe\n",
     "a line of itself": b"title from rules\nnonsense",
-    "too long": b"#" * 10_000_001,
     "a number": b"title at most 99999999999999999999 characters",
     "a date": b"date created not after 9999-99-99999",
 }
@@ -165,18 +168,38 @@ def test_words_of_a_long_file(archive, called):
     refused(called("check", "--rules", "rules", "c"))
 
 
-def test_rules_that_are_no_regular_file(archive, called):
-    os.mkfifo(archive / "pipe")
-    os.symlink("nowhere", archive / "link")
-    os.symlink("loop", archive / "loop")
-    for name in ("pipe", "/dev/zero", "p", "link", "loop", "c"):
-        status, printed, messages = called("check", "c", "--rules", name)
-        assert status in (3, 4) and not printed and len(messages.splitlines()) == 1, (name, messages)
-
-
 def test_a_line_that_is_long_is_shown_around_its_mistake(archive, called):
     (archive / "rules").write_text("title one of " + ", ".join(f"'{it}'" for it in range(3000)) + " nonsense, 'x'\n")
     _, _, messages = called("check", "--rules", "rules", "c")
     assert "nonsense" in messages and len(messages) < 1000
     shown, mark = messages.splitlines()[-2:]
     assert shown[mark.index("^") :].startswith("nonsense")
+
+
+# Of each kind of file that is a list: what makes it, its name, how it begins, its limit, what reads it, and the status if it is longer
+LISTS = {
+    "names": ("", "names", b"p/a.jpg", (walk, "LONGEST_LIST"), "same c --files-from names", 3),
+    "rules": ("", "rules", b"title is A", (word_files, "_LONGEST"), "check c --rules rules", 3),
+    "words": ("", "words", b"A", (word_files, "_LONGEST"), "check c --rules of-words", 3),
+    "fields": ("", "names", b"Make", (word_files, "_LONGEST"), "compare p/a.jpg p/b.jpg --only @names", 3),
+    "a manifest's line": ("", "bag/manifest-sha256.txt", b"0" * 64 + b"  data/", (bags, "_LONGEST_LINE"), "verify --bag bag", 3),
+    "pages": ("report c --html r/", "r/exifnorm-report", None, (folders, "_LONGEST"), "report c --html r/", 4),
+    **{
+        f"catalogues: {words}": ("index p --shards d --quiet", "d/catalogues", None, (store, "_LONGEST_LIST"), words, 4)
+        for words in ("list d", "index p --shards d", "catalogue forget d q", "catalogue merge d --catalogue new", "same d")
+    },
+}
+
+
+@pytest.mark.parametrize("kind", LISTS)
+def test_a_list_at_its_limit_and_one_byte_over_it(archive, called, monkeypatch, kind):
+    """One that is too long is refused, and never cut."""
+    made, name, head, limit, words, due = LISTS[kind]
+    put(archive, {"bag/data/a.jpg": b"a", "of-words": b"title from words\n"})
+    assert not made or called(*made.split())[0] == 0
+    head = head or (archive / name).read_bytes()
+    monkeypatch.setattr(*limit, 5000)
+    for length, statuses in ((5000, (0, 1, 2)), (5001, (due,))):
+        (archive / name).write_bytes(head.ljust(length, b"x" if "manifest" in kind else b"\n"))
+        status, _, messages = called(*words.split())
+        assert status in statuses and (status < 3 or os.path.basename(name) in messages and len(messages) < 1000), (status, messages)

@@ -76,7 +76,7 @@ def test_a_folder_that_is_gone_forgets_nothing(archive, called_lines):
     (archive / "p" / "b").rename(archive / "unmounted")
     status, lines, _ = called_lines("index", "p", "--shards", "shards")
     assert status == 2
-    assert lines[0].endswith("/p/b: Unreadable: the folder is empty, isn't there or can't be read; its 2 pictures stay as before")
+    assert lines[0] == ("p/b: Unreadable: the folder is empty, isn't there or can't be read; its 2 pictures stay as before")
     assert rows(archive) == before
     status, lines, _ = called_lines("index", "p", "--shards", "shards", "--json")
     assert status == 2 and '"problem": "Unreadable"' in lines[0]
@@ -139,7 +139,7 @@ def test_of_several_folders(archive, called_lines):
     (archive / "q").rename(archive / "unmounted")
     assert called_lines("index", "p", "--shards", "shards")[:2] == (0, called_lines("index", "p", "--shards", "shards")[1])
     status, lines, _ = called_lines("index", "p", "q", "--shards", "shards")
-    assert status == 2 and "/q/a: Unreadable" in lines[0]
+    assert status == 2 and lines[0].startswith("q/a: Unreadable")
 
 
 def test_names_that_are_no_utf_8(archive, called_lines):

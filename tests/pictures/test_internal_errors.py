@@ -237,7 +237,7 @@ def test_a_picture_at_which_we_fail(command, monkeypatch):
         lines = command("index", "p", "--catalogue", "c", status=2).out.splitlines()
         found = [json.loads(it) for it in command("show", "p/b.png", "p/a.jpg", "--json", status=2).out.splitlines()]
         explained = command("explain", "p/b.png", "--debug", status=2)
-    assert [it.rpartition("/p/")[2].partition(":")[0] for it in lines[:-1]] == ["b.png"]
+    assert [it.partition(":")[0] for it in lines[:-1]] == ["p/b.png"]
     assert "b.png: InternalError: " in lines[0] and f"TypeError: {FAULT} (exifnorm_pictures/extract/extraction.py, line " in lines[0]
     assert "1 at which exifnorm-pictures itself failed" in lines[-1]
     assert [it.get("problem") for it in found] == ["InternalError", None]

@@ -225,18 +225,18 @@ def test_pictures_are_the_same_exactly_if_the_library_says_so(folder):
 
 def test_segments_of_a_coded_picture():
     """A digest of the coded picture has each segment that says how to decode it, and none of metadata."""
-    plain = coded_picture.digest(io.BytesIO(SMALL_JPEG), Budget())
+    plain = coded_picture.followed(io.BytesIO(SMALL_JPEG), Budget())[0]
     for name, pieces in PIECES.items():
         with_pieces = jpeg(*pieces)
         if name == "markers alone":
             with pytest.raises(Broken):  # a second start of a picture
-                coded_picture.digest(io.BytesIO(with_pieces), Budget())
+                coded_picture.followed(io.BytesIO(with_pieces), Budget())[0]
         else:
             same = name not in ("tables", "others of applications")  # the colour transform of Adobe counts
-            assert (coded_picture.digest(io.BytesIO(with_pieces), Budget()) == plain) is same, name
+            assert (coded_picture.followed(io.BytesIO(with_pieces), Budget())[0] == plain) is same, name
     for octets in (SMALL_JPEG[:30], SMALL_JPEG[:2] + b"\xff\xd9", SMALL_JPEG[:3] + b"\0"):
         with pytest.raises(Broken):
-            coded_picture.digest(io.BytesIO(octets), Budget())
+            coded_picture.followed(io.BytesIO(octets), Budget())[0]
 
 
 # ---- what a picture costs

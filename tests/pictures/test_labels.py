@@ -18,11 +18,8 @@ def test_each_label_has_its_row_and_its_documents(checks):
     """A new label needs its fields in labelled_fields.py, and a place in the documents that list the labels."""
     for label in fields_by_label():
         checks.check(label, label in FIELDS, "it has no fields in labelled_fields.py")
-        for page in (
-            ("docs/exifnorm-pictures.1",)
-            if label in (POSITION, *OF_FIELDS)
-            else ("docs/JSON.md", "docs/CATALOGUE.md", "docs/exifnorm-pictures.1")
-        ):
+        pages = ("docs/exifnorm-pictures.1",) if label in (POSITION, *OF_FIELDS) else ("docs/CATALOGUE.md", "docs/exifnorm-pictures.1")
+        for page in pages:
             checks.check(label, label in (Path(TOP) / page).read_text(encoding="utf-8"), f"{page} doesn't name it")
 
 

@@ -1,5 +1,5 @@
-"""The law of readers: whatever a crash has left of a catalogue, a command that reads it answers, or
-says what mends it; and the next one can do the same."""
+"""The law of readers: whatever a crash has left of a catalogue, a command that reads or changes it does
+so, or says what mends it; and the next one can do the same."""
 
 import os
 import shutil
@@ -31,7 +31,14 @@ COMMANDS = [
     "mend cat tmp/copies",
 ]
 OF_PICTURES = {"compare", "explain"}  # which read no catalogue
-WRITE_TO_IT = {"index", "nightly", "catalogue forget", "catalogue relocate"}
+CHANGES = [
+    "index p --catalogue cat --quiet --jobs 1",
+    "index p --catalogue c --quiet --jobs 1 --keep-old cat",
+    "catalogue merge d --catalogue cat",
+    "nightly p --catalogue cat --jobs 1",
+    "catalogue forget cat p/1.jpg",
+    "catalogue relocate cat p q",
+]
 MENDS = ("index", "Remove", "is no catalogue")  # one of these is in each message
 RAW = ("readonly", "unable to open", "disk I/O")  # what SQLite says
 OTHER = 65534
@@ -145,9 +152,9 @@ def asked(archive, here, words, setup):
     return status != 4
 
 
-def test_each_command_that_reads_is_there():
-    tried = {name_of(words) for words in COMMANDS}
-    assert tried == {name for name, *_ in parser.COMMANDS} - OF_PICTURES - WRITE_TO_IT
+def test_each_command_is_there():
+    tried = {name_of(words) for words in [*COMMANDS, *CHANGES]}
+    assert tried == {name for name, *_ in parser.COMMANDS} - OF_PICTURES
 
 
 @pytest.mark.parametrize("left", CRASHES, ids=lambda it: it.__name__)
@@ -156,6 +163,16 @@ def test_each_command(left, archive):
     here = prepared(archive, left, True)
     for words in COMMANDS:
         asked(archive, here, words, setup)
+
+
+@pytest.mark.parametrize("words", CHANGES)
+@pytest.mark.parametrize("left", LEFT[:-5], ids=lambda it: it.__name__)
+def test_each_change(left, words, archive):
+    """What changes a catalogue mends what a crash has left of it, if it is all there."""
+    here = prepared(archive, left, False)
+    is_done = asked(archive, here, words, "")
+    assert is_done or left not in CRASHES
+    assert asked(archive, here, "same cat", "") >= is_done
 
 
 @pytest.mark.parametrize("is_closed", [False, True], ids=["open", "read-only"])

@@ -9,6 +9,7 @@ import fnmatch
 import os
 import re
 import shutil
+import struct
 import subprocess
 import sys
 from pathlib import Path
@@ -17,8 +18,8 @@ import pytest
 from made_blocks import BLOCKS, with_exif
 from made_files import app1_xmp, jpeg, title
 from studio import SMALL_JPEG, Studio, put
-from test_attacks import journal_that_names
 from test_law_of_kills import ATTACH
+from test_law_of_readers import AS_OTHER, OTHER
 from test_outputs import Runner, not_tried
 
 from exifnorm_pictures.catalogue.store import LIST_HEAD
@@ -84,12 +85,15 @@ def archive(top):
     put(str(top), files)
     (top / "tmp").mkdir()
     (top / "disk" / "rules").write_text("every picture needs title\n")
+    (top / "disk" / "names").write_text("p/refused.jpg\np/out/thesis.txt\n../home/notes.html\np/link.jpg\n/dev/null\nq\n")
     (top / "disk" / "bag" / "manifest-sha256.txt").write_text("")
     (top / "disk" / "p" / "link.jpg").symlink_to(top / "home" / "holiday.jpg")
     (top / "disk" / "p" / "out").symlink_to(top / "home")
+    (top / "disk" / "linked").symlink_to("real")
     for words in (
         "index p --catalogue c --pixels --quiet",
         "index p --catalogue old --quiet",
+        "index p --catalogue real --quiet",
         "index q --catalogue ../home/mine --quiet",
         "index p --shards d --quiet",
         "report c --html r/",
@@ -106,11 +110,28 @@ def run(top, words):
     return subprocess.run(words, cwd=top / "disk", capture_output=True, stdin=subprocess.DEVNULL, env=environment, timeout=300)
 
 
-def traced(top, traces):
-    """The setup of a run that is traced, with its programs."""
+CALLS_OF_API = """
+import exifnorm
+for name in ("p/a.jpg", "p/refused.jpg", "p/link.jpg", "rules", "c", "d", "p/out/thesis.txt"):
+    for call in (exifnorm.read, lambda it: exifnorm.read(open(it, "rb")), lambda it: exifnorm.compare(it, "q/a.jpg")):
+        with __import__("contextlib").suppress(OSError, exifnorm.NoPicture):
+            call(name)
+"""
+
+
+def traced(top, traces, is_first):
+    """The setup of a run that is traced, with its programs; of the first one with calls from Python before it."""
     words = [shutil.which("strace"), "-ff", "-z", "-y", "-xx", "-s", "5000", "-o", str(traces / "t"), "-e", f"trace={','.join(CALLS)}"]
     room = {"TMPDIR": str(top / "tmp"), "HOME": str(top / "home"), "PATH": os.environ["PATH"]}
-    return f"os.environ.update({room!r})" + ATTACH.format(words=words)
+    return f"os.environ.update({room!r})" + ATTACH.format(words=words) + CALLS_OF_API * is_first
+
+
+def journal_that_names(path, catalogue):
+    """A rollback journal without pages, after which SQLite removes the file that it names."""
+    octets, name, magic = catalogue.read_bytes(), os.fsencode(path), bytes.fromhex("d9d505f920a163d7")
+    size = int.from_bytes(octets[16:18], "big")
+    head = magic + struct.pack(">IIIII", 0, 0x1234, len(octets) // size, 512, size)
+    return head.ljust(512, b"\0") + struct.pack(">I", 0x40000000 // size + 1) + name + struct.pack(">II", len(name), sum(name)) + magic
 
 
 def journals(top):
@@ -119,7 +140,15 @@ def journals(top):
     made = ("new", "kept", "n.tonight", "n.before", "state/verified.catalogue")
     for name in made:
         shutil.copy(top / "disk" / "c", top / "disk" / name)
-    for name in ("c", "old", "n", "tables", *made, *(os.path.relpath(it, top / "disk") for it in (top / "disk" / "d").glob("*.catalogue"))):
+    for name in (
+        "c",
+        "old",
+        "real",
+        "n",
+        "tables",
+        *made,
+        *(os.path.relpath(it, top / "disk") for it in (top / "disk" / "d").glob("*.catalogue")),
+    ):
         (top / "disk" / f"{name}-journal").write_bytes(journal_that_names(top / "home" / "thesis.txt", top / "disk" / name))
 
 
@@ -148,6 +177,13 @@ def links(top):
     (top / "disk" / "d" / "catalogues").symlink_to(top / "home" / "list")
 
 
+def another(top):
+    """The tree is that of another user than root, who runs the commands, and the user's files are root's."""
+    journals(top)
+    for path in (top, top / "tmp", top / "disk", *(top / "disk").rglob("*")):
+        os.chown(path, OTHER, OTHER, follow_symlinks=False)
+
+
 def left(top):
     """What killed runs seem to have left: folders and files of the user under such names."""
     for folder in (top / "disk", top / "tmp"):
@@ -156,7 +192,7 @@ def left(top):
         put(str(folder), {".exifnorm-0123456789ab-01234567.part": b"mine"})  # which has no sum of its name
 
 
-STRANGERS = (journals, beside, lists, links, left)
+STRANGERS = (journals, beside, lists, links, left, *[another] * (os.geteuid() == 0))
 SQLITES = ("", "-wal", "-shm", "-journal")
 LISTED = (".lock", "catalogues", ".exifnorm-*.part", *(f"[0-9]*.catalogue{it}" for it in SQLITES))
 PAGES = (
@@ -183,18 +219,19 @@ ASKED = catalogue("c", "old")  # the first question keeps texts in a catalogue
 COMMANDS = {
     "index p --catalogue c --jobs 1": catalogue("c"),
     "index p q --catalogue c --jobs 2 --pixels --sidecars --maker-notes": catalogue("c"),
-    "index p --catalogue new": catalogue("new"),
+    "index --catalogue new --files-from names": catalogue("new"),
     "index p --catalogue c --keep-old kept": [*catalogue("c", "kept"), FILE],
     "index p --shards d --jobs 1": SHARDS,
     "catalogue merge c old --catalogue new": catalogue("new"),
     "catalogue merge d --catalogue c": catalogue("c"),
     "catalogue forget c p": catalogue("c"),
+    "catalogue forget linked p": catalogue("real"),
     "catalogue forget d p q": SHARDS,
     "catalogue relocate c p q": catalogue("c"),
     "verify c": [],
     "verify --bag bag": [],
     "verify c --evidence sums --state state": ["sums", FILE, "state", *catalogue("state/verified.catalogue")],
-    "same c": [],
+    "same c --files-from names": [],
     "same p --xlsx same.xlsx": ["same.xlsx", FILE],
     "changed old c": [],
     "changed p q --csv": [],
@@ -222,7 +259,7 @@ COMMANDS = {
     "report d --html r/": [*folder_of_report("r"), *SHARDS],
     "catalogue export c tables": ["tables", FILE, *ASKED],
     "mend p/refused.jpg copy.jpg": ["copy.jpg", FILE],
-    "mend p out": ["out", "out/*"],
+    "mend out --files-from names": ["out", "out/*"],
     "mend c out": ["out", "out/*"],
 }
 
@@ -274,7 +311,8 @@ def test_nothing_else_is_written(stranger, saved, runner, tmp_path):
         traces = tmp_path / "traces"
         shutil.rmtree(traces, ignore_errors=True)
         traces.mkdir()
-        status, said = runner.run(saved / "disk", line, traced(saved, traces))
+        setup = traced(saved, traces, words == next(iter(COMMANDS))) + f"\n{AS_OTHER}" * (stranger is another)
+        status, said = runner.run(saved / "disk", line, setup)
         if status not in range(5):
             wrong.append((words, status, said[-300:]))
         allowed = [
@@ -282,7 +320,8 @@ def test_nothing_else_is_written(stranger, saved, runner, tmp_path):
             str(saved / "tmp" / "*"),
             *FREE,
         ]
-        others = {it for it in written(str(saved / "disk"), traces) if not any(fnmatch.fnmatchcase(it[1], due) for due in allowed)}
+        calls = {*written(str(saved / "disk"), traces)}
+        others = {it for it in calls if not any(fnmatch.fnmatchcase(it[1], due) for due in allowed)}
         wrong += [
             (words, call, path.replace(str(saved), "")) for call, path in sorted(others) if os.path.realpath(path) != str(saved / "disk")
         ]

@@ -365,7 +365,7 @@ def test_forms_say_the_same(folder, called):
     assert printed[-1] == "2 of 2 pictures"
     objects = [json.loads(it) for it in called("list", "c", "--json", "--columns", "title,keywords")[1].splitlines()]
     assert [it["texts"] for it in objects[:-1]] == [{"title": ["1998.10"], "keywords": ["a", "b"]}, {"title": [], "keywords": ["c"]}]
-    assert called("list", "c", "-0")[1] == "".join(f"{row[0]}\0" for row in rows[1:])
+    assert called("list", "c", "-0")[1] == "".join(f"{folder}/{row[0]}\0" for row in rows[1:])
 
 
 @pytest.mark.parametrize("at_once", [1, 2, 3, 1000])
@@ -427,10 +427,14 @@ def test_damage(folder, called, asked):
     assert asked("--where", "title = A and not damage has 'end mark'")[0] == ["whole.jpg"]
     status, printed, _ = called("list", "p", "--with", "damage", "-0")
     assert (status, printed) == (2, f"{folder}/p/cut.jpg\0")
+    (folder / "rules").write_text("damage never\n")
+    status, printed, _ = called("check", "p", "--rules", "rules")
+    assert (status, re.findall(r"\w+\.(?:jpg|gif)", printed)) == (2, ["cut.jpg", "other.gif"])
 
 
 UNREAD = (
-    ": their pictures were not read for damage; index --pixels reads those of JPEG, PNG, TIFF, WebP, HEIC, AVIF, JPEG XL and raw files\n"
+    ": their pictures were not read for damage; index --pixels reads those of JPEG, PNG, TIFF, WebP, HEIC, AVIF, JPEG XL and raw files like"
+    " TIFF, as DNG, and no command others\n"
 )
 
 

@@ -33,13 +33,14 @@ class Liar(io.BytesIO):
     def __init__(self, octets, call, lie, name):
         super().__init__(octets)
         self.call, self.lie, self.name = call, lie, name
-        self.calls, self.octets = 0, 0
+        self.calls, self.octets, self.has_lied = 0, 0, False
 
     def _answer(self, call, answer, *words):
         self.calls += 1
         assert self.calls < READS, "it is asked without end"
         if call != self.call or self.calls < 3:
             return answer
+        self.has_lied = True
         return self.lie(answer, *words) if callable(self.lie) else self.lie
 
     def read(self, length=-1):
@@ -90,7 +91,9 @@ class OddName(str):
     __bool__ = __len__ = __str__ = raising(KeyError("x"))
 
 
-ERRORS = [raising(it) for it in (ValueError("closed"), KeyError("x"), io.UnsupportedOperation("seek"), RuntimeError("\x1b[2J"), EOFError())]
+ERRORS = {
+    raising(it): it for it in (ValueError("closed"), KeyError("x"), io.UnsupportedOperation("seek"), RuntimeError("\x1b[2J"), EOFError())
+}
 LIES = {
     "read": [
         *ERRORS,
@@ -116,15 +119,23 @@ EACH = [(call, number) for call, lies in LIES.items() for number in range(len(li
 @pytest.mark.parametrize("call, number", EACH)
 @pytest.mark.parametrize("name", PICTURES)
 def test_a_call_that_lies(name, call, number, tmp_path, monkeypatch):
+    """What `read` raises is an error of the caller's own, and never taken for the end of the file."""
     monkeypatch.setattr(tempfile, "tempdir", str(tmp_path))
     monkeypatch.setenv("PATH", str(tmp_path))  # ExifTool takes long, and gets what is copied
     for ask in (pictures.read, lambda file: pictures.compare(file, PICTURE)):
-        file = Liar(PICTURES[name], call, LIES[call][number], name)
+        file, due, raised = Liar(PICTURES[name], call, LIES[call][number], name), [*ERRORS.values()][number : number + 1], None
         try:
             ask(file)
         except RAISED as error:
             assert "internal" not in str(error) and "\n" not in str(error), repr(error)
+            raised = error
+        assert not (due and call == "read" and file.has_lied) or {raised, getattr(raised, "__cause__", None)} & {*due}
         assert not list(tmp_path.iterdir())
+
+
+def test_a_file_object_that_has_nothing_yet():
+    with pytest.raises(BlockingIOError):
+        pictures.read(Liar(PICTURES["jpg"], "read", None, "a.jpg"))
 
 
 PICTURE = pictures.read_bytes(PICTURES["jpg"])

@@ -30,9 +30,9 @@ def test_single_pictures_have_their_names(archive, called):
     (archive / "monday/c.jpg").rename(archive / "monday/new.jpg")
     found = moves(called("index", "p", "--catalogue", "c")[1])
     assert {it.partition(": Moved: to ")[::2] for it in found} == {
-        (f"{archive}/monday/a.jpg", f"{archive}/x/a.jpg"),
-        (f"{archive}/monday/b.jpg", f"{archive}/b.jpg"),
-        (f"{archive}/monday/c.jpg", f"{archive}/monday/new.jpg"),
+        ("p/monday/a.jpg", "p/x/a.jpg"),
+        ("p/monday/b.jpg", "p/b.jpg"),
+        ("p/monday/c.jpg", "p/monday/new.jpg"),
     }
 
 
@@ -40,8 +40,8 @@ def test_a_folder_and_a_picture(archive, called):
     (archive / "monday/a.jpg").rename(archive / "first.jpg")
     (archive / "monday").rename(archive / "tuesday")
     assert sorted(moves(called("index", "p", "--catalogue", "c")[1])) == [
-        f"{archive}/monday/a.jpg: Moved: to {archive}/first.jpg",
-        f"{archive}/monday: Moved: 3 pictures to {archive}/tuesday",
+        "p/monday/a.jpg: Moved: to p/first.jpg",
+        "p/monday: Moved: 3 pictures to p/tuesday",
     ]
 
 
@@ -60,7 +60,7 @@ def test_a_folder_that_moved_into_another_one(archive, called):
     shutil.copy("c", "before")
     (archive / "year").mkdir()
     (archive / "monday").rename(archive / "year/monday")
-    assert moves(called("index", "p", "--catalogue", "c")[1]) == [f"{archive}/monday: Moved: 4 pictures to {archive}/year/monday"]
+    assert moves(called("index", "p", "--catalogue", "c")[1]) == ["p/monday: Moved: 4 pictures to p/year/monday"]
     shutil.copy("before", "c")
     printed = called("nightly", "p", "--catalogue", "c")[1]
     assert "4 moved with their folder: monday to year/monday\n" in printed, printed

@@ -226,7 +226,7 @@ CALLS = {
         report full --since full.before --rules rules --html pages/ --link-to 'https://dam.example/{path}'
         report full --json --ignore IFD0:Artist --ignore @fields
         report full --only @fields --equal-numbers --since full.before --json --files-from some
-        report full --files-from some0 -0 --json
+        report full --files-from some0 -0 --json --rules rules
     """,
     "catalogue export": """
         catalogue export full tables.sqlite --quiet

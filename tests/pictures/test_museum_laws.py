@@ -3,6 +3,7 @@
 import collections
 import contextlib
 import csv
+import itertools
 import json
 import os
 import pathlib
@@ -15,8 +16,9 @@ import time
 import pytest
 from made_museum import TIME, captioned, put
 from museum import WHOLE, done, run
-from studio import needs
+from studio import counts_of_page, counts_of_summary, needs, not_the_same
 
+from exifnorm_pictures.cli import parser
 from exifnorm_pictures.model import budgets
 from exifnorm_pictures.scan import looking
 
@@ -88,7 +90,7 @@ def test_the_table_of_captions_leaves_no_cell_empty(museum):
     kept = by_path(objects(f"list plain --columns '{LABELS}'", museum))
     lacking = {}
     for row in csv.DictReader(rows):
-        if picture := kept.get(row["picture"]):
+        if picture := kept.get(os.path.abspath(row["picture"])):
             lacking[row["picture"]] = [label for label in LABELS.split(",") if picture["texts"][label] and not row[label]]
     assert len(lacking) > 80 and {name: labels for name, labels in lacking.items() if labels} == {}
 
@@ -141,6 +143,25 @@ def test_text_csv_and_json_say_the_same(words, museum):
 
 
 @needs("exiftool")
+@pytest.mark.parametrize("before, after", [("before", "plain"), ("full.before", "full")])
+def test_all_counts_of_two_nights_agree(before, after, museum):
+    """Those of the terminal, of the report, of JSON, and of the letter; a list has as many as its count says."""
+    first, results, odd = counts_of_summary("\n".join(run(f"changed {before} {after}", museum)[1]))
+    done(f"report {after} --since {before} --html counts.html --no-look", museum)
+    assert counts_of_page((museum / "counts.html").read_text(encoding="utf-8")) == (first, results, odd)
+    *pictures, summary = objects(f"changed {before} {after}", museum)
+    assert summary["counts"] == results and len(pictures) == not_the_same(first)
+    assert [it["pictures"] for it in summary["edits"]].count(1) == odd > 4
+    (changes,) = [it for it in objects(f"report {after} --since {before}", museum) if it["record"] == "changes"]
+    assert changes["results"] == results
+    shutil.copy(museum / before, museum / "counted")
+    letter = run("nightly archive --catalogue counted --jobs 1", museum)[1][0]
+    partners = first.partition("Without a partner: ")[2]
+    numbers = [int(it) for it in re.findall(r"\d+", f"{first.partition(' ')[0]} {partners}")]
+    assert letter.endswith(f": {sum(numbers)} pictures then or now, {len(pictures)} with news"), (letter, first)
+
+
+@needs("exiftool")
 def test_the_order_of_names_says_nothing(museum):
     """A catalogue that is filled in another order, in two runs, prints the same."""
     names = [os.fsencode(museum / it) for it in files_of(museum, "archive")]
@@ -167,6 +188,43 @@ def test_two_merged_are_one(museum):
         command, *more = line.split()
         found = [run(f"{command} {name} {' '.join(more)}", museum) for name in ("whole", "merged")]
         assert found[0] == found[1], command
+
+
+# Calls of each command that print where pictures are; {} leads to the museum. A letter, a page and tables in SQLite are read elsewhere
+WHERE = {
+    "index": ["index {}archive/refused --catalogue OUT --jobs 1"],
+    "changed": ["changed --picture {}archive/work/renamed.jpg {}full.before {}full"],
+    "same": ["same {}full --kind pixels --differ title", "same {}full --kind iptc --csv"],
+    "list": ["list {}few", "list {}full --csv --with rating", "list {}one/desk --csv"],
+    "check": ["check {}few --rules {}rules", "check {}few --rules {}rules --csv", "check {}one/contradictions --csv"],
+    "verify": ["verify {}full --quiet", "verify {}full.before {}archive --quiet"],
+    "nightly": [],
+    "report": [],
+    "compare": ["compare {}one/refused/Loop.jpg {}one/nowhere.jpg"],
+    "show": ["show {}one/work/touched.jpg {}one/desk/1.jpg", "show --captions {}one/desk --csv", "show --captions {}few"],
+    "explain": ["explain {}one/refused/Loop.jpg {}one/work/touched.jpg"],
+    "mend": ["mend {}one/refused/Loop.jpg OUT"],
+    "catalogue merge": [],
+    "catalogue forget": ["catalogue forget {}few {}one/desk"],
+    "catalogue relocate": ["catalogue relocate {}few {}one/desk {}one/work"],
+    "catalogue export": ["catalogue export {}few OUT.sqlite --files-from {}names"],
+}
+PLACES = [("work", "../", "../"), (".", "./", ""), (".", "F/", ""), ("/usr", "F/", "F/")]
+
+
+@needs("exiftool")
+@pytest.mark.parametrize("command", parser.parsers()[1])
+def test_a_picture_has_one_name_in_all_commands(command, museum):
+    """In lines and tables: its path from the current folder, or the whole one if that is shorter, however it was given."""
+    (museum / "rules").write_text("every picture needs source\n", encoding="utf-8")
+    (museum / "names").write_text(f"{museum}/one/nowhere\n", encoding="utf-8")
+    (museum / "work").mkdir()
+    for number, (line, place) in enumerate(itertools.product(WHERE[command], PLACES)):
+        here, given, shown = (it.replace("F", str(museum)) for it in place)
+        with contextlib.chdir(here):
+            _, lines, messages = run(line.replace("{}", given).replace("OUT", str(museum / f"out{number}")), museum)
+        found = re.findall(r"""([^\s,"'(]*)(?:archive|one)/""", "\n".join(lines + messages))
+        assert set(found) == {shown}, (line, here, given)
 
 
 @needs("exiftool")

@@ -419,7 +419,7 @@ def test_names_in_a_letter(archive, called, folder):
     status, printed, _ = called("nightly", "p", "--catalogue", "c.catalogue", "--html", "p/page.html")
     assert status == 1
     lines = printed.splitlines()
-    assert lines[0].startswith("p since ") and lines[0].endswith(": 13 pictures, 3 with news")
+    assert lines[0].startswith("p since ") and lines[0].endswith(": 13 pictures then or now, 3 with news")
     assert lines[2:5] == [
         "  1 lost its title: web/0.jpg",
         "  1 shows where it was taken: web/1.jpg",
@@ -440,7 +440,7 @@ def test_a_folder_of_pages(archive, called, folder):
     lose(archive)
     aged(archive / "web")
     status, printed, messages = called(*words)
-    assert (status, messages) == (1, "") and printed.splitlines()[0].endswith(": 12 pictures, 2 with news")
+    assert (status, messages) == (1, "") and printed.splitlines()[0].endswith(": 12 pictures then or now, 2 with news")
     page = (archive / "[x] report/index.html").read_text(encoding="utf-8")
     assert "web/0.jpg" in page and "every picture needs title" in page
     assert called(*words) == (0, "", "")
@@ -480,7 +480,7 @@ def test_the_line_for_cron(archive, folder):
     assert cron() == (0, "", b"")
     shutil.copy(archive / "web/0.jpg", archive / "web/4.jpg")
     status, head, messages = cron()
-    assert (status, messages) == (1, b"") and head.endswith(": 13 pictures, 1 with news")
+    assert (status, messages) == (1, b"") and head.endswith(": 13 pictures then or now, 1 with news")
 
 
 def test_files_of_the_run_are_no_pictures(archive, called):

@@ -8,7 +8,7 @@ import pytest
 import test_cr3
 from made_boxes import cr3
 from made_files import app1, exif, jpeg
-from studio import TOP, counts_of_page, counts_of_summary, needs, put
+from studio import TOP, counts_of_page, counts_of_summary, needs, not_the_same, put
 
 # A raw file whose directory is cut, from which exiv2 extracts nothing
 CUT = b"IIRO\x08\0\0\0\xff\xff" + bytes(30)
@@ -70,7 +70,8 @@ def test_nights_by_the_recipe(archive, called):
         assert called(*index)[0] == status_of_index, (number, happens.__name__)
         status, printed, _ = called(*changed)
         assert status == status_of_changed, (number, happens.__name__, printed)
-        assert ("not wholly compared" in printed, printed.count("none changed")) == (False, status == 0), printed
+        first = printed.partition("\n")[0]
+        assert "not wholly compared" not in first and bool(not_the_same(first)) == bool(status), printed
         assert called("changed", "archive.catalogue", "archive.catalogue")[0] == 0
         called("report", "archive.catalogue", "--since", "last.catalogue", "--html", "page.html", "--no-look")
         page = (archive.parent / "page.html").read_text(encoding="utf-8")

@@ -5,16 +5,14 @@ import os
 import select
 import subprocess
 import sys
-from pathlib import Path
 
 import pytest
 from studio import SMALL_JPEG, TOP
 
 from exifnorm_pictures.cli import parser
 
-SAMPLES = Path(TOP) / "samples/before"
-NAMES = [str(SAMPLES / it) for it in ("ceramics/1998-7-vase.jpg", "arrivals/IMG_20240502.jpg", "ceramics/2003-12-bowl.jpg")]
-PATIENCE = 300  # seconds; a busy machine needs a few
+NAMES = [f"samples/before/{it}" for it in ("ceramics/1998-7-vase.jpg", "arrivals/IMG_20240502.jpg", "ceramics/2003-12-bowl.jpg")]
+PATIENCE = 60  # seconds; a busy machine needs a few
 
 
 @pytest.fixture
@@ -28,6 +26,7 @@ def opened():
             stdin=subprocess.PIPE,
             stdout=subprocess.PIPE,
             env={**os.environ, "PYTHONPATH": f"{TOP}/python"},
+            cwd=TOP,
             bufsize=0,
         )
         running.append(process)
@@ -87,10 +86,7 @@ def test_an_object_for_each_name(opened, command, end, tmp_path):
         ("show",),
         ("show", "--exact"),
         ("show", "--csv"),
-        (
-            "show",
-            "--captions",
-        ),
+        ("show", "--captions"),
         ("show", "--captions", "--csv"),
         ("explain",),
     ],

@@ -6,7 +6,6 @@ import importlib
 import io
 import re
 import shutil
-from pathlib import Path
 
 import openpyxl
 import pytest
@@ -98,36 +97,6 @@ TRACEBACKS, LIMITS, SHEETS, LISTS = (of_each_command(it) for it in ("--debug", "
 WHOLE, HOWS = of_each_command("--whole"), of_each_command("--jobs", "--sidecars", "--pixels")
 CHOICES = of_each_command("--ignore", "--only", "--equal-numbers")
 NAMED = {"index": ("c", "p"), "nightly": ("c", "p")}  # whose catalogue can be given in two ways
-
-
-def in_fonts(text):
-    """The lines of a part of the manual page that have options, commands and names."""
-    return re.findall(r"(?m)^\.(?:BI?R?|BR) (.*)$", text)
-
-
-def manual():
-    """Of the manual page: the part of each command, and the options of several commands with the commands that each names; all, if it names none."""
-    page = (Path(TOP) / "docs/exifnorm-pictures.1").read_text(encoding="utf-8").partition(".SH EXAMPLES")[0].replace("\\-", "-")
-    commands_, fields, several = re.split(r"\n\.SH (?:FIELDS THAT COUNT|OPTIONS OF SEVERAL COMMANDS)\n", page)
-    parts = re.split(r'(?m)^\.TP\n\.BI "((?:catalogue )?\w+) ', commands_)
-    every = {name.split()[-1]: name for name in parser.parsers()[1]}
-    before, *entries = re.split(r"(?m)^\.TP\n", fields)
-    entries = [before + it for it in entries] + re.split(r"(?m)^\.TP\n", several)[1:]
-    shared = []
-    for part in entries:
-        lines = [set(re.findall(r"[\w-]+", line)) - {"and"} for line in in_fonts(part.partition("\n.PP\n")[0])]
-        named = {every[word] for words in lines if words <= every.keys() for word in words}
-        shared.append((part.partition("\n.PP\n")[0], named or set(every.values())))
-    return {name: f".BI {text}" for name, text in zip(parts[1::2], parts[2::2])}, shared
-
-
-def test_each_option_of_each_command_is_in_the_manual_page(checks):
-    """In the part of its command, or with the options of several commands where this command is named."""
-    parts, shared = manual()
-    for name, spellings in options():
-        texts = [line for text in (parts[name], *(text for text, named in shared if name in named)) for line in in_fonts(text)]
-        is_there = any(re.search(rf"(?<![\w-]){spelling}(?![\w-])", text) for spelling in spellings for text in texts)
-        checks.check(f"{name} {' '.join(sorted(spellings))}", is_there, "the manual page doesn't have it for this command")
 
 
 @pytest.mark.parametrize("command, option", TRACEBACKS)

@@ -10,6 +10,7 @@ import functools
 import hashlib
 import itertools
 import json
+import os
 import shutil
 import sqlite3
 from typing import Dict, List, NamedTuple
@@ -17,6 +18,7 @@ from typing import Dict, List, NamedTuple
 import made_museum
 import pytest
 from exifnorm_pictures.cli import parser
+from exifnorm_pictures.cli.grammar import COMMANDS, joined
 from museum import WHOLE, done, made, put_bag, run, standing_clock
 from studio import name_of, needs
 from test_museum import ELSEWHERE, RULES
@@ -137,7 +139,10 @@ def words_of(option, command):
 def exclusive(command: str) -> List[tuple]:
     """The options of a command that can't stand together: of each tuple one may be given."""
     groups = parser.parsers(command)[1][command]._mutually_exclusive_groups
-    return [*parser._APART.get(command, ()), *(tuple(it.option_strings[0] for it in group._group_actions) for group in groups)]
+    lines = [line for it in COMMANDS if it.name == command for line in joined(it.apart) if line]
+    heads = [line.partition("  ")[0].partition(": ") for line in lines]
+    pairs = [(first, other) for first, _, others in heads for other in others.split()]
+    return [*pairs, *(tuple(it.option_strings[0] for it in group._group_actions) for group in groups)]
 
 
 def groups_of(command):
@@ -243,7 +248,7 @@ def objects_of(lines):
 def paths_of(objects):
     """The names of the pictures that are listed: each with an object, or in a group."""
     members = [member for it in objects if it["record"] == "group" for member in (*it["pictures"], *it["links"])]
-    return sorted({it["path"] for it in (*objects, *members) if "path" in it})
+    return sorted({os.path.abspath(it["path"]) for it in (*objects, *members) if "path" in it})
 
 
 def rows_of(lines):
@@ -277,9 +282,8 @@ class Forms:
             objects = objects_of(self.forms["--json"].lines)
             assert all(it["schema"].startswith(self.schemas) and it["record"] for it in objects)
             if "--csv" in self.forms:
-                named = {
-                    row["picture"] for row in rows_of(self.forms["--csv"].lines) if row.get("picture")
-                }  # no column in that of `compare`
+                pictures = [row.get("picture") for row in rows_of(self.forms["--csv"].lines)]  # `compare` has no such column
+                named = set(map(os.path.abspath, filter(None, pictures)))
                 if "--files-from" in self.words:  # each name is answered
                     assert named <= {*paths_of(objects)}, self.words
                 elif "/conflicts/" in objects[0]["schema"]:  # objects have differences of form, too, which the table has by --all

@@ -216,6 +216,8 @@ def content(path):
         return "sheet" if zipfile.ZipFile(path).testzip() is None else None
     if octets.lower().startswith(b"<!doctype html"):
         return "page" if octets.rstrip().endswith(b"</html>") else None
+    if path.name == "exifnorm-report":  # the list of a folder, with digests of pages on which a time is
+        return [line.partition(b"  ")[2] for line in octets.splitlines()]
     return hashlib.sha256(octets.partition(b"\n")[2] if octets.startswith(b"# exifnorm") else octets).hexdigest()
 
 

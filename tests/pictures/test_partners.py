@@ -68,11 +68,11 @@ def test_a_master_and_its_copies(folder, called):
     }
     assert status == 2
     first = called("changed", "masters", "web", "--match", "stem")[1].splitlines()[0]
-    assert first == "2 pairs by name: 1 changed. Without a partner: 1 before."
+    assert first == "2 pairs by name: 1 changed. Without a partner: 1 only before."
     shutil.rmtree(folder / "web")
     put(folder / "web", {"9.jpg": words[""]})
     first = called("changed", "masters", "web", "--match", "stem")[1].splitlines()[0]
-    assert first == "No pair by name. Without a partner: 4 before, 1 after."
+    assert first == "No pair by name. Without a partner: 4 only before, 1 only after."
 
 
 @pytest.mark.parametrize("name", MOVES)

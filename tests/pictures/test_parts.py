@@ -93,7 +93,7 @@ def test_the_parts_cover_a_file(name):
 def test_the_parts_cover_a_damaged_file(name, chance):
     octets = mutated(FILES[name], chance)
     with contextlib.suppress(Broken, TooMuch):
-        if coded_picture.digest(io.BytesIO(octets), Budget()):  # otherwise another format begins so
+        if coded_picture.followed(io.BytesIO(octets), Budget())[0]:  # otherwise another format begins so
             parts_of(octets)
 
 

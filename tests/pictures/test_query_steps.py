@@ -15,12 +15,14 @@ from studio import name_of
 from test_scale import many_rows
 
 from exifnorm_pictures.catalogue import store
+from exifnorm_pictures.catalogue.asking import Answer
 from exifnorm_pictures.catalogue.store import Catalogue, NoCatalogue
 from exifnorm_pictures.cli.parser import parsers
 from exifnorm_pictures.comparison.same.groups import Groups, but_for_notes
 from exifnorm_pictures.fields.field import Field
 from exifnorm_pictures.fields.packing import packed
 from exifnorm_pictures.model.found import EXIF
+from exifnorm_pictures.model.numbers import Numbers
 from exifnorm_pictures.model.records import BlockRecord, PictureRecord, Stamp
 
 SIZES = (1000, 2000)
@@ -185,6 +187,17 @@ def test_refused_pictures_are_read_some_at_once_and_others_can_write(tmp_path, m
 def test_a_part_that_does_not_count_costs_three_times_as_much(works):
     plain, ignoring = (works[words, SIZES[1]] for words in (COMMANDS[0], COMMANDS[3]))
     assert ignoring.steps <= 3 * plain.steps and ignoring.calls <= 3 * plain.calls, (plain, ignoring)
+
+
+def test_texts_are_counted_by_sqlite(tmp_path, monkeypatch):
+    """However many pictures have one, Python gets the rows of those of which it isn't known, and of files that are none."""
+    make(tmp_path / "C", 1000)
+    rows = []
+    monkeypatch.setattr(store, "Numbers", lambda found: Numbers(rows.append(it) or it for it in found))
+    with Catalogue(str(tmp_path / "C"), make=True) as catalogue:
+        answer = Answer(catalogue, None, shown=["creator"])
+        having, *_ = answer.having("creator")
+    assert having > 800 and len(rows) < 200, (having, len(rows))
 
 
 def test_twenty_texts_of_a_rule_that_no_picture_has_cost_little_more_than_one(works):

@@ -47,7 +47,7 @@ def test_a_copy_is_not_read_again(archive, folder, called, summary, monkeypatch)
     status, printed, _ = called("index", "q", "--catalogue", "c")
     assert status == 0 and "4 unchanged" in printed and "accepted" not in printed
     listed = called("list", "c")[1]
-    assert f"{folder}/q/monday/d.jpg" in listed and f"{folder}/p/" not in listed
+    assert "\nq/monday/d.jpg\n" in listed and "p/" not in listed
 
 
 def test_a_fresh_copy_is_looked_at(archive, folder, called, summary):
@@ -65,7 +65,7 @@ def test_changed_and_absent_files(archive, folder, called, summary):
     os.remove(folder / "q/b.jpg")
     assert summary("c", "p", "q") == (1, (2, 1, 1))
     printed = called("index", "q", "--catalogue", "c")[1]
-    assert f"{folder}/q/b.jpg" in printed
+    assert "q/b.jpg: " in printed
 
 
 def test_a_picture_that_was_gone_before_is_not_missed(archive, folder, called, summary):
@@ -78,7 +78,7 @@ def test_a_picture_that_was_gone_before_is_not_missed(archive, folder, called, s
 def test_a_folder_below_the_archive(archive, folder, called, summary):
     (archive / "monday").rename(archive / "tuesday")
     assert summary("c", "p/monday", "p/tuesday") == (0, (1, 0, 0))
-    assert "3 unchanged" in called("index", "p", "--catalogue", "c")[1] and f"{archive}/tuesday/d.jpg" in called("list", "c")[1]
+    assert "3 unchanged" in called("index", "p", "--catalogue", "c")[1] and "p/tuesday/d.jpg" in called("list", "c")[1]
 
 
 @pytest.mark.parametrize(

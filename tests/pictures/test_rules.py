@@ -11,6 +11,7 @@ import unicodedata
 import pytest
 from made_files import app1, app1_xmp, jpeg, xmp
 from studio import needs, put
+from test_captions import data_set, with_record, with_texts
 from test_list import DATASETS, picture
 from test_maker_notes import noted
 
@@ -301,3 +302,51 @@ def test_files_that_are_no_rules(folder, called, octets):
 def test_missing_rules(folder, called):
     put(folder / "p", {"a.jpg": jpeg()})
     assert called("check", "--rules", "nothing", "p")[0] == 4
+
+
+AGREEMENT = {
+    "labels agree": {"creator", "title"},
+    "creator agree": {"creator"},
+    "title, caption agree": {"title"},
+    "labels agree except creator": {"title"},
+    "labels agree in web/": set(),
+}
+AGREEING = (
+    with_texts(artist=b"Anna"),
+    with_record(data_set(80, b"Anna"), data_set(5, b"Bowl")),
+    app1_xmp(xmp("<dc:title>Bowl</dc:title>")),
+)
+
+
+@pytest.mark.parametrize("rule", AGREEMENT)
+def test_a_rule_of_agreement_is_broken_in_each_command(rule, folder, called):
+    """By the same pictures in `check`, alone and beside another rule, in the letter of a night, and in a report."""
+    exif, iptc, packet = AGREEING
+    whole = {name: jpeg(*AGREEING) for name in ("p/creator.jpg", "p/title.jpg", "p/none.jpg")}
+    put(folder, {**whole, "rules": rule.encode(), "two": f"{rule}\nserial never".encode()})
+    called("nightly", "p", "--catalogue", "c", "--rules", "two")
+    put(folder, {"p/creator.jpg": jpeg(with_texts(artist=b"Otto"), iptc, packet)})
+    put(folder, {"p/title.jpg": jpeg(exif, iptc, app1_xmp(xmp("<dc:title>Vase</dc:title>")))})
+    expected = {f"{label}.jpg" for label in AGREEMENT[rule]}
+
+    def found(*words):
+        return [json.loads(line) for line in called(*words, "--json")[1].splitlines()]
+
+    news = [one for one in found("nightly", "p", "--catalogue", "c", "--rules", "two") if one.get("news") == "rule broken"]
+    assert {it["path"] for one in news for it in one["pictures"]} == expected
+    assert {one["about"] for one in news} == ({f"line 1: {rule}"} if expected else set())
+    for rules in ("rules", "two"):
+        status = called("check", "c", "--rules", rules)[0]
+        assert status == (1 if expected else 0), rules
+    listed = [it for it in found("check", "c", "--rules", "two") if it["record"] == "picture"]
+    reported = [it for it in found("report", "c", "--rules", "two") if it["record"] == "broken"]
+    for name, paths in (("check", [it["path"] for it in listed]), ("report", [it["breaks_rule"]["path"] for it in reported])):
+        assert {path.rpartition("/")[2] for path in paths} == expected, name
+    assert [[it[key] for key in ("line", "rule", "label", "text")] for it in reported] == sorted(
+        [it[key] for key in ("line", "rule", "label", "text")] for it in listed
+    )
+    put(folder, {"list": b"p/title.jpg\n"})
+    chosen = found("report", "c", "--rules", "two", "--files-from", "list", "--html", "page.html")
+    paths = {it["breaks_rule"]["path"] for it in chosen if it["record"] == "broken"}
+    assert {path.rpartition("/")[2] for path in paths} == expected & {"title.jpg"}
+    assert f"broken, by {len(paths)} of 1 picture." in (folder / "page.html").read_text(encoding="utf-8")

@@ -329,14 +329,15 @@ def test_what_is_taken_of_an_earlier_report(
 
 
 def made_heif(folder: Path, ending: str, *words: str) -> Path:
-    """A picture whose upper half is red."""
+    """A picture whose upper half is red, and perhaps others after it."""
     half_red((320, 160)).save(folder / "half.png")
-    tool(str(folder), "heif-enc", "-q", "60", *words, "half.png", "-o", f"half.{ending}")
+    Image.new("RGB", (320, 160), BLUE).save(folder / "blue.png")
+    tool(str(folder), "heif-enc", "-q", "60", "half.png", *words, "-o", f"half.{ending}")
     return folder / f"half.{ending}"
 
 
 @needs("heif-enc")
-@pytest.mark.parametrize("ending, words", [("heic", ()), ("avif", ("-A",))])
+@pytest.mark.parametrize("ending, words", [("heic", ()), ("avif", ("-A",)), ("heic", ("blue.png",) * 11)])
 def test_heic_and_avif_have_one(ending: str, words: Sequence[str], tmp_path: Path) -> None:
     path = os.fsencode(made_heif(tmp_path, ending, *words))
     with session.Session(60.0, room=str(tmp_path)) as ours:
@@ -360,7 +361,7 @@ def test_a_heic_that_is_damaged_or_slow_costs_its_tile(tmp_path: Path, monkeypat
         with contextlib.closing(small_pictures.SmallPictures([], small_pictures.InPage(), ours)) as pictures:
             found = pictures.of([os.fsencode(tmp_path / name) for name in files])
             assert {path for path in found if not path.endswith(b"cut.heic")} == set()
-        monkeypatch.setattr(shrinking, "SECONDS", 0.001)
+        monkeypatch.setattr(shrinking, "SECONDS", 0.0)
         with contextlib.closing(small_pictures.SmallPictures([], small_pictures.InPage(), ours)) as pictures:
             assert pictures.of([os.fsencode(whole)]) == {}
         assert os.listdir(ours.folder()) == []

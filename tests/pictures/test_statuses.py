@@ -49,14 +49,14 @@ def make_link(path):
 def test_a_line_and_the_status_of_index(asked, folder, make, problem, status):
     make(folder / "p/b.jpg")
     lines = asked("index", "p", "--catalogue", "c", status=status)
-    assert lines[0].startswith(f"{folder}/p/b.jpg: {problem}: ")
+    assert lines[0].startswith(f"p/b.jpg: {problem}: ")
 
 
 @needs("exiftool")
 @pytest.mark.parametrize("octets, words", [(b"", "the file is empty"), (bytes(5000), "the file has only zeros")], ids=["empty", "zeros"])
 def test_a_file_of_which_nothing_is_left(asked, folder, octets, words):
     (folder / "p/b.jpg").write_bytes(octets)
-    assert asked("index", "p", "--catalogue", "c")[0] == f"{folder}/p/b.jpg: NoPicture: {words}"
+    assert asked("index", "p", "--catalogue", "c")[0] == f"p/b.jpg: NoPicture: {words}"
 
 
 @needs("exiftool")
@@ -86,8 +86,7 @@ def test_names_of_a_list_that_no_picture_has(called, folder, words):
     assert status == 0 and "no picture's" not in message
     (folder / "list").write_text("p/a.jpg\np/b.jpg\np/c.jpg\n")
     status, _, message = called(*words, "--files-from", "list")
-    named = "p/b.jpg, p/c.jpg" if words[0] == "changed" else f"{folder}/p/b.jpg, {folder}/p/c.jpg"
-    assert status == 0 and f"exifnorm-pictures: note: 2 names of the list are no picture's: {named}\n" in message
+    assert status == 0 and "exifnorm-pictures: note: 2 names of the list are no picture's: p/b.jpg, p/c.jpg\n" in message
 
 
 def test_a_name_of_a_list_below_a_folder(called, folder):

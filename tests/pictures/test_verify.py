@@ -109,7 +109,7 @@ def test_a_missing_picture_that_is_there_elsewhere(archive, called, verified):
     (archive / "a.jpg").unlink()
     status, states, _ = verified()
     assert (status, states) == (1, {"a.jpg": ("missing", "the same picture is")})
-    assert f"a.jpg (the same picture is {archive / 'b.jpg'})" in called("verify", "c")[1]
+    assert "a.jpg (the same picture is p/b.jpg)" in called("verify", "c")[1]
 
 
 def test_metadata_that_rotted(archive, verified, monkeypatch):
@@ -282,13 +282,13 @@ def test_a_picture_that_was_damaged_before(archive, called):
     (archive / "moved.jpg").rename(archive / "new.jpg")
     assert counted(called) == (0, 2, {"as they were": 4, "moved": 1})
     status, printed, _ = called("verify", "c")
-    assert status == 0 and re.search(r"2 of these were already damaged before.*\n +\S*/a.jpg \(the file ends", printed), printed
+    assert status == 0 and re.search(r"2 of these were already damaged before.*\n +p/a.jpg \(the file ends", printed), printed
     (archive / "new.jpg").unlink()
     called("catalogue", "forget", "c", "p/moved.jpg")
     (archive / "b.jpg").write_bytes((PICTURE + b"trailer")[: len(PICTURE) // 2])
     status, printed, _ = called("verify", "c", "--list", "damaged")
-    names = [line.partition(":")[0] for line in printed.splitlines() if line.startswith("/")]
-    assert (status, names) == (1, [f"{archive}/a.jpg", f"{archive}/b.jpg"]), printed
+    names = [line.partition(":")[0] for line in printed.splitlines() if line.startswith("p/")]
+    assert (status, names) == (1, ["p/a.jpg", "p/b.jpg"]), printed
 
 
 def counted(called):

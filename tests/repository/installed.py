@@ -65,7 +65,7 @@ def need_headers(python: str) -> None:
 def modules() -> list[str]:
     """The files of the Python packages in the sources that are installed."""
     kept = (it for package in ("exifnorm", "exifnorm_pictures") for it in (TOP / "python" / package).rglob("*") if it.is_file())
-    return sorted(str(it.relative_to(TOP / "python")) for it in kept if it.parent.name != "__pycache__" and it.suffix != ".c")
+    return sorted(str(it.relative_to(TOP / "python")) for it in kept if it.parent.name != "__pycache__" and it.suffix not in (".c", ".h"))
 
 
 def packages_path(python: str, prefix: str) -> str:

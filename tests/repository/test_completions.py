@@ -25,6 +25,7 @@ Commands:
   list-all  List all
   join  Join files
   move  Move files
+  store  Keep files
 
 Options:
   -h, --help  Print help
@@ -76,6 +77,33 @@ positional arguments:
 options:
   -h, --help  Print help
   --jobs N  how many
+""",
+    "store": """usage: my-tool store [-h] COMMAND ...
+
+Commands:
+  put  put files in
+  get  get a file
+
+options:
+  -h, --help  Print help
+""",
+    "store put": """usage: my-tool store put [-h] [--kind {both,exif}] [--to FILE] FILE ...
+
+positional arguments:
+  FILE  a file
+
+options:
+  -h, --help  Print help
+  --kind {both,exif}  which
+  --to FILE  where
+""",
+    "store get": """usage: my-tool store get FILE
+
+positional arguments:
+  FILE  a file
+
+options:
+  -h, --help  Print help
 """,
 }
 # The lines for fish of the command list-all, by fish's manual: -s is a short option and -l a long one; -r takes a value, -x one that is
@@ -140,8 +168,8 @@ class TestBash:
     @pytest.mark.parametrize(
         "line, expected",
         [
-            ("", "--help -h join list-all move pair show"),
-            ("s", "show"),
+            ("", "--help -h join list-all move pair show store"),
+            ("s", "show store"),
             ("-", "--help -h"),
             ("show -", "--catalogue --help --jobs --kind -h -n"),
             ("show --k", "--kind"),
@@ -165,6 +193,15 @@ class TestBash:
             ("list-all --note comp", ""),
             ("join a b c comp", "compare.c"),
             ("move --jobs 2 a comp", "compare.c"),
+            ("store ", "--help -h get put"),
+            ("store p", "put"),
+            ("store put --", "--help --kind --to"),
+            ("store put --kind ", "both exif"),
+            ("store put --to comp", "compare.c"),
+            ("store put a b comp", "compare.c"),
+            ("store get -", "--help -h"),
+            ("store get comp", "compare.c"),
+            ("store get a comp", ""),
         ],
     )
     def test_offers(self, line: str, expected: str) -> None:
@@ -195,7 +232,14 @@ source_it $1"""
         assert (self.folder / "_my-tool").read_text(encoding="utf-8").splitlines()[0] == "#compdef my-tool"
 
     def test_commands(self) -> None:
-        commands = ["show:Show a file: it's [one] line", "pair:Pair two files", "list-all:List all", "join:Join files", "move:Move files"]
+        commands = [
+            "show:Show a file: it's [one] line",
+            "pair:Pair two files",
+            "list-all:List all",
+            "join:Join files",
+            "move:Move files",
+            "store:Keep files",
+        ]
         assert self.offers("") == ["command", *commands, *self.HELP]
 
     def test_options_and_operands(self) -> None:
@@ -207,6 +251,9 @@ source_it $1"""
         assert self.offers("list-all", "") == [*self.HELP, *kind, where, "--title[its title]:TITLE: ", "--note[a note]:TEXT: "]
         assert self.offers("join", "") == [*self.HELP, files]
         assert self.offers("move", "") == [*self.HELP, "--jobs[how many]:N: ", files]
+        assert self.offers("store", "") == ["command", "put:put files in", "get:get a file", *self.HELP]
+        assert self.offers("store", "get", "") == [*self.HELP, "1:file:_files"]
+        assert self.offers("store", "put", "a", "") == [*self.HELP, "--kind[which]:value:(both exif)", "--to[where]:FILE:_files", files]
 
     def test_an_autoloaded_file_runs_its_function(self) -> None:
         """Zsh makes a function of the file, whose last line calls the function in it. It counts the arguments from the command on."""
@@ -232,6 +279,7 @@ class TestFish:
                     "move\tMove files",
                     "pair\tPair two files",
                     "show\tShow a file: it's [one] line",
+                    "store\tKeep files",
                 ],
             ),
             ("-", ["--help\tPrint help", "-h\tPrint help"]),
@@ -248,6 +296,11 @@ class TestFish:
             ("list-all --kind ", ["one\tone \\ two", "two\tone \\ two"]),
             ("list-all --catalogue comp", ["compare.c"]),
             ("list-all --title comp", []),
+            ("store ", ["get\tget a file", "put\tput files in"]),
+            ("store put --k", ["--kind\twhich"]),
+            ("store put --to comp", ["compare.c"]),
+            ("store put a comp", ["compare.c"]),
+            ("store get --k", []),
         ],
     )
     def test_offers(self, line: str, expected: list[str]) -> None:

@@ -200,6 +200,18 @@ def test_examples_of_a_document(name: str, blocks: list[Block], place: Path, env
         runner.run(block)
 
 
+def test_the_first_screen_of_the_readme(place: Path, environment: dict[str, str], library: Path) -> None:
+    """Its questions, after its first five minutes, with good pictures and rules for those that it names."""
+    questions, minutes = text_of("README.md").partition("\n## A tour")[0].split("\n## The first five minutes")
+    (place / "archive").mkdir()
+    for name in ("archive/a.jpg", "a.jpg", "b.jpg"):
+        shutil.copy(place / "picture.jpg", place / name)
+    (place / "museum.rules").write_text("every picture needs credit\n", encoding="utf-8")
+    for line in re.findall(r"exifnorm-pictures [^`\n]+", minutes + questions):
+        ran = Runner(place, environment, library).ran(*line.replace("/archive", "archive").split())
+        assert ran.returncode < 2, (line, ran.stdout, ran.stderr)
+
+
 def test_the_example_of_the_manual_page_in_c(folder: Path, environment: dict[str, str], library: Path) -> None:
     text = text_of("docs/exifnorm.3").partition(".SH EXAMPLES\n")[2].partition("\n.SH ")[0]
     examples = re.findall(r"(?ms)^\.nf\n(.*?)^\.fi$", text)
@@ -232,7 +244,7 @@ def test_the_list_of_causes_in_the_header_is_printed(tmp_path: Path, monkeypatch
         header.main([])
 
 
-def test_commands_of_the_program_are_those_of_the_format_and_the_page(environment: dict[str, str]) -> None:
+def test_commands_of_the_program_are_those_of_the_page(environment: dict[str, str]) -> None:
     shown = help_of(environment, "exifnorm").split("Commands:")[1].split("Options:")[0]
     names = re.findall(r"(?m)^  (\w+)  +\w", shown)
     assert names
@@ -242,7 +254,6 @@ def test_commands_of_the_program_are_those_of_the_format_and_the_page(environmen
     for name in names:
         usage = re.search(r"(?m)^Usage: (.*)$", help_of(environment, "exifnorm", name))[1]
         assert usage.replace("<", "").replace(">", "") in synopsis
-        assert re.search(rf"(?m)^\| `{name} ", text_of("docs/FORMAT.md")), name
 
 
 def test_statuses_are_those_of_the_format_and_the_page(environment: dict[str, str]) -> None:

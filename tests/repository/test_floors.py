@@ -74,7 +74,7 @@ def _uses_the_line(node: ast.AST) -> bool:
     """Whether a part of `run` writes to `arguments`, or passes them on other than to make a record."""
     if isinstance(node, ast.Attribute):
         return ast.unparse(node.value) == "arguments" and not isinstance(node.ctx, ast.Load)
-    if not isinstance(node, ast.Call) or ast.unparse(node.func) in ("vars", "group_of"):
+    if not isinstance(node, ast.Call) or ast.unparse(node.func) in ("vars", "group_of", "groups_of"):
         return False
     given = [*node.args, *(word.value for word in node.keywords)]
     return any(isinstance(it, ast.Name) and it.id == "arguments" for it in given)

@@ -41,8 +41,7 @@ from ..model.problems import NOT_THERE, Problem
 from ..model.records import has, has_short
 from ..model.texts import unescaped
 from ..model.words import Word
-from .field_texts import DATE as FIELD_DATE
-from .field_texts import NUMBER, OTHER, SHOWN, add_fields
+from .field_texts import DATE as FIELD_DATE, NUMBER, OTHER, SHOWN, add_fields
 from .kept_texts import Report, make_ready, say_nothing
 from .store import HEAD, NOT_WHOLE, Catalogue, root_of_row
 
@@ -361,6 +360,13 @@ def _counted(row: tuple[str, int, str]) -> tuple[str, int, str]:
     return row
 
 
+# How many pictures have a text of a label: a short one, or else a long one
+_HAVING = (
+    "SELECT count(DISTINCT picture) FROM texts WHERE label = ?1 AND long = 0 AND {}",
+    "SELECT count(DISTINCT picture) FROM texts t WHERE label = ?1 AND long = 1 AND {}"
+    " AND NOT EXISTS (SELECT 1 FROM texts s WHERE s.label = ?1 AND s.long = 0 AND s.picture = t.picture)",
+)
+_WITH_TEXT = "SELECT 1 FROM texts t WHERE t.label = ? AND t.long IN (0, 1) AND t.picture = p.id"
 _COUNTED = (
     "DROP TABLE IF EXISTS temp.counted",
     "DROP TABLE IF EXISTS temp.alike",
@@ -478,13 +484,14 @@ class Answer:
     def _lacking_of(self, label: str) -> Numbers:
         """The pictures of `lacking` by one label."""
         if label not in self._lacking:
-            unread_ = self._sure & self._finder.unread([label])  # mostly none, and then no text is looked up
-            self._lacking[label] = unread_ & ~self._finder.with_label(label) if unread_ else unread_
+            query = f"SELECT p.id FROM pictures p WHERE {unread([label])} AND NOT EXISTS ({_WITH_TEXT})"
+            self._lacking[label] = self._sure & self._catalogue.numbers(query, (label,))
         return self._lacking[label]
 
     def having(self, label: str) -> tuple[int, int, int]:
         """Of the pictures that fit: how many have a text of a label, how many have none, and of how many that isn't known."""
-        having = (self._sure & self._finder.with_label(label)).count(self._total)
+        fits = self._of_fitting()
+        having = sum(self._catalogue.number_of(query.format(fits), (label,)) for query in _HAVING)
         not_known = self.lacking([label])
         return having, self.fitting() - having - not_known, not_known
 

@@ -16,8 +16,7 @@ from .store import Catalogue
 MANIFEST = "manifest-sha256.txt"
 PAYLOAD = b"data/"
 _AT_ONCE = 1000  # files of a transaction
-_LONGEST = 1 << 31  # bytes of a manifest
-_LONGEST_LINE = 20_000
+_LONGEST_LINE = 20_000  # bytes
 _LINE = re.compile(rb"([0-9A-Fa-f]{64})[ \t]+\*?(.+)")
 _ENCODED = re.compile(rb"%(0A|0D|25)", re.I)  # what a name may not have as it is, and only that
 
@@ -48,13 +47,10 @@ def _files(root: bytes, manifest: str) -> Iterator[PictureRecord]:
         raise NoBag(f"{manifest} isn't there: a bag is verified by its manifest of SHA-256")
     # a line ends with LF, CR or both; each character stands for a byte
     with opening.reading(os.fsencode(manifest)) as octets, io.TextIOWrapper(octets, encoding="latin-1") as file:
-        for number in range(1, _LONGEST):
-            line = file.readline(_LONGEST_LINE)
-            if not line:
-                return
+        for number, line in enumerate(iter(lambda: file.readline(_LONGEST_LINE + 1), ""), 1):
             match = _LINE.fullmatch(line.rstrip("\n").encode("latin-1"))
             name = _ENCODED.sub(lambda code: bytes.fromhex(code[1].decode()), match[2]) if match else b""
             path = os.path.normpath(os.path.join(os.path.dirname(root), name))
-            if not match or not name.startswith(PAYLOAD) or not path.startswith(root + b"/"):
+            if not match or len(line) > _LONGEST_LINE or not name.startswith(PAYLOAD) or not path.startswith(root + b"/"):
                 raise NoBag(f"{manifest}: line {number} is no SHA-256 of a file below data/")
             yield PictureRecord.of(path, root, sha256=match[1].decode().lower())

@@ -11,15 +11,14 @@ from typing import Callable, Iterator, NamedTuple, Optional, Sequence
 
 from ..fields.choosing import stands_for
 from ..fields.folding import compose
-from ..fields.labels import DATED, POSITION, UNCLEAR_POSITION
+from ..fields.labels import DAMAGE, DATED, POSITION, UNCLEAR_POSITION
 from ..fields.plain_names import group_name
 from ..fields.questions import Condition, fields_in, is_field
 from ..fields.rules import AFTER, AGREE, BEFORE, EQUAL, LENGTH, LIKE, NEEDS, NEVER, VALUES, Rule
 from ..model.records import has, has_short
-from ..model.texts import escaped, pictures_in_words, shown_path
+from ..model.texts import Members, escaped, pictures_in_words, whole_path
 from .asking import IN_SCOPE, add_functions, forms_of_word, has_text, parts_of, pattern_of, put_wanted, unread
-from .field_texts import DATE as FIELD_DATE
-from .field_texts import EACH, SHOWN, add_fields, ambiguous_in
+from .field_texts import DATE as FIELD_DATE, EACH, SHOWN, add_fields, ambiguous_in
 from .kept_texts import Report, make_ready, say_nothing
 from .store import Catalogue, root_of_row
 
@@ -57,12 +56,21 @@ Contradictions = Callable[[Catalogue], Iterator[tuple[bytes, bytes, str, str]]] 
 class Checked:
     """The result of checking a catalogue's pictures by some rules. It is kept in a temporary table, however many pictures break a rule."""
 
-    def __init__(self, catalogue: Catalogue, rules: Sequence[Rule], contradictions: Contradictions, report: Report = say_nothing) -> None:
+    def __init__(
+        self,
+        catalogue: Catalogue,
+        rules: Sequence[Rule],
+        contradictions: Contradictions,
+        report: Report = say_nothing,
+        only: Optional[str] = None,
+    ) -> None:
+        """`only`: a table of the paths of the pictures that are checked."""
         make_ready(catalogue, report)
         fields = fields_in(label for rule in rules for label in rule.labels)
         self._places = add_fields(catalogue, fields, report)
         self._catalogue = catalogue
         self.rules = rules
+        self._scope = f"{IN_SCOPE} AND p.path IN {only}" if only else IN_SCOPE
         base = catalogue.base
         add_functions(catalogue)
         self._allowed: dict[Rule, int] = {}  # the numbers of the texts that rules allow
@@ -73,8 +81,10 @@ class Checked:
                 self._allowed[rule] = put_wanted(catalogue, rule.values)
             for label in rule.labels if rule.kind != AGREE else ():
                 self._put((*row, number, label) for row in self._rows(rule, label))
-        if any(rule.kind == AGREE for rule in rules):
-            self._put(self._disagreeing(contradictions))
+        self._put(self._disagreeing(contradictions))
+        if only:
+            with catalogue.guarded():
+                base.execute(f"DELETE FROM temp.broken WHERE path NOT IN {only}")
         self._put_not_known()
 
     def _put(self, rows: Iterator[tuple[bytes, Optional[str], int, str]]) -> None:
@@ -84,7 +94,7 @@ class Checked:
     def _disagreeing(self, contradictions: Contradictions) -> Iterator[tuple[bytes, Optional[str], int, str]]:
         """The pictures that break a rule by texts that differ between Exif, IPTC and XMP."""
         rules = [(number, rule) for number, rule in enumerate(self.rules) if rule.kind == AGREE]
-        for path, root, label, texts in contradictions(self._catalogue):
+        for path, root, label, texts in contradictions(self._catalogue) if rules else ():
             yield from (
                 (path, texts, number, label) for number, rule in rules if label in rule.labels and rule.is_about(_below(path, root))
             )
@@ -158,17 +168,23 @@ class Checked:
         of_file = "(SELECT damage FROM pictures p WHERE p.path = b.path)"
         yield from self._catalogue.rows(f"SELECT path, number, label, text, {of_file} FROM temp.broken b ORDER BY {order}", (), _broken)
 
+    def members(self, broken: Broken) -> Members:
+        """What breaks a rule, as keys of a JSON object."""
+        rule = self.rules[broken.number]
+        return {"line": rule.line, "rule": rule.text, "label": broken.label, "text": broken.text}
+
     def rules_broken(self) -> int:
         """How many rules are broken."""
         return self._catalogue.number_of("SELECT count(DISTINCT number) FROM temp.broken")
 
-    def pictures_broken(self) -> int:
-        """How many pictures break a rule."""
-        return self._catalogue.number_of("SELECT count(DISTINCT path) FROM temp.broken")
+    def pictures_broken(self, number: Optional[int] = None) -> int:
+        """How many pictures break a rule, or the one with this number."""
+        query = "SELECT count(DISTINCT path) FROM temp.broken WHERE ?1 IS NULL OR number = ?1"
+        return self._catalogue.number_of(query, (number,))
 
     def pictures(self) -> int:
         """How many pictures were checked."""
-        return self._catalogue.number_of(f"SELECT count(*) FROM pictures p WHERE {IN_SCOPE}")
+        return self._catalogue.number_of(f"SELECT count(*) FROM pictures p WHERE {self._scope}")
 
     def _put_not_known(self) -> None:
         """Finds the pictures of which it isn't known whether they break further rules."""
@@ -185,7 +201,7 @@ class Checked:
         """The pictures that may have a text of a label, or a further one, and then may break a rule that they don't break by what was read."""
         rules = [(number, rule) for number, rule in enumerate(self.rules) if label in rule.labels]
         with_text = "SELECT 1 FROM texts t WHERE t.label = ? AND t.long IN (0, 1) AND t.picture = p.id"
-        query = f"SELECT p.path, p.root, EXISTS ({with_text}) FROM pictures p WHERE {IN_SCOPE} AND {unread([label])}"
+        query = f"SELECT p.path, p.root, EXISTS ({with_text}) FROM pictures p WHERE {self._scope} AND {unread([label])}"
         for path, root, has_one in self._catalogue.rows(query, (label,)):
             has(bytes, path, root)
             below = _below(path, root)
@@ -204,9 +220,10 @@ class Checked:
 
     def unknown(self) -> str:
         """A sentence about these pictures, with the reasons; empty if there are none. They are more than those of which a part was not read."""
-        why = "may break more rules: a block is refused or unreadable, or a part was not read"
-        is_asked = any(POSITION in rule.labels for rule in self.rules)
-        if is_asked and self._catalogue.number_of("SELECT count(*) FROM texts WHERE label = ?", (UNCLEAR_POSITION,)):
+        labels = {label for rule in self.rules for label in rule.labels}
+        of_picture = ", or its picture was not read for damage, as index --pixels does" * (DAMAGE in labels)
+        why = f"may break more rules: a block is refused or unreadable, or a part was not read{of_picture}"
+        if POSITION in labels and self._catalogue.number_of("SELECT count(*) FROM texts WHERE label = ?", (UNCLEAR_POSITION,)):
             why += ", or a latitude or a longitude makes no position, as without a direction or the other one"
         return f"{pictures_in_words(self.not_known())} {why}" if self.not_known() else ""
 
@@ -220,7 +237,7 @@ class Checked:
         notes = []
         for rule, inside in self.about_nothing():
             folders = self._catalogue.roots()
-            below = shown_path(folders[0]) if len(folders) == 1 else "the folders that were indexed"
+            below = whole_path(folders[0]) if len(folders) == 1 else "the folders that were indexed"
             notes.append(f"line {rule.line}: no picture lies in {' or '.join(inside)} below {below}")
         has = "is known to have" if self.not_known() else "has"
         unused, more = self.fit_no_text()

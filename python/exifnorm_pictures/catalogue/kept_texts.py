@@ -1,5 +1,5 @@
 """The texts of a catalogue's pictures by label. The first question derives them from the fields that the catalogue has, and keeps them in it;
-later questions add those of pictures that are new since. So `index` and `merge` do nothing for them.
+later questions add those of pictures that are new since. So `index` and `catalogue merge` do nothing for them.
 
 A picture that is put into a catalogue gets a greater number than all before it, so one number tells which pictures have their texts.
 """

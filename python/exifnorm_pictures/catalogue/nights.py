@@ -26,7 +26,7 @@ from ..files import atomic
 from ..model.errors import Failure
 from ..model.records import Stamp
 from ..model.texts import shown_path
-from .store import VERSION, Catalogue, Earlier, earlier_release, head_is_ours, head_of
+from .store import VERSION, Catalogue, Earlier, earlier_release, head_is_ours, head_of, is_left_open
 
 _HEAD = "The lock of exifnorm-pictures nightly, and what its catalogue of tonight was made from:\n"
 _SQLITES = ("-wal", "-shm", "-journal")  # files that SQLite keeps beside a catalogue
@@ -99,6 +99,8 @@ class Nights:
 
     def begin(self, room: str) -> None:
         """Makes tonight's catalogue a copy of the last one, or goes on with that of a run that was killed."""
+        if not self.is_first and is_left_open(self.last):  # by a killed run, whose log would stay beside tonight's
+            Catalogue(self.last, there=True).close()
         self._mark = f"{self._about}\n{_mark(self.last)}"
         self.is_as_last = not os.path.lexists(self.tonight) and self._noted().startswith(f"{self._about}\n")
         if os.path.lexists(self.tonight) and self._noted() == self._mark:
@@ -140,7 +142,7 @@ class Nights:
     def _noted(self) -> str:
         assert self._lock
         self._lock.seek(len(_HEAD))
-        return self._lock.read()
+        return self._lock.read(20_000_000)  # more than a command line has
 
     def _note(self, text: str) -> None:
         assert self._lock
@@ -184,7 +186,7 @@ def _opened_lock(name: str) -> IO[str]:
     with contextlib.suppress(FileNotFoundError):
         if not stat.S_ISREG(os.lstat(name).st_mode):
             raise atomic.NotReplaced(atomic.not_written(shown_path(name), "it is there, and is no regular file"))
-    number = os.open(name, os.O_RDWR | os.O_CREAT | os.O_APPEND | os.O_NOFOLLOW | os.O_NONBLOCK | os.O_CLOEXEC, 0o666)
+    number = os.open(name, os.O_RDWR | os.O_CREAT | os.O_APPEND | os.O_NOFOLLOW | os.O_NONBLOCK, 0o666)
     file = open(number, "a+", encoding="utf-8", errors="surrogateescape")
     file.seek(0)
     if file.read(len(_HEAD)) not in ("", _HEAD):
@@ -220,4 +222,6 @@ def copy_over(catalogue: Catalogue, name: str, room: str) -> None:
     catalogue.copy_to(copy)
     with open(copy, "rb") as source:
         atomic.put(name, lambda file: shutil.copyfileobj(source, file), head_is_ours, (catalogue.name,))
+    for ending in _SQLITES:  # of the earlier copy, if a run was killed at it
+        _remove(name + ending)
     os.unlink(copy)

@@ -12,7 +12,7 @@ import io
 import itertools
 import os
 import tempfile
-from typing import BinaryIO, Container, Iterator, NamedTuple, Optional, Sequence
+from typing import Container, Iterator, NamedTuple, Optional, Sequence
 
 from ..files import atomic
 from ..model.errors import Failure, WrongUse
@@ -90,7 +90,7 @@ def _listed(folder: str) -> Iterator[str]:
 @contextlib.contextmanager
 def listing(folder: str) -> Iterator[None]:
     """While no other run changes the list of a folder: of two that begin at once, one would list its own catalogues alone."""
-    lock = os.open(os.path.join(folder, LOCK), os.O_RDWR | os.O_CREAT | os.O_CLOEXEC | os.O_NOFOLLOW, 0o666)
+    lock = os.open(os.path.join(folder, LOCK), os.O_RDWR | os.O_CREAT | os.O_NOFOLLOW, 0o666)
     try:
         _lock(folder, lock)
         yield
@@ -116,11 +116,7 @@ def elsewhere(folder: str) -> Iterator[str]:
 def put_list(folder: str, names: Sequence[str]) -> None:
     """Names the catalogues of a folder, of which an earlier list is replaced as a whole."""
     octets = LIST_HEAD + b"".join(os.fsencode(name) + b"\n" for name in names)
-
-    def write(file: BinaryIO) -> None:
-        file.write(octets)
-
-    atomic.replace(os.fsencode(os.path.join(folder, LIST)), write, lambda head: head.startswith(LIST_HEAD))
+    atomic.replace(os.fsencode(os.path.join(folder, LIST)), lambda file: file.write(octets), lambda head: head.startswith(LIST_HEAD))
 
 
 def _unlisted(folder: str, known: Container[Optional[tuple[int, int]]]) -> Iterator[str]:

@@ -43,7 +43,7 @@ NUMBERS = 1 << 32  # of pictures and of runs, for each of the catalogues that `i
 
 LIST = "catalogues"  # the file that names the catalogues of a folder ..
 LIST_HEAD = b"exifnorm-pictures: catalogues of one archive\n"  # .. and begins with this line
-_LONGEST_LIST = 1 << 26  # bytes of it
+_LONGEST_LIST = 64_000_000  # bytes of it
 
 HEAD = 40  # characters of a text that its index has
 
@@ -253,9 +253,9 @@ def _check_writable(name: str) -> None:
     journal = f"{os.path.realpath(name)}-journal"
     try:
         with files.reading(journal) as file:
-            file.seek(max(0, file.seek(0, os.SEEK_END) - len(_NAMES_OTHERS)))
+            file.seek(-len(_NAMES_OTHERS), os.SEEK_END)
             end = file.read()
-    except OSError:  # as if there is none; SQLite says what is wrong with it
+    except OSError:  # as if there is none, also of one that is shorter; SQLite says what is wrong with it
         return
     if end == _NAMES_OTHERS:
         raise NoCatalogue(f"{name} isn't written to: the journal beside it, {journal}, names another file, and none of a catalogue does")
@@ -282,8 +282,7 @@ def roll_back(name: str, adds: bool = False) -> None:
     except NoCatalogue:
         if not _is_writable(name):
             raise
-    with Catalogue(name, there=not adds, adds=adds):
-        pass
+    Catalogue(name, there=not adds, adds=adds).close()
 
 
 class Earlier(NamedTuple):
@@ -319,13 +318,18 @@ _OF_EARLIER = (
 
 
 def list_of(folder: str) -> Optional[bytes]:
-    """What follows the first line of the list of a folder of catalogues; None if the folder has no such list. Raises `OSError`."""
+    """What follows the first line of the list of a folder of catalogues; None if the folder has no such list. Raises `OSError`, and
+    `NoCatalogue` if the list is too long."""
     name = os.path.join(folder, LIST)
     if not os.path.isfile(name):  # a folder of pictures may have a folder of that name
         return None
     with files.reading(name) as file:
-        octets = file.read(min(os.fstat(file.fileno()).st_size, _LONGEST_LIST))  # which takes no more memory than there are bytes
-    return octets[len(LIST_HEAD) :] if octets.startswith(LIST_HEAD) else None
+        octets = file.read(min(os.fstat(file.fileno()).st_size, _LONGEST_LIST + 1))  # which takes no more memory than there are bytes
+    if not octets.startswith(LIST_HEAD):
+        return None
+    if len(octets) > _LONGEST_LIST:
+        raise NoCatalogue(f"{name}, which lists the catalogues of its folder, has more than {_LONGEST_LIST:,} bytes")
+    return octets.removeprefix(LIST_HEAD)
 
 
 def of_day(name: str) -> str:

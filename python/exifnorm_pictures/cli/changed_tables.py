@@ -21,8 +21,7 @@ from ..fields.plain_names import exact_key, group_name
 from ..fields.typed import together
 from ..judge.maker_notes import NoteDifference
 from ..model.results import Result
-from ..model.steps import Step
-from ..model.texts import Members, path_members
+from ..model.texts import Members, path_members, path_or_none
 from .objects import print_object
 
 if TYPE_CHECKING:
@@ -31,21 +30,7 @@ if TYPE_CHECKING:
 Comparisons = Iterable[Compared]
 
 _MAKER_NOTE = group_name(*MAKER_NOTE)
-HEADS = (
-    "picture",
-    "result",
-    "moved to",
-    "field",
-    "before",
-    "after",
-    "exact before",
-    "exact after",
-    "note",
-    "coded picture",
-    "edit",
-    "partner",
-    "edit number",
-)
+HEADS = "picture, result, moved to, field, before, after, exact before, exact after, note, coded picture, edit, partner, edit number"
 
 
 def print_table(table: Table, comparisons: Comparisons, choice: Choice) -> None:
@@ -68,7 +53,7 @@ def print_table(table: Table, comparisons: Comparisons, choice: Choice) -> None:
         if not comparison.changes:
             table.row(*about, *(None,) * 5, comparison.note, coded, None, *beside)
     for text in lines(choice, True):
-        table.row(*(None,) * 8, text, *(None,) * 4)
+        table.row(*(None,) * 8, text)
 
 
 def print_objects(
@@ -118,30 +103,25 @@ def _members(comparison: Compared) -> Members:
         "note": comparison.note or None,
         "coded_picture": comparison.picture,
         "damage": damage,
-        "moved_to": _path_members(comparison.moved_to),
-        "partner": _path_members(comparison.partner),
+        "moved_to": path_or_none(comparison.moved_to),
+        "partner": path_or_none(comparison.partner),
         "kinds": {one.kind: one.result for one in comparison.verdicts},
         "maker_note": _note_members(comparison.maker_note),
-        "repairs": [_repair_members(*one) for one in comparison.repairs],
+        "repairs": [
+            {"name": name, "before": [it._asdict() for it in before], "after": [it._asdict() for it in after]}
+            for name, before, after in comparison.repairs
+        ],
         "fields": [field_members(one) for one in comparison.changes],
         "left_out": comparison.left_out,
     }
-
-
-def _path_members(path: Optional[bytes]) -> Optional[Members]:
-    return None if path is None else path_members(path)
 
 
 def _note_members(differences: Optional[Sequence[NoteDifference]]) -> Optional[Members]:
     """What ExifTool reads of a MakerNote; None if it wasn't asked."""
     if differences is None:
         return None
-    values = [{"name": it.name, "before": it.before, "after": it.after} for it in differences]
+    values = [it._asdict() for it in differences]
     return {"reads": "otherwise" if values else "the same", "values": values}
-
-
-def _repair_members(name: str, before: Sequence[Step], after: Sequence[Step]) -> Members:
-    return {"name": name, "before": [one._asdict() for one in before], "after": [one._asdict() for one in after]}
 
 
 def field_members(difference: FieldDifference) -> Members:

@@ -5,8 +5,10 @@ from __future__ import annotations
 import os
 from typing import Callable, Iterator
 
+from ..extract import coded_picture
 from ..extract.named import blocks_of_named
 from ..files.opening import held
+from ..model.budgets import Budget
 from ..model.problems import Problem
 from ..model.texts import escaped, shown_path
 from ..picture import Block, Picture
@@ -25,12 +27,16 @@ def status_of(picture: Picture, is_about_file: bool = False) -> int:
     return UNKNOWN if lacks_some(picture, picture.not_read) or (is_about_file and picture.damage) else SUCCESS
 
 
-def each_picture(files: Files, run: Run) -> Iterator[Picture]:
-    """The pictures that are named. What is printed of one is written before the next name of standard input is read."""
+def each_picture(files: Files, run: Run, is_about_file: bool = False) -> Iterator[Picture]:
+    """The pictures that are named; also with the damage of what is no metadata, if all of the file matters. What is printed of one is written
+    before the next name of standard input is read."""
     for name in each_name(files):
         note_sidecar(name)
         with held(name):
-            yield Picture.of(name, blocks_of_named(name, run.session, run.whole))
+            read = blocks_of_named(name, run.session, run.whole)
+            if is_about_file and not read.problem:
+                read.damage = read.damage or coded_picture.of_file(name, Budget()).damage
+            yield Picture.of(name, read)
 
 
 def each_block(
@@ -42,10 +48,9 @@ def each_block(
 ) -> int:
     """Prints something about each block of each picture, for which `describer` is called once, and what `of_rest` says of one that is damaged. Returns the greatest status."""
     worst = SUCCESS
-    has_heads = is_list(files)
-    for picture in each_picture(files, run):
+    for picture in each_picture(files, run, refused_too):
         worst = max(worst, status_of(picture, refused_too))
-        _print(files.command, picture, [f"== {shown_path(picture.path)}"] if has_heads else [], describer(), refused_too)
+        _print(files.command, picture, [f"== {shown_path(picture.path)}"] if is_list(files) else [], describer(), refused_too)
         print_lines(of_rest(picture))
         if picture.not_read and not picture.problem:
             print_lines([f"not wholly read: {', '.join(unread(picture, picture.not_read))}"])

@@ -93,14 +93,19 @@ def of_catalogue(catalogue: Catalogue) -> Iterator[Picture]:
 
 def _in_folder(run: Run, folder: bytes) -> Iterator[Picture]:
     closed: list[Unlisted] = []
-    top, count = os.path.abspath(folder), 0
+    count = alone = 0
     for file in below([folder], closed.append):
-        picture = _reading(run, os.path.join(folder, os.path.relpath(file.path, top)))
+        picture = _reading(run, file.path)
         if picture.problem not in (Problem.NO_PICTURE, Problem.NOT_A_FILE):
             count += 1
+            alone += picture.type == "XMP"
             yield picture
+    if alone:
+        from .looking import note_alone  # which takes long to import
+
+        note_alone(alone)
     if not (count or closed):
-        from .looking import note_no_picture  # which takes long to import
+        from .looking import note_no_picture
 
         note_no_picture(folder)
     yield from (Picture(it.path, Blocks(problem=Problem.UNREADABLE, detail=it.reason), []) for it in closed)

@@ -7,9 +7,9 @@ from typing import Iterator, Sequence
 
 from ..comparison.changed.edit_groups import Group
 from ..comparison.changed.edit_words import line_of
-from ..comparison.nightly.news import Kind, Named, News
+from ..comparison.nightly.news import Kind, News
 from ..comparison.wording import moved
-from ..model.texts import escaped, pictures_in_words, safe, shown_path
+from ..model.texts import escaped, pictures_in_words, safe, whole_path
 from .columns import width
 
 LINES, COLUMNS = 30, 80
@@ -65,7 +65,7 @@ def _of_edits(group: Group) -> list[str]:
     """Pictures that were edited alike, in a line; of one that changed like no other each edit."""
     edits = [safe(line_of(it)) for it in group.edits]
     if group.is_odd:
-        name = _from_behind(shown_path(group.names[0]), COLUMNS // 3)
+        name = _from_behind(whole_path(group.names[0]), COLUMNS // 3)
         return [cut(f"  {name} {it}") for it in edits]
     return [cut(f"  {pictures_in_words(group.pictures)}: {'; '.join(edits)}")]
 
@@ -79,18 +79,19 @@ def _of_folders(news: Sequence[News]) -> Iterator[str]:
         if entry.kind in _OF_FOLDERS:
             why = "can't be read." if entry.kind == Kind.CLOSED else "is empty or gone (mounted?)."
             kept = f" {why} Its {pictures_in_words(entry.count)} stay{'s' * (entry.count == 1)} as known."
-            yield "  " + _from_behind(shown_path(entry.names[0].path), COLUMNS - 2 - len(kept)) + kept
+            yield "  " + _from_behind(whole_path(entry.names[0].path), COLUMNS - 2 - len(kept)) + kept
 
 
 def _of_pictures(news: Sequence[News]) -> Iterator[str]:
     """A line for each kind of news, with the first names for which it has room."""
-    digits = max([len(f"{it.count:,}") for it in news], default=0)
+    digits = max((len(f"{it.count:,}") for it in news), default=0)
     for _, group in groupby(news, lambda it: it.kind):
         entries = list(group)
         shown = entries if len(entries) <= OF_KIND else entries[: OF_KIND - 1]
         for entry in shown:
+            names = [whole_path(it.path) if it.to is None else moved(whole_path(it.path), whole_path(it.to)) for it in entry.names]
             count = 1 if entry.kind == Kind.MOVED_FOLDER else entry.count  # there are no further names of a folder
-            yield with_names(f"  {entry.count:>{digits},} {words_of(entry)}", [_name(it) for it in entry.names], count)
+            yield with_names(f"  {entry.count:>{digits},} {words_of(entry)}", names, count)
         if len(shown) < len(entries):
             yield f"  {'..':>{digits}} and {len(entries) - len(shown):,} more lines like these"
 
@@ -105,10 +106,6 @@ def words_of(news: News) -> str:
     if news.about in _PLURAL:
         words = words.replace("a {}", "{}").replace("another {}", "other {}")
     return words.format(escaped(news.about))
-
-
-def _name(named: Named) -> str:
-    return shown_path(named.path) if named.to is None else moved(named.path, named.to)
 
 
 def with_names(text: str, names: Sequence[str], count: int) -> str:

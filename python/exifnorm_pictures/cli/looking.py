@@ -87,7 +87,7 @@ def _made(names: Sequence[bytes], run: Run) -> Iterator[Catalogue]:
     with Catalogue(os.path.join(room, "catalogue"), make=True) as catalogue:
         closed: list[str] = []
         how = how_of(run, room, closed_folder)
-        index(IndexOptions(names, quiet=_is_quiet(run), how=how, print_line=closed.append), catalogue)
+        index(IndexOptions(names, quiet=is_quiet(run), how=how, print_line=closed.append), catalogue)
         if closed:  # its pictures would seem to be missing
             raise NoCatalogue("; ".join(closed))
         for name in filter(is_picture, names):
@@ -104,7 +104,8 @@ def note_no_picture(folder: bytes) -> None:
     say_notes(f"no picture is below {shown_path(folder)}: is its disk mounted?")
 
 
-def _is_quiet(run: Run) -> bool:
+def is_quiet(run: Run) -> bool:
+    """Whether no progress is shown."""
     return run.quiet or not sys.stderr.isatty()
 
 
@@ -112,7 +113,7 @@ class Preparing:
     """Shows on a terminal for how many pictures the texts for questions are ready."""
 
     def __init__(self, run: Run) -> None:
-        self._is_quiet = _is_quiet(run)
+        self._is_quiet = is_quiet(run)
         self._progress: Optional[Progress] = None
 
     def report(self, done: int, due: int) -> None:
@@ -160,11 +161,17 @@ def xmp_files_alone(count: int) -> str:
 
 
 def note_sidecars(catalogue: Catalogue, sources: Sequence[bytes], run: Run) -> None:
-    """Says that the XMP files of a folder are none of its pictures' metadata: a picture would seem to lack what the file beside it has."""
+    """The same of the folders that a question is about; of one about damage also that pictures aren't decoded."""
     is_read = any(is_of_pictures(os.fsdecode(it)) for it in sources)
-    count = number_of(catalogue, OF_XMP) if is_read and not run.sidecars else 0
-    if count:
-        say_notes(f"{xmp_files_alone(count)}: --sidecars takes those beside pictures as metadata of them")
+    note_alone(number_of(catalogue, OF_XMP) if is_read and not run.sidecars else 0)
+    say_notes(*["damage is what the marks, lengths and check sums of a file show: no picture is decoded"] * run.pixels)
+
+
+def note_alone(count: int) -> None:
+    """Says that the XMP files of a folder are none of its pictures' metadata: a picture would seem to lack what the file beside it has."""
+    say_notes(
+        *[f"{xmp_files_alone(count)}: --sidecars of list, check and index takes those beside pictures as metadata of them"] * bool(count)
+    )
 
 
 def refuse_for_catalogues(files: Files, run: Run, sources: Sequence[bytes]) -> None:

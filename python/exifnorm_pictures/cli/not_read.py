@@ -4,7 +4,7 @@ from __future__ import annotations
 
 from typing import Optional, Sequence
 
-from ..model.found import CUT, NAMES, damage, each_kind
+from ..model.found import CUT, NAMES, cut, damage, each_kind
 from ..model.texts import Members
 from ..model.verdicts import with_verb
 from ..picture import Picture
@@ -21,7 +21,7 @@ def unread(picture: Picture, parts: Sequence[str]) -> list[str]:
 def picture_cut(picture: Picture) -> list[str]:
     """Where a file is cut off or damaged whose metadata were read."""
     fault = picture.damage_behind
-    return [f"{'cut off' if fault.startswith(CUT) else 'damaged'} behind its metadata: {fault}"] if fault else []
+    return [f"{'cut off behind' if fault.startswith(CUT) else 'damaged outside'} its metadata: {fault}"] if fault else []
 
 
 def not_found(what: str, parts: Sequence[str]) -> str:
@@ -52,12 +52,10 @@ def damage_lines(picture: Picture) -> list[str]:
     """What may be missing of a file that is cut off or damaged, and the remedy; nothing for a whole file."""
     if picture.problem and picture.damage:
         return [f"The file is cut off: {picture.damage}.", f"  Remedy: {REMEDY}"]
-    if picture.damage_behind:
-        return [f"The file is cut off behind its metadata: {picture.damage}.", f"  Remedy: {REMEDY}"]
     if not damage(picture.not_read):
-        return []
+        return [line for it in picture_cut(picture) for line in (f"The file is {it}.", f"  Remedy: {REMEDY}")]
     kinds = " and ".join(NAMES[kind] for kind in picture.not_known) or "further blocks"
-    what = f"cut off: {picture.damage}" if picture.damage else "damaged"
+    what = f"cut off: {picture.damage}" if cut(picture.not_read) else "damaged"
     return [f"The file is {what}. What is missing may have {kinds}.", f"  Remedy: {REMEDY}"]
 
 

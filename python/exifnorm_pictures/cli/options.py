@@ -69,6 +69,11 @@ class Run(NamedTuple):
 Group = TypeVar("Group", Files, Fields, Output, Run)
 
 
+def groups_of(arguments: argparse.Namespace) -> tuple[Files, Run, Output]:
+    """What most commands need."""
+    return group_of(Files, arguments), group_of(Run, arguments), group_of(Output, arguments)
+
+
 def group_of(kind: type[Group], arguments: argparse.Namespace) -> Group:
     """A group of the options of a command. Those that the command lacks are as if they weren't given.
 

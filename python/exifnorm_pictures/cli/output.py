@@ -16,7 +16,7 @@ from ..model.found import cut, damage
 from ..model.problems import COUNTED, Problem
 from ..model.records import AS_BEFORE, BlockRecord, PictureRecord
 from ..model.steps import loses, words
-from ..model.texts import safe, shown_path
+from ..model.texts import near, safe, shown_path
 from .columns import NARROWEST, folded
 
 if TYPE_CHECKING:
@@ -85,13 +85,13 @@ def note_sidecar(picture: bytes) -> None:
         say_notes(f"{shown_path(sidecar)} isn't read: index --sidecars takes it as metadata of its picture")
 
 
-def table_of(output: Output, heads: Sequence[str]) -> Optional[Table]:
-    """The table that --csv or --xlsx asks for, if one of them was given."""
+def table_of(output: Output, heads: str, more: Sequence[str] = ()) -> Optional[Table]:
+    """The table that --csv or --xlsx asks for, if one of them was given. Its heads have commas between them."""
     if not output.csv:
         return None
     from .tables import Table  # whose regular expressions take long to compile
 
-    return Table(output.sheet, heads)
+    return Table(output.sheet, [*heads.split(", "), *more])
 
 
 # What ExifTool says of a file that is no picture, but may have been one
@@ -101,20 +101,21 @@ DAMAGED = {"File is empty": "the file is empty", "Entire file is binary zeros": 
 def record_lines(picture: PictureRecord) -> list[str]:
     """Lines for a picture with a problem: the problem, the refusal of a block, or what is left of a damaged file. None if the
     problem was there at the last run, which the counts say."""
-    if picture.is_known or not (picture.problem or picture.unread or picture.damage or any(not one.is_accepted for one in picture.blocks)):
-        return []
-    name = shown_path(picture.path)
-    lines = []
+    lines = [] if picture.is_known else [*_problems(picture)]
+    return [f"{shown_path(picture.path)}: {line}" for line in lines]
+
+
+def _problems(picture: PictureRecord) -> Iterator[str]:
     if picture.problem and picture.problem != Problem.NO_PICTURE:
-        lines.append(f"{name}: {picture.problem}: {picture.detail}")
-    lines += [f"{name}: {one.name}: {refused_line(one)}" for one in picture.blocks if not one.is_accepted]
-    parts = [one.what for one in picture.unread]
-    if not picture.problem:
-        lines += [f"{name}: not wholly read: {what}" for what in damage(parts)]
-        lines += [f"{name}: damaged: {picture.damage}"] * bool(picture.damage and not cut(parts))
+        detail = f"to {near(picture.detail[3:])}" if picture.problem == Problem.MOVED else picture.detail
+        yield f"{picture.problem}: {detail}"
+    yield from (f"{one.name}: {refused_line(one)}" for one in picture.blocks if not one.is_accepted)
     if picture.problem == Problem.NO_PICTURE and picture.detail in DAMAGED:
-        lines.append(f"{name}: NoPicture: {DAMAGED[picture.detail]}")
-    return lines
+        yield f"NoPicture: {DAMAGED[picture.detail]}"
+    if not picture.problem:
+        parts = [one.what for one in picture.unread]
+        yield from (f"not wholly read: {what}" for what in damage(parts))
+        yield from [f"damaged: {picture.damage}"] * bool(picture.damage and not cut(parts))
 
 
 def closed_folder(picture: PictureRecord) -> list[str]:

@@ -11,7 +11,7 @@ from typing import Iterator, Sequence
 from ..files import atomic
 from ..files.session import Session
 from ..model.errors import Failure
-from ..model.texts import escaped, reason, safe_lines, shown_path
+from ..model.texts import escaped, in_words, reason, safe_lines, shown_path
 from .output import print_line
 from .tables import Cell
 
@@ -76,15 +76,11 @@ def _fitting(text: str) -> str:
     >>> _fitting("Vase"), _fitting("a" * 40_000)[-27:]
     ('Vase', 'aaaaa.. (40,000 characters)')
     """
-    if len(text) <= LONGEST // 2 or _length(text) <= LONGEST:
+    octets = text.encode("utf-16-le", "surrogatepass")
+    if len(octets) <= 2 * LONGEST:
         return text
     end = f".. ({len(text):,} characters)"
-    room = 2 * (LONGEST - len(end))  # bytes
-    return text.encode("utf-16-le", "surrogatepass")[:room].decode("utf-16-le", "ignore") + end
-
-
-def _length(text: str) -> int:
-    return len(text.encode("utf-16-le", "surrogatepass")) // 2
+    return octets[: 2 * (LONGEST - len(end))].decode("utf-16-le", "ignore") + end
 
 
 @contextlib.contextmanager
@@ -98,4 +94,4 @@ def written(name: str, session: Session) -> Iterator[Sheet]:
     sheet.close()
     with open(table, "rb") as whole:
         atomic.put(name, lambda file: shutil.copyfileobj(whole, file), lambda _: False)
-    print_line(f"{escaped(name)}: {max(0, sheet.rows - 1):,} row{'s' * (sheet.rows != 2)}")
+    print_line(f"{escaped(name)}: {in_words(max(0, sheet.rows - 1), 'row')}")

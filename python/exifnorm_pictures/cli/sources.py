@@ -45,9 +45,14 @@ def _line(command: str, names: Sequence[str]) -> str:
     """How a command is written whose first name is no catalogue, with the name that may be meant as one."""
     makes = command in _MAKERS
     catalogues = [name for name in names if is_catalogue(name)]
-    meant = catalogues or [name for name in names if makes and len(names) > 1 and not os.path.lexists(name)]
+    meant = catalogues or (_absent(names) if makes else [])
     catalogue = meant[0] if len(meant) == 1 else "CATALOGUE"
     others = [escaped(shlex.quote(name)) for name in names if [name] != meant] or ["FOLDER"]
-    if makes and not catalogues:
-        return " ".join([command, *others, "--catalogue", escaped(shlex.quote(catalogue))])
-    return " ".join([command, escaped(shlex.quote(catalogue)), *others])
+    catalogue = escaped(shlex.quote(catalogue))
+    words = [*others, "--catalogue", catalogue] if makes and not catalogues else [catalogue, *others]
+    return " ".join([command, *words])
+
+
+def _absent(names: Sequence[str]) -> list[str]:
+    """Those of several names that nothing has: one may be meant as that of a new catalogue."""
+    return [name for name in names if len(names) > 1 and not os.path.lexists(name)]

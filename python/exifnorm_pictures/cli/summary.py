@@ -12,7 +12,7 @@ from ..comparison.changed.edit_words import BRACKETS, head_of, steps_of
 from ..comparison.changed.edits import Edit
 from ..comparison.changed.marking import IN, KEPT, OUT, Step
 from ..comparison.changed.summary import MOST_NAMES, Summary
-from ..comparison.changed.summary_lines import LONGEST_NAMES, fitting, lacking_of, results_of, sentence, sentence_of_partners, shown_name
+from ..comparison.changed.summary_lines import LONGEST_NAMES, fitting, lacking_of, results_of, sentence, shown_name
 from ..model.results import Result
 from ..model.texts import pictures_in_words, safe
 from .columns import width
@@ -48,14 +48,14 @@ def lines(
     room = LINES - len(results) - 6
     shown = _fitting(texts, LEAST, room - min(sum(map(len, pictures)), room // 2))
     many = _fitting(pictures, ODD, room - sum(map(len, texts[:shown])))
-    yield sentence_of_partners(counts) if by_stem else sentence(counts)
+    yield sentence(counts, by_stem)
     yield from [""] * bool(alike)
     yield from chain(*texts[:shown])
     yield from _smaller(alike[shown:])
     yield from _further(summary.kinds.further)
     yield from _odd(pictures[:many], len(odd))
     yield from ["", *results] if results else []
-    yield from _hint(counts, bool(alike))
+    yield from _hint(counts, bool(alike), by_stem)
 
 
 def _further(count: int) -> Iterator[str]:
@@ -72,9 +72,11 @@ def _odd(texts: Sequence[list[str]], count: int) -> Iterator[str]:
         yield f"  and {count - len(texts):,} more, which --json has"
 
 
-def _hint(counts: "Counter[Result]", has_groups: bool) -> Iterator[str]:
+def _hint(counts: "Counter[Result]", has_groups: bool, by_stem: bool) -> Iterator[str]:
     if any(counts[it] for it in counts if it.has_changed is not False):
         yield from ["", f"--each lists each picture with its fields{', --edit N the pictures of a group' * has_groups}."]
+    if not by_stem and counts[Result.MISSING_AFTER] and counts[Result.MISSING_BEFORE]:
+        yield "--match stem pairs pictures by name, as a.tif with a.jpg."
 
 
 def _smaller(groups: Sequence[Group]) -> Iterator[str]:

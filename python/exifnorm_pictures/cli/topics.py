@@ -5,14 +5,15 @@ from __future__ import annotations
 import textwrap
 from typing import Callable
 
+from ..fields.rules import EXAMPLES
 from ..model.budgets import PROGRAM_SECONDS
 from . import statuses
 from .parser import parsers
 
-_OPTIONS = {
+OPTIONS = {  # those that no command's help has, and one that starts programs
     "--debug": "print the traceback of an internal error, as EXIFNORM_DEBUG=1 does",
-    "--limit": f"SECONDS: how long ExifTool may take for a file (default: {PROGRAM_SECONDS:g})",
-    "--jobs": "N: how many processes read pictures (default: as many as processors)",
+    "--limit": f"how long ExifTool may take for a file (default: {PROGRAM_SECONDS:g})",
+    "--jobs": "how many processes read pictures (default: as many as processors)",
     "--whole": "read every byte of a JPEG, not only its head and tail",
     "--no-programs": "start no other program: ExifTool, exiv2, heif-convert, or a Python for small pictures. What only they read is not known then",
 }
@@ -30,9 +31,9 @@ group: GPS, IPTC, XMP-crs. The wildcards * and ? are allowed, as in xmpMM:*;
 upper and lower case don't matter. exif:NAME is a field of an Exif block,
 XMP-exif:NAME a property of XMP. A label of captions, such as creator or 'date
 created', stands for all its fields of Exif, IPTC and XMP; so do position,
-serial and owner. @FILE has a field or a pattern on each line; # begins a
-comment. --ignore saves leaves out what every save changes (see the manual
-page)."""
+serial and owner. Give --only or --ignore again for each further field, or
+@FILE, which has a field or a pattern on each line; # begins a comment.
+--ignore saves leaves out what every save changes (see the manual page)."""
 _FIRST = """The first list or check after index reads the texts of new pictures from the
 catalogue, and keeps them in it."""
 _QUESTIONS = """A question compares labels by =, !=, has, like (with *, ?, and # for a digit),
@@ -53,20 +54,10 @@ A picture fits if some text of the label does. Capitals, spaces and composed
 letters make no difference, but after is, one of, and from FILE (a text on
 each line), which take only the very text. In double quotes "" is one of them.
 If you give several options, a picture must fit all. A text that a camera
-writes by itself doesn't count."""
-_RULES = """Rules:
-  every picture needs creator, credit, copyright    # a comment
-  copyright is "Riverside Museum"
-  credit one of "Riverside Museum", "Public domain"
-  title like "####.##*" in scans/
-  keywords from words.txt
-  position, serial never in web/ except web/press/
-  caption at most 2000 characters
-  date created not after today
-  city = Zürich
-  labels agree except keywords
-  title, caption agree
-
+writes by itself doesn't count. damage is what the marks, lengths and check sums
+of a file show: no picture is decoded."""
+_RULES = f"""Rules:
+{textwrap.indent(EXAMPLES, "  ")}
 A rule is about every text of a label; the answer names the one that breaks
 it. is, one of, from and like take only the very text, and = also one with
 other capitals, as in list --where. In like, # is a digit. A date that no
@@ -76,10 +67,14 @@ whether Exif, IPTC and XMP of a picture have one text of a label."""
 
 def _options() -> str:
     lines = []
-    for name, words in _OPTIONS.items():
-        having = [command for command, parser in parsers()[1].items() if name in parser._option_string_actions]
-        of = "each command" if name == "--debug" else ", ".join(having)
-        lines += textwrap.wrap(f"{words}. Of {of}", 80, initial_indent=f"  {name}  ", subsequent_indent="      ")
+    commands = parsers()[1]
+    for name, words in OPTIONS.items():
+        having = {
+            command: parser._option_string_actions[name] for command, parser in commands.items() if name in parser._option_string_actions
+        }
+        of = "each command" if len(having) == len(commands) else ", ".join(having)
+        head = f"{name} {next(iter(having.values())).metavar or ''}".rstrip()
+        lines += textwrap.wrap(f"{words}. Of {of}", 80, initial_indent=f"  {head}  ", subsequent_indent="      ")
     return "\n".join(["Options of several commands:", *lines, "", _ALL])
 
 

@@ -2,7 +2,7 @@
 
 from __future__ import annotations
 
-from typing import Iterator, Sequence
+from typing import Iterator, Optional, Sequence
 
 from ..catalogue.checking import Checked
 from ..catalogue.kept_texts import Report, say_nothing
@@ -14,9 +14,9 @@ from .conflicts import Conflict, conflicts
 _LONGEST = 160  # characters of a text
 
 
-def checked(catalogue: Catalogue, rules: Sequence[Rule], report: Report = say_nothing) -> Checked:
-    """A catalogue's pictures by some rules."""
-    return Checked(catalogue, rules, _contradictions, report)
+def checked(catalogue: Catalogue, rules: Sequence[Rule], report: Report = say_nothing, only: Optional[str] = None) -> Checked:
+    """A catalogue's pictures by some rules, or those whose paths a table has."""
+    return Checked(catalogue, rules, _contradictions, report, only)
 
 
 def _contradictions(catalogue: Catalogue) -> Iterator[tuple[bytes, bytes, str, str]]:

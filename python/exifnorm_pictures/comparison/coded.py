@@ -6,7 +6,7 @@ from collections import Counter
 from typing import Optional, Sequence
 
 from ..model import rest
-from ..model.found import CUT
+from ..model.found import CUT, XMP_FILE
 from ..model.records import PictureRecord
 from ..model.results import Result
 from ..model.words import Word
@@ -31,6 +31,7 @@ class Coded(Word):
     DAMAGED = ("damaged",)
     DAMAGED_BEFORE = ("damaged before",)
     DAMAGED_BOTH = ("damaged before and after",)
+    UNREAD = ("not read in files with other bytes", "The pictures aren't read here, and the files have other bytes.")
     UNKNOWN = ("not compared", "Only metadata was compared: these pictures aren't read here.")
 
 
@@ -42,7 +43,8 @@ SAME_REST = (
 SQL = f"""CASE WHEN new.damage != '' AND old.damage = '' THEN '{Coded.DAMAGED}' WHEN new.damage != '' THEN '{Coded.DAMAGED_BOTH}'
     WHEN old.damage != '' THEN '{Coded.DAMAGED_BEFORE}' WHEN old.type != new.type THEN '{Coded.UNKNOWN}' WHEN old.coded_picture != '' AND new.coded_picture != ''
     THEN CASE WHEN old.coded_picture != new.coded_picture THEN '{Coded.OTHER}' WHEN {SAME_REST} THEN '{Coded.SAME}' ELSE '{Coded.BESIDE}' END
-    WHEN old.sha256 != '' AND old.sha256 = new.sha256 THEN '{Coded.SAME}' ELSE '{Coded.UNKNOWN}' END"""
+    WHEN old.sha256 != '' AND old.sha256 = new.sha256 THEN '{Coded.SAME}'
+    WHEN old.sha256 != '' AND new.sha256 != '' AND old.type != '{XMP_FILE}' THEN '{Coded.UNREAD}' ELSE '{Coded.UNKNOWN}' END"""
 
 
 def coded_result(picture: PictureRecord, other: PictureRecord) -> tuple[Coded, str]:
@@ -57,7 +59,8 @@ def coded_result(picture: PictureRecord, other: PictureRecord) -> tuple[Coded, s
 def _by_digests(picture: PictureRecord, other: PictureRecord) -> Coded:
     is_same = bool(picture.sha256) and picture.sha256 == other.sha256
     if not picture.coded_picture or not other.coded_picture:
-        return Coded.SAME if is_same else Coded.UNKNOWN
+        is_known = all((picture.sha256, other.sha256, picture.type != XMP_FILE))  # which has no picture
+        return Coded.SAME if is_same else Coded.UNREAD if is_known else Coded.UNKNOWN
     if picture.coded_picture != other.coded_picture:
         return Coded.OTHER
     return Coded.SAME if is_same or not rest.changes(picture.beside, other.beside) else Coded.BESIDE
@@ -80,6 +83,7 @@ _RESULTS = {
     Coded.DAMAGED_BEFORE: (Result.DAMAGED_DIFFERENT, Result.DAMAGED_BEFORE, Result.DAMAGED_BEFORE),
     Coded.OTHER: (None, Result.OTHER_PICTURE_ALONE, Result.OTHER_PICTURE),
     Coded.BESIDE: (None, Result.OTHER_PARTS, None),
+    Coded.UNREAD: (None, Result.OTHER_BYTES, None),
 }
 _NOTHING = (None, None, None)
 
@@ -109,7 +113,7 @@ def sentence_of_coded(counts: "Counter[Coded]", pixels: str = "index --pixels") 
     """
     if not sum(counts.values()):
         return ""
-    if counts[Coded.SAME] + counts[Coded.BESIDE] + counts[Coded.OTHER]:
+    if counts[Coded.SAME] + counts[Coded.BESIDE] + counts[Coded.OTHER] + counts[Coded.UNREAD]:
         return f"The coded pictures: {', '.join(f'{counts[it]:,} {it}' for it in Coded if counts[it])}."
     damaged = ", ".join(f"{count:,} {it}" for it, count in counts.items() if it != Coded.UNKNOWN and count)
     more = f"{pixels} compares the pictures, too" if pixels else "pictures of two formats, or that aren't read here, aren't compared"

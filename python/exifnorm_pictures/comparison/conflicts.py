@@ -21,7 +21,7 @@ from ..model.words import Word
 class ConflictKind(Word):
     """How the texts of a label differ. Of several, the last one in this order counts."""
 
-    text: str  # of the summary of `conflicts`
+    text: str  # of the summary of rules of agreement
 
     ALIKE = ("alike",)
     ORDER = ("another order", "a list in another order")

@@ -4,7 +4,6 @@ from __future__ import annotations
 
 import contextlib
 import os
-from dataclasses import dataclass
 from typing import NamedTuple, Optional, Sequence
 
 from ..extract.formats.streams import digest_of_file
@@ -47,8 +46,7 @@ class FieldRow(NamedTuple):
     is_equal_number: bool = False  # whether the field differs only in the form of its number
 
 
-@dataclass
-class ComparedPair:
+class ComparedPair(NamedTuple):
     """Two pictures, and what `changed` finds."""
 
     records: tuple[PictureRecord, PictureRecord]
@@ -70,9 +68,8 @@ class ComparedPair:
     @property
     def is_empty(self) -> bool:
         """Whether neither picture has metadata."""
-        is_other = self.compared.result in (Result.DAMAGED, Result.OTHER_PICTURE_ALONE, Result.OTHER_PARTS)
         return (
-            not is_other
+            self.compared.result == Result.SAME
             and all(it.result == Result.ABSENT for it in self.compared.verdicts)
             and not any(it.problem or it.unread for it in self.records)
         )

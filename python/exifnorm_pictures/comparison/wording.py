@@ -9,7 +9,6 @@ from typing import Optional, Sequence
 from ..fields.field import Field
 from ..fields.plain_texts import without_nul
 from ..fields.plain_values import in_line, plain
-from ..model.texts import shown_path
 from .differing import FieldDifference, exact_side
 
 NONE = "(none)"  # in place of a value that isn't there
@@ -39,13 +38,13 @@ def told_apart(before: Optional[str], after: Optional[str]) -> tuple[Optional[st
     return first, second
 
 
-def moved(old: bytes, new: bytes) -> str:
-    """Two names of a file, told apart.
+def moved(old: str, new: str) -> str:
+    """Two shown names of a file, told apart.
 
-    >>> moved("Zu\u0308rich".encode(), "Z\u00fcrich".encode()), moved(b"a.jpg", b"b.jpg")
+    >>> moved("Zu\u0308rich", "Z\u00fcrich"), moved("a.jpg", "b.jpg")
     ('Zu<U+0308>rich to Zürich', 'a.jpg to b.jpg')
     """
-    return " to ".join(tell_apart([shown_path(old), shown_path(new)]))
+    return " to ".join(tell_apart([old, new]))
 
 
 def tell_apart(texts: Sequence[str]) -> list[str]:
@@ -95,7 +94,7 @@ def plain_sides(difference: FieldDifference) -> tuple[Optional[str], Optional[st
     >>> plain_sides(FieldDifference("main", "013b", (), (Field("main", "013b", "ASCII", 5, b"Otto\\0"),)))
     (None, 'Otto')
     """
-    values = ["; ".join([without_nul(plain(it)) for it in one]) if one else None for one in (difference.before, difference.after)]
+    values = ["; ".join(without_nul(plain(it)) for it in one) if one else None for one in (difference.before, difference.after)]
     if values[0] == values[1]:
         return exact_side(difference.before), exact_side(difference.after)
     return told_apart(values[0], values[1])

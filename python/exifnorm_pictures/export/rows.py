@@ -26,7 +26,7 @@ from ..model import steps
 from ..model.budgets import CACHED
 from ..model.columns import Damaged
 from ..model.records import BlockRecord, PictureRecord
-from ..model.texts import shown_path
+from ..model.texts import path_members
 from ..scan.progress import Progress
 from .tables import Row, Tables, without_nul
 
@@ -61,12 +61,12 @@ class Export:
         angles = [row.angle for _, rows in blocks for row in rows if row.angle]
         place = position_of(angles) if angles else None
         self.tables.add("pictures", [(*_picture_row(picture), *(place or ("", "")))])
-        if any([block.note is not None for block, _ in blocks]):
+        if any(block.note is not None for block, _ in blocks):
             self._maker_notes(picture)
         self.tables.add("blocks", [_block_row(picture, number, block) for number, (block, _) in enumerate(blocks)])
         for number, (_, rows) in enumerate(blocks):
             cells = [(picture.id, number, at, *row.cells) for at, row in enumerate(rows)]
-            self.tables.add_storable("fields", cells, sum([row.size for row in rows]))
+            self.tables.add_storable("fields", cells, sum(row.size for row in rows))
         self._texts(picture, [(block, [it for row in rows for it in (row.text, row.angle) if it]) for block, rows in blocks])
         if picture.not_read != "":
             parts = self.catalogue.not_read_of(picture)
@@ -100,15 +100,13 @@ def _picture_row(picture: PictureRecord) -> Row:
 
 
 def _keep_row(keep: Keep) -> Row:
-    return None if keep.keep is None else int(keep.keep), keep.note or None
+    return None if keep.keep is None else int(keep.keep), keep.note() or None
 
 
 def _path(path: bytes) -> tuple[str, bool]:
     """A path as a text, and whether it is escaped, since it is no UTF-8."""
-    try:
-        return path.decode("utf-8"), False
-    except UnicodeDecodeError:
-        return shown_path(path), True
+    members = path_members(path)
+    return members["path"], "path_hex" in members
 
 
 def _state(picture: PictureRecord) -> str:

@@ -41,9 +41,8 @@ CREATE TABLE pictures (
     folder TEXT NOT NULL,
     -- the format: JPEG, PNG, WEBP, TIFF, or ExifTool's word
     type TEXT,
-    -- `accepted`: all blocks were read; `refused`: a block is refused or unreadable; `no metadata`:
-    -- there is no block; `damaged`: the file is cut off, and what is left has no block; `not read`:
-    -- the file wasn't read
+    -- `accepted`: all blocks were read; `refused`: a block is refused or unreadable; `no metadata`;
+    -- `damaged`: the file is cut off, and what is left has no block; `not read`
     state TEXT NOT NULL,
     -- why a file wasn't read, in a word and in a sentence
     problem TEXT,
@@ -62,9 +61,8 @@ CREATE TABLE pictures (
     coded_picture TEXT,
     -- with `index --pixels`, SHA-256 of the file, as `sha256sum` prints it. Else NULL
     sha256 TEXT,
-    -- where the file is cut off, as `the file ends inside the segment at 2000` or `the file ends
-    -- inside its picture`; with `index --pixels` also what else is damaged in the picture. Else
-    -- NULL
+    -- where the file is cut off, as `the file ends inside the segment at 2000`; with
+    -- `index --pixels` also what else is damaged in the picture. Else NULL
     damage TEXT,
     -- where it was taken, in degrees, north and east positive, by Exif or XMP; NULL if a part of
     -- the position is missing
@@ -184,10 +182,9 @@ CREATE TABLE groups (
     description TEXT NOT NULL,
     -- the picture
     picture INTEGER NOT NULL REFERENCES pictures(id),
-    -- 0 for a file that you can delete, because the file with 1 has the same metadata and the same
-    -- picture: neither is damaged, and they have the same `coded_picture`, and the file with 1 all
-    -- other parts of the one with 0, or they have the same bytes. NULL for every other picture; for
-    -- a file that is no picture, such as an XMP file, and may belong to one; and with `--no-look`
+    -- 0 for a file that you can delete: neither it nor the file with 1 is damaged, and that has the
+    -- same metadata and `coded_picture` and all its other parts, or the same bytes. NULL for every
+    -- other file, for one that is no picture, such as an XMP file, and with `--no-look`
     keep INTEGER,
     -- which picture it equals, or why `keep` is NULL
     keep_note TEXT,
@@ -303,9 +300,9 @@ def storable(rows: list[Row]) -> tuple[list[Row], int]:
     >>> storable([(1, "a\0b", None, "c"), (2, "", None, "d")])
     ([(1, 'a\\x00b', None, 'c'), (2, '', None, 'd')], 5)
     """
-    text = "".join([cell for row in rows for cell in row if isinstance(cell, str)])
+    text = "".join(cell for row in rows for cell in row if isinstance(cell, str))
     if "\0" in text:
-        rows = [tuple([without_nul(cell) if isinstance(cell, str) else cell for cell in row]) for row in rows]
+        rows = [tuple(without_nul(cell) if isinstance(cell, str) else cell for cell in row) for row in rows]
     return rows, len(text)
 
 

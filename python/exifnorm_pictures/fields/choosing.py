@@ -2,10 +2,8 @@
 
 from __future__ import annotations
 
-import difflib
 import fnmatch
 import re
-from dataclasses import dataclass, field
 from typing import Callable, Iterable, Iterator, Mapping, Sequence
 
 from ..model.errors import WrongUse
@@ -118,6 +116,8 @@ def hint(pattern: str) -> str:
     names, printed = dictionary()
     group, colon, _ = pattern.partition(":")
     of_group = (f"{group}:{it}" for it in printed if ":" not in it) if colon else ()
+    import difflib  # which takes long to import, and few runs need it
+
     from .labels import fields_by_label
 
     known = {it.casefold(): it for it in (*(it for it in of_group if it.casefold() in names), *printed, *SETS, *fields_by_label())}
@@ -141,20 +141,22 @@ def meant(name: str, names: Sequence[str]) -> str:
         return f" (texts({label!r}) has the texts of this label)"
     if is_known(name):
         return ""
+    import difflib
+
     own = {text.casefold(): text for whole in names[:MOST_LISTED] for text in (whole, whole.partition(":")[2])}
     near = difflib.get_close_matches(name.casefold(), own, 1, 0.75)
     return f" (perhaps {own[near[0]]} is meant)" if near else hint(name)
 
 
-@dataclass
 class Pattern:
-    """A pattern, and whether a field fits it."""
+    """A pattern, the set that it is of, whether a field fits it, and the names of those that do."""
 
-    text: str
-    test: Test
-    of_set: str = ""  # the set that it is of
-    is_seen: bool = False
-    names: set[str] = field(default_factory=set)  # of the fields that fit it
+    def __init__(self, text: str, test: Test, of_set: str = "") -> None:
+        self.text = text
+        self.test = test
+        self.of_set = of_set
+        self.is_seen = False
+        self.names: set[str] = set()
 
 
 def _patterns(words: Sequence[str]) -> list[Pattern]:

@@ -225,7 +225,7 @@ def has_long(field: Field) -> bool:
     """Whether a text of a field is too long to be kept."""
     if isinstance(field.content, Long):
         return True
-    return field.directory == "xmp" and any([isinstance(one, Long) for one in field.content])
+    return field.directory == "xmp" and any(isinstance(one, Long) for one in field.content)
 
 
 # Exif and IPTC
@@ -300,7 +300,7 @@ def _octets(field: Optional[Field]) -> bytes:
 def _of_octets(word: str, standard: str, field: str, values: Sequence[bytes], is_utf8: bool) -> Caption:
     texts, guesses = zip(*[decoded(it, is_utf8) for it in values])
     guess = next(filter(None, guesses), "")
-    return Caption(word, standard, field, tuple([text.strip(" \0") for text in texts]), tuple(values), guess)
+    return Caption(word, standard, field, tuple(text.strip(" \0") for text in texts), tuple(values), guess)
 
 
 def _extra(exif: dict[str, Field]) -> Iterator[Caption]:
@@ -347,9 +347,9 @@ def _ascii(octets: bytes) -> str:
 
 def _of_properties(fields: Sequence[Field]) -> Iterator[Caption]:
     """The texts of a packet, by its properties."""
-    by_key = {it.tag: tuple([text.strip() for value in it.content for text in texts_in(value)]) for it in fields}  # type: ignore[arg-type]
+    by_key = {it.tag: tuple(text.strip() for value in it.content for text in texts_in(value)) for it in fields}  # type: ignore[arg-type]
     for label in LABELS:
         values = by_key.get(label.xmp)
         if values is not None:
-            texts = tuple([it.replace("T", " ") for it in values]) if label.word == DATE else values
+            texts = tuple(it.replace("T", " ") for it in values) if label.word == DATE else values
             yield Caption(label.word, NAMES[XMP], _NAMES["xmp", label.xmp], texts)

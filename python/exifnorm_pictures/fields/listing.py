@@ -83,8 +83,6 @@ def kept_value(field: Field) -> Content:
         return value
     if field.directory == "xmp":
         return tuple([kept_property(one) for one in value])  # type: ignore[arg-type]
-    if field.count <= 6:  # the longest fraction has 22 characters
-        return value
     text = numbers_text(field.type, value)  # type: ignore[arg-type]
     return value if len(text) <= LONGEST_NUMBERS else Long(digest_of(text.encode()), text[:_BEGINS])
 
@@ -144,9 +142,9 @@ def _exact_octets(field: Field, octets: bytes) -> str:
 def numbers_text(kind: str, values: "tuple[int, ...] | tuple[Ratio, ...]") -> str:
     """Numbers as a listing has them (docs/FORMAT.md, "Listing")."""
     if kind in ("RATIONAL", "SRATIONAL"):
-        return " ".join(["%d/%d" % one for one in values])  # type: ignore[str-format]
+        return " ".join("%d/%d" % one for one in values)  # type: ignore[str-format]
     if kind in ("FLOAT", "DOUBLE"):
-        return " ".join([f"{one:0{8 if kind == 'FLOAT' else 16}x}" for one in values])
+        return " ".join(f"{one:0{8 if kind == 'FLOAT' else 16}x}" for one in values)
     return " ".join(map(str, values))
 
 

@@ -117,7 +117,7 @@ def without_nul(text: str) -> str:
     >>> without_nul("Lena Brandt\\0Riverside Museum"), without_nul("Lena\\0\\0 ")
     ('Lena Brandt\\nRiverside Museum', 'Lena')
     """
-    return text if "\0" not in text else "\n".join([it for it in text.split("\0") if it.strip()])
+    return text if "\0" not in text else "\n".join(it for it in text.split("\0") if it.strip())
 
 
 def guess_of(field: Field) -> str:

@@ -1,18 +1,6 @@
-"""A museum's own rules about captions, names, keywords and rights, a line each:
+"""A museum's own rules about captions, names, keywords and rights, a line each, as in `EXAMPLES`.
 
-    every picture needs creator, credit, copyright    # a comment
-    copyright is "Riverside Museum"
-    credit one of "Riverside Museum", "Public domain"
-    title like "####.##*" in scans/
-    keywords from words.txt
-    position, serial never in web/ except web/press/
-    caption at most 2000 characters
-    date created not after today
-    city = zurich
-    labels agree except keywords
-    title, caption agree
-
-A label is one of `captions`, or the name of a field as `show` or ExifTool has it (IPTC:ExpirationDate). A rule but `needs` is about every text
+A label is one of `show --captions`, or the name of a field as `show` or ExifTool has it (IPTC:ExpirationDate). A rule but `needs` is about every text
 that is there. `is`, `one of` and `from` compare exactly, but for how accents are composed, and `=` without capitals, as in questions. `like` is
 exact, too, and has the wildcards * and ?, and # for a digit. A date that no calendar has breaks each rule about dates. A folder with a slash
 inside lies at the top of what was indexed, and any other one anywhere below it.
@@ -34,6 +22,18 @@ from .labels import DATED, LABELS, POSITION, fields_by_label, label_of
 from .questions import WrongQuestion, checked_value, exact_value, given_label, nearest
 from .tokens import EXACT, MOST_WORDS, Mistake, Reader, Token, tokens_of
 
+EXAMPLES = """every picture needs creator, credit, copyright    # a comment
+copyright is "Riverside Museum"
+credit one of "Riverside Museum", "Public domain"
+title like "####.##*" in scans/
+keywords from words.txt
+position, serial never in web/ except web/press/
+caption at most 2000 characters
+date created not after today
+city = Zürich
+labels agree except keywords
+title, caption agree
+"""
 NEEDS, VALUES, EQUAL, LIKE, NEVER = "needs", "values", "equal", "like", "never"
 LENGTH, AFTER, BEFORE = "length", "after", "before"
 AGREE = "agree"

@@ -18,7 +18,7 @@ from ..model.errors import Failure
 from ..model.texts import reason, shown_path
 from . import copying, opening, rights, signals
 
-Write = Callable[[BinaryIO], None]
+Write = Callable[[BinaryIO], object]
 _LEFT = re.compile(rb"\.exifnorm-[0-9a-f]{12}-[0-9a-f]{8}\.part")  # as `_free_name` makes it
 _HEAD = 100  # bytes by which the kind of a file is known
 
@@ -126,7 +126,7 @@ def sweep(folder: AnyStr, names: "Pattern[AnyStr]", remove: "Callable[[os.DirEnt
 
 def _remove_dead(entry: "os.DirEntry[bytes]") -> None:
     """Removes a file that a killed run of this user has left, which nobody has locked."""
-    with open(os.open(entry.path, os.O_RDONLY | os.O_NOFOLLOW | os.O_NONBLOCK | os.O_CLOEXEC), "rb") as file:
+    with open(os.open(entry.path, os.O_NOFOLLOW | os.O_NONBLOCK), "rb") as file:
         now = os.fstat(file.fileno())
         if zlib.crc32(entry.name[10:22]) == int(entry.name[23:31], 16) and stat.S_ISREG(now.st_mode) and now.st_uid == os.geteuid():
             fcntl.flock(file, fcntl.LOCK_SH | fcntl.LOCK_NB)  # NFS has no other lock of a file that is only read
@@ -155,10 +155,10 @@ def _opened(folder: bytes, out: bytes, mode: int) -> tuple[int, Optional[bytes]]
     """A new file that is locked, as far as the file system can, and its name if it needs one."""
     if hasattr(os, "O_TMPFILE"):
         with contextlib.suppress(OSError):
-            return locked(os.open(folder, os.O_TMPFILE | os.O_RDWR | os.O_CLOEXEC, mode)), None
+            return locked(os.open(folder, os.O_TMPFILE | os.O_RDWR, mode)), None
     while True:
         name = _free_name(out)
-        number = locked(os.open(name, os.O_RDWR | os.O_CREAT | os.O_EXCL | os.O_CLOEXEC, mode))
+        number = locked(os.open(name, os.O_RDWR | os.O_CREAT | os.O_EXCL, mode))
         if os.fstat(number).st_nlink:
             return number, name
         os.close(number)  # another run has taken it for that of a dead one, before it was locked

@@ -1,7 +1,7 @@
 """Folders that are written in full or not at all: a new one takes the place of an earlier one at once, when all its files are on the disk.
 
 Until then it is beside it, under a name of its own, and only the user may enter it. A killed run leaves it there, and the next one removes
-it: a process that lives has locked its folder.
+it: a process that lives has locked the list of its folder, because a network share has no lock of a folder for all machines.
 """
 
 from __future__ import annotations
@@ -11,6 +11,7 @@ import ctypes
 import errno
 import fcntl
 import hashlib
+import io
 import os
 import re
 import stat
@@ -22,7 +23,7 @@ from ..model.texts import reason, shown_path
 from . import opening, rights, signals
 from .atomic import NotReplaced, locked, sweep
 
-_LONGEST = 64 << 20  # bytes of a list of names
+_LONGEST = 64_000_000  # bytes of a list of names
 _AT_ONCE = 1000  # files that are removed
 _HERE, _EXCHANGE = -100, 2  # AT_FDCWD and RENAME_EXCHANGE of Linux
 _PREFIX, _SUFFIX = b".exifnorm-", b".part"
@@ -31,7 +32,7 @@ _PAGE = re.compile(r"[a-z]+(-\d+)?\.(html|js)")  # of a report
 _PICTURE = re.compile(r"small-[0-9a-f]{64}-[1-8]\.jpg")  # of a report that has many: the list doesn't name them
 _LARGEST_PICTURE = 10_000  # bytes
 _DIGEST = 66  # characters of a line of the list before the name
-_PIECE = 1 << 20
+_PIECE = 1_000_000
 
 
 class NewFolder:
@@ -43,8 +44,8 @@ class NewFolder:
 
     def write(self, name: str, octets: bytes) -> None:
         """Writes a file, with the rights of the one that it replaces, or those of the sources and umask. Raises `OSError`."""
-        number = os.open(os.path.join(self.path, os.fsencode(name)), os.O_WRONLY | os.O_CREAT | os.O_EXCL | os.O_CLOEXEC, 0o666)
-        with open(number, "wb") as file:
+        with open(os.path.join(self.path, os.fsencode(name)), "wb") as file:
+            number = file.fileno()
             if self._allowed:
                 rights.give(number, self._allowed)
             else:
@@ -87,16 +88,20 @@ def replaced(out: bytes, mark: str, sources: Sequence[str]) -> Iterator[NewFolde
     """A new folder, which gets the name `out` in the end. `mark` is the name of the list of its files: an earlier folder is replaced only if it
     has such a list, and no other files than the list has, byte for byte. It is made from the files `sources`. Raises `NotReplaced`."""
     there = os.path.realpath(out)
+    beside = os.path.dirname(there)
     room, lock = b"", -1
     try:
         try:
             before = _rights_of_earlier(there, mark)
-            sweep(os.path.dirname(there), _NAME, lambda entry: _remove_dead(entry.path, mark))
-            with signals.signals_held():  # a signal before the new folder has its name here would leave it
-                room, lock = _locked(os.path.dirname(there))
+            sweep(beside, _NAME, lambda entry: _remove_dead(entry.path, mark))
+            while lock < 0 or not os.fstat(lock).st_nlink:
+                with signals.signals_held():  # a signal before the new folder has its name here would leave it
+                    room = tempfile.mkdtemp(prefix=_PREFIX, suffix=_SUFFIX, dir=beside)
+                with contextlib.suppress(FileNotFoundError):  # another run took it for that of a killed run, before its list was locked
+                    lock = locked(os.open(os.path.join(room, os.fsencode(mark)), os.O_RDWR | os.O_CREAT, 0o666))
             folder = NewFolder(room, there, before and before[1], sources)
             yield folder
-            folder.write(mark, "".join(f"{name}\n" for name in [_FIRST, *folder.lines]).encode())
+            folder.write(mark, _FIRST + "".join(f"{line}\n" for line in folder.lines).encode())
             _give(room, mark, before and before[0])
             _rights_of_earlier(there, mark)  # something may have been put there meanwhile
             _put(room, there)
@@ -110,29 +115,19 @@ def replaced(out: bytes, mark: str, sources: Sequence[str]) -> Iterator[NewFolde
             os.close(lock)
 
 
-def _locked(beside: bytes) -> tuple[bytes, int]:
-    """A new folder, and the number by which this process has locked it, as far as the file system can."""
-    while True:
-        room = tempfile.mkdtemp(prefix=_PREFIX, suffix=_SUFFIX, dir=beside)
-        lock = locked(os.open(room, os.O_RDONLY | os.O_DIRECTORY | os.O_CLOEXEC))
-        if os.path.lexists(room):
-            return room, lock
-        os.close(lock)  # another run took it for one of a killed run, before it was locked
-
-
 def _remove_dead(folder: bytes, mark: str) -> None:
-    """Removes a folder that a killed run of this user has left, which nobody has locked, if it has files of a report alone."""
-    lock = os.open(folder, os.O_RDONLY | os.O_DIRECTORY | os.O_NOFOLLOW | os.O_CLOEXEC)
-    try:
-        if os.fstat(lock).st_uid != os.geteuid():
-            return
-        fcntl.flock(lock, fcntl.LOCK_SH | fcntl.LOCK_NB)  # as of a file in atomic.py
-        with os.scandir(lock) as entries:
-            is_ours = all(_is_ours(entry, mark) for entry in entries)
+    """Removes a folder that a killed run of this user has left, whose list nobody has locked, if it has files of a report alone."""
+    with contextlib.ExitStack() as held:
+        number = os.open(folder, os.O_DIRECTORY | os.O_NOFOLLOW)
+        held.callback(os.close, number)
+        with contextlib.suppress(FileNotFoundError):  # a run was killed before it had a list, or while it removed the folder
+            lock = os.open(mark, os.O_NOFOLLOW | os.O_NONBLOCK, dir_fd=number)
+            held.callback(os.close, lock)
+            fcntl.flock(lock, fcntl.LOCK_SH | fcntl.LOCK_NB)  # as of a file in atomic.py
+        with os.scandir(number) as entries:
+            is_ours = os.fstat(number).st_uid == os.geteuid() and all(_is_ours(entry, mark) for entry in entries)
         if is_ours:
             _remove(folder, mark)
-    finally:
-        os.close(lock)
 
 
 def _is_ours(entry: "os.DirEntry[Any]", mark: str) -> bool:
@@ -153,7 +148,7 @@ def _remove(folder: bytes, mark: str) -> None:
                 os.unlink(path)
 
 
-_FIRST = "The pages of a report by exifnorm-pictures, which a new one replaces:"
+_FIRST = b"The pages of a report by exifnorm-pictures, which a new one replaces:\n"
 
 
 def _rights_of_earlier(there: bytes, mark: str) -> Optional[tuple[rights.Rights, rights.Rights]]:
@@ -171,35 +166,37 @@ def _rights_of_earlier(there: bytes, mark: str) -> Optional[tuple[rights.Rights,
     listed = os.path.join(there, os.fsencode(mark))
     try:
         with opening.reading(listed) as file:
-            lines = file.read(_LONGEST).decode("utf-8", "replace").splitlines()
+            octets = file.read(_LONGEST + 1)
     except OSError:
-        lines = []
-    if lines[:1] != [_FIRST]:
+        octets = b""
+    if not octets.startswith(_FIRST):
         raise NotReplaced(f"it is a folder with other files, such as {shown_path(min(names))}")
-    known = {os.fsencode(line[_DIGEST:]): line[:_DIGEST] for line in lines}
+    if len(octets) > _LONGEST:
+        raise NotReplaced(f"{mark}, which lists the pages of the earlier report, has more than {_LONGEST:,} bytes")
+    known = {name: line[:_DIGEST] for line in io.BytesIO(octets) if (name := line[_DIGEST:].rstrip(b"\n")) in names}
     for name in sorted(names - {os.fsencode(mark)}):
-        if not _is_as_written(os.path.join(there, name), known.get(name, "")):
+        if not _is_as_written(os.path.join(there, name), known.get(name)):
             raise NotReplaced(
                 f"the earlier report has files that are none of its pages, or not as it wrote them, such as {shown_path(name)}"
             )
     return rights.rights_of(there), rights.rights_of(listed)
 
 
-def _is_as_written(path: bytes, due: str) -> bool:
+def _is_as_written(path: bytes, due: Optional[bytes]) -> bool:
     """Whether a file is a page of a report that has a SHA-256, which a line of the list begins with."""
     name = os.path.basename(os.fsdecode(path))
-    if not due or not _PAGE.fullmatch(name) or os.path.islink(path) or not os.path.isfile(path):
+    if not _PAGE.fullmatch(name) or os.path.islink(path) or not os.path.isfile(path):
         return False
     digest = hashlib.sha256()
     with opening.reading(path) as file:
         for octets in iter(lambda: file.read(_PIECE), b""):
             digest.update(octets)
-    return f"{digest.hexdigest()}  " == due
+    return due == b"%s  " % digest.hexdigest().encode()
 
 
 def _give(room: bytes, mark: str, before: Optional[rights.Rights]) -> None:
     """Gives a new folder the rights of the one that it replaces; otherwise those may enter it who may read its files."""
-    number = os.open(room, os.O_RDONLY | os.O_DIRECTORY | os.O_CLOEXEC)
+    number = os.open(room, os.O_DIRECTORY)
     try:
         if before:
             rights.give(number, before)

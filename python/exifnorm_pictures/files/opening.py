@@ -15,7 +15,7 @@ if TYPE_CHECKING:
 Read = TypeVar("Read")
 
 IRREGULAR = "it is no regular file"
-_FLAGS = sum(getattr(os, name, 0) for name in ("O_RDONLY", "O_NONBLOCK", "O_NOCTTY", "O_CLOEXEC", "O_BINARY"))  # those that the system has
+_FLAGS = sum(getattr(os, name, 0) for name in ("O_NONBLOCK", "O_NOCTTY", "O_CLOEXEC", "O_BINARY"))  # those that the system has
 
 
 _held: dict[bytes, int] = {}  # the numbers of the files that are held open, by their names

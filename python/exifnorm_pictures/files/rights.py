@@ -83,7 +83,7 @@ def limit(file: int, sources: Iterable[Union[bytes, str]]) -> None:
 def make(name: Union[bytes, str], sources: Iterable[Union[bytes, str]]) -> None:
     """Makes an empty file that allows no more than the files that it will be made from. A file that is there stays. Raises `OSError`."""
     with contextlib.suppress(FileExistsError):
-        file = os.open(name, os.O_WRONLY | os.O_CREAT | os.O_EXCL | os.O_CLOEXEC, 0o666)
+        file = os.open(name, os.O_WRONLY | os.O_CREAT | os.O_EXCL, 0o666)
         try:
             limit(file, sources)
         finally:

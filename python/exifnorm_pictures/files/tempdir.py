@@ -45,7 +45,7 @@ def room() -> Iterator[str]:
 def _locked(folder: str) -> int:
     """The number of a folder's new lock, which no other run takes for that of a dead one."""
     new = os.path.join(folder, _NEW)
-    lock = os.open(new, os.O_RDWR | os.O_CREAT | os.O_CLOEXEC, 0o600)
+    lock = os.open(new, os.O_RDWR | os.O_CREAT, 0o600)
     try:
         fcntl.flock(lock, fcntl.LOCK_EX)
         os.write(lock, _MARK)
@@ -81,7 +81,7 @@ def _is_dead(folder: str) -> bool:
     if not names:
         return True
     name = _NEW if names == [_NEW] else _LOCK
-    lock = os.open(os.path.join(folder, name), os.O_RDWR | os.O_NOFOLLOW | os.O_NONBLOCK | os.O_CLOEXEC)
+    lock = os.open(os.path.join(folder, name), os.O_RDWR | os.O_NOFOLLOW | os.O_NONBLOCK)
     try:
         mark = os.read(lock, len(_MARK) + 1) if stat.S_ISREG(os.fstat(lock).st_mode) else None
         if mark != _MARK and (mark or name == _LOCK):

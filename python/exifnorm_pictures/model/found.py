@@ -181,8 +181,7 @@ class Blocks:
         >>> [it.name for it in blocks.blocks]
         ['Exif', 'second Exif']
         """
-        if len(self.blocks) >= FEW:
-            self.check()
+        self.check()
         name = NAMES[kind] + (f" of {part}" if part else "")
         number = self.counts[name] = self.counts.get(name, 0) + 1
         self.blocks.append(FoundBlock(kind, data, name if number == 1 else f"{ordinal(number)} {name}", where, extractor, note=note))

@@ -45,6 +45,7 @@ class Result(Word):
     MOVED_EDITED = ("moved and edited", True)  # which the digest of its coded picture shows
     OTHER_PICTURE_ALONE = ("other picture, the same metadata", True, "The same metadata, and another picture.")
     OTHER_PARTS = ("other parts, the same metadata", True, "The same metadata and picture, and other parts of the files.")
+    OTHER_BYTES = ("other bytes, the same metadata", True, "The same metadata, and other bytes in a format whose pictures aren't read.")
     OTHER_PICTURE = ("other picture", True, "Another picture; no difference in the metadata is known.")
     DAMAGED = ("damaged", None, "The second picture is damaged.")  # and no difference of the metadata is known
     DAMAGED_BEFORE = ("damaged before", None, "The first picture is damaged.")

@@ -7,6 +7,7 @@ from __future__ import annotations
 
 import os
 import re
+from contextlib import suppress
 from types import TracebackType
 from typing import Any, Optional, Union
 
@@ -86,8 +87,27 @@ def _escaped_character(character: str) -> str:
     return f"\\u{number:04x}" if number < 0x10000 else f"\\U{number:08x}"
 
 
+def near(path: Union[bytes, str]) -> str:
+    """A path from the current folder, or whole if that is shorter, however it was given.
+
+    >>> [near(it) for it in ("./a//b.jpg", os.path.abspath("a"), os.getcwd(), "../a/", "/", "-a.jpg", "")]
+    ['a/b.jpg', 'a', '.', '../a', '/', './-a.jpg', '']
+    """
+    name = os.fsdecode(path)
+    with suppress(OSError):  # the current folder is gone
+        name = name.removeprefix(os.path.join(os.getcwd(), ""))
+        if name.startswith(("/", ".")):
+            name = min(os.path.relpath(name), os.path.abspath(name), key=len)
+    return f"./{name}" if name.startswith("-") else name  # which no program takes for an option
+
+
 def shown_path(path: Union[bytes, str]) -> str:
-    """The name of a file in one line, in which different names are different."""
+    """The name of a file for people, in one line, in which different names are different. All commands print it so, in lines and tables."""
+    return escaped(near(path))
+
+
+def whole_path(path: Union[bytes, str]) -> str:
+    """The same for what is read elsewhere: pages, letters, JSON, and what a catalogue keeps."""
     return escaped(os.fsdecode(path))
 
 
@@ -127,7 +147,12 @@ def path_members(path: bytes) -> Members:
     try:
         return {"path": path.decode("utf-8")}
     except UnicodeDecodeError:
-        return {"path": shown_path(path), "path_hex": path.hex()}
+        return {"path": whole_path(path), "path_hex": path.hex()}
+
+
+def path_or_none(path: Optional[bytes]) -> Optional[Members]:
+    """The same, or null without a path."""
+    return None if path is None else path_members(path)
 
 
 def in_words(count: int, noun: str) -> str:

@@ -6,9 +6,8 @@ from dataclasses import dataclass, field
 from typing import Any, Callable, Iterator, NamedTuple, Optional
 
 from ..catalogue.checking import Checked
-from ..comparison.agreeing import checked
 from ..model.errors import WrongUse
-from ..model.texts import shown_path
+from ..model.texts import whole_path
 from . import lists
 from .changes import Changes
 from .contents import About
@@ -80,7 +79,7 @@ class Book:
         """The first page, after all others were written."""
         changes = Changes(self.about) if self.about.old else None
         try:
-            rules = checked(self.about.catalogue, self.about.rules) if self.about.rules else None
+            rules = self.about.checked()
             written = [self._written(section) for section in self._sections(changes, rules)]
             shown = [it for it in written if it.entries or self._says_something(it.section.key)]
             return self._renderer.index(self.counts, shown, changes, rules, self._files(written))
@@ -106,10 +105,10 @@ class Book:
     def _sections(self, changes: Optional[Changes], rules: Optional[Checked]) -> Iterator[Section]:
         about, counts = self.about, self.counts
         if changes:
-            yield Section("changed", "Changed pictures", "picture", changes.entries())
+            yield Section("changed", "Changed or in doubt", "file", changes.entries())
         yield Section("contradictions", "Contradictions", "picture", lists.contradicting(about, counts))
         if rules:
-            yield Section("broken", "Broken rules", "picture", lists.breaking(rules))
+            yield Section("broken", "Broken rules", "rule", lists.breaking(rules))
         yield Section("same", "Pictures with the same metadata", "group", lists.same(about, counts))
         yield Section("captioned", CAPTIONED, "group", lists.captioned(about))
         yield Section("refused", "Refused blocks and what helps", "block", lists.refusals(about, counts))
@@ -149,7 +148,8 @@ class Book:
                 self._search.add(key, place, entry)
         body = self._renderer.entries(key, page, first)
         written.entries += len(page)
-        written.number += sum(_number(it, written.section) for it in page)
+        is_counted = written.section.what in ("group", "rule")
+        written.number += sum(it.is_counted if is_counted else len(it.pictures) for it in page)
         if key in WITH_PICTURES:
             self._shown += self._marks.shown(path for it in page for path in it.pictures)
             self.done(min(self._shown, self.counts.total))  # the older catalogue may have more
@@ -159,13 +159,9 @@ class Book:
         return body
 
 
-def _number(entry: Entry, section: Section) -> int:
-    return entry.is_counted if section.what == "group" else len(entry.pictures)
-
-
 def _label(section: Section, page: list[Entry], number: int) -> str:
     """What a link to a page says: its number, or the folders that it shows."""
     if section.key != "folders":
         return f"page {number}"
-    first, last = (shown_path(it.data.path) for it in (page[0], page[-1]))
+    first, last = (whole_path(it.data.path) for it in (page[0], page[-1]))
     return first + " (continued)" * (not page[0].data.is_first) + f" to {last}" * (first != last)

@@ -17,7 +17,7 @@ from ..comparison.changed.edit_groups import KINDS, Group
 from ..comparison.changed.edit_words import head_of
 from ..comparison.changed.edits import Edit, lists_of, place_of
 from ..comparison.changed.summary import NOW, Summary, name_of
-from ..comparison.changed.summary_lines import lacking_of
+from ..comparison.changed.summary_lines import lacking_of, sentence
 from ..comparison.wording import sides, tell_apart
 from ..fields.left_out import lines
 from ..model.records import Stamp, is_as_before
@@ -101,8 +101,11 @@ class Changes:
             self.close()
             raise
         self.left_out = list(lines(about.choice, True))
-        self.compared = changed.total(self.results)
+        self.sentence = sentence(self.results)
         self._groups = self.summary.kinds.groups()
+        self.number_odd = sum(it.is_odd for it in self._groups)  # pictures that changed like no other
+        self.number_alike = len(self._groups) - self.number_odd  # groups of several pictures
+        self.edited = sum(it.pictures for it in self._groups)
         self._group_of: dict[int, int] = {kind: group.number for group in self._groups for kind in group.kinds}
 
     def close(self) -> None:
@@ -145,16 +148,6 @@ class Changes:
         shown = self._shown(group)
         return ShownGroup(group.number, group.edits, heads, group.pictures, shown, start, length, few)
 
-    @property
-    def number_odd(self) -> int:
-        """How many pictures changed like no other."""
-        return sum(it.is_odd for it in self._groups)
-
-    @property
-    def number_alike(self) -> int:
-        """How many groups of several pictures there are."""
-        return len(self._groups) - self.number_odd
-
     def _shown(self, group: Group) -> list[tuple[ChangedPicture, list[Edit]]]:
         """The first pictures of a group, with their own edits if each has others."""
         if group.is_odd or len(group.kinds) > 1:
@@ -179,7 +172,7 @@ class Changes:
             marker = Marker()
             rows = [Row(names, *_marked(marker, before, after), what) for names, before, after, what in all_rows]
             is_first = True
-            for chunk in chunks(names, lambda name: name):
+            for chunk in chunks(names, len):
                 pictures = [self._picture(result, name, is_other) for name in chunk]
                 difference = Difference(result, note, rows, is_other, count, pictures, is_first, self._group_of.get(kind, 0))
                 paths = tuple(it.after or it.before or b"" for it in pictures)

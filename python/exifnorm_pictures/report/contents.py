@@ -6,10 +6,11 @@ from collections import Counter
 from dataclasses import dataclass
 from typing import Any, Iterable, Iterator, Optional, Sequence
 
+from ..catalogue.checking import Checked
 from ..catalogue.store import Catalogue, Run
+from ..comparison import agreeing
 from ..comparison.changed import states as changed
 from ..comparison.same import groups
-from ..comparison.conflicts import Conflict
 from ..comparison.differing import bare
 from ..comparison.same.group_sentence import sentence_of
 from ..fields.choosing import EVERYTHING, Choice
@@ -45,6 +46,13 @@ class About:
     beside: bytes = b""  # the folder in which the report will lie
     up: str = "./"  # leads from a page to that folder
     _table: Optional[str] = None
+    _checked: Optional[Checked] = None
+
+    def checked(self) -> Optional[Checked]:
+        """What breaks the rules, if there are any. The page and the objects need it."""
+        if self.rules and self._checked is None:
+            self._checked = agreeing.checked(self.catalogue, self.rules, only=self.table())
+        return self._checked
 
     def table(self) -> Optional[str]:
         """The chosen paths as a temporary table."""
@@ -116,8 +124,11 @@ def objects(about: About) -> Objects:
         yield from _changed_members(about)
     for picture in checked(about.catalogue, about.catalogue.pictures(about.table())):
         if picture.real:
-            conflicts = [_conflict_members(label) for label in picture.real]
+            conflicts = [{"label": it.label, "detail": it.detail or None, "texts": texts_by_standard(it)} for it in picture.real]
             yield "contradiction", {"contradicts_itself": path_members(picture.path), "conflicts": conflicts}
+    if rules := about.checked():
+        for broken in rules.broken(by_picture=True):
+            yield "broken", {"breaks_rule": path_members(broken.path), **rules.members(broken)}
     for block in refused(about):
         of_block = {"kind": block.kind, "name": block.name, "cause": block.cause, "refusal": block.refusal}
         yield "refusal", {"refused": path_members(block.path), **of_block}
@@ -148,10 +159,6 @@ def _unread_members(about: About) -> Objects:
             yield "problem", {"problem": picture.problem, **path_members(picture.path), "detail": picture.detail}
         elif picture.not_read != "":
             yield "unread", {"not_read": [part.what for part in about.catalogue.not_read_of(picture)], **path_members(picture.path)}
-
-
-def _conflict_members(conflict: Conflict) -> Members:
-    return {"label": conflict.label, "detail": conflict.detail or None, "texts": texts_by_standard(conflict)}
 
 
 def _changed_members(about: About) -> Objects:

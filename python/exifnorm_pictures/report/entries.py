@@ -22,15 +22,15 @@ class Entry(NamedTuple):
     size: int = 0  # characters of its texts, if they may be long
 
 
-def chunks(pictures: Iterable[Made], path_of: Callable[[Made], bytes]) -> Iterator[list[Made]]:
-    """As many pictures at a time as a page has; fewer if their names are long."""
+def chunks(pictures: Iterable[Made], length_of: Callable[[Made], int]) -> Iterator[list[Made]]:
+    """As many pictures at a time as a page has; fewer if their names and texts are long."""
     chunk: list[Made] = []
     size = 0
     for picture in pictures:
-        size += len(path_of(picture))
+        size += length_of(picture)
         if chunk and (len(chunk) == PAGE or size > CHARACTERS):
             yield chunk
-            chunk, size = [], len(path_of(picture))
+            chunk, size = [], length_of(picture)
         chunk.append(picture)
     if chunk:
         yield chunk

@@ -29,8 +29,7 @@ def below(path: bytes, roots: Sequence[bytes]) -> bytes:
     >>> below(b"/p/x/y", [b"/p"]), below(b"/p/x", [b"/p", b"/q"])
     (b'x/y', b'/p/x')
     """
-    root = roots[0].rstrip(b"/") + b"/" if len(roots) == 1 else b""
-    return path[len(root) :] if path.startswith(root) else path
+    return path.removeprefix(os.path.join(roots[0], b"")) if len(roots) == 1 else path
 
 
 @dataclass

@@ -121,27 +121,32 @@ def contradicting(about: About, counts: Counts) -> Iterator[Entry]:
                 rows = [(it.label, it.detail, texts_by_standard(it)) for it in real]
                 equal.add(json.dumps(rows), picture.path, False, _rank(real[0]))
         for text, count, names in equal.all(by_rank=True):
-            for number, few in enumerate(chunks(names, lambda it: it)):
+            for number, few in enumerate(chunks(names, len)):
                 one = Contradicting(json.loads(text), count, few, not number)
                 yield Entry(one, tuple(few), len(one.rows), not number, len(text))
 
 
 class Breaking(NamedTuple):
-    """A picture that breaks rules, each with what breaks it."""
+    """Pictures that break a rule, each with what breaks it."""
 
-    path: bytes
-    broken: list[tuple[Rule, Broken]]
-
-    def by_rule(self) -> list[tuple[Rule, list[Broken]]]:
-        """Each rule once, with all that breaks it."""
-        return [(rule, [broken for _, broken in all_]) for rule, all_ in groupby(self.broken, lambda pair: pair[0])]
+    rule: Rule
+    total: int  # of all its pictures
+    pictures: list[tuple[bytes, list[Broken]]]
+    is_first: bool
 
 
 def breaking(rules: Checked) -> Iterator[Entry]:
-    """The pictures that break a rule."""
-    for path, of_picture in groupby(rules.broken(by_picture=True), lambda broken: broken.path):
-        broken = [(rules.rules[one.number], one) for one in of_picture]
-        yield Entry(Breaking(path, broken), (path,), len(broken), True, sum(len(one.text or "") for _, one in broken))
+    """The broken rules, each with its pictures."""
+    for number, of_rule in groupby(rules.broken(), lambda broken: broken.number):
+        pictures = ((path, list(all_)) for path, all_ in groupby(of_rule, lambda broken: broken.path))
+        for at, few in enumerate(chunks(pictures, lambda it: len(it[0]) + _length(it[1]))):
+            broken = [one for _, all_ in few for one in all_]
+            one = Breaking(rules.rules[number], rules.pictures_broken(number), few, not at)
+            yield Entry(one, tuple(path for path, _ in few), len(broken), not at, _length(broken))
+
+
+def _length(broken: Sequence[Broken]) -> int:
+    return sum(len(one.text or "") for one in broken)
 
 
 class Same(NamedTuple):
@@ -168,10 +173,10 @@ def same(about: About, counts: Counts) -> Iterator[Entry]:
 def _same(group: Group, keeps: Sequence[Keep]) -> Iterator[Entry]:
     """A group, with what may be done with each of its pictures."""
     gone = [it.size or 0 for it, one in zip(group.members, keeps) if one.keep is False]
-    notes = {it.note for it in keeps}
+    notes = {it.note() for it in keeps}
     of_all = (group.count, sentence_of(group), notes.pop() if len(notes) == 1 else "")
     pictures = zip(group.pictures(), keeps)
-    for number, few in enumerate(chunks(pictures, lambda it: it[0])):
+    for number, few in enumerate(chunks(pictures, lambda it: len(it[0]))):
         one = Same(*of_all, few, not number, len(gone), sum(gone))
         yield Entry(one, tuple(path for path, _ in few), 1, not number)
 
@@ -196,7 +201,7 @@ def captioned(about: About) -> Iterator[Entry]:
             different.add(digest(repr(texts)))
             pictures.append((it.path, list(map(shortened, texts))))
         if len(different) > 1:
-            for number, few in enumerate(chunks(pictures, lambda it: it[0])):
+            for number, few in enumerate(chunks(pictures, lambda it: len(it[0]))):
                 size = sum(len(text) for _, texts in few for text in texts)
                 paths = tuple(path for path, _ in few)
                 one = Captioned(group.count, few, not number)
@@ -300,7 +305,7 @@ def folders(about: About) -> Iterator[Entry]:
     query = f"SELECT path, {_STATE} FROM pictures WHERE {is_shown} ORDER BY folder_of(path), path"
     rows = catalogue.rows(query, (), _two_words)
     for folder, of_folder in groupby(rows, lambda row: os.path.dirname(row[0])):
-        for number, pictures in enumerate(chunks(of_folder, lambda row: row[0])):
+        for number, pictures in enumerate(chunks(of_folder, lambda row: len(row[0]))):
             yield Entry(Folder(folder, pictures, not number), tuple(path for path, _ in pictures))
 
 

@@ -6,7 +6,7 @@ import sqlite3
 from typing import Iterable
 
 WORDS = {
-    "changed": "changed",
+    "changed": "see changes",
     "contradictions": "contradicts itself",
     "broken": "breaks a rule",
     "same": "same as another",

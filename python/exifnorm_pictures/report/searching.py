@@ -7,7 +7,7 @@ import json
 from typing import Any, Callable, Iterable, Optional, Sequence
 
 from ..fields.labels import label_of_fields
-from ..model.texts import safe, shown_path
+from ..model.texts import safe, whole_path
 from .changes import ChangedPicture, Difference, Row
 from .entries import Entry
 from .links import below
@@ -51,12 +51,12 @@ class SearchIndex:
 
 
 def _name(path: bytes, roots: Sequence[bytes]) -> str:
-    return shown_path(below(path, roots))
+    return whole_path(below(path, roots))
 
 
 def _changed(picture: ChangedPicture, name: Callable[[bytes], str]) -> str:
     """The name of a picture, and its new one if it has moved."""
-    names = [shown_path(picture.name), *([name(picture.after)] if picture.after else [])]
+    names = [whole_path(picture.name), *([name(picture.after)] if picture.after else [])]
     return " \N{RIGHTWARDS ARROW} ".join(dict.fromkeys(names))
 
 
@@ -65,13 +65,8 @@ _Words = Callable[[Any], Iterable[Optional[str]]]
 
 def _words(data: Any) -> Iterable[Optional[str]]:
     """What the page says of an entry, besides the names of its pictures."""
-    words: _Words = _WORDS.get(type(data), _of_problem)
-    return words(data)
-
-
-def _of_problem(data: Any) -> list[Optional[str]]:
-    """A file without an answer, or a damaged one."""
-    return [getattr(data, "problem", ""), getattr(data, "detail", "")]
+    words = _WORDS.get(type(data))
+    return words(data) if words else [getattr(data, "problem", ""), getattr(data, "detail", "")]  # of a file without an answer
 
 
 def _of_difference(data: Difference) -> list[str]:
@@ -83,16 +78,16 @@ def _of_contradiction(data: Contradicting) -> list[str]:
     return [text for label, detail, texts in data.rows for text in (label, detail, *texts.values())]
 
 
-def _of_rules(data: Breaking) -> list[Optional[str]]:
-    rules = [(one.label, one.text, f"line {rule.line}: {rule.text}") for rule, one in data.broken]
-    return [text for texts in rules for text in texts]
+def _of_rule(data: Breaking) -> list[Optional[str]]:
+    broken = [text for _, all_ in data.pictures for one in all_ for text in (one.label, one.text)]
+    return [f"line {data.rule.line}: {data.rule.text}", *broken]
 
 
 _WORDS: dict[type, _Words] = {
     Difference: _of_difference,
     Contradicting: _of_contradiction,
-    Breaking: _of_rules,
-    Same: lambda data: [data.sentence, data.note, *(keep.note for _, keep in data.pictures)],
+    Breaking: _of_rule,
+    Same: lambda data: [data.sentence, data.note, *(keep.note() for _, keep in data.pictures)],
     Captioned: lambda data: [text for _, texts in data.pictures for text in texts],
     Mendable: lambda data: [data.block.name, data.block.refusal],
     Unread: lambda data: list(data.parts),
@@ -114,8 +109,8 @@ def labels_of(rows: Sequence[Row]) -> str:
 def kinds_of(lists: Sequence[tuple[str, str]], results: Iterable[str]) -> list[tuple[str, str]]:
     """What can be chosen beside the search box: each list by its key and title, and the kinds of change.
 
-    >>> kinds_of([("changed", "Changed pictures"), ("same", "Pictures with the same metadata")], ["moved"])[1:]
-    [('changed/moved', 'Changed pictures: moved'), ('same', 'Pictures with the same metadata')]
+    >>> kinds_of([("changed", "Changed or in doubt"), ("same", "Pictures with the same metadata")], ["moved"])[1:]
+    [('changed/moved', 'Changed or in doubt: moved'), ('same', 'Pictures with the same metadata')]
     """
     kinds: list[tuple[str, str]] = []
     for key, title in lists:

@@ -12,7 +12,7 @@ from ..fields.left_out import of_maker_notes
 from ..model.errors import Failure
 from ..model.problems import COUNTED, TEXTS
 from ..model.results import Result
-from ..model.texts import escaped, in_words, safe, shown_path
+from ..model.texts import escaped, in_words, safe, whole_path
 from ..refusals.causes import CAUSES, words_of
 from .contradictions import texts_by_standard
 from .searching import labels_of
@@ -74,7 +74,7 @@ def environment(filters: dict[str, Callable[..., Any]]) -> "jinja2.Environment":
 _FILTERS: dict[str, Callable[..., Any]] = {
     "number": "{:,}".format,
     "counted": in_words,
-    "path": shown_path,
+    "path": whole_path,
     "escaped": escaped,
     "rows": lambda counts, tone: [(name, count, tone) for name, count in Counter(dict(counts)).most_common()],  # of a chart
     "unknown": of_notes,

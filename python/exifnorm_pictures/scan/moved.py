@@ -11,7 +11,7 @@ from typing import Any, Callable, Iterator, Optional, Sequence
 from ..catalogue.store import Catalogue
 from ..model.problems import Problem
 from ..model.records import PictureRecord
-from ..model.texts import shown_path
+from ..model.texts import whole_path
 
 Key = tuple[object, ...]
 _MARKS = "size, modified, inode, sha256, coded_picture, not_read, exif_octets, iptc_octets, xmp_octets"
@@ -44,9 +44,10 @@ CREATE INDEX gone_by_target ON gone (went);
 PRAGMA journal_mode = OFF;
 """
 _ADD = "INSERT INTO gone (path, name, size, modified, inode, sha256, coded_picture, content) VALUES (?, ?, ?, ?, ?, ?, ?, ?)"
-_BY_FILE = "SELECT number, went FROM gone WHERE inode = ? AND size = ? AND modified = ? ORDER BY number DESC LIMIT 1"
 _KNOWN = "(sha256 = :sha256 OR ifnull(sha256, '') = '' OR ifnull(:sha256, '') = '')"  # no digest is known to differ
 _KNOWN += " AND (coded_picture = :coded_picture OR ifnull(coded_picture, '') = '' OR ifnull(:coded_picture, '') = '')"
+_BY_FILE = f"""SELECT number FROM (SELECT * FROM gone WHERE inode = :inode AND size = :size AND modified = :modified ORDER BY number DESC LIMIT 1)
+    WHERE went IS NULL AND {_KNOWN}"""
 # The surest first: a file of the same bytes, or the only one of the same blocks, size and time. A file of the same name is taken before others.
 _SAME_BYTES, _ALIKE = (
     [
@@ -89,18 +90,13 @@ class Departed:
     def _meet(self, catalogue: Catalogue, path: bytes, marks: Sequence[Any]) -> None:
         """Notes a picture that is new: one that is gone may have become it."""
         size, modified, inode, sha256, coded_picture, unread, *octets = marks
-        row = self._base.execute(_BY_FILE, (inode, size, modified)).fetchone()
-        if row is None or row[1] is not None or not self._may_be(row[0], sha256, coded_picture):
-            content = _digest(content_key(octets, unread, size))
-            facts = {"sha256": sha256, "coded_picture": coded_picture, "content": content, "modified": modified}
-            row = self._alike({**facts, "name": os.path.basename(path)}) or self._likely(catalogue, path, facts)
+        facts = {"inode": inode, "size": size, "modified": modified, "sha256": sha256, "coded_picture": coded_picture}
+        row = self._base.execute(_BY_FILE, facts).fetchone()
+        if row is None:
+            facts.update(content=_digest(content_key(octets, unread, size)), name=os.path.basename(path))
+            row = self._alike(facts) or self._likely(catalogue, path, facts)
         if row:
             self._base.execute("UPDATE gone SET went = ? WHERE number = ?", (path, row[0]))
-
-    def _may_be(self, number: int, sha256: Optional[str], coded_picture: Optional[str]) -> bool:
-        """Whether no digest is known to differ from that of a picture that is gone."""
-        facts = {"number": number, "sha256": sha256, "coded_picture": coded_picture}
-        return self._base.execute(f"SELECT 1 FROM gone WHERE number = :number AND {_KNOWN}", facts).fetchone() is not None
 
     def _alike(self, facts: dict[str, object]) -> Optional[tuple[int]]:
         """The number of the picture with these bytes, or of the only one with these blocks, this size and this time."""
@@ -127,7 +123,7 @@ class Departed:
         self._add_remounted(catalogue, run, is_new)
         if next(self.moves(), None):
             with catalogue.transaction():
-                words = ((f"to {shown_path(to)}", path) for path, to in self.moves())
+                words = ((f"to {whole_path(to)}", path) for path, to in self.moves())
                 catalogue.base.executemany("UPDATE pictures SET problem = 'Moved', detail = ? WHERE path = ?", words)
 
     def _add_remounted(self, catalogue: Catalogue, run: int, is_new: Callable[[bytes], bool]) -> None:
@@ -147,7 +143,7 @@ class Departed:
     def reports(self) -> Iterator[PictureRecord]:
         """The report on each picture that is gone: moved, or missing."""
         for path, to in self.each():
-            problem, detail = (Problem.VANISHED, Problem.VANISHED.text) if to is None else (Problem.MOVED, f"to {shown_path(to)}")
+            problem, detail = (Problem.VANISHED, Problem.VANISHED.text) if to is None else (Problem.MOVED, f"to {whole_path(to)}")
             yield PictureRecord.of(path, b"", problem=problem, detail=detail)
 
 

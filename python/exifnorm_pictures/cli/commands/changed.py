@@ -17,7 +17,6 @@ from ...comparison.coded import Coded, sentence_of_coded
 from ...comparison.changed.pairs import AFTER, heads_of
 from ...comparison.changed.summary import Summary
 from ...comparison.wording import NONE, line_of, tell_apart
-from ...fields.choosing import Choice
 from ...fields.left_out import lines as lines_of_choice
 from ...fields.listing import MAKER_NOTE
 from ...fields.plain_names import group_name
@@ -29,7 +28,7 @@ from ..choice import choice_of, listings_of, note_absent, refuse_unknown
 from ..exit_codes import UNKNOWN, status_of_results
 from ..looking import catalogue_of, files_of, is_of_pictures
 from ..names import from_list, refuse_pictures, say_unknown
-from ..options import Fields, Files, Output, Run, group_of
+from ..options import Fields, Output, Run, group_of, groups_of
 from ..output import print_line, print_lines, say_notes, table_of
 from ..parser import refuse
 from ..summary import Style, lines
@@ -38,25 +37,24 @@ from ..undo import Undo
 
 def run(arguments: argparse.Namespace) -> int:
     """Prints the differences between two states."""
+    files, run, output = groups_of(arguments)
     if arguments.picture is not None:
-        from . import history  # which few runs need
+        from .. import history  # which few runs need
 
         names = [arguments.before, arguments.after, *arguments.more]
-        return history.run(os.fsencode(arguments.picture), names, group_of(Run, arguments), group_of(Output, arguments))
+        return history.run(os.fsencode(arguments.picture), names, run, output)
     if arguments.more:
         refuse("changed", "two catalogues or folders are compared; --picture takes more")
     sides = (arguments.before, arguments.after)
-    run = group_of(Run, arguments)
     _refuse_missing(*sides)
     refuse_pictures(*sides)
     _refuse_for_catalogues(run, *sides)
-    listed = from_list(group_of(Files, arguments))
+    listed = from_list(files)
     with contextlib.ExitStack() as open_:
         run = _with_sidecars(run, *sides)
         before, after = (open_.enter_context(catalogue_of(it, run, True)) for it in sides)
         asked = _Asked(*sides, arguments.each, arguments.all, arguments.edit, arguments.null, arguments.match)
         work = _Work(asked, group_of(Fields, arguments), run, before, after, listed)
-        output = group_of(Output, arguments)
         if arguments.undo:
             work.undo = Undo(open_.enter_context(open(os.path.join(run.session.room, "undo"), "w+b")))
         work.print(output)
@@ -101,10 +99,12 @@ class _Work:
         self.choice = choice_of(fields)
         refuse_unknown(self.choice, listings_of(before, after))
         self._session = run.session if run.session.programs else None
-        self._only = None if names is None else {it for name in names for it in _places(name)}
+        self._only = None if names is None else {it for name in names for it in (os.path.normpath(name), os.path.abspath(name))}
         self._pictures: "Counter[Coded]" = Counter()  # by what is known of the coded ones
+        folders = sum(map(is_of_pictures, (asked.before, asked.after)))
         has_pixels = before.has_digests() and after.has_digests()
-        self.notes = _Notes(asked, fields, self._pictures, has_pixels)
+        self._pixels = "" if has_pixels else ("index --pixels", "index --pixels, and --pixels here,", "--pixels")[folders]
+        self._asks_for_pictures = not fields.only  # the words of --only are all that is asked
         self.undo: Optional[Undo] = None
 
     def print(self, output: Output) -> None:
@@ -113,16 +113,15 @@ class _Work:
         listed = self._listed()
         if table:
             changed_tables.print_table(table, listed, self.choice)
-            say_notes(*self.notes.of_pictures())
+            say_notes(*self._of_pictures())
         elif output.json:
             changed_tables.print_objects(listed, self.counts, self.choice, self._pictures)
         elif self.asked.each or self.asked.all or output.exact:
-            _print_each(output.exact, listed, self.counts, self.choice, self.notes)
+            self._print_each(listed, output.exact)
         elif self.asked.edit:
             self._print_names(listed)
         else:
-            by_stem = bool(self.asked.match)
-            _print_summary(self._seen(self._compared()), self.counts, self.choice, self.notes, by_stem)
+            self._print_summary()
 
     def _compared(self) -> Comparisons:
         """The pictures; when all are compared, it is noted which words fit no field of them."""
@@ -148,7 +147,8 @@ class _Work:
             yield from self._seen(it for it in self._compared() if summary.add(it) in kinds)
             return
         for it in self._seen(self._compared()):
-            if self.asked.all or it.result.has_changed is not False or self.notes.has_news_of(it):
+            may_look_otherwise = self._asks_for_pictures and it.picture == Coded.BESIDE
+            if self.asked.all or it.result.has_changed is not False or may_look_otherwise:
                 yield it
 
     def _seen(self, comparisons: Comparisons) -> Comparisons:
@@ -168,6 +168,27 @@ class _Work:
                 return set(group.kinds)
         raise WrongUse(f"--edit {number}: no group of pictures has it; changed lists the groups")
 
+    def _of_pictures(self) -> list[str]:
+        """What was compared of the coded pictures, if there are pictures on both sides."""
+        return list(filter(None, [sentence_of_coded(self._pictures, self._pixels)])) if self._asks_for_pictures else []
+
+    def _print_each(self, comparisons: Comparisons, exact: bool) -> None:
+        with contextlib.closing(changes.Equal()) as equal:
+            for comparison in comparisons:
+                parts = json.dumps(_parts_of(comparison, exact))
+                equal.add(parts, comparison.name, (comparison.moved_to or comparison.partner) is not None)
+            _print_equal(equal)
+        print_line(", ".join(f"{self.counts[it]} {it}" for it in Result if self.counts[it]) or "no picture")
+        print_lines([*self._of_pictures(), *lines_of_choice(self.choice, True)])
+
+    def _print_summary(self) -> None:
+        counted = Summary(self.choice)
+        for comparison in self._seen(self._compared()):
+            counted.add(comparison)
+        notes = [*self._of_pictures(), *lines_of_choice(self.choice, True)]
+        for line in lines(counted, self.counts, notes, _style(), bool(self.asked.match)):
+            print(line) if "\x1b" in line else print_line(line)  # all texts in it were made safe
+
     def _print_names(self, comparisons: Comparisons) -> None:
         """The pictures as they are named after the change; for other programs their paths."""
         head = heads_of((self.before, self.after))[AFTER]
@@ -176,64 +197,8 @@ class _Work:
             if not self.asked.null:
                 print_line(shown_path(name))
             else:
-                path = name if name.startswith(b"/") else head + name
-                sys.stdout.buffer.write(path + b"\0")
+                sys.stdout.buffer.write(os.path.join(head, name) + b"\0")
         sys.stdout.buffer.flush()
-
-
-def _places(name: bytes) -> tuple[bytes, bytes]:
-    return os.path.normpath(name), os.path.abspath(name)
-
-
-class _Notes:
-    """What was compared of the coded pictures, once all are compared."""
-
-    def __init__(
-        self,
-        asked: _Asked,
-        fields: Fields,
-        counts: "Counter[Coded]",
-        has_pixels: bool,
-    ) -> None:
-        folders = sum(map(is_of_pictures, (asked.before, asked.after)))
-        words = ("index --pixels", "index --pixels, and --pixels here,", "--pixels")
-        self.pixels = "" if has_pixels else words[folders]
-        # the words of --only are all that is asked
-        self.is_asked = not fields.only
-        self.counts = counts
-
-    def has_news_of(self, comparison: changes.Compared) -> bool:
-        """Whether a picture may look otherwise, though what was compared is the same."""
-        return self.is_asked and (comparison.picture == Coded.BESIDE or comparison.is_unseen)
-
-    def of_pictures(self) -> list[str]:
-        """A sentence, if there are pictures on both sides."""
-        return list(filter(None, [sentence_of_coded(self.counts, self.pixels)])) if self.is_asked else []
-
-
-def _print_each(exact: bool, comparisons: Comparisons, counts: "Counter[Result]", choice: Choice, notes: _Notes) -> None:
-    with contextlib.closing(changes.Equal()) as equal:
-        for comparison in comparisons:
-            parts = json.dumps(_parts_of(comparison, exact))
-            equal.add(parts, comparison.name, (comparison.moved_to or comparison.partner) is not None)
-        _print_equal(equal)
-    print_line(", ".join(f"{counts[it]} {it}" for it in Result if counts[it]) or "no picture")
-    print_lines([*notes.of_pictures(), *lines_of_choice(choice, True)])
-
-
-def _print_summary(
-    comparisons: Comparisons,
-    counts: "Counter[Result]",
-    choice: Choice,
-    notes: _Notes,
-    by_stem: bool,
-) -> None:
-    counted = Summary(choice)
-    for comparison in comparisons:
-        counted.add(comparison)
-    texts = [*notes.of_pictures(), *lines_of_choice(choice, True)]
-    for line in lines(counted, counts, texts, _style(), by_stem):
-        print(line) if "\x1b" in line else print_line(line)  # all texts in it were made safe
 
 
 def _style() -> Style:

@@ -5,51 +5,59 @@ from __future__ import annotations
 import argparse
 import os
 from itertools import groupby
-from typing import TYPE_CHECKING
 
 from ...catalogue.checking import Broken, Checked
 from ...comparison.agreeing import checked as checked_by
+from ...fields.labels import DAMAGE
 from ...fields.rules import AGREE, COMPARED, Rule, WrongRules, rules_of
 from ...model.errors import WrongUse
-from ...model.texts import Members, escaped, in_words, path_members, pictures_in_words, shown_path
-from . import conflicts
+from ...model.texts import escaped, in_words, path_members, pictures_in_words, shown_path
+from .. import agreement
 from ..exit_codes import DIFFERENCE, SUCCESS, UNKNOWN
 from ..looking import Preparing, catalogue_of_pictures, note_sidecars, refuse_for_catalogues
 from ..names import named
 from ..objects import print_object
-from ..options import Files, Output, Run, group_of
-from ..output import named as in_lines
-from ..output import print_line, print_lines, say_notes, table_of
+from ..options import Output, groups_of
+from ..output import named as in_lines, print_line, print_lines, say_notes, table_of
 from ..word_files import text_of_file, words_of_file
-
-if TYPE_CHECKING:
-    from ..tables import Table
 
 
 def run(arguments: argparse.Namespace) -> int:
     """Lists the pictures that break a rule."""
-    files, run, output = group_of(Files, arguments), group_of(Run, arguments), group_of(Output, arguments)
+    files, run, output = groups_of(arguments)
     rules = rules_of_file(arguments.rules) if arguments.rules else [Rule(1, "labels agree", AGREE, COMPARED)]
-    if all(rule.kind == AGREE and not rule.inside and not rule.outside for rule in rules) and not arguments.by_picture:
-        return conflicts.run(files, run, output, arguments.all, {label for rule in rules for label in rule.labels})
+    if all(map(_is_of_labels, rules)) and not arguments.by_picture:
+        return agreement.run(files, run, output, arguments.all, {label for rule in rules for label in rule.labels})
     if arguments.all:
         raise WrongUse("--all lists what differs in form alone, which is for rules that labels agree, without others and without folders")
     sources = named(files)
     refuse_for_catalogues(files, run, sources)
+    run = run._replace(pixels=any(DAMAGE in it.labels for it in rules))  # of a folder
     with catalogue_of_pictures(sources, run) as catalogue, catalogue.reading(is_answer=True):
         note_sidecars(catalogue, sources, run)
         checked = checked_by(catalogue, rules, Preparing(run).report)
-        table = table_of(output, ["picture", "line", "rule", "label", "text", "damage"])
+        _print(output, checked, arguments.by_picture)
+        if checked.not_known():
+            return UNKNOWN
+        return DIFFERENCE if checked.rules_broken() else SUCCESS
+
+
+def _is_of_labels(rule: Rule) -> bool:
+    """Whether a rule is one of agreement, about all pictures."""
+    return rule.kind == AGREE and not rule.inside and not rule.outside
+
+
+def _print(output: Output, checked: Checked, by_picture: bool) -> None:
+    table = table_of(output, "picture, line, rule, label, text, damage")
+    for broken in checked.broken(by_picture) if table or output.json else ():
+        about = {**checked.members(broken), "damage": broken.damage or None}
         if table:
-            _print_table(table, checked, arguments.by_picture)
-        elif output.json:
-            for broken in checked.broken(arguments.by_picture):
-                print_object("check", "picture", _members(checked, broken))
+            table.row(broken.path, *about.values())
         else:
-            _print_lines(checked, arguments.by_picture)
-        _print_end(output, checked)
-        status = DIFFERENCE if checked.rules_broken() else SUCCESS
-        return UNKNOWN if checked.not_known() else status
+            print_object("check", "picture", {**path_members(broken.path), **about})
+    if not (table or output.json):
+        _print_lines(checked, by_picture)
+    _print_end(output, checked)
 
 
 def rules_of_file(name: str) -> list[Rule]:
@@ -81,18 +89,6 @@ def _print_lines(checked: Checked, by_picture: bool) -> None:
         print_line(f"line {checked.rules[number].line}: {checked.rules[number].text}")
         for (path, damage), of_picture in groupby(of_rule, _file_of):
             print_line(f"  {shown_path(path)}: {', '.join(map(_what, of_picture))}{damage}")
-
-
-def _print_table(table: Table, checked: Checked, by_picture: bool) -> None:
-    for broken in checked.broken(by_picture):
-        rule = checked.rules[broken.number]
-        table.row(broken.path, rule.line, rule.text, broken.label, broken.text, broken.damage)
-
-
-def _members(checked: Checked, broken: Broken) -> Members:
-    rule = checked.rules[broken.number]
-    known = {"line": rule.line, "rule": rule.text, "label": broken.label, "text": broken.text}
-    return {**path_members(broken.path), **known, "damage": broken.damage or None}
 
 
 def _print_end(output: Output, checked: Checked) -> None:

@@ -28,7 +28,7 @@ from ..columns import columns
 from ..exit_codes import SUCCESS, UNKNOWN, status_of_results
 from ..names import refuse_folders
 from ..objects import picture_object, print_object, unread_members
-from ..options import Fields, Output, Run, group_of
+from ..options import Fields, group_of, groups_of
 from ..output import note_sidecar, print_lines, table_of
 
 if TYPE_CHECKING:
@@ -37,7 +37,7 @@ if TYPE_CHECKING:
 
 def run(arguments: argparse.Namespace) -> int:
     """Compares two pictures."""
-    run, output = group_of(Run, arguments), group_of(Output, arguments)
+    _, run, output = groups_of(arguments)
     how = How(1, whole=run.whole, pixels=True, seconds=run.limit, debug=run.session.debug, programs=run.session.programs)
     names = [os.fsencode(it) for it in (arguments.before, arguments.after)]
     paths = [os.path.abspath(it) for it in names]
@@ -52,7 +52,7 @@ def run(arguments: argparse.Namespace) -> int:
     choice.add_left_out(comparison.left_out)
     for name in names:
         note_sidecar(name)
-    table = table_of(output, ["field", "before", "after", "exact before", "exact after", "note"])
+    table = table_of(output, "field, before, after, exact before, exact after, note")
     if output.json:
         print_object("compare", "comparison", _members(comparison, rows, names, choice))
     elif table:
@@ -112,7 +112,7 @@ def _lines(comparison: ComparedPair, rows: Sequence[FieldRow], names: Sequence[b
         yield from notes
         return
     if any(it.problem for it in comparison.records):
-        yield from (f"{shown_path(name)}: {it.problem}: {it.detail}" for name, it in zip(names, comparison.records) if it.problem)
+        yield from _problems(comparison, names)
         return
     # `_of_pictures` says the rest of a damaged file
     note = comparison.compared.note.removeprefix(f"{coded_result(*comparison.records)[1]}; ")
@@ -157,15 +157,9 @@ def _of_pictures(comparison: ComparedPair, names: Sequence[bytes]) -> str:
 
 
 def _heads(names: Sequence[bytes]) -> list[str]:
-    """The names of the two files, and if these are equal, the part of their paths that differs."""
-    parts = [it.split(b"/") for it in names]
-    short = [it[-1] for it in parts]
-    if short[0] == short[1]:
-        for end in (0, -1):
-            while all(len(it) > 1 for it in parts) and parts[0][end] == parts[1][end]:
-                parts = [it[1:] if end == 0 else it[:-1] for it in parts]
-        short = [b"/".join(it) for it in parts]
-    return [shown_path(it) for it in (short if short[0] != short[1] else names)]
+    """The names of the two files, or if these are equal, of the nearest folders that differ."""
+    parts = (it.split(b"/")[::-1] for it in names)
+    return [shown_path(it) for it in next((pair for pair in zip(*parts) if pair[0] != pair[1]), names)]
 
 
 def _table(heads: Sequence[str], rows: Sequence[FieldRow], exact: bool) -> Iterator[str]:
@@ -186,6 +180,10 @@ def _cells(row: FieldRow, exact: bool) -> Sequence[str]:
     return (name, *(NONE if text is None else escaped(text) if not exact else text for text in (row.exact if exact else row.plain)))
 
 
+def _problems(comparison: ComparedPair, names: Sequence[bytes]) -> list[str]:
+    return [f"{shown_path(name)}: {it.problem}: {it.detail}" for name, it in zip(names, comparison.records) if it.problem]
+
+
 # --csv
 
 
@@ -193,12 +191,12 @@ def _print_table(table: Table, comparison: ComparedPair, rows: Sequence[FieldRow
     """A row for each field that differs, and at the end one for each reason why the answer isn't whole."""
     for row in rows:
         table.row(row.name, *row.plain, *row.exact, row.note or ("equal number" if row.is_equal_number else None))
-    problems = [f"{shown_path(name)}: {it.problem}: {it.detail}" for name, it in zip(names, comparison.records) if it.problem]
+    problems = _problems(comparison, names)
     note = "" if problems or not comparison.compared.note else f" ({comparison.compared.note})"
     for text in notes:
-        table.row(None, None, None, None, None, text)
+        table.row(*(None,) * 5, text)
     if _status(comparison) == UNKNOWN:
-        table.row(None, None, None, None, None, "; ".join([_sentence(comparison, rows) + note, *problems]))
+        table.row(*(None,) * 5, "; ".join([_sentence(comparison, rows) + note, *problems]))
 
 
 # --json

@@ -21,7 +21,7 @@ from ..each_block import each_block, each_picture, status_of
 from ..exit_codes import SUCCESS
 from ..not_read import damage_lines, damage_members, damage_remedy
 from ..objects import picture_object, print_object
-from ..options import Files, Output, Run, group_of
+from ..options import Files, Run, groups_of
 from ..output import waiting
 
 Try = Callable[[bytes], Union[mend.Mended, str]]  # what `mend` does with a picture, or why that isn't known
@@ -29,9 +29,9 @@ Try = Callable[[bytes], Union[mend.Mended, str]]  # what `mend` does with a pict
 
 def run(arguments: argparse.Namespace) -> int:
     """Explains refusals, and tries whether `mend` helps."""
-    files, run = group_of(Files, arguments), group_of(Run, arguments)
+    files, run, output = groups_of(arguments)
     tried: Try = functools.lru_cache(maxsize=1)(functools.partial(_tried, run.session))
-    if group_of(Output, arguments).json:
+    if output.json:
         return _print_objects(files, run, tried)
 
     def describe(picture: Picture, block: Block) -> list[str]:
@@ -101,7 +101,7 @@ _WITHOUT: Members = {"sentence": None, "meaning": None, "here": [], "bytes": [],
 def _print_objects(files: Files, run: Run, tried: Try) -> int:
     """An object for each block, and one for a picture that wasn't read wholly or has no block."""
     worst = SUCCESS
-    for picture in each_picture(files, run):
+    for picture in each_picture(files, run, True):
         worst = max(worst, status_of(picture, True))
         for block in picture.blocks:
             mended = "" if block.is_accepted else _tried_of(picture, tried)

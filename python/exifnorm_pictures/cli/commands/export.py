@@ -22,14 +22,14 @@ from ..exit_codes import SUCCESS
 from ..looking import files_of, opened
 from ..names import chosen_paths, say_unknown
 from ..objects import print_object
-from ..options import Files, Output, Run, group_of
+from ..options import groups_of
 from ..output import print_line
 
 
 def run(arguments: argparse.Namespace) -> int:
     """Writes a catalogue as plain tables of SQLite."""
     _refuse_table(arguments.file)
-    files, run = group_of(Files, arguments), group_of(Run, arguments)
+    files, run, output = groups_of(arguments)
     chosen = chosen_paths(files)
     name = arguments.source
     with opened(name, run) as catalogue:
@@ -42,7 +42,7 @@ def run(arguments: argparse.Namespace) -> int:
         _put(file, arguments.file, files_of(name))
         say_unknown(chosen or (), catalogue.has)
     counts = {name: written.counts.get(name, 0) for name in ("pictures", "fields", "captions", "conflicts", "groups")}
-    if group_of(Output, arguments).json:
+    if output.json:
         left_out = {"texts_not_kept": work.missing, "absent_groups": work.groups.absent, "maker_notes_not_read": work.maker_notes}
         print_object("export", "summary", {**path_members(os.fsencode(arguments.file)), "rows": counts, **left_out})
     else:
@@ -64,7 +64,7 @@ def _refuse_table(name: str) -> None:
     ending = os.path.splitext(name)[1].lower()
     if ending in (".csv", ".tsv", ".xls", ".xlsx", ".ods", ".json"):
         tables_ = "show --captions, changed, check and same print tables with --csv, and write them with --xlsx"
-        raise WrongUse(f"{shown_path(name)}: export writes a database of SQLite, whose name doesn't end with {ending}; {tables_}")
+        raise WrongUse(f"{shown_path(name)}: catalogue export writes a database of SQLite, whose name doesn't end with {ending}; {tables_}")
 
 
 def _add_about(written: Tables, catalogue: Catalogue) -> None:

@@ -6,7 +6,7 @@ import argparse
 import os
 
 from ...catalogue.store import Catalogue, roll_back
-from ...model.texts import path_members, shown_path
+from ...model.texts import path_members, pictures_in_words, shown_path
 from ..exit_codes import SUCCESS
 from ..looking import written_files_of
 from ..names import named
@@ -23,15 +23,13 @@ def run(arguments: argparse.Namespace) -> int:
     files = written_files_of(name) or [name]
     for file in files:
         roll_back(file)
-        with Catalogue(file):  # it is one; a missing one isn't made
-            pass
+        Catalogue(file).close()  # it is one; a missing one isn't made
     for folder in names:
         count = sum(_forgotten(file, os.path.abspath(folder)) for file in files)
-        plural = "s" * (count != 1)
         if group_of(Output, arguments).json:
             print_object("forget", "folder", {**path_members(folder), "forgotten": count})
         else:
-            print_line(f"{shown_path(folder)}: {count} picture{plural} forgotten")
+            print_line(f"{shown_path(folder)}: {pictures_in_words(count)} forgotten")
     return SUCCESS
 
 

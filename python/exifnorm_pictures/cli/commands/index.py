@@ -6,21 +6,21 @@ import argparse
 import os
 import shlex
 from collections import Counter
-from typing import Iterable, Iterator, Sequence
+from typing import Iterable, Iterator, Optional, Sequence
 
 from ...catalogue import shards
 from ...catalogue.nights import copy_over
 from ...catalogue.store import Catalogue
 from ...model.errors import WrongUse
 from ...model.problems import NOT_READABLE
-from ...model.texts import escaped, kind_of_part, moved_line, pictures_in_words, shown_path
+from ...model.texts import escaped, in_words, kind_of_part, moved_line, pictures_in_words, shown_path
 from ...scan.excluded import Excluded
 from ...scan.index import DAMAGED, OF_LAST_RUN, OF_XMP, REFUSED, IndexOptions, index, lacking, number_of
 from .. import objects
 from ..exit_codes import SUCCESS, UNKNOWN
 from ..looking import how_of, xmp_files_alone
 from ..names import is_catalogue, named
-from ..options import Files, Output, Run, group_of
+from ..options import Files, Output, Run, groups_of
 from ..output import counted, print_line, print_lines, record_lines, say_notes
 from ..sources import settle_first, with_first
 
@@ -35,19 +35,23 @@ def going_on(run: Run, catalogue: Catalogue) -> Run:
 
 def run(arguments: argparse.Namespace) -> int:
     """Looks at pictures and keeps the results."""
-    files, run, output = group_of(Files, arguments), group_of(Run, arguments), group_of(Output, arguments)
+    files, run, output = groups_of(arguments)
     name, files = (arguments.shards, with_first(files)) if arguments.shards else settle_first(files)
     if arguments.shards or shards.is_folder(name):
         from .. import index_shards  # which few need
 
         return index_shards.indexed_shards(name, named(files), run, output, arguments.keep_old)
-    names, excluded = _names(name, files, run), Excluded(run.exclude)
+    return _indexed(name, _names(name, files, run), run, output, arguments.keep_old)
+
+
+def _indexed(name: str, names: Sequence[bytes], run: Run, output: Output, keep_old: Optional[str]) -> int:
+    """Looks at the pictures of one catalogue. Returns the status."""
+    excluded = Excluded(run.exclude)
     has_words = not output.json and not run.quiet
     with Catalogue(name, make=True) as catalogue:
-        if arguments.keep_old:
-            _keep_old(catalogue, arguments.keep_old, run)
-        run = going_on(run, catalogue)
-        options = printing_options(run, output, names)._replace(excluded=excluded)
+        if keep_old:
+            _keep_old(catalogue, keep_old, run)
+        options = printing_options(going_on(run, catalogue), output, names)._replace(excluded=excluded)
         counts, unread = index(options, catalogue), lacking(options, catalogue)
         parts = _parts(catalogue) if has_words else []
         damaged = number_of(catalogue, f"{DAMAGED} AND {OF_LAST_RUN}")
@@ -60,8 +64,12 @@ def run(arguments: argparse.Namespace) -> int:
         objects.print_object("index", "summary", {"counts": dict(counts), "damaged": damaged})
     else:
         print_lines([*parts, counted(counts, damaged), *steps])
-    are_special = any(os.path.exists(it) and not (os.path.isfile(it) or os.path.isdir(it)) for it in names)  # as pipes and devices
-    return UNKNOWN if are_special or any(counts[it] for it in NOT_READABLE) else SUCCESS
+    return UNKNOWN if any(map(_is_special, names)) or any(counts[it] for it in NOT_READABLE) else SUCCESS
+
+
+def _is_special(name: bytes) -> bool:
+    """Whether a name is that of a pipe or a device."""
+    return os.path.exists(name) and not (os.path.isfile(name) or os.path.isdir(name))
 
 
 def not_read_again(counts: "Counter[str]") -> Iterator[str]:
@@ -118,7 +126,7 @@ def _next_steps(catalogue: Catalogue, name: str, excluded: int) -> Iterator[str]
     word = escaped(shlex.quote(name))
     count, _ = groups.totals(catalogue)
     if count:
-        yield f"{count:,} group{'s' * (count > 1)} of pictures whose metadata mean the same: exifnorm-pictures same {word}"
+        yield f"{in_words(count, 'group')} of pictures whose metadata mean the same: exifnorm-pictures same {word}"
     refused = number_of(catalogue, REFUSED)
     if damaged := number_of(catalogue, DAMAGED):
         yield f"{damaged:,} cut off or damaged: exifnorm-pictures report {word} --html report.html"
@@ -141,5 +149,5 @@ def _parts(catalogue: Catalogue) -> list[str]:
         last = number
     if not pictures:
         return []
-    head = f"{pictures:,} picture{'s' * (pictures > 1)} not wholly read: they can only be the same as others if these parts have the same bytes:"
+    head = f"{pictures_in_words(pictures)} not wholly read: they can only be the same as others if these parts have the same bytes:"
     return [head, *(f"  {count:>6,}  {what}" for what, count in kinds.most_common(12)), *["  .."] * (len(kinds) > 12)]

@@ -23,7 +23,7 @@ from .. import listed_texts
 from ..exit_codes import SUCCESS, UNKNOWN
 from ..looking import Preparing, catalogue_for_questions, note_sidecars, refuse_for_catalogues
 from ..objects import print_object
-from ..options import Files, Output, Run, group_of
+from ..options import Output, groups_of
 from ..output import named, print_line, print_lines, say_notes, table_of
 from ..word_files import words_of_file
 
@@ -35,7 +35,7 @@ _WHAT_CHANGED = (
 
 def run(arguments: argparse.Namespace) -> int:
     """Lists pictures by their texts."""
-    files, run, output = group_of(Files, arguments), group_of(Run, arguments), group_of(Output, arguments)
+    files, run, output = groups_of(arguments)
     places = [With(POSITION)] * output.geojson
     question = _question(arguments.having, arguments.without, arguments.where, places)
     columns = _columns(arguments.columns, question, output)
@@ -102,7 +102,7 @@ def _print_names(form: _Form, answer: Answer, columns: Sequence[str]) -> None:
 
 def _print_pictures(form: _Form, answer: Answer, columns: Sequence[str]) -> None:
     output = form.output
-    table = table_of(output, ["picture", *listed_texts.heads(columns)])
+    table = table_of(output, "picture", listed_texts.heads(columns))
     if output.geojson:
         print('{"type": "FeatureCollection", "features": [')
     for before, (picture, texts) in enumerate(answer.pictures([*columns, *[POSITION] * output.geojson])):
@@ -182,7 +182,7 @@ def _unread(reasons: Sequence[Unread]) -> str:
 
 
 _UNREAD = {
-    Unread.PICTURE: "their pictures were not read for damage; index --pixels reads those of JPEG, PNG, TIFF, WebP, HEIC, AVIF, JPEG XL and raw files",
+    Unread.PICTURE: "their pictures were not read for damage; index --pixels reads those of JPEG, PNG, TIFF, WebP, HEIC, AVIF, JPEG XL and raw files like TIFF, as DNG, and no command others",
     Unread.PARTS: "they were not wholly read",
     Unread.POSITION: "their latitude or longitude makes no position, as without a direction or the other one",
     Unread.MAKER_NOTE: "they have a MakerNote, which index --maker-notes --again reads",
@@ -195,7 +195,7 @@ _UNREAD = {
 def _print_counts(form: _Form, answer: Answer, label: str) -> int:
     """Each text of a label with the number of pictures that have it; those that are spelled otherwise below it. Returns of how many pictures it
     isn't known whether they have one."""
-    table = table_of(form.output, [label, "pictures", "like"])
+    table = table_of(form.output, label, ("pictures", "like"))
     common, first = None, ""
     for text, pictures, bare in answer.counted(label):
         like = first if bare == common else ""

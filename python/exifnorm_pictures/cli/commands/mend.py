@@ -16,7 +16,7 @@ from ...model import steps
 from ...model.budgets import TooMuch
 from ...model.errors import WrongUse
 from ...model.problems import Problem
-from ...model.texts import Members, escaped, pictures_in_words, shown_path
+from ...model.texts import Members, escaped, in_words, pictures_in_words, shown_path
 from ...refusals import mend
 from ..exit_codes import DIFFERENCE, FAILURE, SUCCESS, UNKNOWN
 from ..looking import opened
@@ -24,7 +24,7 @@ from ..names import chosen_paths, each_of_list, is_catalogue
 from ..not_read import REMEDY
 from ..objects import picture_object, print_object
 from ..output import print_line, print_lines
-from ..options import Files, Output, Run, group_of
+from ..options import Files, Output, Run, groups_of
 from ..parser import refuse
 
 
@@ -32,8 +32,8 @@ def run(arguments: argparse.Namespace) -> int:
     """Writes copies whose blocks are accepted; of several pictures also counts."""
     names = [name for name in (arguments.picture, arguments.out) if name is not None]
     with held(os.fsencode(arguments.picture or "")):  # which may be a catalogue, or the picture
-        files = _settled(group_of(Files, arguments)._replace(names=names))
-        return _mended(files, group_of(Run, arguments), group_of(Output, arguments), arguments.lossless)
+        files, run, output = groups_of(arguments)
+        return _mended(_settled(files._replace(names=names)), run, output, arguments.lossless)
 
 
 def _mended(files: Files, run: Run, output: Output, lossless: bool) -> int:
@@ -133,10 +133,10 @@ def _refused(name: str, run: Run, only: Optional[set[bytes]]) -> Iterator[tuple[
     is one alone; of `only` some, if it is no None."""
     with opened(name, run) as catalogue:
         roots = catalogue.roots()
-        root = roots[0].rstrip(b"/") + b"/" if len(roots) == 1 else b"/"
+        root = os.path.join(*roots, b"") if len(roots) == 1 else b""
         for path in catalogue.refused():
             if only is None or path in only:
-                yield path, path[len(root) :] if path.startswith(root) else _below(path)
+                yield path, _below(path.removeprefix(root))
 
 
 def _below(name: bytes) -> bytes:
@@ -164,7 +164,7 @@ def _mended_lines(picture: bytes, mended: mend.Mended) -> list[str]:
     )
     if mended.remedy not in (mend.Remedy.NONE, mend.Remedy.COPY):
         lines += ["  not written, because of --lossless"] * (not mended.is_written)
-        lines.append(f"  {len(mended.lost)} printed value{'s' * (len(mended.lost) != 1)} lost or changed")
+        lines.append(f"  {in_words(len(mended.lost), 'printed value')} lost or changed")
         lines += [f"  - {it}" for it in mended.lost] + [f"  + {it}" for it in mended.gained]
     return lines
 

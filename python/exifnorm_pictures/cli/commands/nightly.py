@@ -23,16 +23,16 @@ from ...fields.rules import Rule
 from ...model.errors import WrongUse
 from ...model.problems import NOT_READABLE
 from ...model.records import PictureRecord
-from ...model.texts import escaped, path_members, pictures_in_words, shown_path
+from ...model.texts import escaped, path_members, path_or_none, pictures_in_words, whole_path
 from ...scan.excluded import Excluded
 from ...scan.index import IndexOptions, index, lacking, number_of
 from .check import rules_of_file
 from ..exit_codes import DIFFERENCE, SUCCESS, UNKNOWN
 from .index import going_on, not_read_again, say_unused
 from ..letter import command, letter
-from ..looking import how_of
+from ..looking import how_of, is_quiet
 from ..objects import print_object
-from ..options import Files, Output, Run, group_of
+from ..options import Output, Run, groups_of
 from ..output import local_time, print_lines, say_notes
 from ..page_file import write_report
 from ..sources import settle_first
@@ -70,10 +70,9 @@ class Night:
             if earlier:  # which went on with both
                 run = run._replace(sidecars=run.sidecars or earlier.sidecars, pixels=run.pixels or earlier.pixels)
             run = going_on(run, tonight)
-            quiet = not sys.stderr.isatty()
             own = [*self.nights.names, *([self.output.html] if self.output.html else [])]
             how = how_of(run, run.session.room)
-            options = IndexOptions(self.folders, quiet=quiet, how=how, excluded=self.excluded, lines=self._note, own=own)
+            options = IndexOptions(self.folders, quiet=is_quiet(run), how=how, excluded=self.excluded, lines=self._note, own=own)
             index(options, tonight)
             self.unread = lacking(options, tonight)
 
@@ -121,7 +120,7 @@ class Night:
             known = last.count_below(folder.path)
             if known:
                 kind = Kind.CLOSED if os.path.lexists(folder.path) else Kind.ABSENT
-                between.tally.add(kind, between.shown(folder.path), shown_path(folder.path), count=known)
+                between.tally.add(kind, between.shown(folder.path), whole_path(folder.path), count=known)
 
     def _check(self, between: Between, last: Catalogue, tonight: Catalogue) -> None:
         """What breaks a rule that didn't, by the same rules."""
@@ -137,8 +136,8 @@ class Night:
 
 def run(arguments: argparse.Namespace) -> int:
     """Looks at the folders, tells what is new, and keeps tonight's catalogue as the last one."""
-    name, files = settle_first(group_of(Files, arguments))
-    run, output = group_of(Run, arguments), group_of(Output, arguments)
+    files, run, output = groups_of(arguments)
+    name, files = settle_first(files)
     if shards.is_folder(name):
         raise NoCatalogue(
             f"{name} is a folder of catalogues, and nightly keeps one catalogue. What is new of a folder of them: cp -r {shlex.quote(name)}"
@@ -148,7 +147,7 @@ def run(arguments: argparse.Namespace) -> int:
     folders = list(dict.fromkeys(os.path.abspath(os.fsencode(it)) for it in files.names))
     for folder in folders:
         if os.path.lexists(folder) and not os.path.isdir(folder):
-            raise WrongUse(f"{shown_path(folder)} is no folder")
+            raise WrongUse(f"{whole_path(folder)} is no folder")
     _refuse_unknown(folders, name)
     if output.html:
         from ...report.templating import check  # which takes long to import
@@ -182,20 +181,20 @@ def _refuse_unknown(folders: Sequence[bytes], name: str) -> None:
         with Catalogue(name) as last:
             for folder in absent:
                 if not last.count_below(folder):
-                    raise WrongUse(f"{shown_path(folder)} isn't there, and {name} has no picture below it: is its name right?")
+                    raise WrongUse(f"{whole_path(folder)} isn't there, and {name} has no picture below it: is its name right?")
 
 
 def _of_earlier(nights: Nights) -> list[str]:
     """What is said once of a catalogue of an earlier release."""
     assert nights.earlier
-    last, kept = (shown_path(os.path.basename(os.fsencode(name))) for name in (nights.last, nights.kept))
+    last, kept = (whole_path(os.path.basename(os.fsencode(name))) for name in (nights.last, nights.kept))
     count = nights.earlier.pictures
     had = "" if count is None else f" It had {pictures_in_words(count)}."
     return [f"{last} was of an earlier release, and can't be compared with tonight.", f"It is kept as {kept}.{had}"]
 
 
 def _no_picture(folders: Sequence[bytes]) -> WrongUse:
-    return WrongUse(f"no picture is below {', '.join(map(shown_path, folders))}: is the disk mounted?")
+    return WrongUse(f"no picture is below {', '.join(map(whole_path, folders))}: is the disk mounted?")
 
 
 def _print_news(night: Night) -> None:
@@ -228,11 +227,11 @@ def _write_page(night: Night, name: str) -> None:
 
 
 def _head(night: Night) -> str:
-    where = ", ".join(map(shown_path, night.folders)) if len(night.folders) > 1 else shown_path(os.path.basename(night.folders[0]) or b"/")
+    where = ", ".join(map(whole_path, night.folders)) if len(night.folders) > 1 else whole_path(os.path.basename(night.folders[0]) or b"/")
     many = pictures_in_words(night.pictures)
     if night.is_first:
         return f"{where}, the first night: {many}"
-    return f"{where} since {local_time(night.since)}: {many}, {night.with_news:,} with news"
+    return f"{where} since {local_time(night.since)}: {many} then or now, {night.with_news:,} with news"
 
 
 def _end(night: Night) -> list[str]:
@@ -254,7 +253,7 @@ def _end(night: Night) -> list[str]:
 
 def _print_objects(night: Night) -> None:
     for news in night.news:
-        pictures = [{**path_members(it.path), "to": None if it.to is None else path_members(it.to)} for it in news.names]
+        pictures = [{**path_members(it.path), "to": path_or_none(it.to)} for it in news.names]
         about = {"about": news.about or None, "to": news.to or None}
         print_object(
             "nightly", "news", {"news": news.kind, **about, "is_open": news.kind.is_open, "count": news.count, "pictures": pictures}

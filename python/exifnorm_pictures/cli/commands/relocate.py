@@ -9,7 +9,7 @@ from collections import Counter
 from ...catalogue import shards
 from ...catalogue.store import Catalogue, NoCatalogue, roll_back
 from ...model.errors import WrongUse
-from ...model.texts import path_members, shown_path
+from ...model.texts import path_members, pictures_in_words, shown_path
 from ...scan.relocating import ABSENT, AS_BEFORE, CHANGED, relocated
 from ..exit_codes import DIFFERENCE, SUCCESS
 from ..objects import print_object
@@ -45,7 +45,7 @@ def _print(output: Output, old: bytes, new: bytes, counts: "Counter[str]") -> No
         print_object("relocate", "summary", {"old": path_members(old), "new": path_members(new), **numbers})
         return
     total = sum(numbers.values())
-    print_line(f"{shown_path(old)}: {total:,} picture{'s' * (total != 1)} now below {shown_path(new)}")
+    print_line(f"{shown_path(old)}: {pictures_in_words(total)} now below {shown_path(new)}")
     if counts[CHANGED]:
         print_line(f"{counts[CHANGED]:,} with another size or modification time: the next index reads them again")
     if counts[ABSENT]:

@@ -13,17 +13,17 @@ from ..exit_codes import SUCCESS
 from ..looking import files_of, opened
 from ..names import chosen_paths, say_unknown
 from ..objects import print_object
-from ..options import Fields, Files, Output, Run, group_of
+from ..options import Fields, group_of, groups_of
 from ..page_file import write_report
 from ..parser import refuse
 
 
 def run(arguments: argparse.Namespace) -> int:
     """Writes a page or a folder of pages about a catalogue, or the same as JSON."""
-    files, output = group_of(Files, arguments), group_of(Output, arguments)
+    files, run, output = groups_of(arguments)
     if not output.html and not output.json:
         refuse("report", "give --html PAGE, --json, or both")
-    name, run = arguments.source, group_of(Run, arguments)
+    name = arguments.source
     if output.html:
         check()
     address = links.check(arguments.link_to) if arguments.link_to else ""

@@ -28,9 +28,9 @@ from ..exit_codes import UNKNOWN, status_of_results
 from ..looking import Preparing, keep_texts, opened
 from ..names import chosen_paths, say_unknown
 from ..objects import line_of, print_object
-from ..options import Fields, Files, Output, Run, group_of
+from ..options import Fields, Output, Run, group_of, groups_of
 from ..output import print_line, print_lines, say_notes, table_of
-from ..parser import FILE, PIXELS
+from ..grammar import FILE, PIXELS
 
 if TYPE_CHECKING:
     from ...catalogue.asking import Answer, Texts
@@ -44,7 +44,7 @@ class _Listed:
         self.kind, self.choice, self.texts = kind, choice, texts
         self._has_keep = has_keep  # whether it is said which pictures to keep
         self._is_json = output.json
-        self.table = table_of(output, (*_HEADS, *listed_texts.heads(texts.labels)))
+        self.table = table_of(output, _HEADS, listed_texts.heads(texts.labels))
         self.groups: "Counter[str]" = Counter()  # of pictures, and of other files
         self.pictures: "Counter[str]" = Counter()  # in them
         self.bases: "Counter[Basis]" = Counter()  # of the groups of pictures
@@ -123,7 +123,7 @@ class _Texts:
 
 def run(arguments: argparse.Namespace) -> int:
     """Lists the groups of pictures with the same metadata."""
-    files, run, output = group_of(Files, arguments), group_of(Run, arguments), group_of(Output, arguments)
+    files, run, output = groups_of(arguments)
     name = arguments.source
     kinds = KINDS if arguments.kind in ("all", PIXELS, FILE) else (arguments.kind,)
     chosen = chosen_paths(files)
@@ -140,18 +140,23 @@ def run(arguments: argparse.Namespace) -> int:
         for group in _asked(groups, arguments.kind, kinds, choice, arguments.least_fields):
             listed.add(group)
         left = _left_out(catalogue, arguments.kind, kinds, only, choice)
-        if output.json:
-            print_object("same", "summary", _summary(listed, groups, left))
-        elif listed.table:
-            _add_notes(listed.table, listed, groups, left)
-            for text in _compared_files(arguments.kind, groups):
-                listed.table.row(*(None,) * 6, text)
-            say_notes(*listed.texts.end())
-        else:
-            print_lines(_totals(listed, groups, left, arguments.least_fields))
+        _print_end(output, listed, groups, left, arguments.least_fields)
         say_unknown(chosen or (), catalogue.has)
-    is_open = left.is_open or listed.texts.not_known or listed.texts.has_unread
-    return UNKNOWN if is_open else status_of_results(listed.results)
+    if left.is_open or texts.not_known or texts.has_unread:
+        return UNKNOWN
+    return status_of_results(listed.results)
+
+
+def _print_end(output: Output, listed: _Listed, groups: Groups, left: _Left, least_fields: int) -> None:
+    """The counts below the groups."""
+    if output.json:
+        print_object("same", "summary", _summary(listed, groups, left))
+    elif listed.table:
+        for text in (*of_labels(listed.choice), *_compared_files(listed.kind, groups)):
+            listed.table.row(*(None,) * 6, text)
+        say_notes(*_of_left(listed, left), *_of_absent(groups.absent), *listed.texts.end())
+    else:
+        print_lines(_totals(listed, groups, left, least_fields))
 
 
 class _Left(NamedTuple):
@@ -202,13 +207,12 @@ Keeps = dict[int, Keep]  # by the number of a picture; empty if no file was look
 def _totals(listed: _Listed, groups: Groups, left: _Left, least_fields: int) -> Iterator[str]:
     count, files = listed.groups["pictures"], listed.groups["files"]
     yield from [""] * (count + files > 1)
-    more = f", and {files} group{'s' * (files != 1)} of {listed.pictures['files']} files that are no pictures" if files else ""
-    yield f"{count} group{'s' * (count != 1)} of {listed.pictures['pictures']} pictures{_of_bases(listed)}{more}"
+    more = f", and {in_words(files, 'group')} of {listed.pictures['files']} files that are no pictures" if files else ""
+    yield f"{in_words(count, 'group')} of {listed.pictures['pictures']} pictures{_of_bases(listed)}{more}"
     if groups.small:
         are = "are" if groups.small > 1 else "is"
         yield f"{groups.small} more, of pictures with fewer than {least_fields} fields, {are} not listed"
-    if groups.absent:
-        yield _of_absent(groups.absent)
+    yield from _of_absent(groups.absent)
     yield from listed.texts.end()
     yield from _of_left(listed, left)
     yield from of_labels(listed.choice)
@@ -264,9 +268,10 @@ def _compared_files(kind: str, groups: Groups) -> Iterator[str]:
             yield f"{files.unreadable:,} not compared: {'it was' if files.unreadable == 1 else 'they were'} not read"
 
 
-def _of_absent(count: int) -> str:
-    is_one = count == 1
-    return f"{count:,} more {'is' if is_one else 'are'} not listed, because {'its' if is_one else 'their'} files are gone or have changed since they were indexed"
+def _of_absent(count: int) -> Iterator[str]:
+    if count:
+        are, their = ("is", "its") if count == 1 else ("are", "their")
+        yield f"{count:,} more {are} not listed, because {their} files are gone or have changed since they were indexed"
 
 
 _NOT_FOUND = "A copy that was resized or saved again has other data, and isn't found"
@@ -281,22 +286,28 @@ def _print_lines(group: Group, number: int, keeps: Keeps, texts: _Texts) -> None
     links: dict[bytes, list[Link]] = {}
     for link in group.files.links:
         links.setdefault(link.of, []).append(link)
-    reasons = set(group.reasons.values())
     of_all = _of_all(group, keeps)
     about = {} if of_all or {one.why for one in keeps.values()} == {NOT_KNOWN} else keeps
     for picture in group.members:
-        reason = group.reasons.get(picture.id, "") if len(reasons) > 1 else ""
-        notes = "; ".join(filter(None, [reason, about.get(picture.id, _without_advice(picture)).note]))
-        more = f", {others} in a group with it above" if (others := _others(group, picture)) else ""
-        print_line(f"  {shown_path(picture.path)}" + (f"   ({notes})" if notes else "") + more)
+        print_line(f"  {shown_path(picture.path)}{_said_of(group, picture, about)}")
         print_lines(listed_texts.lines(texts.labels, texts.of(picture), "      "))
         print_lines(f"      not counted, {link.how}: {shown_path(link.path)}" for link in links.get(picture.path, ()))
-    if len(reasons) == 1 and reasons != {""}:
-        print_line(f"    all: {reasons.pop()}")
-    if of_all:
-        print_line(f"    {of_all}")
+    print_lines(f"    all: {reason}" for reason in set(group.reasons.values()) if reason and _have_one_reason(group))
+    print_lines([f"    {of_all}"] * bool(of_all))
     for what, paths in (("gone", group.files.gone), ("changed since it was indexed", group.files.changed)):
         print_lines(f"    not counted, {what}: {shown_path(path)}" for path in paths)
+
+
+def _have_one_reason(group: Group) -> bool:
+    return len(set(group.reasons.values())) == 1
+
+
+def _said_of(group: Group, picture: PictureRecord, keeps: Keeps) -> str:
+    """What is said of a picture behind its name."""
+    reason = "" if _have_one_reason(group) else group.reasons.get(picture.id, "")
+    notes = "; ".join(filter(None, [reason, keeps.get(picture.id, _without_advice(picture)).note(shown_path)]))
+    others = _others(group, picture)
+    return (f"   ({notes})" if notes else "") + (f", {others} in a group with it above" if others else "")
 
 
 def _of_all(group: Group, keeps: Keeps) -> str:
@@ -316,7 +327,7 @@ def _others(group: Group, picture: PictureRecord) -> str:
 
 # --csv
 
-_HEADS = ("group", "pictures", "what is the same", "rests on", "picture", "keep", "note")
+_HEADS = "group, pictures, what is the same, rests on, picture, keep, note"
 
 
 def _print_rows(table: Table, number: int, group: Group, keeps: Keeps, texts: _Texts) -> None:
@@ -330,13 +341,6 @@ def _print_rows(table: Table, number: int, group: Group, keeps: Keeps, texts: _T
         table.row(*about, path, None, note)
 
 
-def _add_notes(table: Table, listed: _Listed, groups: Groups, left: _Left) -> None:
-    """The labels in the table, and on standard error what isn't known or listed."""
-    for note in of_labels(listed.choice):
-        table.row(*(None,) * 6, note)
-    say_notes(*_of_left(listed, left), *[_of_absent(groups.absent)] * bool(groups.absent))
-
-
 def _without_advice(picture: PictureRecord) -> Keep:
     """What is said of a picture of which nothing is said about keeping."""
     return Keep(why=damaged(picture.damage)) if picture.damage else Keep()
@@ -345,7 +349,7 @@ def _without_advice(picture: PictureRecord) -> Keep:
 def _note(group: Group, picture: PictureRecord, keep: Keep) -> str:
     others = _others(group, picture)
     more = f"{others} in an earlier group with it" if others else ""
-    return "; ".join(filter(None, [group.reasons.get(picture.id), more, keep.note]))
+    return "; ".join(filter(None, [group.reasons.get(picture.id), more, keep.note(shown_path)]))
 
 
 def _not_counted(group: Group) -> Iterator[tuple[bytes, str]]:
@@ -390,5 +394,5 @@ def _print_group(number: int, group: Group, keeps: Keeps, texts: _Texts) -> None
 
 
 def _picture_members(group: Group, picture: PictureRecord, keep: Keep) -> Members:
-    known = {"keep": keep.keep, "keep_note": keep.note or None, "reason": group.reasons.get(picture.id) or None}
+    known = {"keep": keep.keep, "keep_note": keep.note() or None, "reason": group.reasons.get(picture.id) or None}
     return {**path_members(picture.path), **known, "others": group.others.get(picture.id, 0)}

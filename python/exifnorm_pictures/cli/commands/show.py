@@ -5,7 +5,6 @@ from __future__ import annotations
 import argparse
 from typing import TYPE_CHECKING, Iterator
 
-from ...fields.field import Field
 from ...fields.listing import readable
 from ...fields.shown import LIMITS
 from ...model import steps
@@ -17,7 +16,7 @@ from ..each_block import Describe, each_block, each_picture, status_of
 from ..exit_codes import SUCCESS, UNKNOWN
 from ..not_read import no_block, picture_cut, unread
 from ..objects import print_object
-from ..options import Files, Least, Output, Run, group_of
+from ..options import Least, groups_of
 from ..output import table_of
 
 if TYPE_CHECKING:
@@ -26,15 +25,15 @@ if TYPE_CHECKING:
 
 def run(arguments: argparse.Namespace) -> int:
     """Lists the fields of pictures."""
-    files, run, output = group_of(Files, arguments), group_of(Run, arguments), group_of(Output, arguments)
+    files, run, output = groups_of(arguments)
     if arguments.captions:
-        from . import captions  # which few runs need
+        from .. import captions  # which few runs need
 
         return captions.run(files, run, output)
     if not output.json and not output.csv:
         return each_block(files, run, lambda: _describer(output.exact, run.least))
     worst = SUCCESS
-    table = table_of(output, ["picture", "block", "field", "key", "type", "count", "value", "exact value", "note"])
+    table = table_of(output, "picture, block, field, key, type, count, value, exact value, note")
     for picture in each_picture(files, run):
         shown = ShownFields()
         if table:
@@ -58,18 +57,15 @@ def _describer(exact: bool, least: Least) -> Describe:
     def lines_of(_: Picture, block: Block) -> list[str]:
         by = f", extracted by {PROGRAMS[block.extractor]}" if block.extractor in PROGRAMS else ""
         fields = shown.of(block)
-        lines = list(readable(fields, block.name + by)) if exact else [f"{block.name}{by}:", *map(_plain_line, fields)]
+        # the column is always the same, so that a further field changes no other line
+        plain = (f"  {it.name}{' ' * max(0, _COLUMN - width(it.name))}  {escaped(it.text)}" for it in fields)
+        lines = list(readable(fields, block.name + by)) if exact else [f"{block.name}{by}:", *plain]
         if shown.has_more:
             lines.append(f"  {_MORE}")
             least.status = UNKNOWN
         return lines if block.is_accepted else [*_repaired(block), *lines[1:]]
 
     return lines_of
-
-
-def _plain_line(field: Field) -> str:
-    """A field with its name and its plain value. The column is always the same, so that a further field changes no other line."""
-    return f"  {field.name}{' ' * max(0, _COLUMN - width(field.name))}  {escaped(field.text)}"
 
 
 _COLUMN = 30  # characters of a name, of which few have more

@@ -16,15 +16,14 @@ from ...comparison import verified
 from ...comparison.verified import State
 from ...files import atomic
 from ...model.errors import WrongUse
-from ...model.texts import escaped, in_words, path_members, shown_path
-from ...scan.batches import How
+from ...model.texts import escaped, in_words, path_members, path_or_none, shown_path
 from ...scan.hashing import looker
 from ...scan.index import IndexOptions, index
 from ..exit_codes import DIFFERENCE, SUCCESS, UNKNOWN
-from ..looking import opened
+from ..looking import how_of, is_quiet, opened
 from ..names import named
 from ..objects import print_object
-from ..options import Files, Output, Run, group_of
+from ..options import Files, Output, Run, groups_of
 from ..output import closed_folder, print_line, print_lines
 from ..sources import settle_first, with_first
 
@@ -42,7 +41,7 @@ LISTS = {
 
 def run(arguments: argparse.Namespace) -> int:
     """Compares the files that are there with a catalogue."""
-    files, run, output = group_of(Files, arguments), group_of(Run, arguments), group_of(Output, arguments)
+    files, run, output = groups_of(arguments)
     name, files = (arguments.bag, with_first(files)) if arguments.bag else settle_first(files)
     if arguments.evidence and os.path.lexists(arguments.evidence):
         raise atomic.NotReplaced(atomic.not_written(escaped(arguments.evidence), "it is there already"))
@@ -63,15 +62,19 @@ def run(arguments: argparse.Namespace) -> int:
         _remove_state(arguments.state)
         below = f" below {', '.join(map(shown_path, folders))}" if folders else ""
         raise WrongUse(f"{name} has no file{below}, and none is there, so nothing is verified")
-    if output.json:
-        print_object("verify", "summary", {"counts": dict(told.counts), "damaged_before": told.old, **sums._asdict()})
-    else:
-        print_lines(_lines(told, sums, "manifest" if arguments.bag else "catalogue"))
-        if arguments.evidence:
-            print_line(f"{escaped(arguments.evidence)}: SHA-256 of {in_words(count, 'file')}, {_READERS[form]}")
+    _print_end(output, told, sums, bool(arguments.bag))
+    if arguments.evidence and not output.json:
+        print_line(f"{escaped(arguments.evidence)}: SHA-256 of {in_words(count, 'file')}, {_READERS[form]}")
     _remove_state(arguments.state)
     # a bag has no other files than its manifest, nor other names
     return _status(told, bool(arguments.bag and (new or told.counts[State.MOVED])))
+
+
+def _print_end(output: Output, told: Told, sums: _Sums, is_bag: bool) -> None:
+    if output.json:
+        print_object("verify", "summary", {"counts": dict(told.counts), "damaged_before": told.old, **sums._asdict()})
+    else:
+        print_lines(_lines(told, sums, "manifest" if is_bag else "catalogue"))
 
 
 def _status(told: Told, has_more: bool) -> int:
@@ -121,8 +124,8 @@ def _read_again(folders: Sequence[bytes], run: Run, state: Optional[str], before
     with Catalogue(name, make=True) as catalogue:
         closed: list[str] = []
         # sidecars are files like all others here, each with its own digest
-        how = How(run.jobs, False, False, True, False, run.limit, run.session.room, run.session.debug, closed_folder, run.session.programs)
-        options = IndexOptions(folders, quiet=run.quiet or not sys.stderr.isatty(), how=how, print_line=closed.append, look=looker(before))
+        how = how_of(run._replace(pixels=True), run.session.room, closed_folder)
+        options = IndexOptions(folders, quiet=is_quiet(run), how=how, print_line=closed.append, look=looker(before))
         earlier = index(options, catalogue)["unchanged"]
         if closed:
             raise NoCatalogue("; ".join(closed))
@@ -210,8 +213,8 @@ def _first(names: Sequence[str]) -> Iterator[str]:
 def _print_one(output: Output, result: verified.Verified) -> None:
     """Prints an object, or the line of a file with its state."""
     if output.json:
-        place = None if result.place is None else path_members(result.place)
-        print_object("verify", "picture", {**path_members(result.path), "state": result.state, "note": result.note or None, "place": place})
+        known = {"state": result.state, "note": result.note or None, "place": path_or_none(result.place)}
+        print_object("verify", "picture", {**path_members(result.path), **known})
     else:
         state = [result.state.text.removesuffix(": index --pixels adds it")] * (result.state != State.AS_IT_WAS)
         print_line(f"{shown_path(result.path)}: {', '.join([*state, *_words(result)])}")

@@ -16,7 +16,7 @@ from ...fields.plain_names import group_name
 from ...files.session import Session
 from ...judge.sides import Sides
 from ...model.budgets import WAITING_BYTES
-from ...model.found import EXIF, NAMES, OWN, PROGRAMS, XMP_FILE, hidden_kinds, lost_kinds
+from ...model.found import EXIF, NAMES, OWN, PROGRAMS, hidden_kinds, lost_kinds
 from ...model.problems import Problem
 from ...model.records import BlockRecord, PictureRecord, is_same_file
 from ...model.results import Result
@@ -49,7 +49,6 @@ class Compared(NamedTuple):
     left_out: Sequence[str] = ()  # fields and kinds that differ and don't count
     picture: Coded = Coded.UNKNOWN  # what is known of the coded picture
     parts: Sequence[str] = ()  # what has come, gone or changed of the rest of the file
-    is_unseen: bool = False  # whether its file has other bytes and the same metadata, and its picture can't be compared
     damage: tuple[str, str] = ("", "")  # of the file before and after
     is_new: bool = False  # only there afterwards
     has_more: bool = False  # whether further fields weren't compared, of pages that share blocks of many fields
@@ -98,28 +97,19 @@ def compared(pair: Pair, sides: Sides, session: Optional[Session], choice: Choic
         return comparison._replace(result=Result.MOVED_EDITED, note=_joined(comparison.note, ", ".join(parts)))
     if pair.place is not None or (choice.only and not coded.is_damaged):
         return comparison
-    return _with_picture(comparison, damage, pair, choice)
+    return _with_picture(comparison, damage, choice)
 
 
-def _with_picture(comparison: Compared, damage: str, pair: Pair, choice: Choice) -> Compared:
+def _with_picture(comparison: Compared, damage: str, choice: Choice) -> Compared:
     """With what the coded pictures make of the result of the metadata."""
-    coded, result, clause = comparison.picture, comparison.result, ""
+    result, clause = comparison.result, ""
     if not choice.only:
-        result, clause = result_with(coded, result, comparison.parts)
-    is_unseen = coded == Coded.UNKNOWN and result == Result.SAME and _have_other_bytes(pair)
-    unseen = "the file has other bytes, and its picture isn't read here" if is_unseen else ""
-    return comparison._replace(result=result, note=_joined(damage, comparison.note, clause, unseen), is_unseen=is_unseen)
+        result, clause = result_with(comparison.picture, result, comparison.parts)
+    return comparison._replace(result=result, note=_joined(damage, comparison.note, clause))
 
 
 def _joined(*clauses: str) -> str:
     return "; ".join(filter(None, clauses))
-
-
-def _have_other_bytes(pair: Pair) -> bool:
-    """Whether a picture that isn't compared may have changed, by the digests of its file: an XMP file has none."""
-    if not pair.old or not pair.new or pair.old.type == pair.new.type == XMP_FILE:
-        return False
-    return bool(pair.old.sha256 and pair.new.sha256 and pair.old.sha256 != pair.new.sha256)
 
 
 def _by_metadata(pair: Pair, sides: Sides, session: Optional[Session], choice: Choice) -> Compared:

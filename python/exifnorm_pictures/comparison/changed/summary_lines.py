@@ -7,7 +7,7 @@ from itertools import chain
 from typing import Iterable, Iterator, NamedTuple
 
 from ...model.results import Result
-from ...model.texts import pictures_in_words, shown_path
+from ...model.texts import in_words, pictures_in_words, shown_path
 from . import states as changed
 from .edit_groups import Group, Lacking
 from .summary import NOW, Summary
@@ -16,39 +16,29 @@ from ..wording import moved
 LONGEST_NAMES = 100  # characters of the names of pictures in a line
 
 
-def sentence_of_partners(counts: "Counter[Result]") -> str:
-    """The same of pictures in pairs by name; those without a partner aren't compared.
-
-    >>> sentence_of_partners(Counter({Result.SAME: 5, Result.DIFFERENT: 1, Result.MISSING_AFTER: 2, Result.MISSING_BEFORE: 1}))
-    '6 pairs by name: 1 changed. Without a partner: 2 before, 1 after.'
-    """
-    alone = {"before": counts[Result.MISSING_AFTER], "after": counts[Result.MISSING_BEFORE]}
-    none = (Result.MISSING_AFTER, Result.MISSING_BEFORE, Result.UNCLEAR)
-    paired = Counter({it: count for it, count in counts.items() if it not in none})
-    words = ", ".join(f"{count:,} {side}" for side, count in alone.items() if count)
-    pairs = sentence(paired).partition(" compared: ")[2]
-    total = changed.total(paired)
-    text = f"{total:,} pair{'s' * (total != 1)} by name: {pairs}" if total else "No pair by name."
-    return text + f" Without a partner: {words}." * bool(words)
-
-
-def sentence(counts: "Counter[Result]") -> str:
-    """How many pictures were compared, and how many changed, or are damaged.
+def sentence(every: "Counter[Result]", by_stem: bool = False) -> str:
+    """How many pictures were compared, and how many changed, or are damaged; and how many have no partner, so that they aren't compared.
 
     >>> sentence(Counter({Result.SAME: 5, Result.DAMAGED: 2})), sentence(Counter({Result.DIFFERENT: 1, Result.REFUSED: 1}))
     ('7 pictures compared: 2 damaged.', '2 pictures compared: 1 changed, 1 not wholly compared.')
-    >>> sentence(Counter({Result.DIFFERENT: 2, Result.MOVED: 1})), sentence(Counter({Result.SAME: 3, Result.MOVED: 2}))
-    ('3 pictures compared: 2 changed, 1 moved.', '5 pictures compared: 2 moved.')
+    >>> sentence(Counter({Result.SAME: 5, Result.DIFFERENT: 1, Result.MISSING_AFTER: 2, Result.MISSING_BEFORE: 1}), by_stem=True)
+    '6 pairs by name: 1 changed. Without a partner: 2 only before, 1 only after.'
+    >>> sentence(Counter({Result.MISSING_BEFORE: 2})), sentence(Counter({Result.SAME: 3, Result.MOVED: 2}))
+    ('No picture to compare. Without a partner: 2 only after.', '5 pictures compared: 2 moved.')
     """
+    counts = Counter({it: count for it, count in every.items() if it not in _WITHOUT_PARTNER})
     total, changes, undecided = changed.total(counts), changed.number_changed(counts), changed.number_undecided(counts)
-    if not total:
-        return "No picture to compare."
     many = ["all changed" if changes == total > 1 else f"{changes:,} changed"] * bool(changes)
-    counted = {it: counts[it] for it in (Result.MOVED, Result.RENUMBERED, Result.DAMAGED, Result.DAMAGED_BEFORE) if counts[it]}
-    many += [f"{count:,} {it}" for it, count in counted.items()]
+    many += [f"{counts[it]:,} {it}" for it in (Result.MOVED, Result.RENUMBERED, Result.DAMAGED, Result.DAMAGED_BEFORE) if counts[it]]
     others = undecided - counts[Result.DAMAGED] - counts[Result.DAMAGED_BEFORE]
     many += [f"{others:,} not wholly compared"] * bool(others)
-    return f"{pictures_in_words(total)} compared: {', '.join(many) or 'none changed'}."
+    what = f"{in_words(total, 'pair')} by name" if by_stem else f"{pictures_in_words(total)} compared"
+    text = f"{what}: {', '.join(many) or 'none changed'}." if total else "No pair by name." if by_stem else "No picture to compare."
+    alone = ", ".join(f"{every[it]:,} {side}" for it, side in _WITHOUT_PARTNER.items() if side and every[it])
+    return text + f" Without a partner: {alone}." * bool(alone)
+
+
+_WITHOUT_PARTNER = {Result.MISSING_AFTER: "only before", Result.MISSING_BEFORE: "only after", Result.UNCLEAR: ""}
 
 
 def shown_name(name: bytes) -> str:
@@ -124,4 +114,4 @@ def _pictures(summary: Summary, result: str) -> Iterator[_Name]:
     """The first pictures, without those that moved with their folder."""
     for path, place in summary.pictures.get(result, ()):
         if not (result == Result.MOVED and summary.moved.count(path, place) > 1):
-            yield _Name(moved(path, place) if place else shown_path(path))
+            yield _Name(moved(shown_path(path), shown_path(place)) if place else shown_path(path))

@@ -15,7 +15,7 @@ from ...model.problems import NOT_READABLE, Problem
 from ...model.records import PictureRecord
 from ...model.rest import counting
 from ...model.results import Result
-from ...model.texts import shown_path
+from ...model.texts import whole_path
 from ...model.words import Word
 from ...scan.moved import moved_together
 from .absent import Absent
@@ -118,10 +118,8 @@ class Between:
 
     def shown(self, path: bytes, side: int = 1) -> bytes:
         """The name of a picture or a folder, by its full path."""
-        root = self._roots[side].rstrip(b"/")
-        if root and path == root:
-            return os.path.basename(path)
-        return path[len(root) + 1 :] if root and path.startswith(root + b"/") else path
+        root = self._roots[side]
+        return os.path.basename(path) if root and path == root else path.removeprefix(os.path.join(root, b""))
 
     def _full(self, side: int, name: bytes) -> bytes:
         return os.path.join(self._roots[side], name)
@@ -218,14 +216,14 @@ class Between:
     def _settle(self) -> None:
         together = moved_together(self.moves)
         for (old, new), paths in together.items():
-            self.tally.add(Kind.MOVED_FOLDER, self.shown(old, 0), shown_path(old), self.shown(new), len(paths), shown_path(new))
+            self.tally.add(Kind.MOVED_FOLDER, self.shown(old, 0), whole_path(old), self.shown(new), len(paths), whole_path(new))
         in_folders = {path for paths in together.values() for path in paths}
         for old, new in self.moves.items():
             if old not in in_folders:
                 self.tally.add(Kind.RENUMBERED if old in self._renumbered else Kind.MOVED, self.shown(old, 0), "", self.shown(new))
         for folder in self.absent.settled():
             if folder.is_held:
-                self.tally.add(Kind.ABSENT, self.shown(folder.path, 0), shown_path(folder.path), count=folder.count)
+                self.tally.add(Kind.ABSENT, self.shown(folder.path, 0), whole_path(folder.path), count=folder.count)
                 self.with_news -= folder.count
             else:
                 for name in folder.names:
@@ -238,10 +236,8 @@ def _kinds(comparison: Compared) -> Iterator[tuple[Kind, str]]:
     kind = _OF_CODED.get(comparison.picture)
     if kind:
         yield from ((kind, part) for part in (counting(comparison.parts) if kind == Kind.PARTS else [""]))
-    if comparison.is_unseen:
-        yield Kind.UNSEEN, ""
-    if comparison.result == Result.FILE_DIFFERENT:
-        yield Kind.WRITTEN, ""
+    if comparison.result in _OF_FILES:
+        yield _OF_FILES[comparison.result], ""
     elif comparison.result.is_open and comparison.result not in (Result.DAMAGED, Result.DAMAGED_BEFORE):
         yield Kind.OPEN, ""
 
@@ -255,6 +251,7 @@ def _kind_of_text(label: str, was_there: bool, is_there: bool) -> Kind:
     return Kind.POSITION if label == POSITION else Kind.ADDED
 
 
+_OF_FILES = {Result.FILE_DIFFERENT: Kind.WRITTEN, Result.OTHER_BYTES: Kind.UNSEEN}
 _OF_CODED = {Coded.DAMAGED: Kind.DAMAGED, Coded.DAMAGED_BEFORE: Kind.READABLE, Coded.OTHER: Kind.OTHER_PICTURE, Coded.BESIDE: Kind.PARTS}
 
 

@@ -6,13 +6,13 @@ from __future__ import annotations
 
 import contextlib
 from collections import Counter
-from typing import NamedTuple, Optional, Sequence
+from typing import Callable, NamedTuple, Optional, Sequence
 
 from ...model import rest
 from ...model.found import XMP_FILE
 from ...model.problems import Problem
 from ...model.records import PictureRecord
-from ...model.texts import shown_path
+from ...model.texts import whole_path
 from .group import Group
 
 NOT_KNOWN = "whether its picture is that of another one isn't known: index --pixels finds out"
@@ -35,10 +35,9 @@ class Keep(NamedTuple):
     why: str = ""  # nothing shows it
     same_as: Optional[bytes] = None  # the picture that stays for it
 
-    @property
-    def note(self) -> str:
-        """The reason for people."""
-        return self.why or (f"the same picture as {shown_path(self.same_as)}" if self.same_as is not None else "")
+    def note(self, shown: Callable[[bytes], str] = whole_path) -> str:
+        """The reason for people, with a path as it is shown there."""
+        return self.why or (f"the same picture as {shown(self.same_as)}" if self.same_as is not None else "")
 
 
 def damaged(fault: str) -> str:

@@ -82,9 +82,13 @@
   const search = async () => {
     const words = plain(box.value).split(/\s+/).filter(Boolean), kind = choice ? choice.value : "", run = latest += 1;
     const is_asked = words.length > 0 || kind !== "";
+    const atFound = () => scrollTo(0, Math.min(scrollY, main.offsetTop - form.offsetHeight)); // or the first ones are above what is seen
     // the address has it, so that somebody who comes back from a picture finds it again
     history.replaceState(null, "", is_asked ? `#${new URLSearchParams({ find: box.value, kind })}` : location.href.split("#")[0]);
-    if (!files) return filterPage(words, kind);
+    if (!files) {
+      filterPage(words, kind);
+      return is_asked ? atFound() : undefined;
+    }
     main.hidden = is_asked;
     found.hidden = !is_asked;
     said.textContent = is_asked ? "searching" : "";
@@ -95,7 +99,9 @@
       said.textContent = why.message;
       return undefined;
     }
-    return run === latest ? listFound(words, kind) : undefined;
+    if (run !== latest) return undefined;
+    listFound(words, kind);
+    return atFound();
   };
 
   if (!files) readPage();

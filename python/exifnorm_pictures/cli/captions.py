@@ -5,24 +5,24 @@ from __future__ import annotations
 import os
 from typing import TYPE_CHECKING, Iterator, Optional, Sequence
 
-from ...comparison.conflicts import Conflict, best, conflicts, own_texts
-from ...comparison.wording import tell_apart
-from ...fields.labels import LABEL_WORDS, POSITION, Caption
-from ...fields.places import Place
-from ...fields.shown import Shown
-from ...model.texts import Members, escaped, shown_path
-from ...picture import Picture
-from ..columns import width
-from ..exit_codes import SUCCESS, UNKNOWN
-from ..labelled import is_open, members, not_read, origins, pictures, refused, together
-from ..names import is_list
-from ..not_read import no_block, not_found, picture_cut, unread
-from ..objects import print_object
-from ..options import Files, Output, Run
-from ..output import print_lines, table_of
+from ..comparison.conflicts import Conflict, best, conflicts, own_texts
+from ..comparison.wording import tell_apart
+from ..fields.labels import LABEL_WORDS, POSITION, Caption
+from ..fields.places import Place
+from ..fields.shown import Shown
+from ..model.texts import Members, escaped, shown_path
+from ..picture import Picture
+from .columns import width
+from .exit_codes import SUCCESS, UNKNOWN
+from .labelled import is_open, members, not_read, origins, pictures, refused, together
+from .names import is_list
+from .not_read import no_block, not_found, picture_cut, unread
+from .objects import print_object
+from .options import Files, Output, Run
+from .output import print_lines, table_of
 
 if TYPE_CHECKING:
-    from ..tables import Cell
+    from .tables import Cell
 
 _OWN = "a camera's or a program's own text"
 _WIDTH = max(map(len, LABEL_WORDS)) + 1
@@ -31,7 +31,7 @@ _WIDTH = max(map(len, LABEL_WORDS)) + 1
 def run(files: Files, run: Run, output: Output) -> int:
     """Lists captions of Exif, IPTC and XMP."""
     worst = SUCCESS
-    table = table_of(output, ["picture", *LABEL_WORDS, "latitude", "longitude", "camera's text", "contradicts itself", "not read"])
+    table = table_of(output, "picture", [*LABEL_WORDS, "latitude", "longitude", "camera's text", "contradicts itself", "not read"])
     alone = None if is_list(files) else {*map(os.fsencode, files.names)}
     for picture in pictures(files, run):
         worst = max(worst, UNKNOWN if is_open(picture) else SUCCESS)
@@ -80,11 +80,16 @@ def _lines(picture: Picture) -> Iterator[str]:
         yield f"{_padded(POSITION)} {Place(*place).text}"
     if not picture.blocks:
         yield no_block(picture)
-    elif not refused(picture) and not picture.too_many and all(one.is_empty for one in picture.labelled.texts):
+    elif _has_no_text(picture):
         yield not_found("no title, caption, name, keyword or rights", not_read(picture))
     if not_read(picture):
         yield f"not wholly read: {', '.join(unread(picture, not_read(picture)))}"
     yield from picture_cut(picture)
+
+
+def _has_no_text(picture: Picture) -> bool:
+    """Whether a picture with blocks has no text in any of them."""
+    return not (refused(picture) or picture.too_many) and all(one.is_empty for one in picture.labelled.texts)
 
 
 def _of_label(word: str, texts: Sequence[Caption], conflict: Optional[Conflict]) -> Iterator[str]:

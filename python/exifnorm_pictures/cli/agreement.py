@@ -4,25 +4,25 @@ from __future__ import annotations
 
 from collections import Counter
 from dataclasses import dataclass, field
-from typing import TYPE_CHECKING, Iterator, Optional, Sequence
+from typing import TYPE_CHECKING, Iterator, Sequence
 
-from ...comparison.conflicts import Conflict, ConflictKind, conflicts
-from ...comparison.wording import tell_apart
-from ...model.found import SIDECAR, STANDARDS, damage
-from ...model.texts import Members, escaped, pictures_in_words, shown_path
-from ...picture import Picture
+from ..comparison.conflicts import Conflict, ConflictKind, conflicts
+from ..comparison.wording import tell_apart
+from ..model.found import SIDECAR, STANDARDS, damage
+from ..model.texts import Members, escaped, pictures_in_words, shown_path
+from ..picture import Picture
 from .captions import text_members
-from ..exit_codes import DIFFERENCE, SUCCESS, UNKNOWN
-from ..labelled import is_open, members, not_read, of_catalogue, origins, pictures, refused, together
-from ..looking import catalogue_of_pictures, refuse_for_catalogues
-from ..names import named
-from ..objects import print_object
-from ..not_read import picture_cut, unread
-from ..options import Files, Output, Run
-from ..output import print_line, print_lines, table_of
+from .exit_codes import DIFFERENCE, SUCCESS, UNKNOWN
+from .labelled import is_open, members, not_read, of_catalogue, origins, pictures, refused, together
+from .looking import catalogue_of_pictures, refuse_for_catalogues
+from .names import named
+from .objects import print_object
+from .not_read import picture_cut, unread
+from .options import Files, Output, Run
+from .output import print_line, print_lines, table_of
 
 if TYPE_CHECKING:
-    from ..tables import Cell, Table
+    from .tables import Cell, Table
 
 LONGEST = 160  # characters of a text that is shown whole
 
@@ -41,32 +41,32 @@ class _Counts:
     left_out: "Counter[str]" = field(default_factory=Counter)  # contradictions
     sidecars: int = 0  # pictures with texts of an XMP sidecar, which are compared, too
 
+    @property
+    def status(self) -> int:
+        """The status of the command."""
+        if self.not_wholly_read:
+            return UNKNOWN
+        return DIFFERENCE if self.contradicting else SUCCESS
+
 
 def run(files: Files, run: Run, output: Output, every: bool, chosen: set[str]) -> int:
     """Lists contradictions inside pictures, in some labels; or also differences of form."""
     counts = _Counts()
-    table = table_of(output, ["picture", "label", "kind", "detail", *STANDARDS])
+    table = table_of(output, "picture, label, kind, detail", STANDARDS)
     for picture in _with_sidecars(files, run) if run.sidecars else pictures(files, run):
-        known = picture.conflicts
-        counted = [one for one in known if one.label in chosen]
-        _count(counts, picture, counted)
-        counts.left_out.update(one.label for one in known if one.is_real and one.label not in chosen)
-        if not output.json:
-            _print_listed(table, picture, [one for one in counted if one.is_real or every])
-        elif counted or is_open(picture) or picture.damage or files.files_from:  # of a list each name has an answer
-            print_object("conflicts", "picture", _members(picture, counted))
+        known = _count(counts, picture, chosen)
+        listed = [one for one in known if one.is_real or every]
+        if table:
+            _print_rows(table, picture, listed)
+        elif not output.json:
+            _print(picture, listed)
+        elif known or is_open(picture) or picture.damage or files.files_from:  # of a list each name has an answer
+            print_object("conflicts", "picture", _members(picture, known))
     if output.json:
         print_object("conflicts", "summary", vars(counts))
     elif not table:
         print_lines(_summary(counts, every))
-    return UNKNOWN if counts.not_wholly_read else DIFFERENCE if counts.contradicting else SUCCESS
-
-
-def _print_listed(table: Optional[Table], picture: Picture, listed: Sequence[Conflict]) -> None:
-    if table:
-        _print_rows(table, picture, listed)
-    else:
-        _print(picture, listed)
+    return counts.status
 
 
 def _with_sidecars(files: Files, run: Run) -> Iterator[Picture]:
@@ -77,7 +77,10 @@ def _with_sidecars(files: Files, run: Run) -> Iterator[Picture]:
         yield from of_catalogue(catalogue)
 
 
-def _count(counts: _Counts, picture: Picture, counted: Sequence[Conflict]) -> None:
+def _count(counts: _Counts, picture: Picture, chosen: set[str]) -> list[Conflict]:
+    """The conflicts of a picture in some labels, which are counted."""
+    counted = [one for one in picture.conflicts if one.label in chosen]
+    counts.left_out.update(one.label for one in picture.conflicts if one.is_real and one.label not in chosen)
     counts.pictures += not picture.problem
     counts.not_wholly_read += is_open(picture)
     counts.sidecars += any(one.block.endswith(SIDECAR) for one in picture.labelled.texts)
@@ -87,6 +90,7 @@ def _count(counts: _Counts, picture: Picture, counted: Sequence[Conflict]) -> No
     counts.differing_in_form += bool(counted) and not real
     counts.labels.update(real)
     counts.kinds.update({one.kind for one in counted if not one.is_real})
+    return counted
 
 
 def _print_rows(table: Table, picture: Picture, conflicts: Sequence[Conflict]) -> None:
@@ -94,10 +98,10 @@ def _print_rows(table: Table, picture: Picture, conflicts: Sequence[Conflict]) -
     for conflict in conflicts:
         table.row(picture.path, conflict.label, conflict.kind, conflict.detail, *_texts(conflict))
     if picture.problem:
-        table.row(picture.path, None, "not read", f"{picture.problem}: {picture.detail}", *(None for _ in STANDARDS))
+        table.row(picture.path, None, "not read", f"{picture.problem}: {picture.detail}")
     parts = [", ".join(unread(picture, not_read(picture)))] * bool(not_read(picture))
     for what in (*refused(picture), *parts, *picture_cut(picture)):
-        table.row(picture.path, None, "not read", what, *(None for _ in STANDARDS))
+        table.row(picture.path, None, "not read", what)
 
 
 def _unread(picture: Picture) -> list[str]:
@@ -122,19 +126,25 @@ def _members(picture: Picture, conflicts: Sequence[Conflict]) -> Members:
 
 
 def _print(picture: Picture, conflicts: Sequence[Conflict]) -> None:
-    if conflicts:
-        print(shown_path(picture.path))
+    name = shown_path(picture.path)
+    print_lines([name] * bool(conflicts))
     for conflict in conflicts:
-        print_line(f"  {conflict.label}" + (f": {conflict.detail}" if conflict.detail else ""))
-        every = together(conflict.texts)
-        names = list(zip(map(origins, every), map(escaped, tell_apart([ours[0].line for ours in every]))))
-        width = max(len(name) for name, _ in names)
-        for name, text in names:
-            print_line(f"    {name:<{width}}  {text if len(text) <= LONGEST else f'{text[: LONGEST - 10]}.. ({len(text):,} characters)'}")
+        print_lines(_conflict_lines(conflict))
     if picture.problem:
-        print_line(f"{shown_path(picture.path)}: {picture.problem}: {picture.detail}")
-    print_lines(f"{shown_path(picture.path)}: not wholly read: {what}" for what in _unread(picture))
-    print_lines(f"{shown_path(picture.path)}: {what}" for what in picture_cut(picture))
+        print_line(f"{name}: {picture.problem}: {picture.detail}")
+    print_lines(f"{name}: not wholly read: {what}" for what in _unread(picture))
+    print_lines(f"{name}: {what}" for what in picture_cut(picture))
+
+
+def _conflict_lines(conflict: Conflict) -> Iterator[str]:
+    """A label, and below it the texts with their fields."""
+    yield f"  {conflict.label}" + (f": {conflict.detail}" if conflict.detail else "")
+    every = together(conflict.texts)
+    names = list(map(origins, every))
+    width = max(map(len, names))
+    for name, text in zip(names, map(escaped, tell_apart([ours[0].line for ours in every]))):
+        short = text if len(text) <= LONGEST else f"{text[: LONGEST - 10]}.. ({len(text):,} characters)"
+        yield f"    {name:<{width}}  {short}"
 
 
 def _summary(counts: _Counts, every: bool) -> Iterator[str]:

@@ -5,16 +5,16 @@ from __future__ import annotations
 import contextlib
 from typing import Iterator, Sequence
 
-from ...comparison.changed.states import Compared
-from ...comparison.changed.history import State, history
-from ...comparison.wording import line_of
-from ...model.texts import Members, escaped, path_members, shown_path
-from ..changed_tables import field_members
-from ..exit_codes import SUCCESS, UNKNOWN, status_of_results
-from ..looking import opened
-from ..objects import print_object
-from ..options import Output, Run
-from ..output import local_time, print_lines
+from ..comparison.changed.states import Compared
+from ..comparison.changed.history import State, history
+from ..comparison.wording import line_of
+from ..model.texts import Members, escaped, path_or_none, shown_path
+from .changed_tables import field_members
+from .exit_codes import SUCCESS, UNKNOWN, status_of_results
+from .looking import opened
+from .objects import print_object
+from .options import Output, Run
+from .output import local_time, print_lines
 
 
 def run(path: bytes, names: Sequence[str], run: Run, output: Output) -> int:
@@ -63,8 +63,7 @@ def _result(comparison: Compared, path: bytes) -> str:
 
 def _members(state: State) -> Members:
     comparison = state.comparison
-    members: Members = {"catalogue": state.catalogue, "when": state.when or None}
-    members["picture"] = None if state.path is None else path_members(state.path)
+    members: Members = {"catalogue": state.catalogue, "when": state.when or None, "picture": path_or_none(state.path)}
     members["result"] = None if comparison is None else comparison.result
     members["note"] = _ELSEWHERE if state.may_be_elsewhere else (comparison.note or None) if comparison else None
     return {**members, "fields": [field_members(change) for change in comparison.changes] if comparison else []}
