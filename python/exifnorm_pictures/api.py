@@ -8,7 +8,7 @@ import io
 import os
 import re
 import threading
-from typing import TYPE_CHECKING, Callable, Iterator, NamedTuple, Optional, Union
+from typing import TYPE_CHECKING, Callable, Iterator, NamedTuple, Union
 
 from exifnorm._words import documented
 
@@ -62,7 +62,7 @@ class NotReadable(Exception):
 # Reading
 
 
-def read(source: Source, *, name: Optional[str] = None, whole: bool = False) -> Picture:
+def read(source: Source, *, name: str | None = None, whole: bool = False) -> Picture:
     """Reads the metadata of a picture from a path, or from a binary file object.
 
     A file object is read from its position to its end. If it can seek, only the needed parts are read, and its position is restored. If it
@@ -100,14 +100,14 @@ class Reader:
     reader, and wait for each other; another process can't.
     """
 
-    def __init__(self, *, programs: bool = True, seconds: float = PROGRAM_SECONDS, most: Optional[int] = None, whole: bool = False) -> None:
+    def __init__(self, *, programs: bool = True, seconds: float = PROGRAM_SECONDS, most: int | None = None, whole: bool = False) -> None:
         if not seconds > 0 or (most is not None and most < 0):
             raise ValueError("a limit is above 0")
         self._limits = _Limits(whole, seconds, most)
         self._session, self._lock = Session(seconds, programs=programs), threading.Lock()
         self._is_closed = False
 
-    def read(self, source: Source, *, name: Optional[str] = None) -> Picture:
+    def read(self, source: Source, *, name: str | None = None) -> Picture:
         """Reads a picture, as the function `read` does."""
         with self._reading() as session:
             return _read(source, self._limits, session, name)
@@ -144,23 +144,21 @@ class _Limits(NamedTuple):
     """How much of a picture is read: with `seconds` of a clock and `most` bytes, if they are given."""
 
     whole: bool = False
-    seconds: Optional[float] = None
-    most: Optional[int] = None
+    seconds: float | None = None
+    most: int | None = None
 
     def budget(self) -> Budget:
         """What a picture may cost from now on."""
         return Budget(*self)
 
 
-def _read_bytes(data: bytes, name: str, limits: _Limits, session: Optional[Session] = None) -> Picture:
+def _read_bytes(data: bytes, name: str, limits: _Limits, session: Session | None = None) -> Picture:
     if not isinstance(data, (bytes, bytearray, memoryview)):
         raise TypeError(f"the bytes of a picture are expected, not {type(data).__name__}")
     return _read_object(io.BytesIO(bytes(data)), name or "(bytes)", limits, session)
 
 
-def _read(
-    source: Source, limits: _Limits, session: Optional[Session] = None, name: Optional[str] = None, compares: bool = False
-) -> Picture:
+def _read(source: Source, limits: _Limits, session: Session | None = None, name: str | None = None, compares: bool = False) -> Picture:
     """Reads a picture. With `compares` what is compared of a file object besides its metadata is read too."""
     if not isinstance(source, (str, bytes, os.PathLike)):
         with own_errors():
@@ -189,7 +187,7 @@ def _read(
     return _picture(lambda: File(number, size, limits.budget(), path), called, limits.whole, origin, session)
 
 
-def _read_object(source: BinaryFile, name: str, limits: _Limits, session: Optional[Session], compares: bool = False) -> Picture:
+def _read_object(source: BinaryFile, name: str, limits: _Limits, session: Session | None, compares: bool = False) -> Picture:
     path = _octets(name)
     try:
         budget = limits.budget()
@@ -212,7 +210,7 @@ def _octets(name: str) -> bytes:
     return os.fsencode(re.sub("[\ud800-\udc7f\udd00-\udfff]", "?", name))
 
 
-def _picture(opened: Callable[[], Parts], path: bytes, whole: bool, origin: Origin, session: Optional[Session]) -> Picture:
+def _picture(opened: Callable[[], Parts], path: bytes, whole: bool, origin: Origin, session: Session | None) -> Picture:
     name = os.fsdecode(path)
     try:
         file = opened()
@@ -236,7 +234,7 @@ def _picture(opened: Callable[[], Parts], path: bytes, whole: bool, origin: Orig
         raise NotReadable(Problem.INTERNAL_ERROR, f"{Problem.INTERNAL_ERROR.text}: {described(error)}", name) from error
 
 
-def _of_program(error: Exception) -> Optional[Problem]:
+def _of_program(error: Exception) -> Problem | None:
     """The problem of a picture that another program doesn't read; None for any other error."""
     if not isinstance(error, Failure):
         return None
@@ -261,8 +259,8 @@ class Difference(NamedTuple):
     """
 
     name: str
-    before: Optional[tuple[Field, ...]]
-    after: Optional[tuple[Field, ...]]
+    before: tuple[Field, ...] | None
+    after: tuple[Field, ...] | None
     is_equal_number: bool
     note: str
 
@@ -296,19 +294,19 @@ class Comparison(NamedTuple):
     A comparison has no truth value, because it has three results. Test `comparison.same is True`.
     """
 
-    same: Optional[bool]
+    same: bool | None
     result: str
     note: str
     differences: tuple[Difference, ...]
     picture: str
-    proved: Optional[str]
-    proved_with_xmp: Optional[str] = None
+    proved: str | None
+    proved_with_xmp: str | None = None
 
     def __bool__(self) -> bool:
         raise TypeError("a comparison has three results: look at .same, which is True, False or None")
 
 
-def compare(before: Union[Picture, Source], after: Union[Picture, Source], *, ask_exiftool: bool = False) -> Comparison:
+def compare(before: Picture | Source, after: Picture | Source, *, ask_exiftool: bool = False) -> Comparison:
     """Compares two pictures, as the command does: their Exif, IPTC and XMP, and the data from which their pixels are decoded.
 
     Each is a `Picture`, or what `read` takes. Raises what `read` raises. The pixels of a `Picture` are compared if it was read from a path and

@@ -8,7 +8,7 @@ from collections import deque
 from concurrent.futures import Future, ProcessPoolExecutor
 from concurrent.futures.process import BrokenProcessPool
 from itertools import islice
-from typing import Deque, Iterable, Iterator, Optional, Sequence, Union
+from typing import Deque, Iterable, Iterator, Sequence, Union
 
 from exifnorm import LibraryMissing
 
@@ -23,7 +23,7 @@ AHEAD = 4  # such chunks of each process that are given out before the first res
 Result = Union[Picture, OSError, NoPicture, NotReadable]
 
 
-def read_all(paths: Iterable[PathLike], *, jobs: Optional[int] = None) -> Iterator[tuple[PathLike, Result]]:
+def read_all(paths: Iterable[PathLike], *, jobs: int | None = None) -> Iterator[tuple[PathLike, Result]]:
     """Reads many pictures in several processes, in their order: each path with its picture, or with the exception that `read` raises.
 
     `jobs` is the number of processes, by default that of processors; with 1 this process reads. At most 32 paths a process are taken ahead, so
@@ -64,13 +64,13 @@ class _Task:
 
     def __init__(self, paths: Sequence[PathLike], pool: ProcessPoolExecutor) -> None:
         self.paths = paths
-        self.future: "Optional[Future[list[Result]]]" = None
+        self.future: "Future[list[Result]] | None" = None
         try:
             self.future = pool.submit(_results, paths)
         except BrokenProcessPool:  # whose process died meanwhile
             pass
 
-    def results(self) -> Optional[list[Result]]:
+    def results(self) -> list[Result] | None:
         """The results, in their order; None if a process died before they were there."""
         try:
             return self.future.result() if self.future else None

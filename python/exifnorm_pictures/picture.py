@@ -6,7 +6,7 @@ from __future__ import annotations
 import os
 import re
 import warnings
-from typing import TYPE_CHECKING, Any, Iterable, Iterator, Mapping, NamedTuple, Optional, Sequence, Type, TypeVar, Union, overload
+from typing import TYPE_CHECKING, Any, Iterable, Iterator, Mapping, NamedTuple, Sequence, Type, TypeVar, overload
 
 from exifnorm._words import documented
 
@@ -67,7 +67,7 @@ class Refusal(NamedTuple):
 
     block: str
     cause: str
-    offset: Optional[int]
+    offset: int | None
     sentence: str
     remedy: str
 
@@ -87,7 +87,7 @@ class Position(NamedTuple):
 
     latitude: float
     longitude: float
-    altitude: Optional[float]
+    altitude: float | None
 
 
 class Block:
@@ -117,7 +117,7 @@ class Block:
         return tuple(field.in_block(self.name) for field in fields_of(self.record))
 
     @property
-    def refusal(self) -> Optional[Refusal]:
+    def refusal(self) -> Refusal | None:
         """Why it isn't accepted."""
         if self.is_accepted:
             return None
@@ -205,16 +205,16 @@ class Picture(Mapping[str, "Value"]):
         name: bytes,
         read: Blocks,
         records: Sequence[BlockRecord],
-        origin: Optional[Origin] = None,
-        texts: Optional[PictureTexts] = None,
+        origin: Origin | None = None,
+        texts: PictureTexts | None = None,
     ) -> None:
         self.path, self.name, self.origin = name, os.fsdecode(name), origin or Origin()
         self.type, self.problem, self.detail = read.type, read.problem or "", read.detail
         self._read, self._records, self._texts = read, records, texts
-        self._blocks: Optional[tuple[Block, ...]] = None
-        self._fields: Optional[list[tuple[BlockRecord, list[Field]]]] = None
-        self._names: Optional[list[dict[str, list[Field]]]] = None  # of each block
-        self._record: Optional[PictureRecord] = None
+        self._blocks: tuple[Block, ...] | None = None
+        self._fields: list[tuple[BlockRecord, list[Field]]] | None = None
+        self._names: list[dict[str, list[Field]]] | None = None  # of each block
+        self._record: PictureRecord | None = None
 
     @classmethod
     def of(cls, name: bytes, read: Blocks) -> "Picture":
@@ -276,7 +276,7 @@ class Picture(Mapping[str, "Value"]):
         return not self._read.not_read and all(it.is_accepted for it in self._records)
 
     @property
-    def meaning(self) -> Optional[str]:
+    def meaning(self) -> str | None:
         """A text that two pictures share exactly if their Exif, IPTC and XMP mean the same. None if there is no metadata, a block is refused or a
         part was not read, so that two such pictures never seem to be equal."""
         meanings = self._meanings
@@ -348,18 +348,18 @@ class Picture(Mapping[str, "Value"]):
         return tuple(field.in_block(record.name) for record, fields in self._named(name) for field in fields)
 
     @overload
-    def get(self, name: str, default: Union[Value, D] = None) -> Union[Value, D]:
+    def get(self, name: str, default: Value | D = None) -> Value | D:
         ...
 
     @overload
-    def get(self, name: str, default: None = None, *, type: Type[T]) -> Optional[T]:
+    def get(self, name: str, default: None = None, *, type: Type[T]) -> T | None:
         ...
 
     @overload
-    def get(self, name: str, default: D, *, type: Type[T]) -> Union[T, D]:
+    def get(self, name: str, default: D, *, type: Type[T]) -> T | D:
         ...
 
-    def get(self, name: str, default: Any = None, *, type: Optional[Type[Any]] = None) -> Any:
+    def get(self, name: str, default: Any = None, *, type: Type[Any] | None = None) -> Any:
         """The value of the first field with a name; of a DataSet that is repeated a tuple of all its values. With a `type`, such as int, a value of
         another type counts as none. If several fields have the name, as "FNumber" without a group may be one of Exif and one of XMP, and their
         values differ, a `UserWarning` has their own names; `find` returns them all."""
@@ -411,7 +411,7 @@ class Picture(Mapping[str, "Value"]):
         return object.__hash__(self) if self._meanings is None else hash(self._meanings)
 
     @property
-    def _meanings(self) -> Optional[tuple[Optional[str], ...]]:
+    def _meanings(self) -> tuple[str | None, ...] | None:
         """What equal pictures share; None of one that is equal to no other."""
         meanings = tuple(self.record.meanings)
         return meanings if self.is_whole and None not in meanings else None
@@ -459,7 +459,7 @@ class Picture(Mapping[str, "Value"]):
         return tuple(it for it in conflicts(self.labelled.texts, self.labelled.located) if not it.is_alike)
 
     @property
-    def taken(self) -> Optional[datetime]:
+    def taken(self) -> datetime | None:
         """When it was taken: DateTimeOriginal of Exif, with its part of a second and its zone if they are there; or else the date in XMP, or the
         date and the time in IPTC, in the order of `texts`."""
         from datetime import date, datetime, time
@@ -470,7 +470,7 @@ class Picture(Mapping[str, "Value"]):
         others = [*of_iptc, *of_xmp] if self._read.is_iptc_changed() else [*of_xmp, *of_iptc]
         return next((it for it in (self._taken_by_exif(), *others) if isinstance(it, datetime)), None)
 
-    def _taken_by_exif(self) -> Optional[datetime]:
+    def _taken_by_exif(self) -> datetime | None:
         from datetime import datetime, timedelta, timezone
 
         when, part, zone = map(self._first, ("ExifIFD:DateTimeOriginal", "ExifIFD:SubSecTimeOriginal", "ExifIFD:OffsetTimeOriginal"))
@@ -485,7 +485,7 @@ class Picture(Mapping[str, "Value"]):
         return when
 
     @property
-    def position(self) -> Optional[Position]:
+    def position(self) -> Position | None:
         """Where it was taken, by the fields of GPS in Exif, otherwise by those in XMP; None if a part of the position is missing."""
         from .fields.places import altitude_of, position_of
 

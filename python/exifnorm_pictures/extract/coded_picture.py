@@ -13,7 +13,7 @@ from __future__ import annotations
 import contextlib
 import hashlib
 import zlib
-from typing import Iterable, Iterator, NamedTuple, Optional
+from typing import Iterable, Iterator, NamedTuple
 
 from ..files import opening
 from ..model import rest
@@ -143,7 +143,7 @@ def _png(stream: Stream, coded: "hashlib.blake2b", budget: Budget) -> Iterator[p
     return png.parts(stream, chunks)
 
 
-def _check(stream: Stream, coded: "Optional[hashlib.blake2b]", chunk: tuple[int, bytes, int]) -> None:
+def _check(stream: Stream, coded: "hashlib.blake2b | None", chunk: tuple[int, bytes, int]) -> None:
     """Adds a chunk to a digest, if there is one. Raises `Broken` if it isn't what its check sum says."""
     at, kind, length = chunk
     known = zlib.crc32(kind)

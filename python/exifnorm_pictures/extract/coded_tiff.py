@@ -9,7 +9,7 @@ from __future__ import annotations
 
 import functools
 import hashlib
-from typing import Iterator, Optional, Sequence
+from typing import Iterator, Sequence
 
 from ..model.budgets import STRIPS, Budget
 from ..model.found import IN_PICTURE, Broken
@@ -154,7 +154,7 @@ def _joined(ranges: Iterator[tuple[int, int]]) -> Iterator[tuple[int, int]]:
     >>> list(_joined(iter([(2, 5), (5, 9), (1, 2)])))
     [(2, 9), (1, 2)]
     """
-    last: Optional[list[int]] = None
+    last: list[int] | None = None
     for start, end in ranges:
         if last and start == last[1]:
             last[1] = end

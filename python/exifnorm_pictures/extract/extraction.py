@@ -4,7 +4,6 @@ from __future__ import annotations
 
 import errno
 import os
-from typing import Optional
 
 from exifnorm import LibraryMissing
 
@@ -18,7 +17,7 @@ from .formats import jpeg
 from .formats.streams import File, Parts
 
 
-def blocks_of_file(path: bytes, whole: bool = False, session: Optional[Session] = None) -> Blocks:
+def blocks_of_file(path: bytes, whole: bool = False, session: Session | None = None) -> Blocks:
     """All blocks of one file, unchanged, and the parts that were not read. A file that can't be read has a problem and no blocks.
     Of a JPEG the head, the tail and the pictures of its MPF index are read; with `whole` also everything between. ExifTool reads
     the files that the readers here don't, in the session or in one of its own. Raises `programs.Missing` if it is needed and not installed, `programs.Failed`, and
@@ -40,7 +39,7 @@ def blocks_of_file(path: bytes, whole: bool = False, session: Optional[Session] 
     return Blocks(problem=problem, detail=problem.text)
 
 
-def blocks_in(file: Parts, path: bytes, whole: bool = False, session: Optional[Session] = None) -> Blocks:
+def blocks_in(file: Parts, path: bytes, whole: bool = False, session: Session | None = None) -> Blocks:
     """The blocks of a file that is open, which is closed then. The ending of its name shows what a sidecar or a raw picture is. Raises what
     `blocks_of_file` raises, `OSError` and `TooMuch`."""
     if session is None:
@@ -89,7 +88,7 @@ def _of_broken(blocks: Blocks, why: str) -> Blocks:
     return blocks
 
 
-def failed_here(error: Exception, session: Optional[Session]) -> Blocks:
+def failed_here(error: Exception, session: Session | None) -> Blocks:
     """The result for a file at which our own code failed, and no other program."""
     if session and session.debug:
         signals.trace(error)

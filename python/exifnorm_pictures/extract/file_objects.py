@@ -6,7 +6,7 @@ import contextlib
 import errno
 import os
 import sys
-from typing import IO, Iterator, Optional, Protocol, cast
+from typing import IO, Iterator, Protocol, cast
 
 from ..model.budgets import COPIED_BYTES, Budget
 from ..model.texts import described, ending_of
@@ -19,7 +19,7 @@ _DECOMPRESS = (("gzip", "GzipFile"), ("bz2", "BZ2File"), ("lzma", "LZMAFile"), (
 class BinaryFile(Protocol):
     """A file object of bytes. Whether it can seek is asked of the object itself."""
 
-    def read(self, length: int = -1, /) -> Optional[bytes]:
+    def read(self, length: int = -1, /) -> bytes | None:
         """The next bytes, `length` at most."""
 
 
@@ -48,7 +48,7 @@ class FileObject(Parts):
     Programs bring their own classes: what one raises, and a place or bytes that can't be, become an `OSError`.
     """
 
-    def __init__(self, source: IO[bytes], budget: Optional[Budget] = None) -> None:
+    def __init__(self, source: IO[bytes], budget: Budget | None = None) -> None:
         self._source, self._start = source, _place(source)
         self._copies = contextlib.ExitStack()
         _seek(source, 0, os.SEEK_END)

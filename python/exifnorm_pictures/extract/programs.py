@@ -14,7 +14,7 @@ import select
 import shutil
 import signal
 import time
-from typing import TYPE_CHECKING, Callable, Mapping, NamedTuple, Optional
+from typing import TYPE_CHECKING, Callable, Mapping, NamedTuple
 
 from ..files import signals
 from ..model.budgets import OUTPUT, PROGRAM_BYTES
@@ -69,7 +69,7 @@ def is_there(program: str) -> bool:
     return _path_of(program) is not None
 
 
-def _path_of(program: str) -> Optional[str]:
+def _path_of(program: str) -> str | None:
     """Where PATH has a program. Its empty and relative parts are passed over: they may lead to a stranger's folder."""
     return shutil.which(program, path=os.pathsep.join(filter(os.path.isabs, os.get_exec_path())))
 
@@ -93,7 +93,7 @@ def learn(versions: Mapping[str, str]) -> None:
 
 
 @functools.lru_cache(maxsize=None)
-def version(program: str, seconds: float) -> Optional[str]:
+def version(program: str, seconds: float) -> str | None:
     """The version that a program has told or prints, or nothing if it isn't installed. Raises `Failed` if it prints none."""
     if not is_there(program):
         return None
@@ -104,7 +104,7 @@ def version(program: str, seconds: float) -> Optional[str]:
     return output.rpartition(" ")[2].strip() or None
 
 
-def run(words: list[str], seconds: float, folder: Optional[str] = None) -> Done:
+def run(words: list[str], seconds: float, folder: str | None = None) -> Done:
     """Runs a program to its end. Raises `Failed` if it takes too long, writes too much, gets no more memory, or is ended by a signal."""
     import subprocess
 
@@ -128,9 +128,9 @@ def _name(words: list[str]) -> str:
 _libc = ctypes.CDLL(None)
 
 
-def start(words: list[str], folder: Optional[str] = None, is_asked: bool = False) -> "subprocess.Popen[bytes]":
+def start(words: list[str], folder: str | None = None, is_asked: bool = False) -> "subprocess.Popen[bytes]":
     """Starts a program in a process group of its own, which the system ends if this process is killed. It has an input if it is asked. Raises `Failed`."""
-    started: "Optional[subprocess.Popen[bytes]]" = None
+    started: "subprocess.Popen[bytes] | None" = None
     try:
         with signals.signals_held() as mask:
             started = _started(words, folder, is_asked, mask)
@@ -151,7 +151,7 @@ def _memory() -> tuple[int, int]:
     return (PROGRAM_BYTES if soft == resource.RLIM_INFINITY else min(soft, PROGRAM_BYTES)), hard
 
 
-def _started(words: list[str], folder: Optional[str], is_asked: bool, mask: set[int]) -> "subprocess.Popen[bytes]":
+def _started(words: list[str], folder: str | None, is_asked: bool, mask: set[int]) -> "subprocess.Popen[bytes]":
     import resource
     import subprocess
 

@@ -4,7 +4,7 @@ from __future__ import annotations
 
 import os
 import re
-from typing import Callable, NamedTuple, Optional
+from typing import Callable, NamedTuple
 
 from ..model.found import Blocks
 from . import raw_files
@@ -55,6 +55,6 @@ FORMATS: tuple[Format, ...] = (
 )
 
 
-def reader_of(head: bytes, path: bytes) -> Optional[Read]:
+def reader_of(head: bytes, path: bytes) -> Read | None:
     """The reader of a file with these first bytes; none if only other programs read it."""
     return next((it.read for it in FORMATS if it.is_of(head, path)), None)

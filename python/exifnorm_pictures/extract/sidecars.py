@@ -11,7 +11,7 @@ from __future__ import annotations
 import hashlib
 import os
 import re
-from typing import Callable, Iterable, Iterator, NamedTuple, Optional, Sequence
+from typing import Callable, Iterable, Iterator, NamedTuple, Sequence
 
 from ..files import opening
 from ..model.budgets import LIMITS, PACKET_BYTES, XMP_BYTES
@@ -153,7 +153,7 @@ def with_sidecars(digest: str, path: bytes, sidecars: Sequence[Sidecar]) -> str:
     return whole.hexdigest() if digest and sidecars else digest
 
 
-def _content(path: bytes, most: int) -> Optional[bytes]:
+def _content(path: bytes, most: int) -> bytes | None:
     """The bytes of a file; None if it can't be read, or has more than this."""
     try:
         with opening.reading(path) as file:
@@ -179,7 +179,7 @@ def marks(path: bytes, sidecars: Sequence[Sidecar], is_racy: Callable[[int, int]
     return "\n".join(lines)
 
 
-def marks_elsewhere(path: bytes, then: str, is_racy: Callable[[int, int], bool]) -> Optional[str]:
+def marks_elsewhere(path: bytes, then: str, is_racy: Callable[[int, int], bool]) -> str | None:
     """The marks of the same sidecars at a picture's new place; None if one isn't there, or has another size or modification time."""
     lines = []
     for line in filter(None, then.split("\n")):

@@ -59,7 +59,7 @@ class Directory:
         self.next = next_at  # the place of the next directory's offset
         self.size = size  # the number of entries by its first two bytes
         self.named_at = named_at  # the place of the offset that leads here
-        self._entries: Optional[list[Entry]] = None
+        self._entries: list[Entry] | None = None
 
     @property
     def entries(self) -> list[Entry]:
@@ -169,7 +169,7 @@ class Walk:
 class Notes(NamedTuple):
     """Where the MakerNote begins (None: none, or in its entry), the bytes that no field covers, and what may lead to them."""
 
-    place: Optional[int]
+    place: int | None
     uncovered: "list[Gap]"
     by: tuple[str, ...]
 

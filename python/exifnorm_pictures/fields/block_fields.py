@@ -20,10 +20,10 @@ class Fields:
     __slots__ = ("_make", "_fields")
 
     def __init__(self, make: Make) -> None:
-        self._make: Optional[Make] = make
-        self._fields: Optional[list[Field]] = None
+        self._make: Make | None = make
+        self._fields: list[Field] | None = None
 
-    def all(self) -> Optional[list[Field]]:
+    def all(self) -> list[Field] | None:
         """The fields, in the order of a listing; None if a catalogue doesn't have them."""
         make = self._make
         if make is not None:
@@ -37,11 +37,11 @@ class _KeptTexts:
 
     __slots__ = ("_cells", "_texts")
 
-    def __init__(self, cells: Sequence[Optional[bytes]]) -> None:
+    def __init__(self, cells: Sequence[bytes | None]) -> None:
         self._cells = cells
-        self._texts: Optional[list[Optional[bytes]]] = None
+        self._texts: list[bytes | None] | None = None
 
-    def of(self, number: int) -> Optional[bytes]:
+    def of(self, number: int) -> bytes | None:
         """Those of one block."""
         if self._texts is None:
             self._texts = parted(self._cells)
@@ -57,12 +57,12 @@ class _KeptFields(Fields):
         super().__init__(partial(_unpacked, texts, number))
         self._texts, self._number = texts, number
 
-    def packed(self) -> Optional[bytes]:
+    def packed(self) -> bytes | None:
         """The packed fields."""
         return self._texts.of(self._number)
 
 
-def _unpacked(texts: _KeptTexts, number: int) -> Optional[list[Field]]:
+def _unpacked(texts: _KeptTexts, number: int) -> list[Field] | None:
     text = texts.of(number)
     return unpacked(text) if text else None
 
@@ -76,12 +76,12 @@ def with_kept_fields(blocks: Sequence[BlockRecord]) -> list[BlockRecord]:
     return [BlockRecord._make((*block[:_FIELDS], None, block.but_note, _KeptFields(texts, at))) for at, block in enumerate(blocks)]
 
 
-def packed_fields(block: BlockRecord) -> Optional[bytes]:
+def packed_fields(block: BlockRecord) -> bytes | None:
     """The packed fields of a block of a catalogue, if it has them. Raises `Damaged`."""
     return block.fresh.packed() if isinstance(block.fresh, _KeptFields) else block.fields
 
 
-def known_fields(block: BlockRecord) -> Optional[list[Field]]:
+def known_fields(block: BlockRecord) -> list[Field] | None:
     """The fields of a block; None of one that has no meaning, or in a catalogue that doesn't have them. Raises `Damaged`."""
     if isinstance(block.fresh, Fields):
         return block.fresh.all()

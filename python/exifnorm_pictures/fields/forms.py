@@ -4,7 +4,7 @@ from __future__ import annotations
 
 import re
 from fractions import Fraction
-from typing import NamedTuple, Optional, Sequence
+from typing import NamedTuple, Sequence
 
 from . import other_names
 from .dates import plain_date
@@ -115,7 +115,7 @@ class Number(NamedTuple):
     last: float  # how far it may be from what it means: the last place of an angle
 
 
-def number_of(text: str) -> Optional[Number]:
+def number_of(text: str) -> Number | None:
     r"""The number of a text, as this program, ExifTool or exiv2 prints it: with its unit, as a fraction, or as an angle.
 
     >>> [number_of(it).value for it in ("1/60 s", "f/11", "60.0 mm", "+0.33 EV", "46°12'7.8\"", "12 deg 30' 0.00\" S")]

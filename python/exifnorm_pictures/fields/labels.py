@@ -7,7 +7,7 @@ from __future__ import annotations
 
 import functools
 import re
-from typing import Iterable, Iterator, NamedTuple, Optional, Sequence
+from typing import Iterable, Iterator, NamedTuple, Sequence
 
 from ..model.found import EXIF, IPTC, NAMES, SIDECAR, XMP
 from ..model.xmp_values import Long, texts_in
@@ -127,7 +127,7 @@ def label_of_fields() -> dict[str, str]:
     return {name: label for label, names in fields_by_label().items() for name in names}
 
 
-def label_of(word: str) -> Optional[str]:
+def label_of(word: str) -> str | None:
     """The label that somebody has typed: upper and lower case, hyphens and the apostrophe don't matter.
 
     >>> label_of("Date-Created"), label_of("creators job"), label_of("Artist")
@@ -211,7 +211,7 @@ def of_labelled(fields: Sequence[Field]) -> Iterator[Caption]:
     return _of_properties(fields) if fields and fields[0].directory == "xmp" else _of_octets_fields(fields)
 
 
-def word_of(field: Field) -> Optional[str]:
+def word_of(field: Field) -> str | None:
     """The label of a field that has a part in one."""
     return LABELLED.get((field.directory, field.tag))
 
@@ -293,7 +293,7 @@ _CAN_BE_OWN = ("caption", COMMENT)
 _CAMERA = ("010f", "0110")  # make and model
 
 
-def _octets(field: Optional[Field]) -> bytes:
+def _octets(field: Field | None) -> bytes:
     return field.content if field and isinstance(field.content, bytes) else b""
 
 

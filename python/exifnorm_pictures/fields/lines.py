@@ -4,7 +4,7 @@ those of each block in a line."""
 from __future__ import annotations
 
 import zlib
-from typing import Iterable, Iterator, Optional, Sequence
+from typing import Iterable, Iterator, Sequence
 
 from ..model.budgets import KEPT_BYTES, LINES_BYTES
 from ..model.columns import Damaged
@@ -28,13 +28,13 @@ def is_short(octets: bytes) -> bool:
     return len(octets) <= _SHORTEST
 
 
-def joined(texts: Sequence[Optional[bytes]]) -> list[Optional[bytes]]:
+def joined(texts: Sequence[bytes | None]) -> list[bytes | None]:
     """What a catalogue keeps of the packed fields of a picture's blocks, by block: all of them with the first block that has fields.
 
     >>> joined([None, b"[7]", None, b"[8]"])
     [None, b'[7]\\n\\n[8]', None, None]
     """
-    cells: list[Optional[bytes]] = [None] * len(texts)
+    cells: list[bytes | None] = [None] * len(texts)
     for first, text in enumerate(texts):
         if text:
             cells[first] = _compressed(b"\n".join([text or b"" for text in texts[first:]]))
@@ -42,13 +42,13 @@ def joined(texts: Sequence[Optional[bytes]]) -> list[Optional[bytes]]:
     return cells
 
 
-def parted(cells: Iterable[Optional[bytes]]) -> list[Optional[bytes]]:
+def parted(cells: Iterable[bytes | None]) -> list[bytes | None]:
     """The packed fields of a picture's blocks, from the result of `joined`. Raises `Damaged`, also if they are more than `index` keeps.
 
     >>> parted(joined([None, b"[7]", None, b"[8]", None])), parted(joined([b"[7]" * 999, b"[8]"])) == [b"[7]" * 999, b"[8]"]
     ([None, b'[7]', None, b'[8]', None], True)
     """
-    texts: list[Optional[bytes]] = []
+    texts: list[bytes | None] = []
     following: Iterator[bytes] = iter(())
     left = KEPT_BYTES
     for cell in cells:

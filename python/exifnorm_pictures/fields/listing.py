@@ -4,7 +4,7 @@ from __future__ import annotations
 
 import hashlib
 import re
-from typing import Iterable, Iterator, Optional, Sequence
+from typing import Iterable, Iterator, Sequence
 
 from ..model.texts import quoted
 from ..model import xmp_values
@@ -148,7 +148,7 @@ def numbers_text(kind: str, values: "tuple[int, ...] | tuple[Ratio, ...]") -> st
     return " ".join(map(str, values))
 
 
-def marked_text(field: Field, octets: bytes) -> Optional[tuple[str, str]]:
+def marked_text(field: Field, octets: bytes) -> tuple[str, str] | None:
     """Bytes as a text that can be printed, without the NUL at its end, and a mark for its form; None if they are none."""
     if field.tag in _MARKED:
         if is_wide_text(field) and (text := _wide_text(octets)) is not None:
@@ -159,19 +159,19 @@ def marked_text(field: Field, octets: bytes) -> Optional[tuple[str, str]]:
     return None if plain is None else ("", plain)
 
 
-def plain_text(octets: bytes) -> Optional[str]:
+def plain_text(octets: bytes) -> str | None:
     """Bytes as a text of UTF-8, all of it printable or the end of a line, without the NUL at its end. None if they are none."""
     return _printable(octets[:-1] if octets.endswith(b"\0") else octets)
 
 
-def _printable(octets: bytes) -> Optional[str]:
+def _printable(octets: bytes) -> str | None:
     try:
         return printable(octets.decode("utf-8"))
     except UnicodeDecodeError:
         return None
 
 
-def printable(text: str) -> Optional[str]:
+def printable(text: str) -> str | None:
     """A text of which each character can be printed, or is the end of a line or a tab; None of another one."""
     return text if text.isprintable() or text.translate(_LINES).isprintable() else None
 
@@ -179,7 +179,7 @@ def printable(text: str) -> Optional[str]:
 _LINES = dict.fromkeys(map(ord, "\n\r\t"))  # leaves these out
 
 
-def _wide_text(octets: bytes) -> Optional[str]:
+def _wide_text(octets: bytes) -> str | None:
     """A text of UTF-16 that encodes to these bytes."""
     try:
         text = octets.decode("utf-16-le")

@@ -14,7 +14,7 @@ from __future__ import annotations
 
 import hashlib
 import json
-from typing import Any, Callable, NamedTuple, Optional, Sequence
+from typing import Any, Callable, NamedTuple, Sequence
 
 from ..model.budgets import FIELD_BYTES, NESTED
 from ..model.columns import Damaged
@@ -31,7 +31,7 @@ class Packed(NamedTuple):
     """The fields of a block as JSON."""
 
     octets: bytes
-    but_note: Optional[str]  # a digest of all but the MakerNote; None without one
+    but_note: str | None  # a digest of all but the MakerNote; None without one
 
 
 def packed(fields: Sequence[Field]) -> Packed:

@@ -5,7 +5,7 @@ from __future__ import annotations
 import math
 import re
 from fractions import Fraction
-from typing import Iterable, Iterator, NamedTuple, Optional, Sequence
+from typing import Iterable, Iterator, NamedTuple, Sequence
 
 from ..model.xmp_values import Array, Long, LongStructure, Structure, texts_in
 from .field import Field
@@ -24,7 +24,7 @@ class Place(NamedTuple):
         return f"{self.latitude:.6f}, {self.longitude:.6f}"
 
 
-def place_of(text: str) -> Optional[Place]:
+def place_of(text: str) -> Place | None:
     """The place of a text, as `Place.text` and as `show` have it; None of any other text.
 
     >>> place_of("-33.500000, 7.202167"), place_of("33 S")
@@ -54,7 +54,7 @@ def is_angle(field: Field) -> bool:
     return field.directory == "gps" and field.tag in _LETTERS
 
 
-def signed_degrees(angle: Field, fields: Iterable[Field]) -> Optional[Fraction]:
+def signed_degrees(angle: Field, fields: Iterable[Field]) -> Fraction | None:
     """An angle by the fields of its block, south and west of which are negative; without a letter it has no sign. None if it is no angle.
 
     >>> west = Field("gps", "0003", "ASCII", 2, b"W\\0")
@@ -97,7 +97,7 @@ class Located(NamedTuple):
         return Place(float(self.latitude.degrees), float(self.longitude.degrees))
 
 
-def located(fields: Iterable[Field]) -> tuple[Optional[Located], Optional[Located]]:
+def located(fields: Iterable[Field]) -> tuple[Located | None, Located | None]:
     """The position that Exif has, and that of XMP; None if a part is missing or is no angle of the earth."""
     gps, properties = _by_tag(fields)
     exif = _located(_of_exif(gps.get("0002"), gps.get("0001")), _of_exif(gps.get("0004"), gps.get("0003")))
@@ -142,7 +142,7 @@ def further_places(fields: Iterable[Field]) -> tuple[list[Place], bool]:
     return [it for it in places if it is not None], is_unclear
 
 
-def _place_in(structure: Structure) -> list[Optional[Place]]:
+def _place_in(structure: Structure) -> list[Place | None]:
     """The position of a structure with a coordinate; None if it makes no position."""
     halves = {name.rpartition(":")[2]: value for name, value in structure.members if name.rpartition(":")[2] in _HALVES}
     angles = [_of_xmp(Field("xmp", it, "text", 1, (halves[it],)) if it in halves else None, signs) for it, signs in _HALVES.items()]
@@ -170,7 +170,7 @@ def _structures(values: Iterable[object]) -> Iterator[Structure]:
             yield from _structures(member for _, member in value.members)
 
 
-def position_of(fields: Iterable[Field]) -> Optional[Place]:
+def position_of(fields: Iterable[Field]) -> Place | None:
     """The position that Exif has, otherwise that of XMP; None if a part is missing or is no angle of the earth.
 
     >>> position_of([
@@ -209,7 +209,7 @@ def metres_apart(place: Place, other: Place) -> float:
     return 2 * 6_371_000 * math.asin(min(1.0, math.sqrt(half)))
 
 
-def altitude_of(fields: Iterable[Field]) -> Optional[float]:
+def altitude_of(fields: Iterable[Field]) -> float | None:
     """The height that Exif has, otherwise that of XMP, in metres above the sea or above the ellipsoid; None without one.
 
     >>> altitude_of([Field("gps", "0005", "BYTE", 1, b"\\1"), Field("gps", "0006", "RATIONAL", 1, ((25, 2),))])
@@ -229,13 +229,13 @@ def altitude_of(fields: Iterable[Field]) -> Optional[float]:
 _ALTITUDE = (("gps", "0005"), ("gps", "0006"), ("xmp", "exif:GPSAltitudeRef"), ("xmp", "exif:GPSAltitude"))
 
 
-def _located(latitude: Optional[Angle], longitude: Optional[Angle]) -> Optional[Located]:
+def _located(latitude: Angle | None, longitude: Angle | None) -> Located | None:
     if latitude is None or longitude is None or abs(latitude.degrees) > 90 or abs(longitude.degrees) > 180:
         return None
     return Located(latitude, longitude)
 
 
-def _of_exif(angle: Optional[Field], letter: Optional[Field]) -> Optional[Angle]:
+def _of_exif(angle: Field | None, letter: Field | None) -> Angle | None:
     """An angle of GPS: degrees, minutes and seconds, and the letter of its direction (CIPA DC-008, 4.6.6). Each of the three numbers is a
     fraction, and the one with the smallest part is the last that is known."""
     if angle is None or letter is None:
@@ -247,7 +247,7 @@ def _of_exif(angle: Optional[Field], letter: Optional[Field]) -> Optional[Angle]
     return Angle(value * (-1 if sign in ("S", "W") else 1), last)
 
 
-def _of_xmp(field: Optional[Field], signs: str) -> Optional[Angle]:
+def _of_xmp(field: Field | None, signs: str) -> Angle | None:
     """An angle of XMP: `54,59,22.8N` or `54,59.38N` (XMP part 2, 8.7.5)."""
     if field is None or not isinstance(field.content, tuple):
         return None

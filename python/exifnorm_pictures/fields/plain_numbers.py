@@ -21,7 +21,7 @@ INTEGERS = ("SHORT", "LONG", "WHOLE", "SSHORT", "SLONG")
 RATIOS = ("RATIONAL", "SRATIONAL")
 
 
-def fractions(field: Field) -> Optional[list[Optional[Fraction]]]:
+def fractions(field: Field) -> list[Fraction | None] | None:
     """The numbers of a field; None in it for a fraction with the denominator 0, and None for all if it has no numbers or too many.
 
     >>> fractions(Field("exif", "a432", "RATIONAL", 2, ((10, 80), (1, 0)))), fractions(Field("main", "0112", "SHORT", 1, (6,)))
@@ -37,7 +37,7 @@ def fractions(field: Field) -> Optional[list[Optional[Fraction]]]:
     return [Fraction(*one) if one[1] else None for one in values]
 
 
-def integer(field: Field) -> Optional[int]:
+def integer(field: Field) -> int | None:
     """The number of a field that is one."""
     value: Any = field.content
     return int(value[0]) if field.type in INTEGERS and not isinstance(value, Long) and len(value) == 1 else None
@@ -50,7 +50,7 @@ def decimal(number: Fraction, places: int = 4) -> str:
     return "0" if text == "-0" else text
 
 
-def number(field: Field, words: Callable[[Fraction], Optional[str]]) -> Optional[str]:
+def number(field: Field, words: Callable[[Fraction], str | None]) -> str | None:
     """The plain form of a single number."""
     ratios = fractions(field)
     if ratios is None or len(ratios) != 1:
@@ -58,7 +58,7 @@ def number(field: Field, words: Callable[[Fraction], Optional[str]]) -> Optional
     return UNKNOWN if ratios[0] is None else words(ratios[0])
 
 
-def of_number(words: Callable[[Fraction], Optional[str]]) -> Rule:
+def of_number(words: Callable[[Fraction], str | None]) -> Rule:
     """A rule for a single number."""
     return lambda it: number(it, words)
 
@@ -95,19 +95,19 @@ def denominators(field: Field) -> list[int]:
     return [one[1] if isinstance(one, tuple) else 1 for one in values]
 
 
-def degrees(field: Field) -> Optional[Fraction]:
+def degrees(field: Field) -> Fraction | None:
     """An angle of degrees, minutes and seconds as degrees."""
     parts = _three(field)
     return sum((one / Fraction(60) ** place for place, one in enumerate(parts)), Fraction(0)) if parts else None
 
 
-def _three(field: Field) -> Optional[list[Fraction]]:
+def _three(field: Field) -> list[Fraction] | None:
     """The numbers of a field that has three."""
     parts = fractions(field) or []
     return [one for one in parts if one is not None] if len(parts) == 3 and None not in parts else None
 
 
-def angle(field: Field) -> Optional[str]:
+def angle(field: Field) -> str | None:
     """A latitude or a longitude.
 
     >>> angle(Field("gps", "0002", "RATIONAL", 3, ((46, 1), (1213, 100), (0, 1))))
@@ -120,7 +120,7 @@ def angle(field: Field) -> Optional[str]:
     return f"{hundredths // 360000}°{hundredths // 6000 % 60:02}'{decimal(Fraction(hundredths % 6000, 100), 2)}\""
 
 
-def clock(field: Field) -> Optional[str]:
+def clock(field: Field) -> str | None:
     """GPSTimeStamp."""
     parts = _three(field)
     if parts is None:
@@ -130,7 +130,7 @@ def clock(field: Field) -> Optional[str]:
     return f"{int(hours):02}:{int(minutes):02}:{int(whole):02}{decimal(part, 3)[1:] if part else ''} UTC"
 
 
-def lens(field: Field) -> Optional[str]:
+def lens(field: Field) -> str | None:
     """LensSpecification: the least and greatest focal length, and the f-number at each."""
     ratios = fractions(field)
     if ratios is None or len(ratios) != 4:
@@ -144,7 +144,7 @@ def lens(field: Field) -> Optional[str]:
 _DATE = re.compile(r"(\d{4})[:-](\d\d)[:-](\d\d)(?:[ T](\d\d):(\d\d)(?::(\d\d(?:\.\d+)?))?)?([+-]\d\d:\d\d|Z)?\Z")
 
 
-def date(field: Field) -> Optional[str]:
+def date(field: Field) -> str | None:
     """A date of Exif; `unknown` for one of blanks or zeros, as the standard writes it.
 
     >>> [date(Field("main", "0132", "ASCII", 20, it)) for it in (b"2008:07:31 10:38:11\\0", b"    :  :     :  :  \\0")]
@@ -163,36 +163,36 @@ def date(field: Field) -> Optional[str]:
     return day + time + (match[7] or "")
 
 
-def iptc_date(field: Field) -> Optional[str]:
+def iptc_date(field: Field) -> str | None:
     """A date of IIM, CCYYMMDD."""
     match = re.fullmatch(r"(\d{4})(\d\d)(\d\d)", text_of(field) or "")
     return None if match is None else UNKNOWN if match[1] == "0000" else "-".join(match.groups())
 
 
-def iptc_time(field: Field) -> Optional[str]:
+def iptc_time(field: Field) -> str | None:
     """A time of IIM, HHMMSS±HHMM."""
     match = re.fullmatch(r"(\d\d)(\d\d)(\d\d)([+-]\d\d)(\d\d)", text_of(field) or "")
     return f"{match[1]}:{match[2]}:{match[3]}{match[4]}:{match[5]}" if match else None
 
 
-def iptc_number(field: Field) -> Optional[str]:
+def iptc_number(field: Field) -> str | None:
     """A binary number of IIM in two bytes."""
     octets = _octets(field, 2)
     return str(int.from_bytes(octets, "big")) if octets else None
 
 
-def dotted(field: Field) -> Optional[str]:
+def dotted(field: Field) -> str | None:
     """A version of four bytes, as GPSVersionID."""
     octets = _octets(field, 4)
     return ".".join(map(str, octets)) if octets else None
 
 
-def _octets(field: Field, length: int) -> Optional[bytes]:
+def _octets(field: Field, length: int) -> bytes | None:
     """The bytes of a field with so many, unless they are a text."""
     return field.content if isinstance(field.content, bytes) and len(field.content) == length and text_of(field) is None else None
 
 
-def version(field: Field) -> Optional[str]:
+def version(field: Field) -> str | None:
     """A version of four digits: 0231 is 2.31, and 0220 is 2.2."""
     text = text_of(field)
     return f"{int(text[:2])}.{text[2:].rstrip('0') or '0'}" if text and re.fullmatch(r"\d{4}", text) else None

@@ -2,7 +2,7 @@
 
 from __future__ import annotations
 
-from typing import Callable, Optional
+from typing import Callable
 
 from ..model.texts import quoted
 from ..model.xmp_values import Long, simple_texts
@@ -12,7 +12,7 @@ from .listing import DATASET_NUMBERS, exact, is_comment, is_text, is_wide_text, 
 EMPTY = "(empty)"
 
 
-def text_of(field: Field) -> Optional[str]:
+def text_of(field: Field) -> str | None:
     """The text of a field whose bytes can be printed as one; None if they can't.
 
     >>> text_of(Field("main", "013b", "ASCII", 5, b"Otto\\0")), text_of(Field("exif", "927c", "UNDEFINED", 2, b"\\xff\\0"))
@@ -47,7 +47,7 @@ _CHARACTER_SETS = ("ASCII", "UNICODE", "JIS", "")
 _HEAD = 8
 
 
-def comment(octets: bytes) -> Optional[str]:
+def comment(octets: bytes) -> str | None:
     """The text of a UserComment, up to its end; empty if there is none, None if it is in no known character set.
 
     The byte order of a Unicode text isn't declared: the one that gives fewer characters beyond Latin is taken. Text that isn't ASCII after
@@ -76,13 +76,13 @@ def comment(octets: bytes) -> Optional[str]:
         return None
 
 
-def _character_set(octets: bytes) -> Optional[str]:
+def _character_set(octets: bytes) -> str | None:
     """The character set that is named in front of a comment, empty for an unknown one; None if nothing like that is there."""
     name = octets[:_HEAD].rstrip(b"\0 ").decode("latin-1")
     return name if len(octets) >= _HEAD and name in _CHARACTER_SETS else None
 
 
-def _bare_comment(octets: bytes) -> Optional[str]:
+def _bare_comment(octets: bytes) -> str | None:
     """The text of a comment without a character set in front: UTF-8, or Windows-1252 if most of its bytes are ASCII. Bytes that aren't text may
     begin like a short one."""
     bare, _, rest = octets.partition(b"\0")
@@ -99,7 +99,7 @@ def _bare_comment(octets: bytes) -> Optional[str]:
 _MARK = "\ufeff"  # of the byte order
 
 
-def wide_comment(octets: bytes) -> Optional[str]:
+def wide_comment(octets: bytes) -> str | None:
     """The text of a comment in UTF-16 in front of which no character set is named: it can be printed, and most of it is Latin. None of any other."""
     for order in ("utf-16-le", "utf-16-be"):
         try:
@@ -155,7 +155,7 @@ def decoded(octets: bytes, declares_utf8: bool = False) -> tuple[str, str]:
         return bare.decode("cp1252", "backslashreplace"), f"{remark}: Windows-1252"
 
 
-def text_of_comment(field: Field) -> Optional[str]:
+def text_of_comment(field: Field) -> str | None:
     """The text of a UserComment; of one that is a text by its type all that is in front of a NUL, unless a character set is there."""
     octets = field.content
     if not isinstance(octets, bytes):
@@ -165,7 +165,7 @@ def text_of_comment(field: Field) -> Optional[str]:
     return comment(octets)
 
 
-def plain_comment(field: Field) -> Optional[str]:
+def plain_comment(field: Field) -> str | None:
     """The text of a comment for people; None if it is in no known character set."""
     text = text_of_comment(field)
     return None if text is None else text or EMPTY
@@ -174,7 +174,7 @@ def plain_comment(field: Field) -> Optional[str]:
 # XMP
 
 
-def xmp_texts(field: Field) -> Optional[list[tuple[str, str]]]:
+def xmp_texts(field: Field) -> list[tuple[str, str]] | None:
     """The texts of a simple value or of a list of such, each with its language. None for a structure, or a value that isn't kept whole."""
     if isinstance(field.content, Long):
         return None

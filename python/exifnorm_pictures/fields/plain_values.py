@@ -5,7 +5,6 @@ A value without plain words stays as it is printed exactly.
 
 from __future__ import annotations
 
-from typing import Optional
 
 from ..model.texts import escaped, quoted
 from ..model.xmp_values import Literal
@@ -71,7 +70,7 @@ UNITS = {"K": "kilometres", "M": "miles", "N": "nautical miles"}
 ALTITUDES = ("above sea level", "below sea level")
 
 
-def _flash(field: Field) -> Optional[str]:
+def _flash(field: Field) -> str | None:
     bits = numbers.integer(field)
     if bits is None or not 0 <= bits < 1_000_000_000:
         return None
@@ -173,13 +172,13 @@ def in_line(field: Field) -> str:
     return quoted(text)
 
 
-def _in_words(field: Field) -> Optional[str]:
+def _in_words(field: Field) -> str | None:
     """The value by the rule of its field, if there is one."""
     rule = _RULES.get(field.directory, {}).get(field.tag)
     return rule(field) if rule else None
 
 
-def _text(field: Field) -> Optional[str]:
+def _text(field: Field) -> str | None:
     """A text, also one that isn't UTF-8; None for a value that is no text, or isn't kept."""
     text = text_of(field)
     if text is not None:
@@ -205,7 +204,7 @@ _HALVES = (("0001", "0002"), ("0003", "0004"))
 POSITION_TAGS = tuple(key for half in _HALVES for key in half)  # the tags of the four fields
 
 
-def position(fields: dict[str, Field]) -> Optional[str]:
+def position(fields: dict[str, Field]) -> str | None:
     """The position of the GPS directory in degrees, of its fields by tag; None if a part is missing.
 
     >>> angles = {"0002": ((46, 1), (30, 1), (0, 1)), "0004": ((7, 1), (1213, 100), (0, 1))}

@@ -15,7 +15,7 @@ from __future__ import annotations
 import difflib
 import re
 from dataclasses import dataclass
-from typing import Callable, Iterable, Iterator, Optional, Sequence, Union
+from typing import Callable, Iterable, Iterator, Sequence, Union
 
 from ..model.errors import WrongUse
 from ..model.texts import safe
@@ -97,7 +97,7 @@ def labels_of(question: Question) -> list[str]:
     return list(dict.fromkeys(leaf.label for leaf in _leaves(question)))
 
 
-def _leaves(question: Question) -> Iterator[Union[With, Condition]]:
+def _leaves(question: Question) -> Iterator[With | Condition]:
     """What a question asks of single labels."""
     if isinstance(question, (With, Condition)):
         yield question
@@ -163,7 +163,7 @@ def _check_text(text: str) -> None:
         raise WrongQuestion(f"{safe(text)} is no text in UTF-8")
 
 
-def _label_or_field(text: str) -> Optional[str]:
+def _label_or_field(text: str) -> str | None:
     """A label, damage, or the name of a field as --only takes it; None if no field is named so."""
     label = DAMAGE if text.casefold() == DAMAGE else label_of(text)
     if label is None and text and not text.isspace():
@@ -211,7 +211,7 @@ class _Reader(Reader):
     def _read_any(self) -> Question:
         return self._read_joined("or", Any, lambda: self._read_joined("and", All, self._read_factor))
 
-    def _read_joined(self, word: str, joined: "type[Union[All, Any]]", read: Callable[[], Question]) -> Question:
+    def _read_joined(self, word: str, joined: "type[All | Any]", read: Callable[[], Question]) -> Question:
         questions = [read()]
         while self._takes(word):
             questions.append(read())

@@ -14,7 +14,7 @@ import fnmatch
 import os
 import re
 from dataclasses import dataclass
-from typing import Callable, Iterable, NoReturn, Optional, Sequence
+from typing import Callable, Iterable, NoReturn, Sequence
 
 from ..model.errors import WrongUse
 from . import dates
@@ -133,7 +133,7 @@ def rules_of(text: str, words_of: Callable[[str], list[str]]) -> list[Rule]:
     return rules
 
 
-def _rule(number: int, line: str, words_of: Callable[[str], list[str]]) -> Optional[Rule]:
+def _rule(number: int, line: str, words_of: Callable[[str], list[str]]) -> Rule | None:
     """The rule of a line, if it has one. Raises `Mistake`."""
     if len(line) > LONGEST_LINE:
         raise Mistake(f"a line has at most {LONGEST_LINE:,} characters; a file of words, after from, may have more", 0, 1)

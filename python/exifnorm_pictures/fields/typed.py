@@ -6,7 +6,7 @@ import math
 import struct
 from datetime import date, datetime, time
 from fractions import Fraction
-from typing import Any, Iterator, Optional, Sequence, Union
+from typing import Any, Iterator, Sequence, Union
 
 from ..model.xmp_values import Array, Literal, Long, LongStructure, Structure, Uri, XmpValue, exact
 from .field import Field
@@ -67,7 +67,7 @@ def typed(field: Field) -> Any:
     return [_json_number(one) for one in result] if isinstance(result, tuple) else _json_number(result)
 
 
-def number_of(field: Field) -> Optional[float]:
+def number_of(field: Field) -> float | None:
     """The value of Exif or IPTC that is one number; None of any other.
 
     >>> number_of(Field("exif", "829a", "RATIONAL", 1, ((10, 1250),))), number_of(Field("iptc", "2:5", "octets", 1, b"7"))
@@ -130,14 +130,14 @@ def _of_dataset(key: str, octets: bytes) -> Value:
     return guessed(octets, b"\0") if key[:2] in ("1:", "2:") and key not in _DATASET_OCTETS else octets
 
 
-def _moment(text: str, form: str) -> Optional[datetime]:
+def _moment(text: str, form: str) -> datetime | None:
     try:
         return datetime.strptime(text, form)
     except ValueError:
         return None
 
 
-def raw(field: Field) -> Optional[bytes]:
+def raw(field: Field) -> bytes | None:
     """The bytes of a value, most significant byte first; None for XMP, and for a value that isn't kept whole."""
     if isinstance(field.content, bytes):
         return field.content

@@ -3,7 +3,6 @@
 from __future__ import annotations
 
 import hashlib
-from typing import Optional
 
 from exifnorm._library import library
 from exifnorm._properties import _HEAD, _TAIL
@@ -33,7 +32,7 @@ def fields_of_statements(statements: Statements) -> list[Field]:
     return [_field(name, values) for name, values in sorted(by_property.items())]
 
 
-def packed_packet(packet: bytes, budget: Budget) -> Optional[tuple[str, bytes]]:
+def packed_packet(packet: bytes, budget: Budget) -> tuple[str, bytes] | None:
     """The digest of a packet's statements and its packed fields by the extension module; None if that isn't there, or leaves the packet to
     Python."""
     is_small = budget.small_packets and len(packet) <= SMALL

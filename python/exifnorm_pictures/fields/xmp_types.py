@@ -9,7 +9,7 @@ from __future__ import annotations
 import re
 from datetime import date, datetime, timedelta, timezone
 from fractions import Fraction
-from typing import Callable, Optional, Union
+from typing import Callable, Union
 
 XmpObject = Union[int, float, Fraction, bool, datetime, date, None, str]
 
@@ -110,7 +110,7 @@ def _date(text: str) -> XmpObject:
         if hour is None:
             return date(int(year), int(month), int(day))
         ahead = timedelta(hours=int(hours or 0), minutes=int(minutes or 0)) * (-1 if sign == "-" else 1)
-        zone: Optional[timezone] = timezone(ahead) if utc or sign else None
+        zone: timezone | None = timezone(ahead) if utc or sign else None
         microseconds = int((part or "0")[:6].ljust(6, "0"))
         return datetime(int(year), int(month), int(day), int(hour), int(minute), int(second or 0), microseconds, zone)
     except ValueError:

@@ -12,7 +12,7 @@ import os
 import re
 import stat
 import zlib
-from typing import AnyStr, BinaryIO, Callable, Iterator, Optional, Pattern
+from typing import AnyStr, BinaryIO, Callable, Iterator, Pattern
 
 from ..model.errors import Failure
 from ..model.texts import reason, shown_path
@@ -134,7 +134,7 @@ def _remove_dead(entry: "os.DirEntry[bytes]") -> None:
 
 
 @contextlib.contextmanager
-def _written(out: bytes, write: Write, mode: int) -> Iterator[tuple[BinaryIO, Optional[bytes]]]:
+def _written(out: bytes, write: Write, mode: int) -> Iterator[tuple[BinaryIO, bytes | None]]:
     """A file in the folder of `out` with all its bytes on the disk, and its name if it needed one. It begins with a mode, less umask."""
     folder, number, name = os.path.dirname(out) or b".", -1, None
     try:
@@ -151,7 +151,7 @@ def _written(out: bytes, write: Write, mode: int) -> Iterator[tuple[BinaryIO, Op
                 os.unlink(name)
 
 
-def _opened(folder: bytes, out: bytes, mode: int) -> tuple[int, Optional[bytes]]:
+def _opened(folder: bytes, out: bytes, mode: int) -> tuple[int, bytes | None]:
     """A new file that is locked, as far as the file system can, and its name if it needs one."""
     if hasattr(os, "O_TMPFILE"):
         with contextlib.suppress(OSError):
@@ -177,7 +177,7 @@ def _free_name(out: bytes) -> bytes:
     return os.path.join(os.path.dirname(out), b".exifnorm-%s-%08x.part" % (word := os.urandom(6).hex().encode("ascii"), zlib.crc32(word)))
 
 
-def _link(file: BinaryIO, name: Optional[bytes], out: bytes) -> None:
+def _link(file: BinaryIO, name: bytes | None, out: bytes) -> None:
     """Gives a file the new name `out`."""
     if not name:
         # given a folder, though the path is absolute, since Python follows the link only then

@@ -17,7 +17,7 @@ import re
 import stat
 import tempfile
 from itertools import islice
-from typing import Any, Iterator, Optional, Sequence
+from typing import Any, Iterator, Sequence
 
 from ..model.texts import reason, shown_path
 from . import opening, rights, signals
@@ -38,7 +38,7 @@ _PIECE = 1_000_000
 class NewFolder:
     """A folder that is being written, flat, with a list of its files. `earlier` is the one that it replaces."""
 
-    def __init__(self, path: bytes, earlier: bytes, allowed: Optional[rights.Rights], sources: Sequence[str]) -> None:
+    def __init__(self, path: bytes, earlier: bytes, allowed: rights.Rights | None, sources: Sequence[str]) -> None:
         self.path, self._earlier, self._allowed, self._sources = path, earlier, allowed, sources
         self.lines: list[str] = []  # of the list: the SHA-256 and the name of each file, as sha256sum has them
 
@@ -151,7 +151,7 @@ def _remove(folder: bytes, mark: str) -> None:
 _FIRST = b"The pages of a report by exifnorm-pictures, which a new one replaces:\n"
 
 
-def _rights_of_earlier(there: bytes, mark: str) -> Optional[tuple[rights.Rights, rights.Rights]]:
+def _rights_of_earlier(there: bytes, mark: str) -> tuple[rights.Rights, rights.Rights] | None:
     """The rights of an earlier folder and of its list. Raises `NotReplaced` if something else is there."""
     try:
         now = os.stat(there)
@@ -182,7 +182,7 @@ def _rights_of_earlier(there: bytes, mark: str) -> Optional[tuple[rights.Rights,
     return rights.rights_of(there), rights.rights_of(listed)
 
 
-def _is_as_written(path: bytes, due: Optional[bytes]) -> bool:
+def _is_as_written(path: bytes, due: bytes | None) -> bool:
     """Whether a file is a page of a report that has a SHA-256, which a line of the list begins with."""
     name = os.path.basename(os.fsdecode(path))
     if not _PAGE.fullmatch(name) or os.path.islink(path) or not os.path.isfile(path):
@@ -194,7 +194,7 @@ def _is_as_written(path: bytes, due: Optional[bytes]) -> bool:
     return due == b"%s  " % digest.hexdigest().encode()
 
 
-def _give(room: bytes, mark: str, before: Optional[rights.Rights]) -> None:
+def _give(room: bytes, mark: str, before: rights.Rights | None) -> None:
     """Gives a new folder the rights of the one that it replaces; otherwise those may enter it who may read its files."""
     number = os.open(room, os.O_DIRECTORY)
     try:

@@ -7,7 +7,7 @@ import errno
 import io
 import os
 import stat
-from typing import TYPE_CHECKING, BinaryIO, Iterator, Optional, TypeVar, Union
+from typing import TYPE_CHECKING, BinaryIO, Iterator, TypeVar
 
 if TYPE_CHECKING:
     from _typeshed import WriteableBuffer
@@ -22,7 +22,7 @@ _held: dict[bytes, int] = {}  # the numbers of the files that are held open, by 
 
 
 @contextlib.contextmanager
-def held(path: bytes) -> Iterator[Optional[int]]:
+def held(path: bytes) -> Iterator[int | None]:
     """Holds a file open, whose number is its result: all that is read meanwhile by this name is of this file, whatever file gets the name. One
     that can't be opened isn't held, and `opened` raises why; one that is held already stays so."""
     number = None
@@ -36,7 +36,7 @@ def held(path: bytes) -> Iterator[Optional[int]]:
             os.close(_held.pop(path))
 
 
-def opened(path: Union[bytes, str]) -> tuple[int, int]:
+def opened(path: bytes | str) -> tuple[int, int]:
     """The number of a regular file that is open, and its length. A file that becomes a pipe isn't waited for. Raises `OSError`."""
     if isinstance(path, bytes) and path in _held:
         number = os.dup(_held[path])
@@ -73,12 +73,12 @@ class _Regular(io.FileIO):
         return _there(super().readall())
 
 
-def _there(read: Optional[Read]) -> Read:
+def _there(read: Read | None) -> Read:
     if read is None:
         raise BlockingIOError(errno.EAGAIN, os.strerror(errno.EAGAIN))
     return read
 
 
-def reading(path: Union[bytes, str]) -> BinaryIO:
+def reading(path: bytes | str) -> BinaryIO:
     """A regular file as a stream. Raises `OSError`."""
     return io.BufferedReader(_Regular(opened(path)[0]))

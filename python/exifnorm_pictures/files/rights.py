@@ -8,7 +8,7 @@ from __future__ import annotations
 
 import contextlib
 import os
-from typing import Iterable, NamedTuple, Union
+from typing import Iterable, NamedTuple
 
 _LIST = "system.posix_acl_access"
 _OWNER, _GROUP, _OTHERS = 0o700, 0o070, 0o007
@@ -23,13 +23,13 @@ class Rights(NamedTuple):
     list: bytes  # the access control list, as Linux keeps it; empty if there is none
 
 
-def rights_of(file: Union[int, bytes, str]) -> Rights:
+def rights_of(file: int | bytes | str) -> Rights:
     """The rights of a file, by its name or its number. Raises `OSError`."""
     status = os.stat(file)
     return Rights(status.st_uid, status.st_gid, status.st_mode & 0o777, _list_of(file))
 
 
-def _list_of(file: Union[int, bytes, str]) -> bytes:
+def _list_of(file: int | bytes | str) -> bytes:
     if hasattr(os, "getxattr"):
         with contextlib.suppress(OSError):  # there is none, or the file system has no lists
             return os.getxattr(file, _LIST)
@@ -70,7 +70,7 @@ def _of_another_group(mode: int) -> int:
     return mode & (_OWNER | _OTHERS) | mode & _GROUP & mode << 3
 
 
-def limit(file: int, sources: Iterable[Union[bytes, str]]) -> None:
+def limit(file: int, sources: Iterable[bytes | str]) -> None:
     """Takes from a new file what one of the files that it is made from doesn't allow. Raises `OSError`."""
     now = os.fstat(file)
     mode = now.st_mode & 0o777
@@ -80,7 +80,7 @@ def limit(file: int, sources: Iterable[Union[bytes, str]]) -> None:
     os.fchmod(file, mode)
 
 
-def make(name: Union[bytes, str], sources: Iterable[Union[bytes, str]]) -> None:
+def make(name: bytes | str, sources: Iterable[bytes | str]) -> None:
     """Makes an empty file that allows no more than the files that it will be made from. A file that is there stays. Raises `OSError`."""
     with contextlib.suppress(FileExistsError):
         file = os.open(name, os.O_WRONLY | os.O_CREAT | os.O_EXCL, 0o666)

@@ -9,7 +9,7 @@ from __future__ import annotations
 import contextlib
 import os
 import time
-from typing import Iterator, Optional, Protocol
+from typing import Iterator, Protocol
 
 from ..model.budgets import PROGRAM_SECONDS
 
@@ -32,17 +32,17 @@ class Closes(Protocol):
 class Session:
     """A session. Use it in a `with`: at its end its program ends, and its folder is removed."""
 
-    def __init__(self, seconds: float = PROGRAM_SECONDS, debug: bool = False, room: Optional[str] = None, programs: bool = True) -> None:
+    def __init__(self, seconds: float = PROGRAM_SECONDS, debug: bool = False, room: str | None = None, programs: bool = True) -> None:
         """How long a program may take for one file, whether tracebacks are printed, the folder of the run, and whether other programs may be
         started; without `room` the session makes a folder of its own, if it needs one."""
         self.seconds, self.programs = seconds, programs and hasattr(os, "fork")  # Windows has no limits for them
         self.debug = debug or os.environ.get("EXIFNORM_DEBUG") == "1"
         self.pid = os.getpid()
-        self.tool: Optional[Closes] = None  # ExifTool's process, which `exiftool` starts at the first call
+        self.tool: Closes | None = None  # ExifTool's process, which `exiftool` starts at the first call
         self._room, self._rooms = room, contextlib.ExitStack()
-        self._folder: Optional[str] = None
+        self._folder: str | None = None
         self._asked, self._taken = b"", 0.0  # the file that programs were last asked about, and the seconds that they took for it
-        self._ends: Optional[float] = None  # when the time of all calls is over
+        self._ends: float | None = None  # when the time of all calls is over
 
     @contextlib.contextmanager
     def clock(self, file: bytes) -> Iterator[float]:

@@ -7,7 +7,7 @@ import os
 import signal
 import sys
 from types import FrameType
-from typing import IO, Iterator, Optional
+from typing import IO, Iterator
 
 from ..model.errors import Failure
 from ..model.texts import safe
@@ -31,7 +31,7 @@ class ClosedOutput(Failure):
 
 # What the last signal raised. It is no part of a session, because the system has one handler of a signal for the whole process, which is
 # called between any two steps of the first thread and knows no session. In a program that reads pictures no handler is set.
-_stopped: Optional[BaseException] = None
+_stopped: BaseException | None = None
 
 
 def go_on_stopping() -> None:
@@ -42,7 +42,7 @@ def go_on_stopping() -> None:
         raise again
 
 
-def _stop(number: int, _: Optional[FrameType]) -> None:
+def _stop(number: int, _: FrameType | None) -> None:
     """Raises what unwinds the run. Further signals don't disturb its end."""
     for signum in _HEEDED:
         signal.signal(signum, signal.SIG_IGN)
@@ -120,7 +120,7 @@ def ready_streams() -> None:
         reconfigure(encoding="utf-8", errors="backslashreplace")
 
 
-def drop(stream: Optional[IO[str]]) -> None:
+def drop(stream: IO[str] | None) -> None:
     """Abandons a stream that can't be written to: its buffered bytes go to /dev/null, also when Python ends."""
     with contextlib.suppress(OSError, ValueError):
         if stream is not None:

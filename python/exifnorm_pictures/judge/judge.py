@@ -4,7 +4,6 @@ from __future__ import annotations
 
 import hashlib
 from functools import partial
-from typing import Optional
 
 import exifnorm
 
@@ -23,7 +22,7 @@ from ..model.sides import Status
 _BY_ITSELF = FoundBlock("", b"", "", "")  # where a block is that was given without a picture
 
 
-def judge(kind: str, block: bytes, packs: bool = False, at: FoundBlock = _BY_ITSELF, budget: Optional[Budget] = None) -> BlockRecord:
+def judge(kind: str, block: bytes, packs: bool = False, at: FoundBlock = _BY_ITSELF, budget: Budget | None = None) -> BlockRecord:
     """Judges a block that was taken as one of `kind`; a refused block never gets a digest. With `packs` its fields are packed for a catalogue,
     otherwise they are made when they are asked for. Raises `TooMuch` if a picture's budget is used up."""
     length, octets = len(block), hashlib.sha256(block).hexdigest()
@@ -54,14 +53,14 @@ def _misplaced(kind: str, block: bytes) -> str:
     return "NoMarker" if kind == IPTC else "UnknownKind"
 
 
-def _kept(form: bytes, packs: bool, budget: Optional[Budget]) -> tuple[Optional[bytes], Optional[str], Optional[Fields]]:
+def _kept(form: bytes, packs: bool, budget: Budget | None) -> tuple[bytes | None, str | None, Fields | None]:
     """The fields of a normal form: packed with a digest of all but the MakerNote, or as they are made when somebody asks for them."""
     if budget is not None:
         normal_form.count(form, budget)
     return (*normal_form.packed_form(form), None) if packs else (None, None, Fields(partial(normal_form.fields_of_form, form)))
 
 
-def _repaired(refused: BlockRecord, block: bytes, packs: bool, budget: Optional[Budget]) -> BlockRecord:
+def _repaired(refused: BlockRecord, block: bytes, packs: bool, budget: Budget | None) -> BlockRecord:
     """A refused block with what a repair makes of it."""
     from . import repairs  # which takes long to import, and few blocks are refused
 
@@ -121,7 +120,7 @@ def judge_all(blocks: Blocks, packs: bool = False) -> list[BlockRecord]:
     return judged + extended.not_named() if extended else judged
 
 
-def _judged(at: FoundBlock, blocks: Blocks, extended: Optional[_Extended], packs: bool) -> BlockRecord:
+def _judged(at: FoundBlock, blocks: Blocks, extended: _Extended | None, packs: bool) -> BlockRecord:
     """One block of a picture."""
     if at.kind == XMP and not at.data.startswith(COMPRESSED):
         if extended:
@@ -185,7 +184,7 @@ def _judge_xmp(at: FoundBlock, extensions: xmp.Extensions, left: dict[str, bytes
         return record(made[0], None, None, length, hashlib.sha256(at.data).hexdigest(), fields=made[1])
     used: set[str] = set()
     try:
-        statements: Optional[xmp.Statements] = xmp.statements(at.data, extensions, used)
+        statements: xmp.Statements | None = xmp.statements(at.data, extensions, used)
         cause = ""
     except xmp.Unreadable as error:
         statements, cause = None, error.cause

@@ -8,7 +8,7 @@ import hashlib
 import json
 import zlib
 from collections import Counter
-from typing import NamedTuple, Optional, Sequence
+from typing import NamedTuple, Sequence
 
 from ..extract import exiftool, programs
 from ..files.session import Session
@@ -56,8 +56,8 @@ class NoteDifference(NamedTuple):
     """A value that reads otherwise; missing where it isn't read at all."""
 
     name: str
-    before: Optional[str]
-    after: Optional[str]
+    before: str | None
+    after: str | None
 
 
 def readings_of(session: Session, paths: Sequence[bytes]) -> list[NotesReading]:
@@ -117,7 +117,7 @@ class ComparedNotes(NamedTuple):
     is_new: bool = False
 
 
-def compared_notes(session: Session, sides: Sides, picture: PictureRecord, other: PictureRecord) -> Optional[ComparedNotes]:
+def compared_notes(session: Session, sides: Sides, picture: PictureRecord, other: PictureRecord) -> ComparedNotes | None:
     """Two pictures compared; None if a reading isn't known: a file has changed since, or there is no ExifTool."""
     known: dict[int, NotesReading] = {}
     for number, side in enumerate((picture, other)):

@@ -9,7 +9,7 @@ from __future__ import annotations
 
 import struct
 from collections import Counter
-from typing import Callable, Iterator, NamedTuple, Optional, Union
+from typing import Callable, Iterator, NamedTuple, Union
 
 import exifnorm
 
@@ -44,7 +44,7 @@ class Repaired(NamedTuple):
 _Done = Union[None, tuple[bytearray, str, str], tuple[bytearray, str, str, str]]
 
 
-def repaired(block: bytes, budget: Optional[Budget] = None) -> Optional[Repaired]:
+def repaired(block: bytes, budget: Budget | None = None) -> Repaired | None:
     """The repaired block; none if no repair is known. Raises `TooLong` if its picture has taken too much time."""
     budget = budget or Budget()
     original = now = bytes(block)
@@ -246,7 +246,7 @@ def _empty(block: bytes, walk: Walk) -> _Done:
     return None
 
 
-def _without_directory(block: bytes, walk: Walk, directory: Directory) -> Optional[bytearray]:
+def _without_directory(block: bytes, walk: Walk, directory: Directory) -> bytearray | None:
     """The block without the pointer to a directory; None for the main directory."""
     if directory.name == "thumb":
         return _put(block, walk, directory.named_at, 0)
@@ -286,7 +286,7 @@ def _unknown_type(block: bytes, walk: Walk) -> _Done:
     return _without(block, walk, directory, entry), what, *_value(directory, entry)
 
 
-def _with_type(block: bytes, walk: Walk, entry: Entry, number: Optional[int] = None) -> bytearray:
+def _with_type(block: bytes, walk: Walk, entry: Entry, number: int | None = None) -> bytearray:
     out = bytearray(block)
     struct.pack_into(walk.order + "H", out, entry.place + 2, 4)
     return out if number is None else _put(bytes(out), walk, entry.place + 8, number)

@@ -2,7 +2,7 @@
 
 from __future__ import annotations
 
-from typing import Callable, Optional, Sequence, TypeVar
+from typing import Callable, Sequence, TypeVar
 
 from ..fields.field import Field
 from ..fields.block_fields import fields_of
@@ -20,7 +20,7 @@ class Sides:
         """A picture's blocks."""
         return picture.blocks
 
-    def fields(self, side: int, block: Optional[BlockRecord]) -> list[Field]:
+    def fields(self, side: int, block: BlockRecord | None) -> list[Field]:
         """The fields of a block; none if they aren't kept, or if there is no block."""
         return fields_of(block) if block else []
 
@@ -28,6 +28,6 @@ class Sides:
         """The parts of a picture that were not read."""
         return picture.unread
 
-    def maker_notes(self, side: int, picture: PictureRecord, unpack: Callable[[bytes], Made]) -> Optional[Made]:
+    def maker_notes(self, side: int, picture: PictureRecord, unpack: Callable[[bytes], Made]) -> Made | None:
         """The result of `unpack` for ExifTool's readings of its MakerNotes; None if they aren't kept."""
         return unpack(picture.notes) if picture.notes else None

@@ -10,7 +10,6 @@ another. With --whole, which asks for every byte, all limits of a picture are `W
 from __future__ import annotations
 
 import time
-from typing import Optional
 
 PROGRAM_SECONDS = 60.0  # of a clock, that a program may take for one file
 PROGRAM_BYTES = 1 << 30  # of the addresses of its process; need 0.1 GB
@@ -101,7 +100,7 @@ class TooLong(TooMuch):
 class Budget:
     """What one picture may still cost."""
 
-    def __init__(self, whole: bool = False, seconds: Optional[float] = None, most: Optional[int] = None) -> None:
+    def __init__(self, whole: bool = False, seconds: float | None = None, most: int | None = None) -> None:
         """With `seconds` reading ends after so many of a clock, and with `most` a file with more bytes isn't read."""
         self.seconds, self.most = seconds, most
         self._deadline = None if seconds is None else time.monotonic() + seconds

@@ -4,7 +4,7 @@ from __future__ import annotations
 
 import hashlib
 from collections import Counter
-from typing import Iterable, NamedTuple, Optional, Sequence
+from typing import Iterable, NamedTuple, Sequence
 
 from .budgets import BLOCKS, NOT_READ, Budget
 
@@ -66,7 +66,7 @@ class FoundBlock(NamedTuple):
     where: str  # the position in the file, for people: `APP1 segment at 20`
     extractor: str = OWN
     extends: str = ""  # for extended XMP: the digest in its main packet
-    note: Optional[int] = None  # where the MakerNote begins in the file, if the block isn't in it as it is here
+    note: int | None = None  # where the MakerNote begins in the file, if the block isn't in it as it is here
 
 
 class NotRead(NamedTuple):
@@ -158,10 +158,10 @@ class Blocks:
         not_read: Sequence[NotRead] = (),
         extractor: str = OWN,
         type: str = "",
-        problem: Optional[str] = None,
+        problem: str | None = None,
         detail: str = "",
         damage: str = "",
-        budget: Optional[Budget] = None,
+        budget: Budget | None = None,
     ) -> None:
         self.blocks, self.not_read = list(blocks), list(not_read)
         self.extractor = extractor  # EXIFTOOL if any block, or the result that there is none, comes from ExifTool or exiv2
@@ -173,7 +173,7 @@ class Blocks:
         self.iptc_digest = b""  # of the record, as Photoshop has noted it
         self.budget = budget or Budget()
 
-    def add(self, kind: str, data: bytes, where: str, part: str = "", extractor: str = OWN, note: Optional[int] = None) -> None:
+    def add(self, kind: str, data: bytes, where: str, part: str = "", extractor: str = OWN, note: int | None = None) -> None:
         """Adds the next block of a kind, in the whole file or in one part of it.
 
         >>> blocks = Blocks()

@@ -2,7 +2,6 @@
 
 from __future__ import annotations
 
-from typing import Optional
 
 from .words import Word
 
@@ -11,13 +10,13 @@ class Result(Word):
     """The result for a kind of block, for two pictures, or for the pictures of a group. It is its word, as JSON has it, and `changed` prints
     the results in this order: `Result.SAME == "same"`."""
 
-    has_changed: Optional[bool]  # between two states of an archive; None: nobody knows
+    has_changed: bool | None  # between two states of an archive; None: nobody knows
     sentence: str  # of `compare`; empty where it counts the fields, and where no two pictures have it
     are_pictures: bool  # False: neither file is one
     is_equal: bool  # whether the metadata are the same, or refused with the same bytes
 
     def __new__(
-        cls, word: str, has_changed: Optional[bool], sentence: str = "", are_pictures: bool = True, is_equal: bool = False
+        cls, word: str, has_changed: bool | None, sentence: str = "", are_pictures: bool = True, is_equal: bool = False
     ) -> "Result":
         result = str.__new__(cls, word)
         result._value_ = word
@@ -78,7 +77,7 @@ class Result(Word):
     LEFT_OUT = ("left out", False)  # no field of the kind counts
 
     @property
-    def decided(self) -> Optional[bool]:
+    def decided(self) -> bool | None:
         """Whether it says that two pictures are the same; None if it says that nobody knows."""
         return True if self is Result.SAME else False if self.has_changed else None
 

@@ -3,7 +3,7 @@
 from __future__ import annotations
 
 import json
-from typing import NamedTuple, Optional, Sequence
+from typing import NamedTuple, Sequence
 
 from .columns import Damaged
 
@@ -49,7 +49,7 @@ def packed(steps: Sequence[Step]) -> str:
     return json.dumps([list(it) for it in steps])
 
 
-def unpacked(text: Optional[str]) -> tuple[Step, ...]:
+def unpacked(text: str | None) -> tuple[Step, ...]:
     """The steps from the result of `packed`. Raises `Damaged`, since a catalogue may be damaged or a stranger's.
 
     >>> unpacked(packed([Step("Doubled", "left out")]))

@@ -9,7 +9,7 @@ import os
 import re
 from contextlib import suppress
 from types import TracebackType
-from typing import Any, Optional, Union
+from typing import Any
 
 
 Members = dict[str, Any]  # of a JSON object
@@ -87,7 +87,7 @@ def _escaped_character(character: str) -> str:
     return f"\\u{number:04x}" if number < 0x10000 else f"\\U{number:08x}"
 
 
-def near(path: Union[bytes, str]) -> str:
+def near(path: bytes | str) -> str:
     """A path from the current folder, or whole if that is shorter, however it was given.
 
     >>> [near(it) for it in ("./a//b.jpg", os.path.abspath("a"), os.getcwd(), "../a/", "/", "-a.jpg", "")]
@@ -101,12 +101,12 @@ def near(path: Union[bytes, str]) -> str:
     return f"./{name}" if name.startswith("-") else name  # which no program takes for an option
 
 
-def shown_path(path: Union[bytes, str]) -> str:
+def shown_path(path: bytes | str) -> str:
     """The name of a file for people, in one line, in which different names are different. All commands print it so, in lines and tables."""
     return escaped(near(path))
 
 
-def whole_path(path: Union[bytes, str]) -> str:
+def whole_path(path: bytes | str) -> str:
     """The same for what is read elsewhere: pages, letters, JSON, and what a catalogue keeps."""
     return escaped(os.fsdecode(path))
 
@@ -122,7 +122,7 @@ _PACKAGES = ("exifnorm_pictures", "exifnorm")
 def described(error: BaseException) -> str:
     """An error of our own code: its kind, its text, and the innermost of our lines that it came through."""
     line = ""
-    step: Optional[TracebackType] = error.__traceback__
+    step: TracebackType | None = error.__traceback__
     while step is not None:
         file = step.tb_frame.f_code.co_filename
         package = str(step.tb_frame.f_globals.get("__name__")).partition(".")[0]
@@ -150,7 +150,7 @@ def path_members(path: bytes) -> Members:
         return {"path": whole_path(path), "path_hex": path.hex()}
 
 
-def path_or_none(path: Optional[bytes]) -> Optional[Members]:
+def path_or_none(path: bytes | None) -> Members | None:
     """The same, or null without a path."""
     return None if path is None else path_members(path)
 

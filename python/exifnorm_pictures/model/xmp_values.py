@@ -60,7 +60,7 @@ class Long(NamedTuple):
     """In place of a value that is too long to be kept."""
 
     digest: str  # the first digits of its SHA-256
-    begins: Union[str, bytes]  # the beginning of numbers and of XMP as they are printed exactly, or of bytes
+    begins: str | bytes  # the beginning of numbers and of XMP as they are printed exactly, or of bytes
 
 
 class LongStructure(Long):
@@ -68,7 +68,7 @@ class LongStructure(Long):
 
     value: "XmpValue"
 
-    def __new__(cls, digest: str, begins: Union[str, bytes], value: "XmpValue") -> "LongStructure":
+    def __new__(cls, digest: str, begins: str | bytes, value: "XmpValue") -> "LongStructure":
         structure = super().__new__(cls, digest, begins)
         structure.value = value
         return structure

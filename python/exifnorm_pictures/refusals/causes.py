@@ -3,7 +3,6 @@
 from __future__ import annotations
 
 from dataclasses import dataclass
-from typing import Optional
 
 from exifnorm._causes import OF_BLOCKS
 
@@ -237,7 +236,7 @@ OTHER_REMEDIES: dict[str, tuple[str, str]] = {
 }
 
 
-def words_of(cause: str, kind: str = "") -> Optional[tuple[str, str]]:
+def words_of(cause: str, kind: str = "") -> tuple[str, str] | None:
     """The meaning and the remedy of any cause that a block of a catalogue can have. TooLong is a cause of blocks, and another one of XMP.
 
     >>> words_of("RareForm")[1][:26], words_of("Unsorted")[0], words_of("TooLong", XMP)[1][:34]

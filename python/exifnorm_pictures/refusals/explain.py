@@ -3,7 +3,7 @@
 from __future__ import annotations
 
 from dataclasses import dataclass, field
-from typing import Callable, Optional
+from typing import Callable
 
 from exifnorm import XmpRefused, xmp_normal
 from exifnorm._causes import OF_PACKETS
@@ -25,7 +25,7 @@ class Explanation:
 
     kind: str
     judgement: BlockRecord
-    cause: Optional[Cause] = None
+    cause: Cause | None = None
     here: list[str] = field(default_factory=list)  # the parts at the offset
     octets: list[str] = field(default_factory=list)
     is_without_remedy: bool = False  # of this file: each step of `mend` was tried
@@ -98,7 +98,7 @@ def explain_packet(judgement: BlockRecord, packet: bytes) -> Explanation:
 _AT_A_PLACE = ("NotWellFormed", "NotText")  # causes of a text that the library refuses at its first fault
 
 
-def _fault_of(packet: bytes) -> Optional[XmpRefused]:
+def _fault_of(packet: bytes) -> XmpRefused | None:
     """The first fault of a packet in UTF-8 by the library, which names it exactly; none of one that it leaves to another reader."""
     try:
         xmp_normal(packet)
@@ -162,7 +162,7 @@ def _next(layout: Layout, cause: str, place: int) -> list[str]:
     return [f"The thumbnail directory names a further one at {layout.number(place, 4)}."]
 
 
-def _named(layout: Layout, place: int) -> Optional[int]:
+def _named(layout: Layout, place: int) -> int | None:
     """The offset in the pointer to a directory."""
     entry = layout.entries.get(place)
     return entry.last if entry else layout.number(place, 4)

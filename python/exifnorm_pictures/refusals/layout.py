@@ -6,7 +6,7 @@ It judges nothing: the cause and the byte offset of a refusal are the engine's.
 from __future__ import annotations
 
 from dataclasses import dataclass
-from typing import NamedTuple, Optional
+from typing import NamedTuple
 
 from ..extract.structure import HEADER, Directory, directories, order_of, two_at
 from ..fields.names import DIRECTORIES, name_of
@@ -63,7 +63,7 @@ class Layout:
         for directory in directories(self.block):
             self._add(directory)
 
-    def number(self, place: int, size: int) -> Optional[int]:
+    def number(self, place: int, size: int) -> int | None:
         """The number of two or four bytes at an offset, or None outside the block."""
         if place < 0 or place + size > len(self.block):
             return None
@@ -89,7 +89,7 @@ class Layout:
         if directory.name == "thumb" and start and length:
             self.parts.append(Part(start.last, start.last + length.last, "the thumbnail JPEG", start.place))
 
-    def owners(self, place: int) -> Optional[tuple[Part, Part]]:
+    def owners(self, place: int) -> tuple[Part, Part] | None:
         """The part that the entry at an offset claims and that shares bytes with an earlier one, and that one."""
         for index, mine in enumerate(self.parts):
             if mine.named_at != place or mine.end <= mine.start or index == 0:

@@ -9,7 +9,7 @@ import re
 import tempfile
 from collections import Counter
 from dataclasses import dataclass, field
-from typing import Callable, NamedTuple, Optional, Union
+from typing import Callable, NamedTuple
 
 from ..extract import coded_picture, programs
 from ..extract.extraction import blocks_of_file
@@ -47,7 +47,7 @@ class NotWritten(Exception):
 class NeedsExifTool(programs.Failed):
     """Only ExifTool can mend a picture, and isn't installed or may not be started. The text says why a repair isn't enough, and which package has it."""
 
-    def __init__(self, kind: str, repair: "Optional[_Repair]", may_start: bool = True) -> None:
+    def __init__(self, kind: str, repair: "_Repair | None", may_start: bool = True) -> None:
         if repair is not None:
             why = f"the repair of its block loses {' and '.join(loses(repair.steps))}, and ExifTool, which shows what that is,"
         else:
@@ -72,7 +72,7 @@ class Mended:
     is_written: bool = False  # whether there is a copy
 
 
-def mend(picture: bytes, out: bytes, session: Session, folder: Optional[bytes] = None, lossless: bool = False) -> Mended:
+def mend(picture: bytes, out: bytes, session: Session, folder: bytes | None = None, lossless: bool = False) -> Mended:
     """Writes a copy with accepted blocks to the new file `out`. Raises `NotWritten`, `NeedsExifTool`, `programs.Failed` and `TooMuch`.
 
     The remedies are tried in their order. A repair that loses nothing is used, and else the first remedy that changes no printed value and no
@@ -107,7 +107,7 @@ def mend(picture: bytes, out: bytes, session: Session, folder: Optional[bytes] =
 _remove_left = functools.lru_cache(maxsize=64)(atomic.remove_left)  # so that a folder of many copies is listed once
 
 
-def attempt(session: Session, picture: bytes, room: str) -> tuple[Mended, Optional[bytes]]:
+def attempt(session: Session, picture: bytes, room: str) -> tuple[Mended, bytes | None]:
     """What `mend` does with a picture, and the file that it would write, which is in the folder `room`; none if no remedy helps. Raises
     `NeedsExifTool`, `programs.Failed` and `TooMuch`."""
     taken = blocks_of_file(picture, session=session)
@@ -151,7 +151,7 @@ class _Repair(NamedTuple):
     steps: tuple[Step, ...]
 
 
-def _repaired(session: Session, picture: bytes, taken: Blocks, room: str) -> Optional[_Repair]:
+def _repaired(session: Session, picture: bytes, taken: Blocks, room: str) -> _Repair | None:
     """A copy whose Exif blocks are repaired; none if that isn't enough, or changes anything else that is read of the file."""
     name = os.path.join(room, "repair" + ending_of(picture))
     with opening.reading(picture) as given:
@@ -188,7 +188,7 @@ def _refusals(taken: Blocks) -> dict[str, str]:
 Attempt = tuple[Remedy, str, list[str], list[str]]
 
 
-def _copy(source: Union[bytes, str], name: str) -> None:
+def _copy(source: bytes | str, name: str) -> None:
     with opening.reading(source) as given, open(name, "xb") as copy:
         copying.copy(given.fileno(), copy.fileno())
 
@@ -211,14 +211,14 @@ def _others(name: str, taken: Blocks) -> dict[str, str]:
     return {**blocks, **{it.what.partition(" (")[0]: it.digest for it in taken.not_read}}
 
 
-def _best(session: Session, picture: bytes, taken: Blocks, repair: Optional[_Repair], room: str) -> Optional[Attempt]:
+def _best(session: Session, picture: bytes, taken: Blocks, repair: _Repair | None, room: str) -> Attempt | None:
     """The remedy that loses the least. A repair that loses nothing is the best one, whatever can be read again by it; what can be read of one
     that loses something is lost if the file of another remedy doesn't have it. All that is no metadata must stay as it is."""
     suffix = ending_of(picture)
     first = os.path.join(room, "first" + suffix)
     _copy(picture, first)
     before, others = _printed(session, first), _others(first, taken)
-    best: Optional[Attempt] = None
+    best: Attempt | None = None
     known = (0, 0)
     for remedy in (Remedy.REPAIR, *_REMEDIES):
         file = os.path.join(room, remedy + suffix)
@@ -253,7 +253,7 @@ def _exiftool(session: Session, *words: str) -> programs.Done:
     return programs.run(programs.exiftool("-q", "-q", "-m", *words), session.left())
 
 
-def _free_field(session: Session, name: str) -> Optional[str]:
+def _free_field(session: Session, name: str) -> str | None:
     """A field of the main directory that the picture doesn't have, so that adding and taking it away changes none."""
     output = _exiftool(session, "-s", *(f"-IFD0:{it}" for it in _FREE), name).stdout
     there = {line.split(b":")[0].strip().decode("ascii", "replace") for line in output.split(b"\n")}

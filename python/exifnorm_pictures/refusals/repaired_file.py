@@ -5,7 +5,7 @@ from __future__ import annotations
 import os
 import struct
 import zlib
-from typing import BinaryIO, Callable, NamedTuple, Optional, Sequence
+from typing import BinaryIO, Callable, NamedTuple, Sequence
 
 from ..files import copying
 from ..judge import repairs
@@ -23,7 +23,7 @@ class Change(NamedTuple):
     new: bytes
 
 
-def changes(picture: BinaryIO, kind: str, blocks: Sequence[FoundBlock]) -> Optional[tuple[list[Change], tuple[Step, ...]]]:
+def changes(picture: BinaryIO, kind: str, blocks: Sequence[FoundBlock]) -> tuple[list[Change], tuple[Step, ...]] | None:
     """What replaces the refused Exif blocks of a file, in the order of the file, and the steps of the repairs. None if a block can't be
     repaired or isn't found in the file. Raises `TooLong`.
 
@@ -61,7 +61,7 @@ def write(picture: BinaryIO, replaced: Sequence[Change], copy: BinaryIO) -> None
     copying.copy_range(source, begin, os.fstat(source).st_size, target, at)
 
 
-def _change(picture: BinaryIO, wrap: Callable[[bytes], bytes], old: bytes, new: bytes) -> Optional[Change]:
+def _change(picture: BinaryIO, wrap: Callable[[bytes], bytes], old: bytes, new: bytes) -> Change | None:
     """The place of a block and what replaces it. None unless it is in the file exactly once, in a segment or chunk of its own."""
     for head in (b"", SIX):  # which JPEG puts before a block, and some programs in WebP too
         try:

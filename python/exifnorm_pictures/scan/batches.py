@@ -6,7 +6,7 @@ from __future__ import annotations
 import contextlib
 import sqlite3
 from collections import Counter
-from typing import Callable, Mapping, NamedTuple, Optional, Sequence, Union
+from typing import Callable, Mapping, NamedTuple, Sequence, Union
 
 from ..catalogue.store import make_rows, put_rows
 from ..extract import programs
@@ -32,7 +32,7 @@ class How(NamedTuple):
     seconds: float = PROGRAM_SECONDS  # that a program may take for one file
     room: str = ""  # a folder for temporary files
     debug: bool = False  # print tracebacks
-    lines: Optional[Lines] = None  # makes the lines that are printed about a picture
+    lines: Lines | None = None  # makes the lines that are printed about a picture
     programs: bool = True  # whether other programs may be started
 
     @property
@@ -56,7 +56,7 @@ class Batch(NamedTuple):
 Result = Union[PictureRecord, Batch]
 
 
-def batch(file: str, entries: Sequence[PictureRecord], left: Sequence[FoundFile], lines: Optional[Lines]) -> Batch:
+def batch(file: str, entries: Sequence[PictureRecord], left: Sequence[FoundFile], lines: Lines | None) -> Batch:
     """Writes the rows of some pictures to a new file."""
     unread = [it for it in entries if it.problem in NO_BYTES]
     with contextlib.closing(sqlite3.connect(file, isolation_level=None)) as base:

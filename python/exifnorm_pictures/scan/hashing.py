@@ -7,7 +7,7 @@ import threading
 from collections import deque
 from concurrent.futures import Future, ThreadPoolExecutor
 from itertools import chain, islice
-from typing import Iterable, Iterator, Optional
+from typing import Iterable, Iterator
 
 from ..catalogue.store import Catalogue
 from ..files import opening
@@ -66,7 +66,7 @@ def _hashed(work: Iterator[FoundFile], threads: int) -> Iterator[tuple[FoundFile
             pool.shutdown(wait=True, cancel_futures=True)
 
 
-def digest(path: bytes, is_stopped: Optional[threading.Event] = None) -> str:
+def digest(path: bytes, is_stopped: threading.Event | None = None) -> str:
     """SHA-256 of a file; empty if it can't be read, is mostly holes, or if nobody needs it any more."""
     whole = hashlib.sha256()
     try:

@@ -12,7 +12,7 @@ from collections import Counter
 from datetime import datetime, timezone
 from itertools import chain, islice
 from operator import itemgetter
-from typing import Callable, Iterable, Iterator, NamedTuple, Optional, Sequence
+from typing import Callable, Iterable, Iterator, NamedTuple, Sequence
 
 from ..catalogue.store import Catalogue, Known
 from ..extract import programs
@@ -60,13 +60,13 @@ class IndexOptions(NamedTuple):
     again: bool = False  # also the pictures that haven't changed
     quiet: bool = False
     how: How = How()
-    print_line: Optional[PrintLine] = None  # prints a line about a picture that was looked at, once it is committed
+    print_line: PrintLine | None = None  # prints a line about a picture that was looked at, once it is committed
     look: Look = looked
     excluded: Excluded = Excluded()  # which has no pattern, and so stays as it is
-    moved_line: Optional[Callable[[bytes, bytes, int], str]] = None  # makes one line for all pictures that moved with their folder
-    lines: Optional[Lines] = None  # makes the lines about folders that can't be read and names without a file; that of `how` by default
+    moved_line: Callable[[bytes, bytes, int], str] | None = None  # makes one line for all pictures that moved with their folder
+    lines: Lines | None = None  # makes the lines about folders that can't be read and names without a file; that of `how` by default
     own: Sequence[str] = ()  # files that aren't looked at, besides the catalogue's
-    part: Optional[Part] = None  # of the one folder that is named, of which the catalogue has no other pictures
+    part: Part | None = None  # of the one folder that is named, of which the catalogue has no other pictures
 
 
 class Work:
@@ -173,7 +173,7 @@ class _Finding:
             self._remounted = []
         return to_read
 
-    def _to_read(self, file: FoundFile) -> Optional[FoundFile]:
+    def _to_read(self, file: FoundFile) -> FoundFile | None:
         """A file with what is known of it, if it has to be looked at."""
         work, options = self.work, self.options
         if self.named is not None and not self.named.add(file.path):
@@ -206,7 +206,7 @@ def _unfinished(catalogue: Catalogue) -> Iterator[int]:
         yield from catalogue.rows(f"SELECT id FROM {joined}", (UNREAD_TRAILER,), itemgetter(0))
 
 
-def _is_unchanged(file: FoundFile, known: Optional[Known], how: How = How()) -> bool:
+def _is_unchanged(file: FoundFile, known: Known | None, how: How = How()) -> bool:
     if known is None or known.stamp is None or file.stamp is None or (how.pixels and known.coded_picture is None):
         return False
     if known.sidecars != (marks(file.path, file.sidecars) if file.sidecars else ""):
@@ -214,7 +214,7 @@ def _is_unchanged(file: FoundFile, known: Optional[Known], how: How = How()) -> 
     return is_as_before(known.stamp, file.stamp) and not _worth_another(known.problem)
 
 
-def _worth_another(problem: Optional[str]) -> bool:
+def _worth_another(problem: str | None) -> bool:
     """Whether a problem may be solved although the file is the same: rights, a program that was installed, a file that is back."""
     program = NEEDED.get(problem or "")
     return problem in AGAIN or (program is not None and programs.is_there(program))
@@ -275,7 +275,7 @@ def _named_wrong(work: Work, catalogue: Catalogue) -> Iterator[PictureRecord]:
         yield PictureRecord.of(unlisted.path, b"", problem=Problem.UNREADABLE, detail=unlisted.reason + kept)
 
 
-def _version(program: str, seconds: float) -> Optional[str]:
+def _version(program: str, seconds: float) -> str | None:
     try:
         return programs.version(program, seconds)
     except programs.Failed as error:
@@ -290,7 +290,7 @@ class _Looking:
         self.progress = Progress(0, quiet=options.quiet)
         self.ready: list[Result] = []
         self.version = ""  # of the library
-        self.versions: dict[str, Optional[str]] = {}  # of the other programs that have read a picture
+        self.versions: dict[str, str | None] = {}  # of the other programs that have read a picture
         self.files = 0  # of batches that are ready
         self.pictures = self.size = 0  # that are ready, and their bytes
         self.done = 0
@@ -361,7 +361,7 @@ class _Looking:
             self.versions.update({it: _version(it, self.options.how.seconds) for it in new})
             self.catalogue.set_versions(self.run, self.version, self.versions.get(EXIFTOOL), self.versions.get(EXIV2))
 
-    def count(self, picture: PictureRecord, lines: Optional[Lines]) -> None:
+    def count(self, picture: PictureRecord, lines: Lines | None) -> None:
         """Counts and reports a picture."""
         self.work.counts[picture.state] += 1
         if lines:

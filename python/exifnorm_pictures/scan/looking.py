@@ -3,7 +3,7 @@
 from __future__ import annotations
 
 import time
-from typing import Iterable, Iterator, Optional, Sequence
+from typing import Iterable, Iterator, Sequence
 
 from exifnorm import LibraryMissing
 
@@ -84,7 +84,7 @@ def _read(file: FoundFile, how: How, session: Session, packs: bool) -> tuple[Blo
         return Blocks(problem=Problem.TOO_SLOW, detail=str(error)), []
 
 
-def _maker_notes(session: Session, path: bytes, blocks: Blocks, judged: Sequence[BlockRecord]) -> tuple[Optional[bytes], bool]:
+def _maker_notes(session: Session, path: bytes, blocks: Blocks, judged: Sequence[BlockRecord]) -> tuple[bytes | None, bool]:
     """What ExifTool reads of the MakerNotes of a picture that has one, for a catalogue, and whether that is known.
 
     If it fails at them, they are a part that was not read; without it the picture is as it is if nobody asks for them.
@@ -103,7 +103,7 @@ def _maker_notes(session: Session, path: bytes, blocks: Blocks, judged: Sequence
         return None, False
 
 
-def _pixels(path: bytes, blocks: Blocks) -> tuple[Optional[str], str, str, Optional[str]]:
+def _pixels(path: bytes, blocks: Blocks) -> tuple[str | None, str, str, str | None]:
     """What --pixels adds to a record: the digests of the coded picture and of what is beside it, its damage, and the digest of the whole file;
     empty if not known."""
     from ..extract import coded_picture
@@ -136,7 +136,7 @@ def _now() -> int:
         return 0
 
 
-def _unless_changed(file: FoundFile, began: int) -> Optional[Stamp]:
+def _unless_changed(file: FoundFile, began: int) -> Stamp | None:
     """The marks that identify the file; none if it was written to meanwhile, so that the next run looks again.
 
     If it was changed so shortly before that a further edit could leave the same times, they are kept with a ctime that no file has, as

@@ -6,7 +6,7 @@ import functools
 import hashlib
 import os
 import sqlite3
-from typing import Any, Callable, Iterator, Optional, Sequence
+from typing import Any, Callable, Iterator, Sequence
 
 from ..catalogue.store import Catalogue
 from ..model.problems import Problem
@@ -17,7 +17,7 @@ Key = tuple[object, ...]
 _MARKS = "size, modified, inode, sha256, coded_picture, not_read, exif_octets, iptc_octets, xmp_octets"
 
 
-def content_key(octets: Sequence[Optional[str]], unread: Optional[str], size: Optional[int]) -> Optional[Key]:
+def content_key(octets: Sequence[str | None], unread: str | None, size: int | None) -> Key | None:
     """The facts that identify a picture under any name; none if it has no block and so no meaning."""
     return None if not any(octets) or unread is None or size is None else (*octets, unread, size)
 
@@ -79,7 +79,7 @@ class Departed:
             row = (path, os.path.basename(path), *marks, sha256, coded_picture, _digest(content_key(octets, unread, size)))
             self._base.execute(_ADD, row)
 
-    def each(self) -> Iterator[tuple[bytes, Optional[bytes]]]:
+    def each(self) -> Iterator[tuple[bytes, bytes | None]]:
         """The path of each picture that is gone, in the order in which they were noted, and its new one if that is known."""
         return iter(self._base.execute("SELECT path, went FROM gone ORDER BY number"))
 
@@ -98,7 +98,7 @@ class Departed:
         if row:
             self._base.execute("UPDATE gone SET went = ? WHERE number = ?", (path, row[0]))
 
-    def _alike(self, facts: dict[str, object]) -> Optional[tuple[int]]:
+    def _alike(self, facts: dict[str, object]) -> tuple[int] | None:
         """The number of the picture with these bytes, or of the only one with these blocks, this size and this time."""
         for query in (*_SAME_BYTES, *_ALIKE):
             rows: list[tuple[int]] = self._base.execute(query, facts).fetchall()
@@ -106,9 +106,9 @@ class Departed:
                 return rows[0]
         return None
 
-    def _likely(self, catalogue: Catalogue, path: bytes, facts: dict[str, object]) -> Optional[tuple[int]]:
+    def _likely(self, catalogue: Catalogue, path: bytes, facts: dict[str, object]) -> tuple[int] | None:
         """The number of the only picture with this content, if no other one means the same."""
-        row: Optional[tuple[int]] = self._base.execute(_LIKELY, facts).fetchone()
+        row: tuple[int] | None = self._base.execute(_LIKELY, facts).fetchone()
         if row is None or self._base.execute(_ARE_TWO, (facts["content"],)).fetchone()[0]:
             return None
         return None if catalogue.number_of(_MEAN_THE_SAME, (path,)) else row
@@ -147,7 +147,7 @@ class Departed:
             yield PictureRecord.of(path, b"", problem=problem, detail=detail)
 
 
-def _digest(key: Optional[Key]) -> Optional[bytes]:
+def _digest(key: Key | None) -> bytes | None:
     return None if key is None else hashlib.sha256(repr(key).encode("utf-8", "surrogatepass")).digest()
 
 
@@ -165,7 +165,7 @@ def moved_together(went: dict[bytes, bytes]) -> dict[tuple[bytes, bytes], list[b
     return {deepest(key, functools.reduce(shared_folder, paths, None) or b""): paths for key, paths in together.items() if len(paths) > 1}
 
 
-def shared_folder(folder: Optional[bytes], path: bytes) -> bytes:
+def shared_folder(folder: bytes | None, path: bytes) -> bytes:
     """The deepest folder that has a picture and all that another folder has; of the first picture its own folder.
 
     >>> shared_folder(None, b"/a/x/1.jpg"), shared_folder(b"/a/x/y", b"/a/x/1.jpg"), shared_folder(b"/a/x", b"/a/z/1.jpg")
@@ -186,7 +186,7 @@ def deepest(folders: tuple[bytes, bytes], shared: bytes) -> tuple[bytes, bytes]:
     return old, new
 
 
-def moved_folders(old: bytes, new: bytes) -> Optional[tuple[bytes, bytes]]:
+def moved_folders(old: bytes, new: bytes) -> tuple[bytes, bytes] | None:
     """The folder that a picture was in, and the one that it moved to with the path below it; None if its name is another one.
 
     >>> moved_folders(b"/a/x/1.jpg", b"/b/x/1.jpg"), moved_folders(b"/a/3.jpg", b"/c/4.jpg")

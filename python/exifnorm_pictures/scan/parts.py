@@ -8,7 +8,7 @@ import hashlib
 import os
 import re
 from collections import Counter
-from typing import Iterator, NamedTuple, Optional, Sequence
+from typing import Iterator, NamedTuple, Sequence
 
 from ..catalogue import shards
 from ..catalogue.store import NUMBERS, Catalogue, roll_back
@@ -56,13 +56,13 @@ class Outcome(NamedTuple):
     excluded: int = 0  # pictures of an earlier run that are excluded now
     continued: int = 0  # 1: an earlier run was stopped
     lacking: "Counter[str]" = Counter()  # how many pictures lack what an option reads
-    problem: Optional[PictureRecord] = None  # why the part wasn't looked at
+    problem: PictureRecord | None = None  # why the part wasn't looked at
 
 
 class _Kept(NamedTuple):
     """What a catalogue that is there says of its part."""
 
-    part: Optional[Part]  # None: it has no picture
+    part: Part | None  # None: it has no picture
     has_sidecars: bool
     has_digests: bool
 

@@ -5,7 +5,7 @@ from __future__ import annotations
 import sys
 import time
 from collections import deque
-from typing import Optional, TextIO
+from typing import TextIO
 
 from ..files.signals import drop
 
@@ -29,7 +29,7 @@ def duration(seconds: float) -> str:
 class Progress:
     """On a terminal one line that changes, elsewhere a line now and then."""
 
-    def __init__(self, total: int, stream: Optional[TextIO] = None, quiet: bool = False, what: str = "") -> None:
+    def __init__(self, total: int, stream: TextIO | None = None, quiet: bool = False, what: str = "") -> None:
         """`what` precedes the numbers: what is done with the pictures, if they aren't looked at."""
         self.total = total
         self.is_whole = True  # whether there are no more
@@ -78,7 +78,7 @@ class Progress:
             drop(self.stream)
             self.quiet = True
 
-    def rate(self) -> Optional[float]:
+    def rate(self) -> float | None:
         """Pictures a second between the reports that are kept; the first one is the begin of results, not of the run."""
         if len(self._reports) < 2:
             return None

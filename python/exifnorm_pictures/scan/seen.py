@@ -3,7 +3,6 @@
 from __future__ import annotations
 
 import sqlite3
-from typing import Optional
 
 
 class Paths:
@@ -15,7 +14,7 @@ class Paths:
     """
 
     def __init__(self) -> None:
-        self._opened: Optional[sqlite3.Connection] = None  # most runs have no path to keep
+        self._opened: sqlite3.Connection | None = None  # most runs have no path to keep
 
     @property
     def _base(self) -> sqlite3.Connection:

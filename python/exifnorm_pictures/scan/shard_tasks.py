@@ -12,7 +12,7 @@ import os
 import time
 from collections import Counter
 from itertools import islice
-from typing import Any, Iterator, Optional, Sequence
+from typing import Any, Iterator, Sequence
 
 from ..extract import programs
 from ..model.problems import Problem
@@ -123,7 +123,7 @@ class Parts:
             elif time.monotonic() - since > self.how.seconds:
                 raise programs.Failed(f"the cluster {self.scheduler} has no worker")
 
-    def _outcome(self, task: Any, shard: Shard) -> Optional[Outcome]:
+    def _outcome(self, task: Any, shard: Shard) -> Outcome | None:
         """The outcome of a task; None if its part is to be given to a worker once more, which goes on from what is committed."""
         try:
             outcome: Outcome = task.result()

@@ -6,7 +6,7 @@ import io
 import os
 import stat
 import sys
-from typing import Callable, Collection, Iterable, Iterator, NamedTuple, Optional, Sequence, cast
+from typing import Callable, Collection, Iterable, Iterator, NamedTuple, Sequence, cast
 
 from ..extract.sidecars import Folder, Folders, Sidecar
 from ..model.errors import WrongUse
@@ -20,9 +20,9 @@ class FoundFile(NamedTuple):
 
     path: bytes
     root: bytes
-    stamp: Optional[Stamp]  # None if the file system has none
+    stamp: Stamp | None  # None if the file system has none
     sidecars: tuple[Sidecar, ...] = ()  # if they are asked for
-    problem: Optional[str] = None  # that it had when it was looked at before
+    problem: str | None = None  # that it had when it was looked at before
 
 
 class Unlisted(NamedTuple):
@@ -43,9 +43,9 @@ def below(
     names: Iterable[bytes],
     unlisted: OnUnlisted,
     leave_out: Collection[bytes] = (),
-    on_sidecar: Optional[Callable[[bytes], object]] = None,
-    excluded: Optional[Excluded] = None,
-    part: Optional[Part] = None,
+    on_sidecar: Callable[[bytes], object] | None = None,
+    excluded: Excluded | None = None,
+    part: Part | None = None,
 ) -> Iterator[FoundFile]:
     """Each file of the arguments, and all files below each folder, in the order of their names. Only the names of one folder are held.
 
@@ -95,9 +95,9 @@ def _below(
     top: bytes,
     unlisted: OnUnlisted,
     leave_out: Collection[bytes],
-    on_sidecar: Optional[Callable[[bytes], object]],
+    on_sidecar: Callable[[bytes], object] | None,
     excluded: Excluded,
-    part: Optional[Part] = None,
+    part: Part | None = None,
 ) -> Iterator[FoundFile]:
     waiting = [part.folder if part else top]
     head = len(top.rstrip(b"/")) + 1  # bytes of a path before what is below the folder
@@ -163,7 +163,7 @@ def outermost(names: Iterable[bytes]) -> Iterator[bytes]:
     >>> list(outermost([b"/a/b", b"/ab", b"/a/", b"/a"]))
     [b'/a', b'/ab']
     """
-    outer: Optional[bytes] = None
+    outer: bytes | None = None
     for top in sorted(os.path.abspath(it).rstrip(b"/") + b"/" for it in names):
         if outer is None or not top.startswith(outer):
             outer = top

@@ -15,7 +15,7 @@ from concurrent.futures import Future, ProcessPoolExecutor, wait
 from concurrent.futures.process import BrokenProcessPool
 from contextvars import ContextVar
 from multiprocessing import util
-from typing import Iterable, Iterator, Mapping, NamedTuple, Sequence, Union
+from typing import Iterable, Iterator, Mapping, NamedTuple, Sequence
 
 from ..extract import programs
 from ..files import signals
@@ -102,7 +102,7 @@ def chunks_of(work: Iterator[FoundFile], processes: int) -> Iterator[list[FoundF
     yield from (ahead[at : at + size] for at in range(0, len(ahead), size))
 
 
-def look_at_some(task: Task, how: How) -> Union[Batch, Few]:
+def look_at_some(task: Task, how: How) -> Batch | Few:
     """A process's results for the first pictures of a task: for all of them, unless that takes too long or too much memory."""
     ends_at = time.monotonic() + LONGEST_WAIT
     entries: list[PictureRecord] = []
@@ -144,7 +144,7 @@ def _begin(how: How, parent: int, mask: set[int]) -> None:
 
 def _by_processes(chunks: Iterator[Sequence[FoundFile]], how: How, files: Iterator[str], unfinished: list[Task]) -> Iterator[Result]:
     """The results of several processes. If one of them dies, the tasks that have no result are left in `unfinished`, without files."""
-    waiting: "deque[Future[Union[Batch, Few]]]" = deque()  # in the order of `unfinished`, which has a task before it is given to the pool
+    waiting: "deque[Future[Batch | Few]]" = deque()  # in the order of `unfinished`, which has a task before it is given to the pool
     pool = _pool(how, how.processes)
     try:
         while True:

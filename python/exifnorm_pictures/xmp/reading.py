@@ -3,7 +3,7 @@
 from __future__ import annotations
 
 import hashlib
-from typing import Mapping, Optional
+from typing import Mapping
 
 from exifnorm import XmpRefused
 from exifnorm._properties import Makers, made_of_form
@@ -24,7 +24,7 @@ class Extensions:
 
     __slots__ = ("data", "budget", "_parsed")
 
-    def __init__(self, data: Mapping[str, bytes], budget: Optional[Budget] = None) -> None:
+    def __init__(self, data: Mapping[str, bytes], budget: Budget | None = None) -> None:
         self.data, self.budget = data, budget or Budget()
         self._parsed: dict[str, Statements] = {}
 

@@ -6,7 +6,7 @@ last box of a file may have the length 0. No reader follows boxes in boxes of un
 
 from __future__ import annotations
 
-from typing import Callable, Iterator, NamedTuple, Optional
+from typing import Callable, Iterator, NamedTuple
 
 from ...model.budgets import BOXES, BOX_BYTES, budget_of
 from ...model.found import CUT, REST, SIX, XMP, Blocks, Broken, NotRead, damage
@@ -128,7 +128,7 @@ def add_xmp(blocks: Blocks, stream: Stream, box: Box) -> None:
         blocks.add(XMP, data, f"{box.kind.decode('ascii').strip()} box at {box.at}")
 
 
-def exif_in(data: bytes) -> Optional[bytes]:
+def exif_in(data: bytes) -> bytes | None:
     """The block in an Exif item of HEIF or an Exif box of JPEG XL, which is a number, so many other bytes, and the block (ISO/IEC 23008-12, A.2.1;
     ISO/IEC 18181-2); None if the number leads out of the content. Some writers leave out the number, as ExifTool knows.
 

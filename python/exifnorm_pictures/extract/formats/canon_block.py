@@ -6,7 +6,6 @@ from __future__ import annotations
 
 import io
 import struct
-from typing import Optional
 
 from exifnorm import LIMIT
 
@@ -23,7 +22,7 @@ _TAGS = {CMT2: 0x8769, CMT4: 0x8825}
 _NOTE, _INTEROPERABILITY, _UNDEFINED = 0x927C, 0xA005, 7
 
 
-def one_block(structures: dict[bytes, bytes], budget: Budget) -> Optional[bytes]:
+def one_block(structures: dict[bytes, bytes], budget: Budget) -> bytes | None:
     """The block of the structures, by the kinds of their boxes; None if they can't be one. Raises `TooMuch`.
 
     They can't be one if they have several byte orders, further directories, pointers to what is in another box, or damage.

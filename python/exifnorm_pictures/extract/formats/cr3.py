@@ -6,7 +6,6 @@ Not compared, because they contain no Exif, IPTC or XMP: previews, the thumbnail
 
 from __future__ import annotations
 
-from typing import Optional
 
 from ...model.budgets import EXTENTS, budget_of
 from ...model.found import EXIF, Blocks, Broken, LeftToOthers, NotRead
@@ -120,7 +119,7 @@ class _Track:
             raise Broken(f"a track has no {kind.decode('ascii')} box")
         return content(self.stream, self._boxes[kind])
 
-    def _samples(self) -> Optional[list[tuple[int, int]]]:
+    def _samples(self) -> list[tuple[int, int]] | None:
         """The ranges of the samples; None unless each is a chunk by itself, as Canon writes them."""
         sizes = Fields(self._content(b"stsz"), "stsz box")
         wide = 8 if b"co64" in self._boxes else 4

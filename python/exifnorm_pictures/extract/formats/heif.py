@@ -7,7 +7,6 @@ that no item has.
 from __future__ import annotations
 
 import zlib
-from typing import Optional
 
 from ...model.budgets import BOX_BYTES, budget_of
 from ...model.found import EXIF, IN_PICTURE, XMP, Blocks, Broken, NotRead
@@ -127,7 +126,7 @@ class Reader:
         else:
             self.blocks.name(NotRead(what, digest_of_parts(self.stream, ranges)))
 
-    def _packet(self, item: Item, ranges: list[tuple[int, int]]) -> Optional[bytes]:
+    def _packet(self, item: Item, ranges: list[tuple[int, int]]) -> bytes | None:
         """The packet of an item, which may be compressed as by zlib; None if it can't be read."""
         if item.encoding not in (b"", b"deflate"):
             return None
@@ -142,7 +141,7 @@ class Reader:
         self.blocks.budget.spend(BOX_BYTES, len(packet))
         return packet if opened.eof and not opened.unused_data else None
 
-    def ranges(self, item: Item) -> Optional[list[tuple[int, int]]]:
+    def ranges(self, item: Item) -> list[tuple[int, int]] | None:
         """The parts of the file that an item has; None if it is elsewhere, or consists of other items."""
         place = self.items.places.get(item.number)
         idat = self.items.idat

@@ -2,7 +2,7 @@
 
 from __future__ import annotations
 
-from typing import Callable, NamedTuple, Optional
+from typing import Callable, NamedTuple
 
 from ...model.budgets import EXTENTS, ITEMS, budget_of
 from ...model.found import Broken
@@ -56,8 +56,8 @@ class Items:
         self.budget = budget_of(stream)
         self.items: list[Item] = []
         self.places: dict[int, Place] = {}
-        self.idat: Optional[Box] = None
-        self.primary: Optional[int] = None
+        self.idat: Box | None = None
+        self.primary: int | None = None
         self.references: list[tuple[bytes, int, list[int]]] = []  # each with its kind, its item and the items that it names
         self._described: dict[int, list[int]] = {}  # the pictures that an item describes
         self._tiles: set[int] = set()

@@ -7,7 +7,6 @@ bytes.
 
 from __future__ import annotations
 
-from typing import Optional
 
 from ...model.budgets import budget_of
 from ...model.found import COMPRESSED, EXIF, XMP, Blocks, Broken
@@ -27,7 +26,7 @@ def read(stream: Stream, whole: bool = False) -> Blocks:
     blocks = Blocks(type="JXL", budget=budget_of(stream))
     if read_at(stream, 0, len(BARE)) == BARE:
         return blocks
-    piece: Optional[Box] = None  # the last one
+    piece: Box | None = None  # the last one
     for box in boxes_of_file(blocks, stream, _is_whole):
         piece = box if box.kind == b"jxlp" else piece
         if box.kind == b"ftyp":
@@ -44,7 +43,7 @@ def _is_whole(kinds: set[bytes]) -> bool:
     return b"jxlc" in kinds or b"jxlp" in kinds
 
 
-def block_in(stream: Stream, box: Box) -> Optional[bytes]:
+def block_in(stream: Stream, box: Box) -> bytes | None:
     """The block in a box Exif; None if it has none. Raises `TooMuch`."""
     return exif_in(content(stream, box))
 

@@ -4,7 +4,6 @@ from __future__ import annotations
 
 import codecs
 import re
-from typing import Optional
 
 from ...model.xmp_encodings import encoding_of
 
@@ -17,7 +16,7 @@ _UNFINISHED = re.compile(rb"(?:<[?!].*|<[^\s<>/!?]*)?\Z", re.S)
 _ROOTS = (b"RDF", b"xmpmeta", b"xapmeta")  # with any prefix: a packet may call each namespace as it likes (XMP part 1, 7)
 
 
-def begins_packet(data: bytes) -> Optional[bool]:
+def begins_packet(data: bytes) -> bool | None:
     """Whether these first bytes of a file begin as a packet does, in any of its encodings; None if its first element is behind them.
 
     >>> begins_packet(b"<!-- a --><r:RDF xmlns:r="), begins_packet(b"<svg>"), begins_packet(b"<?xml version=")

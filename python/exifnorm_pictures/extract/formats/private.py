@@ -7,7 +7,6 @@ ExifTool alone (its modules Sony, PanasonicRaw, SamsungRaw), and that of DNG fro
 from __future__ import annotations
 
 import hashlib
-from typing import Optional
 
 from exifnorm import LIMIT
 
@@ -72,7 +71,7 @@ class Private:
             self._reached.add(self.directories.size, self.directories.size)  # they have no length, and no trailer is known
         return True
 
-    def _place_of(self, entry: Entry) -> Optional[tuple[int, int]]:
+    def _place_of(self, entry: Entry) -> tuple[int, int] | None:
         """The range of a value of bytes that is a file by itself."""
         return self.directories.place_of(entry) if entry.type in _BYTES else None
 

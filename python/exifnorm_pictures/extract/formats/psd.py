@@ -7,7 +7,7 @@ they contain no Exif, IPTC or XMP: the merged picture, colour tables and other r
 from __future__ import annotations
 
 import struct
-from typing import NamedTuple, Optional
+from typing import NamedTuple
 
 from ...model.budgets import RESOURCES, RESOURCE_BYTES, STRIPS, budget_of
 from ...model.found import IN_PICTURE, Blocks, Broken, NotRead
@@ -84,7 +84,7 @@ def _sum(data: bytes, wide: int, code: str) -> int:
     return sum(struct.unpack(f">{len(data) // wide}{code}", data[: len(data) // wide * wide]))
 
 
-def _end_of_picture(header: _Header, stream: Stream, at: int) -> Optional[int]:
+def _end_of_picture(header: _Header, stream: Stream, at: int) -> int | None:
     """Where the merged picture ends, which is the last part of a whole file; None if it isn't known."""
     compression = int.from_bytes(read_at(stream, at, 2), "big")
     rows = header.channels * header.height
@@ -98,7 +98,7 @@ def _end_of_picture(header: _Header, stream: Stream, at: int) -> Optional[int]:
     return None
 
 
-def _leave_trailer(blocks: Blocks, stream: Stream, start: Optional[int], end: int) -> None:
+def _leave_trailer(blocks: Blocks, stream: Stream, start: int | None, end: int) -> None:
     """Names what programs append to a picture, in which ExifTool may find blocks."""
     trailer = known_trailer(stream, end)
     if start is None:

@@ -5,7 +5,7 @@ from __future__ import annotations
 
 import hashlib
 import os
-from typing import Iterable, Iterator, Optional, Protocol
+from typing import Iterable, Iterator, Protocol
 
 from ...files import opening
 from ...files.copying import is_hollow
@@ -32,7 +32,7 @@ class Parts:
     """A file that is read in parts, with as many bytes as it had when it was opened. Its first bytes are in memory, so that a picture whose
     metadata are there takes few calls."""
 
-    def __init__(self, size: int, budget: Optional[Budget] = None) -> None:
+    def __init__(self, size: int, budget: Budget | None = None) -> None:
         self.size, self.budget = size, budget or Budget()
         self.budget.check_size(size)
         self._at = 0
@@ -72,7 +72,7 @@ class Parts:
 class File(Parts):
     """A regular file that is open."""
 
-    def __init__(self, number: int, size: int, budget: Optional[Budget] = None, path: bytes = b"") -> None:
+    def __init__(self, number: int, size: int, budget: Budget | None = None, path: bytes = b"") -> None:
         """Takes over the file of this number; the path is given if the picture is read by another name."""
         self.number, self._path = number, path
         try:
@@ -184,7 +184,7 @@ def digest_of_file(path: bytes, most: int) -> str:
         return digest_of(file, 0, size) if size <= most and not is_hollow(file.fileno(), size, HOLES) else ""
 
 
-def digest_of_rest(stream: Stream, start: int, end: int) -> Optional[str]:
+def digest_of_rest(stream: Stream, start: int, end: int) -> str | None:
     """SHA-256 of the bytes after a picture: None if they are only zeros, empty if they are more than may be read.
 
     >>> import io

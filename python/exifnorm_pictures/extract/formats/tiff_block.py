@@ -8,7 +8,7 @@ from __future__ import annotations
 
 import struct
 from bisect import bisect_right
-from typing import NamedTuple, Optional
+from typing import NamedTuple
 
 from ...model.tiff_types import IFD, LONG
 from .tiff_directories import Directories
@@ -80,7 +80,7 @@ class Layout:
         return any(is_ifd(it, entry) for it in self._tables for entry in it.entries)
 
     @property
-    def note(self) -> Optional[int]:
+    def note(self) -> int | None:
         """Where the MakerNote begins in the file, since its offsets may count from the file's header. None: none, or in its entry."""
         exif = self._tables[0].below.get(_EXIF)
         notes = [self._directories.place_of(it) for it in exif.entries if it.tag == _MAKER_NOTE and it.size > IN_ENTRY] if exif else []

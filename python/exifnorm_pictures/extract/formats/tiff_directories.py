@@ -9,7 +9,7 @@ from __future__ import annotations
 import struct
 from bisect import bisect_left
 from itertools import count
-from typing import NamedTuple, Optional
+from typing import NamedTuple
 
 from ...model.budgets import DIRECTORIES, ENTRIES, VALUE_BYTES, budget_of
 from ...model.found import Broken
@@ -32,9 +32,9 @@ class Reached:
     def __init__(self, header: int) -> None:
         self.parts: list[tuple[int, int]] = [(0, header)]
         self.pixels: list[tuple[int, int]] = []  # those of them with strips, tiles and JPEGs
-        self.end: Optional[int] = header  # after all of them; None if it is unknown
+        self.end: int | None = header  # after all of them; None if it is unknown
 
-    def add(self, end: int, start: Optional[int] = None) -> None:
+    def add(self, end: int, start: int | None = None) -> None:
         """Adds a part; without its start, of one whose bytes count as covered elsewhere."""
         self.parts.append((end if start is None else start, end))
         if self.end is not None:
@@ -107,7 +107,7 @@ class Directories:
             entries.append(entry)
         return entries
 
-    def place_of(self, entry: Entry) -> Optional[tuple[int, int]]:
+    def place_of(self, entry: Entry) -> tuple[int, int] | None:
         """The range of a value; None if it is in its entry, or the file doesn't contain all of it."""
         if entry.size <= IN_ENTRY:
             return None

@@ -9,7 +9,7 @@ from __future__ import annotations
 
 import re
 import struct
-from typing import Callable, NamedTuple, Optional
+from typing import Callable, NamedTuple
 
 from ...model.budgets import RESOURCE_BYTES, RESOURCES, budget_of
 from ...model.found import IPTC, XMP, Blocks, Broken
@@ -37,7 +37,7 @@ Block = tuple[str, bytes]  # its kind, and its bytes
 _Read = Callable[[Stream, int], tuple[int, list[Block]]]  # of the trailer that ends at an offset: where it begins, and its blocks
 
 
-def known_trailer(stream: Stream, end: int) -> Optional[Trailer]:
+def known_trailer(stream: Stream, end: int) -> Trailer | None:
     """The kind of the trailer that ends at an offset, if it is known.
 
     >>> import io
