@@ -139,10 +139,6 @@ class Walk:
         """Whether no directory was left out because the block has more entries than are read."""
         return sum(len(directory.rows) for directory in self.directories) <= BLOCK_ENTRIES
 
-    def two(self, place: int) -> int:
-        """The number of two bytes at a place."""
-        return two_at(self.block, self.order, place)
-
     def four(self, place: int) -> int:
         """The number of four bytes at a place."""
         return int(_READ[self.order][2].unpack_from(self.block, place)[0])

@@ -9,14 +9,14 @@ from __future__ import annotations
 
 import struct
 from collections import Counter
-from typing import Callable, Iterator, NamedTuple, Union
+from typing import Callable, Iterator, NamedTuple, Sequence, Union
 
 import exifnorm
 
-from ..extract.structure import LINKS, MAKER_NOTE, Directory, Entry, Walk
+from ..extract.structure import HEADER, LINKS, MAKER_NOTE, Directory, Entry, Walk
 from ..model.budgets import Budget
 from ..model.steps import Step
-from ..model.tiff_types import EXIF, IFD
+from ..model.tiff_types import EXIF, IFD, LONG
 
 MOST = 100  # steps
 SHORT = 65_536  # bytes by which any block may grow
@@ -40,8 +40,40 @@ class Repaired(NamedTuple):
     steps: tuple[Step, ...]
 
 
+class _Walk(Walk):
+    """A block that is repaired, with its entries, and what becomes of it by a change."""
+
+    def entries(self) -> Iterator[tuple[Directory, Entry]]:
+        """Each entry, with its directory."""
+        return ((directory, entry) for directory in self.directories for entry in directory.entries)
+
+    def without(self, directory: Directory, entry: Entry) -> bytearray:
+        """The block without an entry; the room is filled behind the directory."""
+        out = bytearray(self.block)
+        out[entry.place : directory.next + 4] = out[entry.place + 12 : directory.next + 4] + bytes(12)
+        struct.pack_into(self.order + "H", out, directory.at, directory.size - 1)
+        return out
+
+    def following(self, directory: Directory) -> int:
+        """The offset of the directory that follows one; 0 without any."""
+        return self.four(directory.next) if directory.next + 4 <= len(self.block) else 0
+
+    def thumbnails(self) -> Iterator[tuple[Directory, Entry, Entry]]:
+        """The directory of a thumbnail that is a JPEG, with the entries that have its place and its length."""
+        for directory in self.directories:
+            by = {one.tag: one for one in directory.entries}
+            if directory.name == "thumb" and 0x0201 in by and 0x0202 in by:
+                yield directory, by[0x0201], by[0x0202]
+
+    def put(self, place: int, number: int, more: bytes = b"") -> bytearray:
+        """The block with another number of four bytes at a place, and with more bytes at its end."""
+        out = bytearray(self.block + more)
+        struct.pack_into(self.order + "I", out, place, number)
+        return out
+
+
 # The block after a step, the step's words, what it loses, and where
-_Done = Union[None, tuple[bytearray, str, str], tuple[bytearray, str, str, str]]
+_Done = Union[None, "tuple[bytearray, str, str]", "tuple[bytearray, str, str, str]"]
 
 
 def repaired(block: bytes, budget: Budget | None = None) -> Repaired | None:
@@ -51,64 +83,65 @@ def repaired(block: bytes, budget: Budget | None = None) -> Repaired | None:
     steps: list[Step] = []
     while len(steps) <= MOST:
         budget.check_time()
-        form, cause = b"", ""
-        try:
-            form = exifnorm.normal(now)
-        except exifnorm.Refused as refused:
-            cause = refused.cause
-        except (exifnorm.NormalTooLong, MemoryError):
-            return None
+        form, cause = _judged(now)
         try:
             done = _next(cause, original, now, budget) if cause or steps else None
         except (struct.error, IndexError):
             return None
-        if done is None and not cause:
-            return Repaired(now, form, tuple(steps))
-        if done is None or bytes(done[0]) == now:
+        if done is None:
+            return None if cause else Repaired(now, form, tuple(steps))
+        if bytes(done[0]) == now:
             return None
         now = bytes(done[0])
         steps.append(Step(cause or "Overlap", *done[1:]))
     return None
 
 
+def _judged(block: bytes) -> tuple[bytes, str]:
+    """The normal form of a block, or why it has none."""
+    try:
+        return exifnorm.normal(block), ""
+    except exifnorm.Refused as refused:
+        return b"", refused.cause
+    except (exifnorm.NormalTooLong, MemoryError):
+        return b"", "NormalTooLong"
+
+
 def _next(cause: str, original: bytes, now: bytes, budget: Budget) -> _Done:
     """The next step of a block that is refused, or, without a cause, of one that is accepted after some steps."""
     if not cause:
-        return _changed_value(original, now, Walk(now), budget)
+        return _changed_value(_Walk(original), _Walk(now), budget)
     step = _STEPS.get(cause)
-    walk = Walk(now) if step else None
-    return step(now, walk) if step and walk and walk.is_whole else None
+    walk = _Walk(now) if step else None
+    return step(walk) if step and walk and walk.is_whole else None
 
 
-def _changed_value(original: bytes, now: bytes, walk: Walk, budget: Budget) -> _Done:
+def _changed_value(old: _Walk, walk: _Walk, budget: Budget) -> _Done:
     """Leaves out a value that the block didn't have: it shares bytes with a table, which other steps have changed."""
-    old = Walk(original)
     known: dict[tuple[str, int, int], list[Entry]] = {}
-    for directory, entry in _entries(old):
+    for directory, entry in old.entries():
         known.setdefault((directory.name, entry.tag, entry.elements), []).append(entry)
-
-    def had(name: str, entry: Entry) -> bool:
-        value = walk.value(entry)
-        for other in known.get((name, entry.tag, entry.elements), ()):  # values may share bytes, and be longer together than the block
-            budget.check_time()
-            if old.value(other) == value:
-                return True
-        return False
-
-    for directory, entry in _entries(walk):
-        if entry.tag not in _POINTERS and not had(directory.name, entry):
+    for directory, entry in walk.entries():
+        alike = known.get((directory.name, entry.tag, entry.elements), [])
+        if entry.tag not in _POINTERS and not _had(old, alike, walk.value(entry), budget):
             what = f"tag {entry.tag:04x}, whose value other steps would change, left out"
-            return _without(now, walk, directory, entry), what, *_value(directory, entry)
+            return walk.without(directory, entry), what, *_value(directory, entry)
     pictures = old.pictures()
     if all(any(one.startswith(it) for one in pictures) for it in walk.pictures()):
         return None
-    directory, entry = [(it, one) for it, one in _entries(walk) if it.name == "thumb" and one.tag in (0x0111, 0x0201)][0]
-    return _without(now, walk, directory, entry), "a thumbnail that other steps would change left out", "the thumbnail", "thumb"
+    tags = (0x0111, 0x0201)
+    directory, entry = next(it for it in walk.entries() if it[0].name == "thumb" and it[1].tag in tags)
+    what = "a thumbnail that other steps would change left out"
+    return walk.without(directory, entry), what, "the thumbnail", "thumb"
 
 
-def _entries(walk: Walk) -> Iterator[tuple[Directory, Entry]]:
-    """Each entry, with its directory."""
-    return ((directory, entry) for directory in walk.directories for entry in directory.entries)
+def _had(old: _Walk, entries: Sequence[Entry], value: bytes, budget: Budget) -> bool:
+    """Whether one of some entries had a value. Values may share bytes, and be longer together than the block."""
+    for entry in entries:
+        budget.check_time()
+        if old.value(entry) == value:
+            return True
+    return False
 
 
 # The steps, by the engine's causes
@@ -119,256 +152,231 @@ def _value(directory: Directory, entry: Entry) -> tuple[str, str]:
     return "a value", f"{directory.name} {entry.tag:04x}"
 
 
-def _without(block: bytes, walk: Walk, directory: Directory, entry: Entry) -> bytearray:
-    """The block without an entry; the room is filled behind the directory."""
-    out = bytearray(block)
-    out[entry.place : directory.next + 4] = out[entry.place + 12 : directory.next + 4] + bytes(12)
-    struct.pack_into(walk.order + "H", out, directory.at, directory.size - 1)
-    return out
-
-
-def _put(block: bytes, walk: Walk, place: int, number: int) -> bytearray:
-    out = bytearray(block)
-    struct.pack_into(walk.order + "I", out, place, number)
-    return out
-
-
-def _unsorted(block: bytes, walk: Walk) -> _Done:
-    out = bytearray(block)
+def _unsorted(walk: _Walk) -> _Done:
+    out = bytearray(walk.block)
     for directory in walk.directories:
         if directory.is_whole:
-            rows = [block[one.place : one.place + 12] for one in directory.entries]
+            rows = [walk.block[one.place : one.place + 12] for one in directory.entries]
             rows.sort(key=lambda row: struct.unpack(walk.order + "H", row[:2]))
             out[directory.at + 2 : directory.next] = b"".join(rows)
     return out, "entries sorted", ""
 
 
-def _overlap(block: bytes, walk: Walk) -> _Done:
+def _overlap(walk: _Walk) -> _Done:
     """What isn't in the block is left out first: it must not lead to the bytes by which the block grows."""
-    return (
-        _cut_directory(block, walk)
-        or _value_outside(block, walk)
-        or _thumbnail_outside(block, walk)
-        or _end_of_directory(block, walk)
-        or _shared_values(block, walk)
-    )
+    return _cut_directory(walk) or _value_outside(walk) or _thumbnail_outside(walk) or _end_of_directory(walk) or _shared_values(walk)
 
 
-def _values(directory: Directory) -> list[tuple[bool, int, int, int]]:
-    """The values of a directory: whether it may be moved, where it begins, its length, and the place of its offset."""
+def _values(walk: _Walk) -> list[tuple[bool, int, int, int]]:
+    """The values of a block: whether one may be moved, where it begins, its length, and the place of its offset."""
     values = [
         (entry.tag != MAKER_NOTE, entry.last, entry.size, entry.place + 8)
-        for entry in directory.entries
+        for directory, entry in walk.entries()
         if entry.size > 4 and (directory.name, entry.tag) not in LINKS
     ]
-    by = {one.tag: one for one in directory.entries}
-    if directory.name == "thumb" and 0x0201 in by and 0x0202 in by:
-        values.append((True, by[0x0201].last, by[0x0202].last, by[0x0201].place + 8))
+    for _, start, length in walk.thumbnails():
+        values.append((True, start.last, length.last, start.place + 8))
     return values
 
 
-def _end_of_directory(block: bytes, walk: Walk) -> _Done:
+def _end_of_directory(walk: _Walk) -> _Done:
     """A directory without the four bytes behind its entries, as piexif writes it: a copy of it gets them."""
     ranges = [(it.at, it.next, it.at) for it in walk.directories]
-    ranges += [(start, start + size, -1) for it in walk.directories for _, start, size, _ in _values(it)]
+    ranges += [(start, start + size, -1) for _, start, size, _ in _values(walk)]
     for directory in walk.directories:
         taken = (start < directory.next + 4 and directory.next < end and own != directory.at for start, end, own in ranges)
         if directory.name != "main" and directory.is_whole and any(taken):
-            out = _put(block + b"\0" * (len(block) % 2), walk, directory.named_at, len(block) + len(block) % 2)
-            return out + block[directory.at : directory.next] + bytes(4), f"the missing end of the {_NAMES[directory.name]} added", ""
+            filling = bytes(len(walk.block) % 2)
+            copy = filling + walk.block[directory.at : directory.next] + bytes(4)
+            out = walk.put(directory.named_at, len(walk.block) + len(filling), copy)
+            return out, f"the missing end of the {_NAMES[directory.name]} added", ""
     return None
 
 
-def _claim(claimed: bytearray, start: int, end: int) -> None:
+def _claims(claimed: bytearray, start: int, end: int) -> bool:
+    """Claims some bytes, as far as they are in the block. Returns whether they were free."""
+    if claimed.find(1, start, max(start + 1, end)) >= 0:
+        return False
     end = min(end, len(claimed))
-    claimed[start:end] = b"\1" * max(0, end - start)
+    claimed[start:end] = b"\1" * (end - start)
+    return True
 
 
-def _shared_values(block: bytes, walk: Walk) -> _Done:
+def _shared_values(walk: _Walk) -> _Done:
     """Copies values that share bytes with others to the end of the block, which grows at most to twice its length."""
-    claimed = bytearray(len(block))  # a byte for each of the block: whether a table or a value has claimed it
-    for start, end in ((0, 8), *((it.at, it.next + 4) for it in walk.directories)):
-        _claim(claimed, start, end)
-    for number, directory in enumerate(walk.directories):
-        if any(one.at < directory.next + 4 and directory.at < one.next + 4 for one in walk.directories[:number]):
+    claimed = bytearray(len(walk.block))  # a byte for each of the block: whether a table or a value has claimed it
+    for start, end in ((0, HEADER), *((it.at, it.next + 4) for it in walk.directories)):
+        if not _claims(claimed, start, end):
             return None  # directories that share bytes
-    out, moved = bytearray(block), 0
-    values = [one for it in walk.directories for one in _values(it)]
-    for _, start, size, field in sorted(values, key=lambda one: (one[0], one[3])):  # MakerNotes stay where they are
-        if start + size > len(block):
+    out, moved = bytearray(walk.block), 0
+    for _, start, size, field in sorted(_values(walk), key=lambda one: (one[0], one[3])):  # MakerNotes stay where they are
+        if start + size > len(walk.block) or _claims(claimed, start, start + size):
             continue
-        if claimed.find(1, start, start + max(size, 1)) < 0:
-            _claim(claimed, start, start + size)
-            continue
-        if len(out) + size > 2 * len(block) + SHORT:
+        if len(out) + size > 2 * len(walk.block) + SHORT:
             return None
-        out += b"\0" * (len(out) % 2)
+        out += bytes(len(out) % 2)
         struct.pack_into(walk.order + "I", out, field, len(out))
-        out += block[start : start + size]
+        out += walk.block[start : start + size]
         moved += 1
     return (out, f"{moved} shared value{'s' * (moved > 1)} copied", "") if moved else None
 
 
-def _directory_outside(block: bytes, walk: Walk) -> _Done:
+def _directory_outside(walk: _Walk) -> _Done:
     for directory in walk.directories:
-        if directory.is_whole and directory.next + 4 > len(block) >= directory.next:
-            return bytearray(block) + bytes(directory.next + 4 - len(block)), "the missing end of the block added", ""
-    return _cut_directory(block, walk)
+        if directory.is_whole and directory.next + 4 > len(walk.block) >= directory.next:
+            missing = bytes(directory.next + 4 - len(walk.block))
+            return bytearray(walk.block + missing), "the missing end of the block added", ""
+    return _cut_directory(walk)
 
 
-def _cut_directory(block: bytes, walk: Walk) -> _Done:
+def _cut_directory(walk: _Walk) -> _Done:
     """Leaves out entries, or a whole directory, that aren't in the block."""
     for directory in walk.directories:
         if not directory.is_whole:
-            out = bytearray(block)
+            out = bytearray(walk.block)
             struct.pack_into(walk.order + "H", out, directory.at, len(directory.entries))
-            what = f"the {_NAMES[directory.name]} cut from {directory.size:,} entries to the {len(directory.entries):,} that are there"
-            end = directory.at + 2 + 12 * len(directory.entries)
-            covers = any(directory.at < one.at < end for one in walk.directories)  # another table, which the further steps spoil
+            count = len(directory.entries)
+            what = f"the {_NAMES[directory.name]} cut from {directory.size:,} entries to the {count:,} that are there"
+            end = directory.at + 2 + 12 * count
+            # another table, which the further steps spoil
+            covers = any(directory.at < one.at < end for one in walk.directories)
             return out, what, "entries", "main" if covers else directory.name
-    starts = {it.at for it in walk.directories}
+    return _pointer_to_nothing(walk)
+
+
+def _pointer_to_nothing(walk: _Walk) -> _Done:
+    """Leaves out a pointer to a directory that isn't there."""
+    starts = {0, *(it.at for it in walk.directories)}
     for directory in walk.directories:
         for entry in directory.entries:
-            if (directory.name, entry.tag) in LINKS and walk.number(entry) not in starts:
-                to = LINKS[directory.name, entry.tag]
+            to = LINKS.get((directory.name, entry.tag))
+            if to and walk.number(entry) not in starts - {0}:
                 what = f"the pointer to the {_NAMES[to]}, which isn't there, dropped"
-                return _without(block, walk, directory, entry), what, "a directory", to
-        if directory.name == "main" and directory.next + 4 <= len(block) and walk.four(directory.next) not in starts | {0}:
+                return walk.without(directory, entry), what, "a directory", to
+        if directory.name == "main" and walk.following(directory) not in starts:
             what = "the pointer to a thumbnail directory that isn't there dropped"
-            return _put(block, walk, directory.next, 0), what, "the thumbnail", "thumb"
+            return walk.put(directory.next, 0), what, "the thumbnail", "thumb"
     return None
 
 
-def _empty(block: bytes, walk: Walk) -> _Done:
+def _empty(walk: _Walk) -> _Done:
     for directory in walk.directories:
-        if not directory.size and (out := _without_directory(block, walk, directory)):
+        if not directory.size and (out := _without_directory(walk, directory)):
             return out, "an empty directory left out", ""
     return None
 
 
-def _without_directory(block: bytes, walk: Walk, directory: Directory) -> bytearray | None:
+def _without_directory(walk: _Walk, directory: Directory) -> bytearray | None:
     """The block without the pointer to a directory; None for the main directory."""
     if directory.name == "thumb":
-        return _put(block, walk, directory.named_at, 0)
-    return next((_without(block, walk, outer, one) for outer, one in _entries(walk) if one.place + 8 == directory.named_at), None)
+        return walk.put(directory.named_at, 0)
+    return next((walk.without(outer, one) for outer, one in walk.entries() if one.place + 8 == directory.named_at), None)
 
 
-def _doubled(block: bytes, walk: Walk) -> _Done:
-    def value(entry: Entry) -> tuple[bytes, bytes]:
-        at = entry.last if entry.size > 4 else entry.place + 8
-        return block[entry.place : entry.place + 8], block[at : at + entry.size]
-
+def _doubled(walk: _Walk) -> _Done:
     for directory in walk.directories:
         by: dict[int, Entry] = {}
         for entry in directory.entries:
             other = by.setdefault(entry.tag, entry)
             if other is not entry:
-                equal = value(entry) == value(other)
+                equal = entry[1:4] == other[1:4] and walk.value(entry) == walk.value(other)
                 entries = "equal entries" if equal else f"different entries of tag {entry.tag:04x}"
-                return _without(block, walk, directory, entry), f"the second of two {entries} left out", "" if equal else "a value"
+                return walk.without(directory, entry), f"the second of two {entries} left out", "" if equal else "a value"
     return None
 
 
-def _unknown_type(block: bytes, walk: Walk) -> _Done:
+def _unknown_type(walk: _Walk) -> _Done:
     wrong = [(it, number) for it in walk.directories for number, row in enumerate(it.rows) if row[1] not in EXIF]
     if not wrong:
         return None
     if len(wrong) > MOST:  # one is left out in a step; a directory of such entries can't be one
         counts = Counter(id(of) for of, _ in wrong)
         directory = max(walk.directories, key=lambda one: counts[id(one)])
-        left = _without_directory(block, walk, directory)
+        left = _without_directory(walk, directory)
         what = f"the {_NAMES[directory.name]}, whose entries have unknown types, left out"
         return (left, what, "a directory", directory.name) if left else None
     directory, entry = wrong[0][0], wrong[0][0].entries[wrong[0][1]]
     if entry.type == IFD:
-        return _with_type(block, walk, entry), "type 13 (IFD) read as LONG", ""
+        return _with_type(walk, entry), "type 13 (IFD) read as LONG", ""
     what = f"tag {entry.tag:04x} of unknown type {entry.type} left out"
-    return _without(block, walk, directory, entry), what, *_value(directory, entry)
+    return walk.without(directory, entry), what, *_value(directory, entry)
 
 
-def _with_type(block: bytes, walk: Walk, entry: Entry, number: int | None = None) -> bytearray:
-    out = bytearray(block)
-    struct.pack_into(walk.order + "H", out, entry.place + 2, 4)
-    return out if number is None else _put(bytes(out), walk, entry.place + 8, number)
+def _with_type(walk: _Walk, entry: Entry) -> bytearray:
+    """The block with type LONG of an entry that has one number, which SHORT and SSHORT have in two bytes."""
+    out = walk.put(entry.place + 8, walk.number(entry))
+    struct.pack_into(walk.order + "H", out, entry.place + 2, LONG)
+    return out
 
 
-def _pointer_form(block: bytes, walk: Walk) -> _Done:
-    for directory, entry in _entries(walk):
+def _pointer_form(walk: _Walk) -> _Done:
+    for directory, entry in walk.entries():
         role = (directory.name, entry.tag)
         if role not in _ALLOWED or (entry.type, entry.elements) == (4, 1):
             continue
         if entry.type in (3, 8, 9, 13) and entry.elements == 1:
-            number = walk.two(entry.place + 8) if entry.type in (3, 8) else None
-            return _with_type(block, walk, entry, number), f"a pointer of type {entry.type} read as LONG", ""
-        return _without(block, walk, directory, entry), "a pointer of another form left out", "a directory", LINKS.get(role, "")
+            return _with_type(walk, entry), f"a pointer of type {entry.type} read as LONG", ""
+        return walk.without(directory, entry), "a pointer of another form left out", "a directory", LINKS.get(role, "")
     return None
 
 
-def _misplaced(block: bytes, walk: Walk) -> _Done:
-    for directory, entry in _entries(walk):
+def _misplaced(walk: _Walk) -> _Done:
+    for directory, entry in walk.entries():
         if entry.tag in _ROLES and (directory.name, entry.tag) not in _ALLOWED:
             what = f"the offset of tag {entry.tag:04x} in the {_NAMES[directory.name]} left out"
-            return _without(block, walk, directory, entry), what, "an offset", f"{directory.name} {entry.tag:04x}"
+            return walk.without(directory, entry), what, "an offset", f"{directory.name} {entry.tag:04x}"
     return None
 
 
-def _value_outside(block: bytes, walk: Walk) -> _Done:
-    outside = [(it, one) for it, one in _entries(walk) if walk.is_outside(one)]
+def _value_outside(walk: _Walk) -> _Done:
+    outside = [(it, one) for it, one in walk.entries() if walk.is_outside(one)]
     if not outside or len(outside) > MOST:  # one is left out in a step
         return None
     directory, entry = outside[0]
     what = f"tag {entry.tag:04x}, whose value isn't in the block, left out"
-    return _without(block, walk, directory, entry), what, *_value(directory, entry)
+    return walk.without(directory, entry), what, *_value(directory, entry)
 
 
-def _thumbnail_outside(block: bytes, walk: Walk) -> _Done:
-    for directory in walk.directories:
-        by = {one.tag: one for one in directory.entries}
-        if directory.name != "thumb" or 0x0201 not in by or 0x0202 not in by:
-            continue
-        start, size = by[0x0201].last, by[0x0202].last
-        if start < len(block) < start + size:
-            out = _put(block, walk, by[0x0202].place + 8, len(block) - start)
+def _thumbnail_outside(walk: _Walk) -> _Done:
+    for directory, start, length in walk.thumbnails():
+        if start.last < len(walk.block) < start.last + length.last:
+            out = walk.put(length.place + 8, len(walk.block) - start.last)
             return out, "the thumbnail cut to what is there", "the end of the thumbnail", "thumb"
-        if start >= len(block):
-            first = bytes(_without(block, walk, directory, by[0x0201]))
-            inner = Walk(first)
-            for other, entry in _entries(inner):
-                if other.name == "thumb" and entry.tag == 0x0202:
-                    out = _without(first, inner, other, entry)
-                    return out, "a thumbnail that isn't there left out", "the thumbnail's length", "thumb"
+        if start.last >= len(walk.block):
+            inner = _Walk(walk.without(directory, start))
+            for other, entry in inner.entries():
+                if other.name == "thumb" and entry.tag == length.tag:
+                    return inner.without(other, entry), "a thumbnail that isn't there left out", "the thumbnail's length", "thumb"
     return None
 
 
-def _thumbnail_pair(block: bytes, walk: Walk) -> _Done:
-    for directory, entry in _entries(walk):
+def _thumbnail_pair(walk: _Walk) -> _Done:
+    for directory, entry in walk.entries():
         if directory.name == "thumb" and entry.tag in (0x0111, 0x0117, 0x0201, 0x0202):
-            out = _without(block, walk, directory, entry)
+            out = walk.without(directory, entry)
             return out, "half of a thumbnail's pair left out", "a thumbnail's place or length", "thumb"
     return None
 
 
-def _extra(block: bytes, walk: Walk) -> _Done:
-    for directory in walk.directories:
-        if directory.name == "thumb" and directory.next + 4 <= len(block):
-            return _put(block, walk, directory.next, 0), "a third directory left out", "a directory"
-    return None
+def _extra(walk: _Walk) -> _Done:
+    thumb = next((it for it in walk.directories if it.name == "thumb" and walk.following(it)), None)
+    return (walk.put(thumb.next, 0), "a third directory left out", "a directory") if thumb else None
 
 
-def _loop(block: bytes, walk: Walk) -> _Done:
-    starts = {it.at for it in walk.directories}
+def _loop(walk: _Walk) -> _Done:
+    starts = {it.at: it for it in walk.directories}
     for directory in walk.directories:
-        if directory.name in ("main", "thumb") and directory.next + 4 <= len(block):
-            if walk.four(directory.next) in {one.at for one in walk.directories if one.name != "thumb" or directory.name == "thumb"}:
-                return _put(block, walk, directory.next, 0), "a pointer back left out", ""
+        other = starts.get(walk.following(directory)) if directory.name in ("main", "thumb") else None
+        if other and (directory.name, other.name) != ("main", "thumb"):
+            return walk.put(directory.next, 0), "a pointer back left out", ""
         for entry in directory.entries:
-            if (directory.name, entry.tag) in LINKS and entry.last in starts:
-                if next(other for other in walk.directories if other.at == entry.last).named_at != entry.place + 8:
-                    return _without(block, walk, directory, entry), "a pointer back left out", ""
+            other = starts.get(entry.last) if (directory.name, entry.tag) in LINKS else None
+            if other and other.named_at != entry.place + 8:
+                return walk.without(directory, entry), "a pointer back left out", ""
     return None
 
 
-_STEPS: dict[str, Callable[[bytes, Walk], _Done]] = {
+_STEPS: dict[str, Callable[[_Walk], _Done]] = {
     "Unsorted": _unsorted,
     "Overlap": _overlap,
     "DirectoryOutside": _directory_outside,
