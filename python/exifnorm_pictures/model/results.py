@@ -12,18 +12,10 @@ class Result(Word):
 
     has_changed: bool | None  # between two states of an archive; None: nobody knows
     sentence: str  # of `compare`; empty where it counts the fields, and where no two pictures have it
-    are_pictures: bool  # False: neither file is one
     is_equal: bool  # whether the metadata are the same, or refused with the same bytes
+    no_picture: bool  # whether neither file is a picture
 
-    def __new__(
-        cls, word: str, has_changed: bool | None, sentence: str = "", are_pictures: bool = True, is_equal: bool = False
-    ) -> "Result":
-        result = str.__new__(cls, word)
-        result._value_ = word
-        result.has_changed, result.sentence, result.are_pictures, result.is_equal = has_changed, sentence, are_pictures, is_equal
-        return result
-
-    SAME = ("same", False, "The same metadata.", True, True)
+    SAME = ("same", False, "The same metadata.", True)
     SAME_FILE = ("the same file", False, "The same file as before, but it isn't wholly read.")  # nothing was written to it
     SAME_BUT = ("the same but for the fields left out", False, "The same metadata but for the fields left out.")  # by the listing of fields
     SAME_NUMBERS = ("the same but for how equal numbers are written", False, "The same metadata but for how equal numbers are written.")
@@ -38,7 +30,7 @@ class Result(Word):
     ONLY_MAKER_NOTE = ("only MakerNote differs", True, "Only the MakerNote differs.")
     ONLY_NUMBERS = ("only equal numbers are written otherwise", True)
     FILE_DIFFERENT = ("not read, different bytes", True, "Different bytes, in a format that isn't read.")
-    NO_PICTURE_DIFFERENT = ("no picture, different bytes", True, "Different bytes, and the files are no pictures.", False)
+    NO_PICTURE_DIFFERENT = ("no picture, different bytes", True, "Different bytes, and the files are no pictures.", False, True)
     MOVED = ("moved", True)
     RENUMBERED = ("renumbered", True)  # moved to a name that another picture had, or whose old name another one has
     MOVED_EDITED = ("moved and edited", True)  # which the digest of its coded picture shows
@@ -63,14 +55,13 @@ class Result(Word):
         False,
         "No difference: a block breaks the rules of its format or is compressed, and has the same bytes in both.",
         True,
-        True,
     )
     UNREADABLE = ("unreadable", None, "The metadata can't be fully compared: XMP is unreadable.")
-    UNREADABLE_SAME = ("unreadable, the same bytes", False, "No difference: XMP is unreadable, and has the same bytes in both.", True, True)
+    UNREADABLE_SAME = ("unreadable, the same bytes", False, "No difference: XMP is unreadable, and has the same bytes in both.", True)
     NOT_KNOWN = ("not known", None, "The metadata can't be fully compared: a file is damaged, and the missing part may have metadata.")
     NOT_WHOLLY_READ = ("not wholly read", None, "No field differs, but not everything was read.")
     FILE_SAME = ("not read, the same bytes", False, "The same bytes, in a format that isn't read.")
-    NO_PICTURE_SAME = ("no picture, the same bytes", False, "The same bytes, but the files are no pictures.", False)
+    NO_PICTURE_SAME = ("no picture, the same bytes", False, "The same bytes, but the files are no pictures.", False, True)
     NOT_READ = ("not read", None, "The metadata can't be compared: a file was not read.")
     # Of a kind only
     ABSENT = ("absent", False)

@@ -263,12 +263,14 @@ def _programs(blocks: Sequence[Sequence[BlockRecord]]) -> list[str]:
 
 def total(counts: "Counter[Result]") -> int:
     """The number of pictures that were compared, or are on one side only."""
-    return sum(count for it, count in counts.items() if it.are_pictures)
+    return sum(count for it, count in counts.items() if not it.no_picture)
 
 
 def number_changed(counts: "Counter[Result]") -> int:
     """How many of them have changed. One that only has another name hasn't, and one that can't be compared wholly isn't known to have."""
-    return sum(count for it, count in counts.items() if it.has_changed and it.are_pictures and it not in (Result.MOVED, Result.RENUMBERED))
+    return sum(
+        count for it, count in counts.items() if it.has_changed and not it.no_picture and it not in (Result.MOVED, Result.RENUMBERED)
+    )
 
 
 def number_undecided(counts: "Counter[Result]") -> int:

@@ -145,7 +145,7 @@ class Between:
         of_one = {Result.MISSING_BEFORE: self._came, Result.MISSING_AFTER: self._went, Result.NOT_READ: self._not_read}
         if comparison.result in of_one:
             return of_one[comparison.result](name)
-        if not comparison.result.are_pictures:
+        if comparison.result.no_picture:
             return False
         if comparison.moved_to is not None:
             self._moved(name, comparison.moved_to, comparison.result == Result.RENUMBERED)
