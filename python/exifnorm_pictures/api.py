@@ -21,12 +21,10 @@ from .files import opening
 from .files.session import Session
 from .judge.judge import judge_all
 from .model.budgets import PROGRAM_SECONDS, Budget, TooMuch
-from .model.errors import Failure
 from .model.found import EXIF, NAMES
 from .model.problems import Problem
 from .model.records import PictureRecord, Stamp
 from .model.results import Result
-from .model.texts import described
 from .picture import Picture
 
 if TYPE_CHECKING:
@@ -212,36 +210,22 @@ def _octets(name: str) -> bytes:
 
 def _picture(opened: Callable[[], Parts], path: bytes, whole: bool, origin: Origin, session: Session | None) -> Picture:
     name = os.fsdecode(path)
+    cause: Exception | None = None
     try:
         file = opened()
         blocks = extraction.blocks_in(file, path, whole, session)
-        if blocks.problem == Problem.NO_PICTURE:
-            raise NoPicture(f"{name}: {blocks.detail}")
-        if blocks.problem:
-            raise NotReadable(blocks.problem, blocks.detail, name)
-        records = judge_all(blocks)
+        records = [] if blocks.problem else judge_all(blocks)
         file.budget.stop_clock()
-        return Picture(path, blocks, records, origin)
-    except (OSError, MemoryError, NoPicture, NotReadable):
+    except (OSError, MemoryError):
         raise
-    except TooMuch as why:
-        raise NotReadable(Problem.TOO_MUCH, str(why), name) from None
     except Exception as error:
-        problem = _of_program(error)
-        if problem:
-            raise NotReadable(problem, str(error), name) from None
-        # a mistake of a reader affects only this picture
-        raise NotReadable(Problem.INTERNAL_ERROR, f"{Problem.INTERNAL_ERROR.text}: {described(error)}", name) from error
-
-
-def _of_program(error: Exception) -> Problem | None:
-    """The problem of a picture that another program doesn't read; None for any other error."""
-    if not isinstance(error, Failure):
-        return None
-    from .extract import programs  # which most pictures don't need
-
-    kinds = ((programs.Missing, Problem.NEEDS_EXIFTOOL), (programs.TooSlow, Problem.TOO_SLOW), (programs.Failed, Problem.TOOL_FAILED))
-    return next((problem for kind, problem in kinds if isinstance(error, kind)), None)
+        blocks, records = extraction.failed(error), []
+        cause = error if blocks.problem == Problem.INTERNAL_ERROR else None
+    if blocks.problem == Problem.NO_PICTURE:
+        raise NoPicture(f"{name}: {blocks.detail}")
+    if blocks.problem:
+        raise NotReadable(blocks.problem, blocks.detail, name) from cause
+    return Picture(path, blocks, records, origin)
 
 
 # Comparing

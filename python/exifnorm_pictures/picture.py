@@ -11,7 +11,7 @@ from typing import TYPE_CHECKING, Any, Iterable, Iterator, Mapping, NamedTuple, 
 from exifnorm._words import documented
 
 from .comparison.origin import Origin
-from .extract.extraction import too_much
+from .extract.extraction import failed
 from .fields.block_fields import fields_of
 from .fields.plain_names import spellings
 from .fields.shown import Shown
@@ -222,7 +222,7 @@ class Picture(Mapping[str, "Value"]):
         try:
             return cls(name, read, [] if read.problem else judge_all(read))
         except TooMuch as why:
-            return cls(name, too_much(why), [])
+            return cls(name, failed(why), [])
 
     @property
     def not_read(self) -> tuple[str, ...]:

@@ -10,6 +10,7 @@ from exifnorm import LibraryMissing
 from ..files import opening, signals
 from ..files.session import Session
 from ..model.budgets import Budget, TooMuch
+from ..model.errors import Failure
 from ..model.found import BROKEN, CUT, UNREAD_TRAILER, Blocks, Broken, LeftToOthers, NotRead
 from ..model.problems import Problem
 from ..model.texts import described
@@ -26,7 +27,7 @@ def blocks_of_file(path: bytes, whole: bool = False, session: Session | None = N
     try:
         return blocks_in(File(*opening.opened(path), Budget(whole)), path, whole, session)
     except TooMuch as why:
-        return too_much(why)
+        return failed(why)
     except LibraryMissing:  # an OSError too, but not of this file
         raise
     except FileNotFoundError:
@@ -88,16 +89,15 @@ def _of_broken(blocks: Blocks, why: str) -> Blocks:
     return blocks
 
 
-def failed_here(error: Exception, session: Session | None) -> Blocks:
-    """The result for a file at which our own code failed, and no other program."""
+def failed(error: Exception, session: Session | None = None) -> Blocks:
+    """The result for a file that goes over a limit, at which another program failed, or our own code: an error of a reader affects only this
+    file."""
+    problem = Problem.TOO_MUCH if isinstance(error, TooMuch) else error.problem if isinstance(error, Failure) else None
+    if problem:
+        return Blocks(problem=problem, detail=str(error))
     if session and session.debug:
         signals.trace(error)
     return Blocks(problem=Problem.INTERNAL_ERROR, detail=f"{Problem.INTERNAL_ERROR.text}: {described(error)}")
-
-
-def too_much(why: TooMuch) -> Blocks:
-    """The result for a file that goes over a limit."""
-    return Blocks(problem=Problem.TOO_MUCH, detail=str(why))
 
 
 def _read(stream: Parts, path: bytes, whole: bool) -> Blocks:

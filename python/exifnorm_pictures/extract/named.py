@@ -6,19 +6,14 @@ from exifnorm import LibraryMissing
 
 from ..files.session import Session
 from ..model.found import Blocks
-from ..model.problems import Problem
-from . import extraction, programs
+from . import extraction
 
 
 def blocks_of_named(name: bytes, session: Session, whole: bool = False) -> Blocks:
     """The blocks of a picture."""
     try:
         return extraction.blocks_of_file(name, whole, session)
-    except programs.Failed as error:
-        return Blocks(problem=Problem.TOO_SLOW if isinstance(error, programs.TooSlow) else Problem.TOOL_FAILED, detail=str(error))
-    except programs.Missing as error:
-        return Blocks(problem=Problem.NEEDS_EXIFTOOL, detail=str(error))
     except (LibraryMissing, MemoryError):
         raise
-    except Exception as error:  # an error of a reader affects only this file
-        return extraction.failed_here(error, session)
+    except Exception as error:
+        return extraction.failed(error, session)

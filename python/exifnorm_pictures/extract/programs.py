@@ -19,6 +19,7 @@ from typing import TYPE_CHECKING, Callable, Mapping, NamedTuple
 from ..files import signals
 from ..model.budgets import OUTPUT, PROGRAM_BYTES
 from ..model.errors import Failure
+from ..model.problems import Problem
 from ..model.texts import reason
 
 if TYPE_CHECKING:
@@ -35,6 +36,8 @@ _WORDS = 1000  # bytes that are kept of what a program writes on standard error
 class Missing(Failure):
     """A program isn't installed, or may not be started. The text names Debian's package."""
 
+    problem = Problem.NEEDS_EXIFTOOL
+
     def __init__(self, program: str, may_start: bool = True) -> None:
         why = f"{program} isn't installed" if may_start else "no other program may be started"
         install = f" In Debian: apt-get install {PACKAGES.get(program, program)}" * may_start
@@ -44,9 +47,13 @@ class Missing(Failure):
 class Failed(Failure):
     """A program ended early, took too long, or printed something unexpected. The text describes which."""
 
+    problem = Problem.TOOL_FAILED
+
 
 class TooSlow(Failed):
     """A program took longer than its limit on a file. The next run of `index` asks it again: the machine may have been busy."""
+
+    problem = Problem.TOO_SLOW
 
 
 class Done(NamedTuple):

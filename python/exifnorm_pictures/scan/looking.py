@@ -50,16 +50,12 @@ def _look(file: FoundFile, how: How, session: Session, packs: bool) -> PictureRe
         pixels = _pixels(file.path, blocks) if how.pixels else (None, "", "", None)
     except LibraryMissing:  # an OSError too, but not of this file
         raise
-    except programs.Failed as error:
-        return failed(file, str(error))
     except OSError as error:
         return PictureRecord.of(file.path, file.root, problem=Problem.UNREADABLE, detail=reason(error))
-    except programs.Missing as error:
-        return PictureRecord.of_blocks(file.path, file.root, file.stamp, Blocks(problem=Problem.NEEDS_EXIFTOOL, detail=str(error)))
     except MemoryError:
         return failed(file, "out of memory")
-    except Exception as error:  # an error of a reader affects only this file
-        return PictureRecord.of_blocks(file.path, file.root, file.stamp, extraction.failed_here(error, session))
+    except Exception as error:
+        return PictureRecord.of_blocks(file.path, file.root, file.stamp, extraction.failed(error, session))
     coded, beside, damage, whole = pixels
 
     more = {"notes": notes, "coded_picture": coded, "beside": beside, "damage": damage, "sha256": whole, "sidecars": marks}
@@ -78,10 +74,8 @@ def _read(file: FoundFile, how: How, session: Session, packs: bool) -> tuple[Blo
         if file.sidecars:
             sidecars.add(blocks, file.path, file.sidecars)
         return blocks, [] if blocks.problem else judge.judge_all(blocks, packs)
-    except TooMuch as why:
-        return extraction.too_much(why), []
-    except programs.TooSlow as error:
-        return Blocks(problem=Problem.TOO_SLOW, detail=str(error)), []
+    except (TooMuch, programs.TooSlow) as why:
+        return extraction.failed(why), []
 
 
 def _maker_notes(session: Session, path: bytes, blocks: Blocks, judged: Sequence[BlockRecord]) -> tuple[bytes | None, bool]:

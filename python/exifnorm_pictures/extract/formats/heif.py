@@ -41,7 +41,7 @@ def read(stream: Stream, whole: bool = False) -> Blocks:
     """The blocks of a HEIF, which is always read to its last box. Raises `Broken`."""
     blocks = Blocks(type="AVIF" if read_at(stream, 8, 3) == b"avi" else "HEIC", budget=budget_of(stream))
     meta = None
-    for box in boxes_of_file(blocks, stream, _is_whole):
+    for box in boxes_of_file(blocks, stream, lambda kinds: b"mdat" in kinds and bool(kinds & {b"meta", b"moov"})):
         if box.kind == b"meta":
             if meta is not None:
                 raise Broken("the file has two meta boxes")
@@ -52,10 +52,6 @@ def read(stream: Stream, whole: bool = False) -> Blocks:
         elif box.kind not in _WITHOUT and box.at:  # the first one is ftyp
             leave(blocks, box.name, stream, box.start, box.end)
     return blocks
-
-
-def _is_whole(kinds: set[bytes]) -> bool:
-    return b"mdat" in kinds and (b"meta" in kinds or b"moov" in kinds)
 
 
 class Reader:

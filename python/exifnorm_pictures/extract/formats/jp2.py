@@ -43,7 +43,7 @@ def read(stream: Stream, whole: bool = False) -> Blocks:
     blocks = Blocks(type="J2C" if is_bare else "JP2", budget=budget_of(stream))
     size = size_of(stream)
     start = 0 if is_bare else size  # of the codestream, if only its end mark tells where it ends
-    for box in () if is_bare else boxes_of_file(blocks, stream, _is_whole):
+    for box in () if is_bare else boxes_of_file(blocks, stream, lambda kinds: bool(kinds & {b"jp2c", b"ftbl", b"mdat"})):
         if box.at:  # the first one is the signature
             _take(blocks, stream, box, 1)
         if box.kind == b"jp2c" and not any(read_at(stream, box.at, 4)):
@@ -67,10 +67,6 @@ def _is_cut(stream: Stream, at: int, end: int) -> bool:
             return True
         at += int.from_bytes(head[6:10], "big") if head[:2] == _TILE_PART else 2 + int.from_bytes(head[2:4], "big")
     return at + 2 > end or read_at(stream, at, 2) != _END_MARK
-
-
-def _is_whole(kinds: set[bytes]) -> bool:
-    return bool({b"jp2c", b"ftbl", b"mdat"} & kinds)
 
 
 def _take(blocks: Blocks, stream: Stream, box: Box, depth: int) -> None:

@@ -27,7 +27,7 @@ def read(stream: Stream, whole: bool = False) -> Blocks:
     if read_at(stream, 0, len(BARE)) == BARE:
         return blocks
     piece: Box | None = None  # the last one
-    for box in boxes_of_file(blocks, stream, _is_whole):
+    for box in boxes_of_file(blocks, stream, lambda kinds: bool(kinds & {b"jxlc", b"jxlp"})):
         piece = box if box.kind == b"jxlp" else piece
         if box.kind == b"ftyp":
             if read_at(stream, box.start, min(4, box.end - box.start)) != _BRAND:
@@ -37,10 +37,6 @@ def read(stream: Stream, whole: bool = False) -> Blocks:
     if piece and read_at(stream, piece.start, min(1, piece.end - piece.start)) < _IS_LAST:
         leave_cut(blocks, "before the last piece of its picture")
     return blocks
-
-
-def _is_whole(kinds: set[bytes]) -> bool:
-    return b"jxlc" in kinds or b"jxlp" in kinds
 
 
 def block_in(stream: Stream, box: Box) -> bytes | None:
