@@ -59,18 +59,19 @@ def table(title: str, rows: Rows) -> str:
 
 
 def keys(schema: Dict[str, Any], before: str = "") -> Rows:
-    """The keys of an object that have a description, with those inside them.
+    """The keys of an object that have a description, with those inside them. The name of a list ends with [].
 
     >>> list(keys({"properties": {"a": {"description": "of:", "enum": ["x", "y"]}, "b": {}}}))
     [('a', 'of: `x` or `y`')]
     """
     for name, value in schema.get("properties", {}).items():
+        name += "[]" * ("array" in value.get("type", ""))
         if words := value.get("description"):
             if words.endswith(":"):
                 *some, last = (f"`{it}`" for it in value["enum"])
                 words += f" {', '.join(some)} or {last}"
             yield before + name, words
-        yield from keys(value.get("items", {}), f"{before}{name}[].")
+        yield from keys(value.get("items", {}), f"{before}{name}.")
 
 
 def of_objects() -> Dict[str, str]:

@@ -13,6 +13,7 @@ from exifnorm_pictures.refusals.causes import CAUSES, Cause  # noqa: E402
 
 MEASURED = "measured on 419 JPEG files of Debian source packages, 2026"
 READERS = "ExifTool 12.57, exiv2 0.27.6, exif 0.6.22 (libexif), Pillow 9.4 and piexif 1.1.3 of Debian 12"
+FIVE = "ExifTool, exiv2, exif, Pillow and piexif"
 # Pictures of bytes; `!` is below the byte at the reported offset
 DIAGRAMS = {
     "TooLong": f"0 .................... {LIMIT - 1} | {LIMIT} ...\n                                   !",
@@ -39,29 +40,30 @@ DIAGRAMS = {
 
 INTRODUCTION = f"""# Refusals
 
-Find out here why a block was refused, and what to do. `exifnorm-pictures explain PICTURE` prints the same texts with the bytes of the
-picture. A block that breaks the rules (`FORMAT.md`, section 5) is refused with its first fault and the byte offset of that fault, and its
-file is never changed. `show`, `changed` and `same` also read it after a repair in memory, which is tested, and not proved.
+Why a block was refused, and what to do. `exifnorm-pictures explain PICTURE` prints the same with the bytes of the picture. A block that
+breaks the rules (`FORMAT.md`, section 5) is refused with its first fault and the byte offset of that fault, and its file is never changed.
+`show`, `changed` and `same` also read it after a repair in memory, which is tested, and not proved.
 
 ![The bytes of a refused block, in which the GPS pointer leads to a directory without entries](refusal.svg)
 
 Counts of cameras and programs, by the pictures' own Make and Software, were {MEASURED}: 232 of them have an Exif block, and 35 real
-pictures had a refused one. Where no writer is named, none was found. Readers were tried on the smallest block that has the fault: {READERS}.
+pictures had a refused one. Where no writer is named, none was found; none of 91 IPTC records of cameras and editors had one of the last three faults. The five
+readers were tried on the smallest block that has the fault: {READERS}. Where no cost is named, there is none.
 
 ## What helps, the least invasive first
 
-Keep the original: each remedy writes another block, and every tool that writes one may move a MakerNote.
+Keep the original: each remedy writes another block, and may move a MakerNote.
 
 ```sh
 exifnorm-pictures explain refused.jpg || test $? -eq 2
 exifnorm-pictures mend refused.jpg mended.jpg
 ```
 
-`mend` tries four steps on a copy, and uses the first whose block is accepted and that changes no printed value, otherwise the one that
-loses fewest values; it lists what was lost. The first step repairs an Exif block of a JPEG, PNG or WebP file, and leaves the rest of the
-file as it is. The others let programs write the block again. They mended 32 of the 35 refused blocks, 24 of them without loss. By hand:
+`mend` tries four steps on a copy, and takes the first whose block is accepted and that changes no printed value, else the one that loses
+fewest values; it lists what was lost. The first step repairs an Exif block of a JPEG, PNG or WebP file, leaves the rest of the file as it is,
+and needs no other program if nothing is lost. The others let programs write the block again. They mended 32 of the 35, 24 of them without loss. By hand:
 
-*Touch*: ExifTool adds a field and removes it, and so lays the block out again.
+*Touch*: ExifTool adds a field and removes it, and so lays the block out again in order, with a copy of what is shared.
 
 ```sh
 cp refused.jpg touched.jpg
@@ -77,8 +79,8 @@ exiv2 -M'set Exif.Image.PageName Ascii zz' by-exiv2.jpg
 exiv2 -M'del Exif.Image.PageName' by-exiv2.jpg
 ```
 
-*Rebuild*: ExifTool writes all tags that it knows into a new block. This helps with most blocks (30 of 35), but only 10 of them kept all
-printed values: fractions are reduced, mandatory tags added, unknown fields dropped. Try it last.
+*Rebuild*: ExifTool writes all tags that it knows into a new block. This helped 30 of 35, but only 10 of them kept all printed values:
+fractions are reduced, mandatory tags added, unknown fields dropped. Try it last.
 
 ```sh
 cp refused.jpg rebuilt.jpg
@@ -90,10 +92,11 @@ exiftool -m -overwrite_original -all= -tagsfromfile @ -all:all -unsafe rebuilt.j
 def section(cause: Cause) -> str:
     """The section of the page on one cause."""
     lines = [f"## {cause.name}", "", filled(f"**{cause.sentence}** {cause.meaning}"), "", "```text", DIAGRAMS[cause.name], "```", ""]
-    writers = "; ".join(f"{who} ({count})" for who, count in cause.writers)
-    remedy = cause.remedy.replace(TOUCH, "`exifnorm-pictures mend`, or the *touch*: ExifTool lays it out again")
-    texts = {"Written by": writers[:1].upper() + writers[1:], "Other readers": cause.readers, "Remedy": remedy, "Cost": cause.cost}
-    for label, text in ((label, text) for label, text in texts.items() if text):
+    writers = "; ".join(f"{who} ({count})" for who, count in cause.writers if count != "0")
+    remedy = cause.remedy.replace(TOUCH, "`mend`, or the *touch*, lays it out again").replace("`exifnorm-pictures mend`", "`mend`")
+    readers = cause.readers.replace(FIVE, "All five")
+    texts = {"Written by": writers[:1].upper() + writers[1:], "Other readers": readers, "Remedy": remedy, "Cost": cause.cost}
+    for label, text in ((label, text) for label, text in texts.items() if text not in ("", "None.")):
         lines += [filled(f"*{label}.* {text.rstrip('.')}."), ""]
     return "\n".join(lines)
 
@@ -110,8 +113,8 @@ def heads() -> str:
 
 
 HEADS = """The head of a JPEG is all before its first scan, and its metadata are there (ITU-T T.81, B.1.1 and B.2). `exifnorm.jpeg_blocks`,
-`jpeg_parts`, `jpeg_same` and the calls of the C library for JPEGs refuse a head that is damaged, with its first fault and the byte offset
-from the picture's first byte. `exifnorm-pictures` reads the blocks before the fault, and says that the picture was not wholly read."""
+`jpeg_parts`, `jpeg_same` and the C library's calls for JPEGs refuse a damaged head with its first fault and the byte offset in the picture.
+`exifnorm-pictures` reads the blocks before the fault, and says that the picture was not wholly read."""
 
 
 def wrapped(text: str) -> str:

@@ -51,9 +51,8 @@ CREATE TABLE pictures (
     size INTEGER,
     -- the time of the last change of the file, in UTC: `2024-05-02 08:12:33`
     modified TEXT,
-    -- a SHA-256 of the meaning of its blocks of that kind: equal exactly if they mean the same.
-    -- NULL if there is no block, if one is refused, or if one may be missing because the file is
-    -- cut off
+    -- SHA-256 of the meaning of its blocks of that kind: equal exactly if they mean the same. NULL if
+    -- there is no block, if one is refused, or if one may be missing because the file is cut off
     exif TEXT,
     iptc TEXT,
     xmp TEXT,
@@ -62,7 +61,7 @@ CREATE TABLE pictures (
     -- with `index --pixels`, SHA-256 of the file, as `sha256sum` prints it. Else NULL
     sha256 TEXT,
     -- where the file is cut off, as `the file ends inside the segment at 2000`; with
-    -- `index --pixels` also what else is damaged in the picture. Else NULL
+    -- `index --pixels` also other damage of the picture. Else NULL
     damage TEXT,
     -- where it was taken, in degrees, north and east positive, by Exif or XMP; NULL if a part of
     -- the position is missing
@@ -75,7 +74,7 @@ CREATE TABLE blocks (
     block INTEGER NOT NULL,
     -- `exif`, `iptc` or `xmp`
     kind TEXT NOT NULL,
-    -- which block it is: `Exif`, `second Exif`, `Exif of page 2` ..
+    -- which block: `Exif`, `second Exif`, `Exif of page 2` ..
     name TEXT NOT NULL,
     -- where it is in the file
     source TEXT NOT NULL,
@@ -101,21 +100,18 @@ CREATE TABLE fields (
     picture INTEGER NOT NULL REFERENCES pictures(id),
     block INTEGER NOT NULL,
     position INTEGER NOT NULL,
-    -- the name with its group as ExifTool has it: `IFD0:Artist`, `ExifIFD:ISO`, `GPS:GPSLatitude`,
-    -- `IPTC:Keywords`, `XMP-dc:title`
+    -- ExifTool's name with its group: `IFD0:Artist`, `IPTC:Keywords`, `XMP-dc:title`
     name TEXT NOT NULL,
     -- `main`, `exif`, `interop`, `gps`, `thumb`, `iptc` or `xmp`
     directory TEXT NOT NULL,
-    -- what identifies the field there, whatever its name is: the tag as `0x013b`, the DataSet as
-    -- `2:25`, or the property
+    -- the tag as `0x013b`, the DataSet as `2:25`, or the property
     key TEXT NOT NULL,
     -- the type of the standard, such as `ASCII`, and the number of its elements
     type TEXT NOT NULL,
     count INTEGER NOT NULL,
     -- the value in plain words: 1/125 s, turn 90° clockwise to view, 2024-05-02 08:12:33
     value TEXT NOT NULL,
-    -- the value exactly, as `exifnorm-pictures show` prints it: 10/1250. Of a long value only the
-    -- beginning and a SHA-256
+    -- exactly, as `show --exact` prints it: 10/1250. Of a long value the beginning and a SHA-256
     exact TEXT NOT NULL,
     -- the value as a number, if it is one number: `0.008`
     number REAL,
@@ -133,11 +129,11 @@ CREATE TABLE captions (
     standard TEXT,
     -- the field that has the text: `IPTC:Caption-Abstract`
     field TEXT,
-    -- which block it is in; NULL for the first one of its kind
+    -- its block; NULL for the first of its kind
     block TEXT,
     -- the text; a list such as keywords has a row for each. NULL if it could not be read
     text TEXT,
-    -- how the character set was found out, if it isn't declared
+    -- how the character set was found, if it isn't declared
     guess TEXT,
     -- 1 for a caption or comment that a camera or a program writes by itself, such as `OLYMPUS
     -- DIGITAL CAMERA`; else 0
@@ -148,7 +144,7 @@ CREATE TABLE maker_notes (
     -- the picture, and the number of the value in it
     picture INTEGER NOT NULL REFERENCES pictures(id),
     position INTEGER NOT NULL,
-    -- the name with its group as ExifTool has it: `Canon:SerialNumber`, `Nikon:ISO`
+    -- ExifTool's name with its group: `Canon:SerialNumber`, `Nikon:ISO`
     name TEXT NOT NULL,
     -- the value as ExifTool prints it with `-n`; of a long one the beginning and a SHA-256
     value TEXT NOT NULL,
