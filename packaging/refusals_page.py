@@ -79,8 +79,8 @@ exiv2 -M'set Exif.Image.PageName Ascii zz' by-exiv2.jpg
 exiv2 -M'del Exif.Image.PageName' by-exiv2.jpg
 ```
 
-*Rebuild*: ExifTool writes all tags that it knows into a new block. This helped 30 of 35, but only 10 of them kept all printed values:
-fractions are reduced, mandatory tags added, unknown fields dropped. Try it last.
+*Rebuild*: ExifTool writes all tags that it knows into a new block. This helped 30 of 35, but only 10 kept all printed values: fractions
+are reduced, mandatory tags added, unknown fields dropped.
 
 ```sh
 cp refused.jpg rebuilt.jpg
@@ -112,9 +112,9 @@ def heads() -> str:
     return "\n".join([*lines, *(f"| {name} | {sentence} | {remedy} |" for name, (sentence, remedy) in OF_HEADS.items())]) + "\n"
 
 
-HEADS = """The head of a JPEG is all before its first scan, and its metadata are there (ITU-T T.81, B.1.1 and B.2). `exifnorm.jpeg_blocks`,
-`jpeg_parts`, `jpeg_same` and the C library's calls for JPEGs refuse a damaged head with its first fault and the byte offset in the picture.
-`exifnorm-pictures` reads the blocks before the fault, and says that the picture was not wholly read."""
+HEADS = """`exifnorm.jpeg_blocks`, `jpeg_parts`, `jpeg_same` and the C library's calls for JPEGs refuse a damaged head, which is all before the
+first scan, with its first fault and the byte offset in the picture. `exifnorm-pictures` reads the blocks before the fault, and says that the
+picture was not wholly read."""
 
 
 def wrapped(text: str) -> str:
