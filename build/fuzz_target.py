@@ -3,8 +3,8 @@
 
   build/fuzz_target.py KIND TARGET
 
-KIND is `guided` for libFuzzer with a counter for each branch of the library, `address` or `thread` for the same with a sanitizer, or `afl`
-for AFL++. TARGET.a is then the instrumented library. docs/FUZZING.md tells how to run a target.
+KIND is `guided` for libFuzzer with a counter for each branch of the library, or `address` or `thread` for the same with a sanitizer.
+TARGET.a is then the instrumented library. docs/FUZZING.md tells how to run a target.
 
 The toolchain's clang compiles the library's own module, which build/module.py keeps, with the same options and those of the
 instrumentation.
@@ -50,7 +50,6 @@ KINDS = {
     "guided": Kind(COUNTERS, [], LAWS, ["clang", "-fsanitize=fuzzer", *WRAPS]),
     "address": Kind(COUNTERS, ["-fsanitize=address"], LAWS, ["clang", "-fsanitize=fuzzer,address", *WRAPS]),
     "thread": Kind(COUNTERS, ["-fsanitize=thread"], ["fuzz/threads.c"], ["clang", "-fsanitize=fuzzer,thread"]),
-    "afl": Kind("-fsanitize-coverage=trace-pc-guard", [], LAWS, ["afl-clang-fast", "-fsanitize=fuzzer", *WRAPS]),
 }
 
 

@@ -90,12 +90,6 @@ def read_table(path: Path) -> Table:
     return [[*beside, *in_place], *([it] for it in apart)]
 
 
-def without_control(table: Table, proofs: Path) -> list[str]:
-    """The bodies of functions with a proof by hand, which any other body might break, that have no control."""
-    bodies = [it for group in table for it in group]
-    return [it.why for it in bodies if not it.control and (proofs / it.function.replace("::", "/")).is_dir()]
-
-
 @dataclass(frozen=True)
 class Verdict:
     """What the search found of the planted functions: the goals of each that it did not prove, and the functions that it proved."""
