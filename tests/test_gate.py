@@ -115,12 +115,6 @@ def test_a_source_that_is_edited_meanwhile_is_proved_by_the_next_run(gate):
     assert "proving" in call(gate).stdout
 
 
-def test_a_failed_test(gate):
-    put(gate, **{"tests-python": '[ "$1" = -c ] || { echo "4 passed, 1 failed"; exit 1; }'})
-    ran = call(gate)
-    assert (ran.returncode, last_line(ran)) == (1, "4 passed, 1 failed"), ran
-
-
 def begun(folder: Path) -> int:
     """Waits until the command in place of `rt` has begun: the number that it wrote. A file is there before it has what is written to it."""
     while not (folder / "started").exists() or not (folder / "started").read_text(encoding="ascii").endswith("\n"):
@@ -137,13 +131,6 @@ def test_after_a_run_that_was_killed(gate):
     (gate / "out/gate/crates/px_c/more.rt").touch()
     put(gate, rt="[ ! -e crates/px_c/more.rt ] || exit 1\n" + COMMANDS["rt"])
     assert call(gate).returncode == 0 and not (gate / "out/gate").exists()
-
-
-def test_a_choice_proves_nothing(gate):
-    put(gate, rt="echo proving", make="echo building")
-    ran = call(gate, "tests/pictures", "--only", "a text, [with] brackets")
-    assert ran.stdout.splitlines()[-2:] == ["-m pytest -m not proof tests/pictures --only a text, [with] brackets", "5 passed, 0 failed"]
-    assert "proving" not in ran.stdout and "building" not in ran.stdout
 
 
 def test_a_stopped_run_leaves_no_process(gate, tmp_path):
@@ -170,8 +157,12 @@ def test_each_package_is_installed_although_one_is_refused(gate, refused):
     assert {*(gate / "installed").read_text(encoding="ascii").split()} == {*call(gate, "--packages").stdout.split()} - {refused}
 
 
-def test_the_quick_form_proves_nothing(gate):
-    """It builds by the two launchers and calls pytest with what they built."""
+@pytest.mark.parametrize(
+    "words, expected",
+    [(["--quick"], "--program quick/exifnorm"), (["tests/pictures", "--only", "a, [b]"], "-m not proof tests/pictures --only a, [b]")],
+)
+def test_a_choice_and_the_quick_form_prove_nothing(gate, words, expected):
+    """The quick one builds by the two launchers and calls pytest with what they built."""
     put(gate, rt="echo proving", make="echo building")
     for name, script in {"exifnorm": "echo quick/exifnorm", "exifnorm-pictures": "true"}.items():
         (gate / name).write_text(f"#!/bin/sh\n{script}\n", encoding="ascii")
@@ -179,13 +170,6 @@ def test_the_quick_form_proves_nothing(gate):
     for name in ("crates/px_c/include/exifnorm.h", "out/quick/libexifnorm.so.1"):
         (gate / name).parent.mkdir(parents=True, exist_ok=True)
         (gate / name).touch()
-    ran = call(gate, "--quick")
-    assert (ran.returncode, last_line(ran)) == (0, "5 passed, 0 failed"), ran
-    assert "--program quick/exifnorm" in ran.stdout and "proving" not in ran.stdout and "building" not in ran.stdout, ran
-
-
-def test_packages_are_in_debian(gate):
-    """The command is for apt-get install, so it prints nothing but names of packages."""
-    names = call(gate, "--packages").stdout.split()
-    assert {"python3-pytest", "python3-pytest-xdist", "python3-pytest-timeout", "python3-hypothesis"} <= {*names}
-    assert all(name.replace("+", "").replace("-", "").replace(".", "").isalnum() for name in names)
+    ran = call(gate, *words)
+    assert (ran.returncode, last_line(ran)) == (0, "5 passed, 0 failed") and expected in ran.stdout, ran
+    assert "proving" not in ran.stdout and "building" not in ran.stdout, ran

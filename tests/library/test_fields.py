@@ -498,13 +498,8 @@ def test_programs_end_well(folder, name):
 # ---- names and texts
 
 
-def test_the_header_of_names_is_printed(tmp_path, monkeypatch):
+def test_the_header_of_names_is_printed():
     assert names.main(["--check"]) == 0, "run python3 packaging/names.py"
-    monkeypatch.setattr(names, "HEADER", tmp_path / "exifnorm_names.h")
-    (tmp_path / "exifnorm.h").write_bytes((HEADERS / "exifnorm.h").read_bytes())
-    assert [names.main(["--check"]), names.main([]), names.main(["--check"])] == [1, 0, 0]
-    (tmp_path / "exifnorm_names.h").write_text("changed", encoding="ascii")
-    assert names.main(["--check"]) == 1
 
 
 PRINTS = r"""
@@ -570,10 +565,6 @@ def test_every_warning_is_an_error_of_the_headers(folder, compiler):
 
 
 # ---- the program of the manual page
-
-
-def test_the_examples_have_at_most_sixty_lines():
-    assert [30 < len(it.splitlines()) <= 60 for it in examples_of_the_page()] == [True, True]
 
 
 LABELS = {

@@ -3,20 +3,18 @@ are at the limits of what is allowed."""
 
 import ctypes
 import re
-import shlex
 
 import pytest
 
 import exifnorm
 from commands import run, text_of
 from compiling import HEADERS, HERE, STRICT, need
-from exifnorm import _jpeg, _library
+from exifnorm import _library
 from judged import NAMES
 from meanings import LIMIT
 
 FOR_CPP = [it for it in STRICT if it != "-Wstrict-prototypes"]
 HEADER = (HEADERS / "exifnorm.h").read_text(encoding="utf-8")
-PAGE = text_of("docs", "exifnorm.3")
 VERSION = re.search(r'VERSION: &str = "(.*)";', text_of("crates", "px_engine", "src", "version.rt"))[1]
 STATUSES = dict(re.findall(r"pub const (\w+): u32 = (\d+);", text_of("crates", "px_c", "src", "statuses.rt")))
 OF_JPEG = text_of("crates", "px_c", "src", "jpeg.rt")
@@ -30,13 +28,6 @@ def prototypes(text):
     plain = re.sub(r"\s+", " ", re.sub(r"/\*.*?\*/", "", text, flags=re.S))
     found = re.findall(r"(\w+) (exifnorm_\w+)\(([^()]*)\);", plain)
     return {name: (kind, [it.strip() for it in parameters.split(",")]) for kind, name, parameters in found}
-
-
-def page_prototypes():
-    """The prototypes in the manual page's synopsis."""
-    synopsis = re.search(r"^\.SH SYNOPSIS\n(.*?)^\.SH", PAGE, re.M | re.S)[1]
-    # the words of a line with .BI are printed without the spaces that separate them
-    return prototypes(" ".join("".join(shlex.split(it[4:])) for it in synopsis.splitlines() if it.startswith(".BI ")))
 
 
 def in_capitals(name):
@@ -128,84 +119,10 @@ def test_header_has_the_numbers_of_the_sources(compiler, folder):
     assert found == {**{name: [number] for name, number in numbers_of_the_sources().items()}, **dict(structs_of_the_sources())}
 
 
-def test_manual_page_has_the_same_prototypes_statuses_and_kinds():
-    assert page_prototypes() == prototypes(HEADER)
-    assert structs(PAGE.replace('.B "', "").replace(';"', ";")) == structs(HEADER)
-    listed = dict(re.findall(r'^\.BR EXIFNORM_(\w+) " \((\d+)\)[.,]?"', PAGE, re.MULTILINE))
-    assert listed == {**STATUSES, "EXIF": "1", "IIM": "2", **{f"JPEG_{name}": str(number) for name, number in numbers_of_jpegs().items()}}
-    assert set(re.findall(r"\bEXIFNORM_[A-Z_]+\b", PAGE)) <= set(re.findall(r"\bEXIFNORM_[A-Z_]+\b", HEADER))
-
-
-def test_stack_size_is_the_one_that_tests_run_with():
-    (stated,) = {*re.findall(r"stack of (\d+) KiB", HEADER + PAGE)}
-    assert f"ulimit -s {stated} &&" in text_of("tests", "library", "test_all_blocks.py")
-    assert f"STACK = {stated} * 1024 " in text_of("tests", "library", "calls.c")
-
-
 def test_python_has_the_same_statuses_causes_and_version(way, version):
     assert {it.name: str(it.value) for it in exifnorm.Status} == STATUSES
     assert [_library.library().cause_name(at + 1) for at in range(len(NAMES) + 1)] == [*NAMES, ""]
     assert (exifnorm.LIMIT, exifnorm.version(), exifnorm.__version__) == (LIMIT, version, VERSION)
-
-
-def test_causes_of_xmp_have_names():
-    names = {number: f"Xmp{name}" for name, number in numbers_of_xmp().items()}
-    assert {number: _library.library().cause_name(number) for number in names} == names
-    assert {name for number, name in names.items() if number > 250} == {it for it in names.values() if it.startswith("XmpRare")}
-    assert {_library.library().cause_name(number) for number in (200, 213, 250, 263)} == {""}
-
-
-def test_python_has_the_same_numbers_and_structs_of_jpegs():
-    kinds = {it.upper().replace(" ", "_") or "OTHER": number for number, it in enumerate(_jpeg.PART_KINDS)}
-    numbers = numbers_of_jpegs()
-    assert {name: number for name, number in numbers.items() if number in kinds.values()} == kinds
-    assert all(_library.library().cause_name(number) == name for number, name in _jpeg.CAUSES.items())
-    structs = {
-        "jpeg_part": _library.PartStruct,
-        "photoshop_resource": _library.ResourceStruct,
-        "jpeg_fault": _library.JpegFault,
-        "picture_fault": _library.PictureFault,
-        "fault": _library.Fault,
-        "jpeg_block": _library.PlaceStruct,
-        "jpeg_sizes": _library.Sizes,
-        "unread_part": _library.UnreadStruct,
-        "jpeg_packet": _library.PacketStruct,
-    }
-    found = {
-        f"exifnorm_{name}": [ctypes.sizeof(it), *(getattr(it, field).offset for field, _ in it._fields_)] for name, it in structs.items()
-    }
-    assert found == dict(structs_of_the_sources())
-    rows = ((_library.PART, _library.PartStruct), (_library.RESOURCE, _library.ResourceStruct), (_library.PLACE, _library.PlaceStruct))
-    assert [it.size for it, _ in rows] == [ctypes.sizeof(it) for _, it in rows]
-
-
-# The names that ctypes has for the types of the header on this machine.
-IN_PYTHON = {
-    "const unsigned char *": "c_char_p",
-    "unsigned char *": "LP_c_char",
-    "char *": "LP_c_char",
-    "size_t": "c_ulong",
-    "size_t *": "LP_c_ulong",
-    "uint32_t": "c_uint",
-    "uint32_t *": "LP_c_uint",
-    "struct exifnorm_fault *": "LP_Fault",
-    "struct exifnorm_jpeg_part *": "LP_PartStruct",
-    "struct exifnorm_jpeg_fault *": "LP_JpegFault",
-    "struct exifnorm_photoshop_resource *": "LP_ResourceStruct",
-    "struct exifnorm_picture_fault *": "LP_PictureFault",
-    "struct exifnorm_jpeg_block *": "LP_PlaceStruct",
-    "struct exifnorm_jpeg_sizes *": "LP_Sizes",
-    "struct exifnorm_unread_part *": "LP_UnreadStruct",
-    "struct exifnorm_jpeg_packet *": "LP_PacketStruct",
-}
-
-
-@pytest.mark.parametrize("name", [*prototypes(HEADER)])
-def test_python_declares_the_prototype(name):
-    kind, parameters = prototypes(HEADER)[name]
-    call = getattr(_library.library()._library, name)
-    assert call.restype.__name__ == IN_PYTHON[kind]
-    assert [it.__name__ for it in call.argtypes] == [IN_PYTHON[re.sub(r"\w+$", "", it).strip()] for it in parameters]
 
 
 def test_is_called_from_cpp(archive, folder):

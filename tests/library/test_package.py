@@ -26,7 +26,7 @@ import pytest
 import exifnorm
 from exifnorm import blocks, pictures
 import made_by_tools
-from exifnorm import BlockCaption, BlockField, _calls, _jpeg, _library, _listings
+from exifnorm import BlockCaption, BlockField, _calls, _library, _listings
 from kinds import small_kinds
 from meanings import ASCII, LABELS, LIMIT, LONG, SHORT, Exif, Layout, Record, Value, laid
 from reading import said
@@ -141,17 +141,6 @@ def test_properties_of_a_packet(written):
     assert exifnorm.xmp_properties(f"<r:RDF {spaces}/>".encode()) == []
 
 
-def test_each_cause_is_one_fault_and_a_sentence():
-    names = [_library.library().cause_name(number) for number in range(1, 20)]
-    assert {number: _library.library().cause_name(number) for number in _jpeg.CAUSES} == _jpeg.CAUSES, "C has the same names"
-    names += _jpeg.CAUSES.values()
-    assert len(set(names)) == 24
-    sentences = [exifnorm.Refused(name, 0).sentence for name in names]
-    assert len(set(sentences)) == 24 and all(it.endswith(".") and not it.startswith("The block is refused") for it in sentences)
-    assert all(exifnorm.Refused(name, 0).remedy for name in names)
-    assert exifnorm.Refused("New", 3).sentence == "The block is refused: New."  # of a newer library
-
-
 def test_older_words_are_still_understood():
     """Programs compare with them. A warning names the new word."""
     (block,) = exifnorm.jpeg_blocks(b"\xff\xd8\xff\xed\0\x22Photoshop 3.0\x008BIM\4\4\0\0\0\0\0\6\x1c\2\x78\0\1a\xff\xd9")
@@ -178,12 +167,6 @@ def test_older_words_are_still_understood():
 
 
 OF_XMP = [exifnorm.XmpText, exifnorm.XmpResource, exifnorm.XmpContainer, exifnorm.XmpStructure, exifnorm.XmpProperty]
-
-
-@pytest.mark.parametrize("named_tuple", [exifnorm.BlockField, exifnorm.JpegBlock, exifnorm.JpegPart, exifnorm.Resource, *OF_XMP], ids=named)
-def test_help_describes_each_member(named_tuple):
-    for member in named_tuple._fields:
-        assert f"`{member}`" in named_tuple.__doc__, member
 
 
 @pytest.mark.parametrize("kind", [*small_kinds()], ids=lambda it: it.name)
@@ -709,47 +692,7 @@ def test_a_form_has_its_own_bytes_alone(large):
         tracemalloc.stop()
 
 
-def test_nothing_stays_allocated():
-    blocks = ONE, LOOP, ONE + bytes(50_000), bytearray(ONE)
-    gc.collect()  # what other tests left may refer to these blocks
-    counts = [sys.getrefcount(it) for it in blocks]
-    tracemalloc.start()
-    try:
-        for turn in range(200):
-            for block in blocks:
-                for call in OF_BLOCK:
-                    outcome(call, block)
-                outcome(exifnorm.same, block, ONE)
-            if turn == 20:
-                gc.collect()
-                before = tracemalloc.get_traced_memory()[0]
-        del block
-        gc.collect()
-        grown = tracemalloc.get_traced_memory()[0] - before
-    finally:
-        tracemalloc.stop()
-    assert grown < 50_000
-    assert [sys.getrefcount(it) for it in blocks] == counts
-
-
 # ---- threads
-
-
-def test_sixteen_threads(monkeypatch):
-    """Sixteen threads at once get the same results as one, for blocks whose forms differ in each byte."""
-    blocks = [Record([(2, 120, bytes([it]) * (it % 7 + 1) * 900)]).spelled(extended=4) for it in range(16)]
-    blocks += [it.block for it in made_by_tools.ALL] + [made_by_tools.PIEXIF_REFUSED, LOOP, b""]
-    jobs = [(call, block) for block in blocks for call in OF_BLOCK]
-    expected = [outcome(*it) for it in jobs]
-    kept = sys.getswitchinterval()
-    sys.setswitchinterval(1e-6)
-    try:
-        with ThreadPoolExecutor(16) as pool:
-            rounds = list(pool.map(lambda _: [outcome(*it) for it in jobs], range(16)))
-    finally:
-        sys.setswitchinterval(kept)
-    for found in rounds:
-        assert found == expected
 
 
 @pytest.mark.parametrize("call", [exifnorm.kind, normal, exifnorm.show, _calls.captions_text, lambda it: exifnorm.same(it, it)])

@@ -45,6 +45,12 @@ def program(program, session_folder):
     return Path(shutil.copy(program, session_folder / "program"))
 
 
+@pytest.fixture
+def expect(program, folder, checks):
+    """Notes whether a run has this status and this output."""
+    return lambda name, words, expected, **how: checks.equal(name, run(program, folder, words, **how), expected)
+
+
 @pytest.fixture(autouse=True)
 def filled(folder):
     fill(folder)
@@ -207,7 +213,7 @@ def devices() -> Dict[str, Tuple[int, int]]:
     return {it: (stat.S_IFMT(found[it].st_mode), found[it].st_rdev) for it in found}
 
 
-def test_outputs_that_are_no_files(program, folder, checks):
+def test_outputs_that_are_no_files(program, folder, checks, expect):
     """A device takes the form, or fails. It stays the same device."""
     were = devices()
     folder.chmod(0o755)
@@ -215,14 +221,10 @@ def test_outputs_that_are_no_files(program, folder, checks):
     for name in ("null", "full", "stdout"):
         os.symlink(f"/dev/{name}", folder / name)
     for name, expected in (("null", (0, b"")), ("full", (4, b"failed: WriteFailed\n"))):
-        came = run(program, folder, ["normalise", "one", name])
-        checks.check(f"OUT is a link to /dev/{name}", came == expected, came)
-        came = run(program, folder, ["normalise", "one", f"/dev/{name}"], **how)
-        checks.check(f"OUT is /dev/{name}", came == expected, came)
-    came = run(program, folder, ["normalise", "loop", "null"])
-    checks.check("a refused block, and OUT is /dev/null", came == (2, REFUSED), came)
-    came = run(program, folder, ["normalise", "one", "stdout"])
-    checks.check("OUT is standard output, a pipe", came == (0, ONE), came)
+        expect(f"OUT is a link to /dev/{name}", ["normalise", "one", name], expected)
+        expect(f"OUT is /dev/{name}", ["normalise", "one", f"/dev/{name}"], expected, **how)
+    expect("a refused block, and OUT is /dev/null", ["normalise", "loop", "null"], (2, REFUSED))
+    expect("OUT is standard output, a pipe", ["normalise", "one", "stdout"], (0, ONE))
     with open(folder / "to", "wb+") as to:
         to.write(b"what stood there before, which is longer")
         to.flush()
@@ -263,19 +265,21 @@ def beside(one, other) -> tuple:
     return came, found[0] if found else b""
 
 
-def test_standard_inputs(program, folder, checks):
+def test_standard_inputs(program, folder, checks, expect):
     """Standard input is read from its current position, and can be named as a file."""
     (folder / "behind").write_bytes(b"xyz" + ONE)
     with open(folder / "behind", "rb", buffering=0) as given:
         given.seek(3)
-        came = run(program, folder, [], stdin=given)
-    checks.check("a block behind other bytes", came == (0, ONE), came)
-    came = run(program, folder, ["check", "/dev/stdin"], input=ONE, stdin=None)
-    checks.check("standard input as FILE", came == (0, b"ok exif\n"), came)
-    came = run(program, folder, ["compare", "/dev/stdin", "one"], input=ONE, stdin=None)
-    checks.check("standard input as FIRST", came == (0, b"same\n"), came)
-    came = run(program, folder, ["compare", "/dev/stdin", "/dev/stdin"], input=ONE, stdin=None)
-    checks.check("standard input twice", came == (2, b"refused: UnknownKind at 0 in file 2\n"), came)
+        expect("a block behind other bytes", [], (0, ONE), stdin=given)
+    expect("standard input as FILE", ["check", "/dev/stdin"], (0, b"ok exif\n"), input=ONE, stdin=None)
+    expect("standard input as FIRST", ["compare", "/dev/stdin", "one"], (0, b"same\n"), input=ONE, stdin=None)
+    expect(
+        "standard input twice",
+        ["compare", "/dev/stdin", "/dev/stdin"],
+        (2, b"refused: UnknownKind at 0 in file 2\n"),
+        input=ONE,
+        stdin=None,
+    )
     directory = os.open(folder, os.O_RDONLY)
     came = run(program, folder, [], stdin=directory)
     os.close(directory)
@@ -295,14 +299,12 @@ def test_an_output_that_may_not_be_read(program, folder, checks):
     checks.check("a write-only OUT", (came, out.read_bytes()) == ((0, b""), ONE), came)
 
 
-def test_words_and_names(program, folder, checks):
+def test_words_and_names(program, folder, checks, expect):
     """After `--` each argument is a name. Too many names are refused, and no file is opened."""
     for name in ("-a", "--help", "--", "-"):
         (folder / name).write_bytes(ONE)
-        came = run(program, folder, ["check", "--", name])
-        checks.check(f"check -- {name}", came == (0, b"ok exif\n"), came)
-        came = run(program, folder, ["compare", "--", name, "one"])
-        checks.check(f"compare -- {name} one", came == (0, b"same\n"), came)
+        expect(f"check -- {name}", ["check", "--", name], (0, b"ok exif\n"))
+        expect(f"compare -- {name} one", ["compare", "--", name, "one"], (0, b"same\n"))
         came = run(program, folder, ["normalise", "--", "one", f"{name}.out"])
         left = (folder / f"{name}.out").read_bytes() if (folder / f"{name}.out").exists() else b""
         checks.check(f"normalise -- one {name}.out", (came, left) == ((0, b""), ONE), came)
@@ -339,7 +341,7 @@ ODD_NAMES = (
 )
 
 
-def test_odd_names(program, folder, checks):
+def test_odd_names(program, folder, checks, expect):
     """A name is used as it is, and no line has it. One that the system has no file for is a failed read or write."""
     there = {it.name for it in folder.iterdir()}
     for name in ODD_NAMES:
@@ -348,8 +350,7 @@ def test_odd_names(program, folder, checks):
         left = (folder / name).read_bytes()
         checks.check(f"OUT is {name!r}", (came, left) == ((0, b""), ONE), (came, left))
         (folder / name).write_bytes(LOOP)
-        came = run(program, folder, ["compare", "one", name])
-        checks.check(f"SECOND is {name!r}", came == (2, b"refused: Loop at 22 in file 2\n"), came)
+        expect(f"SECOND is {name!r}", ["compare", "one", name], (2, b"refused: Loop at 22 in file 2\n"))
     checks.check("no other file is made", {it.name for it in folder.iterdir()} == there | {*ODD_NAMES}, list(folder.iterdir()))
     for name in ("x" * 256, "d/" * 2100 + "one"):
         for words, line in ((["check", name], b"failed: ReadFailed\n"), (["normalise", "one", name], b"failed: WriteFailed\n")):

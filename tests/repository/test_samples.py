@@ -1,10 +1,7 @@
 """The sample pictures: made by samples/make.py, and what ExifTool reads in them."""
 
-import importlib.util
 import json
-import re
 import subprocess
-import sys
 from pathlib import Path
 
 import pytest
@@ -14,7 +11,6 @@ TOP = Path(__file__).resolve().parents[2]
 
 SAMPLES = TOP / "samples"
 PYTHON = "/usr/bin/python3"
-LARGEST = 300_000  # bytes of all samples, and of all screenshots
 LAYOUT = {"ExifByteOrder", "ThumbnailOffset", "CurrentIPTCDigest", "XMPToolkit"}  # how bytes are arranged, and who arranged them
 
 
@@ -37,11 +33,6 @@ def test_each_run_makes_the_committed_bytes(tmp_path):
         [PYTHON, SAMPLES / "make.py", tmp_path], check=True, env={"PATH": "/usr/bin:/bin", "PYTHONDONTWRITEBYTECODE": "1"}, cwd="/"
     )
     assert files(tmp_path) == files(SAMPLES)
-
-
-def test_they_and_the_screenshots_are_small():
-    assert sum(map(len, files(SAMPLES).values())) <= LARGEST
-    assert sum(it.stat().st_size for it in (TOP / "docs").glob("*.png")) <= LARGEST
 
 
 @pytest.mark.parametrize(
@@ -79,20 +70,3 @@ def test_exiv2_reads_each_block():
         kinds = {line.partition(".")[0] for line in ran.stdout.splitlines()}
         wanted = {"Exif"} | ({"Iptc", "Xmp"} if "vase" in name or "portrait" in name else {"Iptc"} if "bowl" in name else set())
         assert kinds >= wanted and "Error" not in ran.stderr, (name, ran)
-
-
-def test_the_sections_of_the_screenshots_are_in_the_report(tmp_path, library):
-    spec = importlib.util.spec_from_file_location("screenshots", TOP / "docs" / "screenshots.py")
-    screenshots = importlib.util.module_from_spec(spec)
-    spec.loader.exec_module(screenshots)
-    command = tmp_path / "exifnorm-pictures"
-    where = f"PYTHONPATH='{TOP}/python' EXIFNORM_LIBRARY='{library}/libexifnorm.so.1'"
-    command.write_text(f"#!/bin/sh\n{where} exec '{sys.executable}' -m exifnorm_pictures \"$@\"\n")
-    command.chmod(0o755)
-    page = screenshots.report(str(command), tmp_path)
-    for name, titles in screenshots.PICTURES.items():
-        assert re.findall("<h2[^>]*>(.*?)</h2>", screenshots.only(page, titles)) == titles
-        assert (TOP / "docs" / name).exists()
-    assert str(tmp_path) not in page
-    with pytest.raises(SystemExit):
-        screenshots.only(page, ["No such section"])

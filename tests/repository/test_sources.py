@@ -16,7 +16,6 @@ from crates import below
 import pytest
 
 TOP = Path(__file__).resolve().parent.parent.parent
-PARAMETERS, LINES, COLUMNS = 5, 40, 140
 
 # Where a function begins.
 FUNCTION = re.compile(r"^(?P<indent> *)(?P<public>pub(?:\(crate\))? )?(?:extern \"C\" )?fn (?P<name>\w+)", re.M)
@@ -276,64 +275,3 @@ def test_the_run_of_the_program_is_two_lines():
     """No contract describes clap's result, so the run does nothing else than to read its arguments and to do what they request."""
     found = [body for _, it in crates() for path, name, _, _, body in it if (path, name) == ("crates/px_runs/src/run.rt", "run_words")]
     assert [" ".join(it.split()) for it in found] == [RUN]
-
-
-def test_functions_are_short_and_take_few_parameters():
-    everything = [it for _, found in crates() for it in found]
-    # a call for C has an output argument for each kind of result, so px_c may have one more
-    most = [(path, name, len(parameters), PARAMETERS + path.startswith("crates/px_c/")) for path, name, _, parameters, _ in everything]
-    assert [f"{path}: {name}" for path, name, count, allowed in most if count > allowed] == []
-    assert [f"{path}: {name}" for path, name, _, _, body in everything if body.count("\n") > LINES] == []
-
-
-def test_lines_are_short():
-    """Except attributes, which `rt fmt` keeps on one line. Proofs have long terms, which nobody reads to know what is promised."""
-    paths = [it for pattern in ("src/*.rt", "specs/**/*.antt") for it in sorted(TOP.glob(f"crates/*/{pattern}"))]
-    lines = [(path, number, line) for path in paths for number, line in enumerate(path.read_text(encoding="utf-8").splitlines(), 1)]
-    assert [f"{path}:{number}" for path, number, line in lines if len(line) > COLUMNS and "#[tactic(" not in line] == []
-
-
-# A record, whose fields look like lemmas, and a public lemma.
-RECORD = re.compile(r"^( *)(?:pub )?record (?!\{)[^\n]*\n(?:(?!\1[^ \n])[^\n]*\n)*", re.M)
-LEMMA = re.compile(r"^(?P<indent> *)pub (?P<name>[^\s:(){}]+) :(?= |$)", re.M)
-WORD = re.compile(r"[^\s(){},.;:]+")
-GOALS = ("Answers.antt", "Proof.antt", "Invariants.antt")
-
-
-def texts(*patterns):
-    """The files of the crates by their paths, with their texts without comments."""
-    found = [it for pattern in patterns for it in sorted(TOP.glob(f"crates/*/{pattern}"))]
-    return {it: re.sub("(?:--|//) .*", "", it.read_text(encoding="utf-8")) for it in found}
-
-
-def public_lemmas():
-    """Each public lemma: its file, its name, and the file's text without it. Rattle names the goals of a function's proof."""
-    for path, text in texts("proofs/**/*.antt", "specs/lemmas/**/*.antt").items():
-        text = RECORD.sub("", text) if path.name not in GOALS else ""
-        for it in LEMMA.finditer(text):
-            start = it["indent"] + re.escape(it["name"]) + " "
-            own = re.compile(rf"[^\n]*\n(?:{it['indent']}(?:[ )\]}}]|unfolding )[^\n]*\n|{start}[^\n]*\n)*").match(text, it.start())[0]
-            if re.search(rf"^{start}", own, re.M):
-                yield path, it["name"], text.replace(own, "", 1)
-
-
-@pytest.fixture(scope="module")
-def lemmas():
-    found = list(public_lemmas())
-    assert found, "no lemma was found"
-    return found
-
-
-def test_lemmas_name_their_subject(lemmas):
-    """At least two words, joined by `_`."""
-    assert [f"{path.relative_to(TOP)}: {name}" for path, name, _ in lemmas if not re.fullmatch(r"\w+_\w+", name)] == []
-
-
-def test_public_lemmas_are_cited(lemmas):
-    """In the rest of their file, or in a file that names their module."""
-    words = {path: set(WORD.findall(text)) for path, text in texts("proofs/**/*.antt", "specs/**/*.antt", "src/*.rt").items()}
-
-    def is_cited(path, name, rest):
-        return name in WORD.findall(rest) or any({name, path.stem} <= words[it] for it in words if it != path)
-
-    assert [f"{path.relative_to(TOP)}: {name}" for path, name, rest in lemmas if not is_cited(path, name, rest)] == []

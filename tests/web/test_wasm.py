@@ -1,4 +1,4 @@
-"""How exifnorm.wasm is made: what a machine lacks is said, and what was compiled without proofs is no proved module."""
+"""How exifnorm.wasm is made: what was compiled without proofs is no proved module."""
 
 import guard
 import pytest
@@ -6,18 +6,6 @@ import wasm
 from prove import NotBuilt
 
 MODULE = 'target datalayout = "e-p:64:64"\ntarget triple = "x86_64-unknown-linux-gnu"\ndefine void @f() "target-cpu"="x86-64" nounwind {}\n'
-
-
-def test_without_binaryen(monkeypatch, capsys, folder):
-    monkeypatch.setattr(wasm.shutil, "which", lambda name: None)
-    assert wasm.main([str(folder / "made")]) == 1
-    assert "apt-get install binaryen" in capsys.readouterr().err and not (folder / "made").exists()
-
-
-@pytest.mark.parametrize("words", [[], ["--unproved"], ["a", "b"], ["--other"]])
-def test_wrong_words(words):
-    with pytest.raises(SystemExit, match="wasm.py FOLDER"):
-        wasm.main(words)
 
 
 def test_the_target_of_a_module_is_changed_and_nothing_else():
