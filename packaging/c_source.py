@@ -47,7 +47,7 @@ LOWERED = [*wasm.FEATURES, "--memory64-lowering", "--strip-debug", "--strip-prod
 BASES = 1 << 16, 1 << 17  # where the constants of the two modules begin
 MOST_BEFORE = 4096  # bytes that an address may be before the first constant, as that of a table whose first index is above 0
 WIDTH = 8  # bytes of an address
-LEVELS = 101  # elements of a packet of XMP that are read inside one another: px_xmp_tree refuses one inside 100 others
+LEVELS = 101  # elements of a packet of XMP that are read inside one another: px_xmp_markup refuses one inside 100 others
 
 
 class Failed(Exception):

@@ -15,7 +15,7 @@ GROUPS = {
     "Ground": "px_bytes",
     "IPTC": "px_iim",
     "Exif": "px_field px_meaning px_tree px_layout px_plans",
-    "XMP": "px_xmp_text px_xmp_marks px_xmp_attributes px_xmp_tree px_xmp_forms px_xmp_spaces px_xmp_document px_xmp px_xmp_lines",
+    "XMP": "px_xmp_text px_xmp_marks px_xmp_markup px_xmp_forms px_xmp_document px_xmp px_xmp_lines",
     "Engine": "px_text px_engine",
     "Pictures": "px_jpeg px_pictures px_xmp_pictures",
     "Doors": "px_c px_words px_runs px_cli",

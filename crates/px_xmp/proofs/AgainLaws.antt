@@ -11,8 +11,8 @@ use Rattle.std.proofs.lemmas.Option.{cond_some}
 use Rattle.px_xmp_text.specs.Texts.{piece, text_in, text_of, normal_octet, normal_text}
 use Rattle.px_xmp_text.specs.declared.pieces.TextKind.TheVariants.{AttributeValue}
 use Rattle.px_xmp_text.specs.Values.{Property, Structure}
-use Rattle.px_xmp_spaces.specs.Scopes.{is_same, xml_space, xmlns_space}
-use Rattle.px_xmp_spaces.specs.Bindings.{is_reserved, differ}
+use Rattle.px_xmp_document.specs.Scopes.{is_same, xml_space, xmlns_space}
+use Rattle.px_xmp_document.specs.Bindings.{is_reserved, differ}
 use Rattle.px_xmp_forms.specs.Labels.{before_name, name_at_end, label_of}
 use Rattle.px_xmp_forms.specs.Languages.{is_letter, is_digit, is_part_octet, IsPart, AreParts, IsLanguage}
 use Rattle.px_xmp_forms.specs.Uris.{is_excluded, is_uri_octet, are_uri_octets, IsAbsolute}

@@ -13,7 +13,7 @@ use Rattle.px_xmp_text.specs.Values.{opening_tag, end_tag, simple, compound_star
 use Rattle.px_xmp_marks.specs.Reading.{is_name_start, is_name_char}
 use Rattle.px_xmp_marks.specs.Grammar.{IsNcName}
 use Rattle.px_xmp_marks.specs.Declarations.{every}
-use Rattle.px_xmp_spaces.specs.Bindings.{is_plain}
+use Rattle.px_xmp_document.specs.Bindings.{is_plain}
 use Rattle.px_xmp_forms.specs.Uris.{is_uri_octet}
 use Rattle.px_xmp.specs.Readable.{IsReadableSimple, AreReadable}
 use Rattle.px_xmp.proofs.WhiteLaws.{first_of, rest_of}

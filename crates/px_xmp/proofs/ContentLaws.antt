@@ -3,7 +3,7 @@ use Rattle.std.proofs.Common.{◌≡◌, ◌≢◌, ◌≤◌, ◌+◌, ℕ, suc
 use Rattle.px_xmp_text.specs.Values.{Label, Compound, Structure, Bag, Seq, Alt}
 use Rattle.px_xmp_text.specs.Values as values
 use Rattle.px_xmp_marks.specs.Reading.{Named, Attr}
-use Rattle.px_xmp_spaces.specs.Scopes.{Item, ended}
+use Rattle.px_xmp_document.specs.Scopes.{Item, ended}
 use Rattle.px_xmp_forms.specs.Entries.{Entry, Inside, row, AreDistinct}
 use Rattle.px_xmp_forms.specs.Outputs.{State, Open, Has, nothing, begun, changed, with_text, with_inner, with_entry, with_joined, value_of, node_ended, first_closed, first_entries, SortsIf, JoinsFirst, JoinsProperties}
 use Rattle.px_xmp_forms.specs.declared.output.Output.{Output}
@@ -27,7 +27,7 @@ use Rattle.px_xmp.specs.declared.elements.Node.TheVariants as nodes
 use Rattle.px_xmp.specs.declared.source.Source.{Source}
 use Rattle.px_xmp.specs.calls.Opening.{name_of, node_view, IsOpened}
 use Rattle.px_xmp.specs.calls.Steps.{IsLeft, Moves, IsFirst, IsStart, TagAfter, HasInside, EndRead}
-use Rattle.px_xmp_tree.specs.Nesting.{limit}
+use Rattle.px_xmp_markup.specs.Nesting.{limit}
 use Rattle.px_xmp.specs.calls.Contents.{content_of, with_entries, AreShallow, IsShallowValue, is_bag, JoinsNode, PropertiesPut, NodeBegun, NodeEnded, HasValue, TextRead, ItemsRead, ValueRead, ContentRead, NodeRead}
 use Rattle.px_xmp.proofs.TagLaws.{ended_inside}
 use Rattle.px_xmp.proofs.StepLaws.{joined, nodes_joined, entries_joined, white_entries, moves_on}

@@ -7,13 +7,13 @@ use Rattle.px_xmp_marks.specs.Grammar.{IsStartTag}
 use Rattle.px_xmp_marks.specs.Laws.{AttributesInOrder, HasAttributes, StartTagsAreRead, OnlyStartTagsAreRead}
 use Rattle.px_xmp_marks.specs.Marks.{mark_len, text_len, IsMark, AreMarks, MarksAreRead, OnlyMarksAreRead}
 use Rattle.px_xmp_marks.specs.declared.tags.StartTag.{StartTag}
-use Rattle.px_xmp_spaces.specs.declared.faults.Cause.{Cause}
-use Rattle.px_xmp_spaces.specs.declared.faults.Cause.TheVariants.{TooMany, Undeclared, ManyAttributes, SameName}
-use Rattle.px_xmp_spaces.specs.Pieces.{Piece, Opening, Alone, Closing, Other, IsPiece, ArePieces}
-use Rattle.px_xmp_spaces.specs.Scopes.{Item, Element, limit, ended}
-use Rattle.px_xmp_spaces.specs.Bindings.{and_then, with_attributes}
-use Rattle.px_xmp_spaces.specs.Tags.{attribute_limit, is_element_bound, are_bound, are_unique, judged, opened, passed}
-use Rattle.px_xmp_spaces.specs.Faults.{Lead, HasSpaces}
+use Rattle.px_xmp_document.specs.declared.faults.SpaceCause.{SpaceCause}
+use Rattle.px_xmp_document.specs.declared.faults.SpaceCause.TheVariants.{TooMany, Undeclared, ManyAttributes, SameName}
+use Rattle.px_xmp_document.specs.Pieces.{Piece, Opening, Alone, Closing, Other, IsPiece, ArePieces}
+use Rattle.px_xmp_document.specs.Scopes.{Item, Element, limit, ended}
+use Rattle.px_xmp_document.specs.Bindings.{and_then, with_attributes}
+use Rattle.px_xmp_document.specs.Tags.{attribute_limit, is_element_bound, are_bound, are_unique, judged, opened, passed}
+use Rattle.px_xmp_document.specs.SpaceFaults.{Lead, HasSpaces}
 use Rattle.px_xmp.specs.calls.Listed.{AreListed}
 use Rattle.px_xmp.specs.Limits.{IsCrowded}
 use Rattle.px_xmp.specs.calls.Crowded.{AreMany, HasMany}
@@ -163,7 +163,7 @@ opened_many : (n : Named) (attributes : List Attr) (scope inner : List Item) →
     → opened n attributes scope ≡ Ok inner → ⊥
 opened_many n attributes scope inner many e = choose (nat_le limit (length scope)) (with_attributes attributes (Element ∷ scope)) e
   where
-    choose : (b : Bool) (r : Result (List Item) Cause) → (if b then Err TooMany else and_then r (λ z. judged n attributes z)) ≡ Ok inner → ⊥
+    choose : (b : Bool) (r : Result (List Item) SpaceCause) → (if b then Err TooMany else and_then r (λ z. judged n attributes z)) ≡ Ok inner → ⊥
     choose true r e = absurd (cc)
     choose false (Err c) e = absurd (cc)
     choose false (Ok s) e = judged_many n attributes s inner many e
@@ -177,7 +177,7 @@ piece_many law (Alone k xs) m rest n attributes empty scope next i j many e =
     let same : xs ≡ attributes = same_attributes law m k n xs attributes true empty i j in
     by_result (opened k xs scope) refl e
   where
-    by_result : (r : Result (List Item) Cause) → opened k xs scope ≡ r → and_then r (λ inner. Ok (ended inner)) ≡ Ok next → ⊥
+    by_result : (r : Result (List Item) SpaceCause) → opened k xs scope ≡ r → and_then r (λ inner. Ok (ended inner)) ≡ Ok next → ⊥
     by_result (Err c) f g = absurd (cc)
     by_result (Ok inner) f g =
         opened_many k xs scope inner (lt-ltb attribute_limit (length xs) (omega (arith, many, ap length (same_attributes law m k n xs attributes true empty i j)))) f

@@ -4,7 +4,7 @@ use Rattle.std.specs.List.Sorted.{IsPermutation}
 use Rattle.std.proofs.lemmas.List.Sorted.{All-permutation}
 use Rattle.std.proofs.lemmas.List.Elements.{All-from_recursion, recursion_from_All}
 use Rattle.px_xmp_text.specs.Values.{Label, Compound, Structure, Bag, Seq, Alt, Content, End}
-use Rattle.px_xmp_tree.specs.Nesting.{limit}
+use Rattle.px_xmp_markup.specs.Nesting.{limit}
 use Rattle.px_xmp_forms.specs.Entries.{Value, Plain, Inside, Entry, before, row}
 use Rattle.px_xmp_forms.specs.declared.labels.Container.TheVariants as containers
 use Rattle.px_xmp.specs.Meaning.{Joins, IsRow}

@@ -5,8 +5,8 @@ use Rattle.px_xmp_text.specs.Values.{Content, IsContent, normal_packet}
 use Rattle.px_xmp_marks.specs.Declarations.{every, DeclarationsAreRead}
 use Rattle.px_xmp_marks.specs.Laws.{StartTagsAreRead}
 use Rattle.px_xmp_marks.specs.Marks.{MarksAreRead}
-use Rattle.px_xmp_spaces.specs.Scopes.{Item}
-use Rattle.px_xmp_spaces.specs.Faults.{HasSpaces}
+use Rattle.px_xmp_document.specs.Scopes.{Item}
+use Rattle.px_xmp_document.specs.SpaceFaults.{HasSpaces}
 use Rattle.px_xmp_document.specs.Document.{IsSplit, IsFile, order_mark_len}
 use Rattle.px_xmp.specs.Packet.{is_padding, AreAround, BeginsBare, EndsBare}
 use Rattle.px_xmp.specs.Nodes.{Nodes, AreNodes}

@@ -3,7 +3,7 @@ use Rattle.std.proofs.Common.{◌≤◌, ◌+◌, ◌++◌, inl, inr, ℕ, Bool,
 use Rattle.px_bytes.specs.Parts.{limit}
 use Rattle.px_xmp_marks.specs.Reading.{Named, Attr}
 use Rattle.px_xmp_marks.specs.Grammar.{closing, IsAttribute, AreAttributes, IsStartTag}
-use Rattle.px_xmp_spaces.specs.Scopes.{Item}
+use Rattle.px_xmp_document.specs.Scopes.{Item}
 use Rattle.px_xmp.specs.Tags.{Tag, field_of, is_plain, plain, fields_in, inside}
 use Rattle.px_xmp.specs.Nodes.{Nodes, Nothing, Words, Element, AreNodes}
 use Rattle.px_xmp.specs.Limits.{DeclareShortLanguages}

@@ -5,9 +5,9 @@ use Rattle.px_bytes.specs.Parts.{limit}
 use Rattle.px_xmp_text.specs.Values.{Content, normal_packet}
 use Rattle.px_xmp_text.specs.declared.pieces.TextKind.TheVariants.{CharacterData, CdataSection}
 use Rattle.px_xmp_marks.specs.Declarations.{every, DeclarationsAreRead}
-use Rattle.px_xmp_spaces.specs.Scopes.{Item}
-use Rattle.px_xmp_tree.specs.Kinds.{Kind, Opening, Closing, Alone, Misc, Data, AreKinds}
-use Rattle.px_xmp_tree.specs.Kinds as kinds
+use Rattle.px_xmp_document.specs.Scopes.{Item}
+use Rattle.px_xmp_markup.specs.Kinds.{Kind, Opening, Closing, Alone, Misc, Data, AreKinds}
+use Rattle.px_xmp_markup.specs.Kinds as kinds
 use Rattle.px_xmp_document.specs.Document.{IsSplit, IsFile, order_mark_len}
 use Rattle.px_xmp_forms.specs.Outputs.{Has}
 use Rattle.px_xmp_forms.specs.declared.output.Output.{Output}

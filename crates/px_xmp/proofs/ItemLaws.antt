@@ -2,7 +2,7 @@
 use Rattle.std.proofs.Common.{◌≡◌, ◌++◌, ◌⊎◌, ◌∙◌, inl, inr, refl, ℕ, Bool, false, Some, None, List, [], sym, ap, subst, arith}
 use Rattle.std.proofs.lemmas.Option.{same_Some}
 use Rattle.px_xmp_text.specs.Values.{Label, Compound, Structure, Content, PacketIsInjective}
-use Rattle.px_xmp_spaces.specs.Scopes.{ended}
+use Rattle.px_xmp_document.specs.Scopes.{ended}
 use Rattle.px_xmp_forms.specs.Entries.{Value, Inside, Entry, ValueFits}
 use Rattle.px_xmp_forms.specs.Outputs.{State}
 use Rattle.px_xmp_forms.specs.declared.output.Output.{Output}

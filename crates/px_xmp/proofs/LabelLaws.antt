@@ -6,7 +6,7 @@ use Rattle.px_xmp_text.specs.Values.{Label, Property, Structure, Without}
 use Rattle.px_xmp_marks.specs.Grammar.{IsNcName}
 use Rattle.px_xmp_marks.specs.Reading as reading
 use Rattle.px_xmp_marks.specs.Declarations.{every}
-use Rattle.px_xmp_spaces.specs.Bindings.{is_plain, space_limit}
+use Rattle.px_xmp_document.specs.Bindings.{is_plain, space_limit}
 use Rattle.px_xmp_forms.specs.Labels.{is_name_start, is_name_char, are_name_chars, is_name, name_at_end, before_name, label_of}
 use Rattle.px_xmp.specs.Names.{Name, is_property}
 use Rattle.px_xmp.specs.Meaning.{label_in}

@@ -6,8 +6,8 @@ use Rattle.px_bytes.specs.Parts.{limit}
 use Rattle.px_xmp_marks.specs.Declarations.{every, DeclarationsAreRead}
 use Rattle.px_xmp_marks.specs.Laws.{StartTagsAreRead}
 use Rattle.px_xmp_marks.specs.Marks.{MarksAreRead}
-use Rattle.px_xmp_tree.specs.declared.faults.Cause.{Cause as NestingCause}
-use Rattle.px_xmp_tree.specs.declared.faults.Cause.TheVariants as nesting
+use Rattle.px_xmp_markup.specs.declared.faults.TreeCause.{TreeCause}
+use Rattle.px_xmp_markup.specs.declared.faults.TreeCause.TheVariants as nesting
 use Rattle.px_xmp_document.specs.declared.faults.Cause.{Cause as DocumentCause}
 use Rattle.px_xmp_document.specs.declared.faults.Cause.TheVariants as documents
 use Rattle.px_xmp_document.specs.Document.{IsSplit, order_mark_len, IsFile}
@@ -140,7 +140,7 @@ mark_same x c d (inl (e, h)) (inr (f, g)) = absurd (both_ways (starts_with nat_e
 mark_same x c d (inr (e, h)) (inl (f, g)) = absurd (both_ways (starts_with nat_eq x (codes "<!DOCTYPE")) e f)
 mark_same x c d (inr (e, h)) (inr (f, g)) = inr (h, g)
 
-nesting_same : (k : NestingCause) (x : List ℕ) (c d : Cause) → IsNestingCause k x c → IsNestingCause k x d → AreSame c d
+nesting_same : (k : TreeCause) (x : List ℕ) (c d : Cause) → IsNestingCause k x c → IsNestingCause k x d → AreSame c d
 nesting_same nesting.NoMark x c d h g = mark_same x c d h g
 nesting_same nesting.DocumentType x c d h g = inl (h ∙ sym g)
 nesting_same nesting.OtherEnd x c d h g = inl (h ∙ sym g)

@@ -4,16 +4,16 @@ use Rattle.std.proofs.lemmas.Bool.{lt-leb}
 use Rattle.px_xmp_text.specs.Texts.{normal_text}
 use Rattle.px_xmp_text.specs.Values.{Label, Property, Item, Simple, Literal, Uri, Compound, Structure, Bag, Seq, Alt, Content, End, Flat, Nested}
 use Rattle.px_xmp_marks.specs.Reading.{Named, Attr}
-use Rattle.px_xmp_tree.specs.Nesting.{limit as depth_limit}
-use Rattle.px_xmp_spaces.specs.declared.faults.Cause.{Cause}
-use Rattle.px_xmp_spaces.specs.declared.faults.Cause.TheVariants.{RareSpace, Reserved, TooMany, Undeclared, ManyAttributes, SameName}
-use Rattle.px_xmp_spaces.specs.Pieces as pieces
-use Rattle.px_xmp_spaces.specs.Pieces.{Piece, ArePieces}
-use Rattle.px_xmp_spaces.specs.Scopes as scopes
-use Rattle.px_xmp_spaces.specs.Scopes.{Element, Declaration, limit, space_of, ended}
-use Rattle.px_xmp_spaces.specs.Bindings.{is_usual_space, is_reserved, is_left, with_declaration, with_attributes, and_then}
-use Rattle.px_xmp_spaces.specs.Tags.{is_attribute_bound, is_element_bound, are_bound, attribute_limit, are_unique, judged, opened}
-use Rattle.px_xmp_spaces.specs.Faults.{Lead, HasSpaces}
+use Rattle.px_xmp_markup.specs.Nesting.{limit as depth_limit}
+use Rattle.px_xmp_document.specs.declared.faults.SpaceCause.{SpaceCause}
+use Rattle.px_xmp_document.specs.declared.faults.SpaceCause.TheVariants.{RareSpace, Reserved, TooMany, Undeclared, ManyAttributes, SameName}
+use Rattle.px_xmp_document.specs.Pieces as pieces
+use Rattle.px_xmp_document.specs.Pieces.{Piece, ArePieces}
+use Rattle.px_xmp_document.specs.Scopes as scopes
+use Rattle.px_xmp_document.specs.Scopes.{Element, Declaration, limit, space_of, ended}
+use Rattle.px_xmp_document.specs.Bindings.{is_usual_space, is_reserved, is_left, with_declaration, with_attributes, and_then}
+use Rattle.px_xmp_document.specs.Tags.{is_attribute_bound, is_element_bound, are_bound, attribute_limit, are_unique, judged, opened}
+use Rattle.px_xmp_document.specs.SpaceFaults.{Lead, HasSpaces}
 use Rattle.px_xmp.specs.Readable.{IsSpace, IsShallow, inner_depth, AreReadable}
 use Rattle.px_xmp.proofs.SpaceLaws.{not_left}
 use Rattle.px_xmp.proofs.StartLaws.{attribute, named, label_named, label_attributes, CanBeNamed, label_named_by}
@@ -75,7 +75,7 @@ declares : (u : List ℕ) (scope : List scopes.Item) → IsSpace u → nat_le li
 declares u scope (usual, less, free, known) l =
     choose (is_usual_space u) (is_reserved (codes "p") u) (is_left u) (nat_le limit (length scope)) usual free (not_left u known) l
   where
-    done : Result (List scopes.Item) Cause
+    done : Result (List scopes.Item) SpaceCause
     done = Ok (Declaration (codes "p") u ∷ scope)
 
     choose : (a b c d : Bool) → a ≡ true → b ≡ false → c ≡ false → d ≡ false
@@ -103,7 +103,7 @@ opens : (n : Named) (attributes : List Attr) (scope inner : List scopes.Item) �
     → with_attributes attributes (Element ∷ scope) ≡ Ok inner → judged n attributes inner ≡ Ok inner → opened n attributes scope ≡ Ok inner
 opens n attributes scope inner h e k =
     choose (nat_le limit (length scope)) h
-    ∙ ap (λ (r : Result (List scopes.Item) Cause). and_then r (λ z. judged n attributes z)) e ∙ k
+    ∙ ap (λ (r : Result (List scopes.Item) SpaceCause). and_then r (λ z. judged n attributes z)) e ∙ k
   where
     choose : (b : Bool) → b ≡ false
         → (if b then Err TooMany else and_then (with_attributes attributes (Element ∷ scope)) (λ z. judged n attributes z))
@@ -127,7 +127,7 @@ with_space : (space : List ℕ) (more : List Attr) (d : ℕ) (scope : List scope
     → with_attributes more (Declaration (codes "p") space ∷ Element ∷ scope) ≡ Ok (Declaration (codes "p") space ∷ Element ∷ scope)
     → with_attributes (attribute (codes "xmlns") (codes "p") space ∷ more) (Element ∷ scope) ≡ Ok (Declaration (codes "p") space ∷ Element ∷ scope)
 with_space space more d scope h l is e =
-    ap (λ (r : Result (List scopes.Item) Cause). and_then r (λ z. with_attributes more z))
+    ap (λ (r : Result (List scopes.Item) SpaceCause). and_then r (λ z. with_attributes more z))
     (declares space (Element ∷ scope) h (few_items d (length scope) l is.few).1)
     ∙ e
 
@@ -214,7 +214,7 @@ simple_goes l (Literal (o ∷ g) t) can d ps scope last h is goes =
     (label_scope l scope, opens_spoken l (o ∷ g) can d scope h is, text_goes t _ (label_scope l scope) last (finish_goes l ps scope last goes))
 simple_goes l (Uri u) can d ps scope last h is goes = (
   scope,
-  ap (λ (r : Result (List scopes.Item) Cause). and_then r (λ inner. Ok (ended inner))) (opens_resource l u can d scope h is)
+  ap (λ (r : Result (List scopes.Item) SpaceCause). and_then r (λ inner. Ok (ended inner))) (opens_resource l u can d scope h is)
       ∙ ap (λ (z : List scopes.Item). Ok z) (label_ended l scope),
   goes,
 )

@@ -6,7 +6,7 @@ use Rattle.px_xmp_text.specs.Texts.{normal_text}
 use Rattle.px_xmp_text.specs.declared.pieces.TextKind.{TextKind}
 use Rattle.px_xmp_text.specs.declared.pieces.TextKind.TheVariants.{CharacterData, CdataSection, AttributeValue}
 use Rattle.px_xmp_marks.specs.Reading as tags
-use Rattle.px_xmp_spaces.specs.Scopes.{Item}
+use Rattle.px_xmp_document.specs.Scopes.{Item}
 use Rattle.px_xmp_forms.specs.Forms.{most}
 use Rattle.px_xmp.specs.Marks.{Mark, Start, End, Text, IsKind}
 use Rattle.px_xmp.specs.Nodes.{Nodes, Nothing, Words, Element, AreNodes}

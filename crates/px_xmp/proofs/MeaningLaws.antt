@@ -10,7 +10,7 @@ use Rattle.std.specs.Bool.{⊤}
 use Rattle.std.proofs.lemmas.Option.{same_Some}
 use Rattle.std.proofs.lemmas.Bool.{and_parts}
 use Rattle.px_xmp_text.specs.Values.{Label, Uri, Compound, Structure, Bag, Seq, Alt, Content, End, IsContent, PacketIsInjective}
-use Rattle.px_xmp_spaces.specs.Scopes.{is_same}
+use Rattle.px_xmp_document.specs.Scopes.{is_same}
 use Rattle.px_xmp_forms.specs.Entries.{Value, Plain, Inside, Entry, before, row}
 use Rattle.px_xmp.specs.Names.{Name, is_rdf, is_root, rdf_space}
 use Rattle.px_xmp.specs.Tags.{Field, Tag, inherited}

@@ -10,11 +10,11 @@ use Rattle.px_xmp_marks.specs.Grammar.{AreSpaces, IsStartTag, IsEndTag}
 use Rattle.px_xmp_marks.specs.Declarations.{every}
 use Rattle.px_xmp_marks.specs.Laws.{StartTagsAreRead}
 use Rattle.px_xmp_marks.specs.Marks.{IsText, EndsText, IsMark, AreMarks}
-use Rattle.px_xmp_attributes.specs.Distinct.{AreDistinct, HasDistinct, IsDistinctRow}
-use Rattle.px_xmp_tree.specs.Kinds as kinds
-use Rattle.px_xmp_tree.specs.Kinds.{Kind, AreKinds}
-use Rattle.px_xmp_tree.specs.Nesting as nesting
-use Rattle.px_xmp_tree.specs.Nesting.{IsTree, IsRoot, limit, marks}
+use Rattle.px_xmp_markup.specs.Distinct.{AreDistinct, HasDistinct, IsDistinctRow}
+use Rattle.px_xmp_markup.specs.Kinds as kinds
+use Rattle.px_xmp_markup.specs.Kinds.{Kind, AreKinds}
+use Rattle.px_xmp_markup.specs.Nesting as nesting
+use Rattle.px_xmp_markup.specs.Nesting.{IsTree, IsRoot, limit, marks}
 use Rattle.px_xmp.specs.Readable.{IsShallow, inner_depth}
 use Rattle.px_xmp.proofs.StartLaws.{label_named}
 use Rattle.px_xmp.proofs.PartLaws.{Part, Begin, Whole, Finish, Words, octets_of, IsPart, AreParts, text_parts, simple_parts, bag_named, seq_named, alt_named, begin_parts, finish_parts, parts_of, meta_named, root_named, description_named, end_parts, packet_parts}

@@ -4,7 +4,7 @@ use Rattle.std.proofs.lemmas.List.{drop_at, take_at}
 use Rattle.std.proofs.lemmas.Option.{same_Some}
 use Rattle.px_xmp_text.specs.Texts.{text_of}
 use Rattle.px_xmp_marks.specs.Reading.{Named, Attr}
-use Rattle.px_xmp_spaces.specs.Scopes.{Item}
+use Rattle.px_xmp_document.specs.Scopes.{Item}
 use Rattle.px_xmp.specs.Marks.{Mark, Start, End, Text, Other, IsKind}
 use Rattle.px_xmp.specs.Tags.{Tag, tag_of, inside}
 use Rattle.px_xmp.specs.Reading as reading

@@ -7,7 +7,7 @@ use Rattle.px_xmp_text.specs.declared.pieces.TextKind.TheVariants.{AttributeValu
 use Rattle.px_xmp_text.specs.Values.{Label, Structure}
 use Rattle.px_xmp_marks.specs.Reading.{Attr, Next, next_view}
 use Rattle.px_xmp_marks.specs.declared.listing.NextAttribute.{NextAttribute}
-use Rattle.px_xmp_spaces.specs.Scopes.{Item}
+use Rattle.px_xmp_document.specs.Scopes.{Item}
 use Rattle.px_xmp_forms.specs.Entries.{Entry}
 use Rattle.px_xmp_forms.specs.Outputs.{State, Open, Has, changed, with_entry, first_changed}
 use Rattle.px_xmp_forms.specs.declared.output.Output.{Output}

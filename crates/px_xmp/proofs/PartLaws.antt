@@ -7,7 +7,7 @@ use Rattle.px_xmp_text.specs.Values.{opening_tag, end_tag, simple, compound_star
 use Rattle.px_xmp_marks.specs.Reading.{Named, Attr}
 use Rattle.px_xmp_marks.specs.Grammar.{IsStartTag, IsEndTag}
 use Rattle.px_xmp_marks.specs.Marks.{IsText, EndsText}
-use Rattle.px_xmp_attributes.specs.Distinct.{AreDistinct}
+use Rattle.px_xmp_markup.specs.Distinct.{AreDistinct}
 use Rattle.px_xmp.specs.Names.{rdf_space, meta_space}
 use Rattle.px_xmp.specs.Readable.{IsReadableSimple, AreReadable}
 use Rattle.px_xmp.proofs.OrderLaws.{end_more}

@@ -2,7 +2,7 @@
 use Rattle.std.proofs.Common.{◌≡◌, ◌≤◌, ◌+◌, ◌-◌, ℕ, Bool, true, false, Some, None, List, [], ◌++◌, length, Result, Ok, Err, refl, sym, ap, subst, ◌∙◌, inl, inr, arith, length-append}
 use Rattle.std.proofs.lemmas.Bool.{both_ways}
 use Rattle.px_xmp_text.specs.declared.pieces.TextKind.{TextKind}
-use Rattle.px_xmp_spaces.specs.Scopes.{Item, ended}
+use Rattle.px_xmp_document.specs.Scopes.{Item, ended}
 use Rattle.px_xmp_forms.specs.Causes.{is_rare_in_rdf, is_rare, IsRare, IfWrong}
 use Rattle.px_xmp_forms.specs.Forms.{is_white}
 use Rattle.px_xmp_forms.specs.declared.faults.Cause.{Cause}

@@ -12,7 +12,7 @@ use Rattle.px_xmp_text.specs.declared.pieces.TextKind.TheVariants.{AttributeValu
 use Rattle.px_xmp_text.specs.Values.{Structure}
 use Rattle.px_xmp_marks.specs.Reading.{Attr, next_view}
 use Rattle.px_xmp_marks.specs.declared.listing.NextAttribute.{NextAttribute}
-use Rattle.px_xmp_spaces.specs.Scopes.{Item, ended}
+use Rattle.px_xmp_document.specs.Scopes.{Item, ended}
 use Rattle.px_xmp_forms.specs.Outputs.{State, Has, nothing, begun, changed, properties_ended, JoinsProperties}
 use Rattle.px_xmp_forms.specs.declared.output.Output.{Output}
 use Rattle.px_xmp.specs.Names.{Name, is_rdf, is_root, is_about}

@@ -9,8 +9,8 @@ use Rattle.px_xmp_marks.specs.Reading.{Named, Attr}
 use Rattle.px_xmp_marks.specs.Grammar.{IsStartTag, IsEndTag}
 use Rattle.px_xmp_marks.specs.Marks.{EndsText}
 use Rattle.px_xmp_marks.specs.Declarations.{IsDeclaration}
-use Rattle.px_xmp_spaces.specs.Scopes as scopes
-use Rattle.px_xmp_spaces.specs.Scopes.{space_of}
+use Rattle.px_xmp_document.specs.Scopes as scopes
+use Rattle.px_xmp_document.specs.Scopes.{space_of}
 use Rattle.px_xmp_forms.specs.Entries.{Value, Plain, Inside, Entry, before, row}
 use Rattle.px_xmp_forms.specs.Forms.{HaveShortLanguages}
 use Rattle.px_xmp.specs.Marks as marks

@@ -13,15 +13,15 @@ use Rattle.px_xmp_marks.specs.Comments.{IsComment}
 use Rattle.px_xmp_marks.specs.Instructions.{IsInstruction}
 use Rattle.px_xmp_marks.specs.Marks.{EndsText}
 use Rattle.px_xmp_marks.specs.Declarations.{every}
-use Rattle.px_xmp_spaces.specs.declared.faults.Cause.{Cause}
-use Rattle.px_xmp_spaces.specs.declared.faults.Cause.TheVariants.{RareSpace, Reserved, TooMany}
-use Rattle.px_xmp_spaces.specs.Scopes.{Item, Declaration, limit, is_same, xml_space, xmlns_space, built_in, space_of}
-use Rattle.px_xmp_spaces.specs.Scopes as scopes
-use Rattle.px_xmp_spaces.specs.Bindings.{declared_prefix, is_usual_space, is_reserved, is_left, with_declaration, or_same, with_attribute, with_attributes, and_then}
-use Rattle.px_xmp_spaces.specs.Tags.{attribute_space, judged, opened, passed}
-use Rattle.px_xmp_spaces.specs.Pieces.{Piece, Opening, Alone, Closing, IsPiece, ArePieces}
-use Rattle.px_xmp_spaces.specs.Pieces as pieces
-use Rattle.px_xmp_spaces.specs.Faults.{Lead}
+use Rattle.px_xmp_document.specs.declared.faults.SpaceCause.{SpaceCause}
+use Rattle.px_xmp_document.specs.declared.faults.SpaceCause.TheVariants.{RareSpace, Reserved, TooMany}
+use Rattle.px_xmp_document.specs.Scopes.{Item, Declaration, limit, is_same, xml_space, xmlns_space, built_in, space_of}
+use Rattle.px_xmp_document.specs.Scopes as scopes
+use Rattle.px_xmp_document.specs.Bindings.{declared_prefix, is_usual_space, is_reserved, is_left, with_declaration, or_same, with_attribute, with_attributes, and_then}
+use Rattle.px_xmp_document.specs.Tags.{attribute_space, judged, opened, passed}
+use Rattle.px_xmp_document.specs.Pieces.{Piece, Opening, Alone, Closing, IsPiece, ArePieces}
+use Rattle.px_xmp_document.specs.Pieces as pieces
+use Rattle.px_xmp_document.specs.SpaceFaults.{Lead}
 use Rattle.px_xmp_document.specs.Document.{IsSplit, IsFile, order_mark_len}
 use Rattle.px_xmp.specs.Marks.{Mark, Start, End, Text, Other, IsKind}
 use Rattle.px_xmp.specs.Names.{Name, or_none}
@@ -249,7 +249,7 @@ mark_of pieces.Other m y (inr (inr (inr (inl (content, is)))), no_tag, no_end) =
 mark_of pieces.Other m y (inr (inr (inr (inr (inl is)))), no_tag, no_end) = (Other, inr is, λ h. h)
 mark_of pieces.Other m y (inr (inr (inr (inr (inr (text, ends))))), no_tag, no_end) = (Text CharacterData m, (text, ends, refl), λ h. h)
 
-then_both : (r : Result (List Item) Cause) (f : List Item → Result (List Item) Cause) (t : List Item) → and_then r f ≡ Ok t
+then_both : (r : Result (List Item) SpaceCause) (f : List Item → Result (List Item) SpaceCause) (t : List Item) → and_then r f ≡ Ok t
     → (u : List Item) × (r ≡ Ok u) × (f u ≡ Ok t)
 then_both (Err c) f t h = absurd (cc)
 then_both (Ok u) f t h = (u, refl, h)
@@ -260,7 +260,7 @@ one_plain None v s t h p e = absurd (cc)
 one_plain (Some r) v s t h p e =
     by_test (is_usual_space v) (is_reserved r v) (is_left v) (if nat_le limit (length s) then Err TooMany else Ok (Declaration r v ∷ s)) h
   where
-    by_test : (a b c : Bool) (r : Result (List Item) Cause)
+    by_test : (a b c : Bool) (r : Result (List Item) SpaceCause)
         → (if not a then Err RareSpace else if b then Err Reserved else if c then Err RareSpace else r) ≡ Ok t → (a ≡ true) × (c ≡ false)
     by_test false b c r h = absurd (cc)
     by_test true true c r h = absurd (cc)

@@ -2,8 +2,8 @@
 use Rattle.std.proofs.Common.{◌≡◌, ◌⊎◌, ◌==◌, ◌&&◌, ◌||◌, inl, inr, ℕ, Bool, true, false, not, nat_eq, bytes_eq, if◌then◌else◌, List, [], ◌∷◌, codes, length, refl, sym, ap, ◌∙◌}
 use Rattle.std.proofs.lemmas.Bool.{and_parts, and_from}
 use Rattle.std.specs.List.{list_all, starts_with}
-use Rattle.px_xmp_spaces.specs.Scopes.{is_same, xmlns_space}
-use Rattle.px_xmp_spaces.specs.Bindings.{is_reserved, is_left}
+use Rattle.px_xmp_document.specs.Scopes.{is_same, xmlns_space}
+use Rattle.px_xmp_document.specs.Bindings.{is_reserved, is_left}
 use Rattle.px_xmp_forms.specs.Labels.{is_name, before_name}
 use Rattle.px_xmp_forms.specs.Spaces.{rdf_space, meta_space, xml_space, is_known_space, is_space_octet, is_rare_space}
 use Rattle.px_xmp.proofs.MeaningLaws.{same_octets}

@@ -11,7 +11,7 @@ use Rattle.px_xmp_marks.specs.Declarations.{every}
 use Rattle.px_xmp_marks.specs.Reading.{Named, Attr, is_name_char}
 use Rattle.px_xmp_marks.specs.Grammar.{IsNcName, IsName, IsAttribute, AreAttributes, closing, IsStartTag, IsEndTag}
 use Rattle.px_xmp_marks.specs.Marks.{IsText}
-use Rattle.px_xmp_spaces.specs.Bindings.{is_plain, space_limit, is_usual_space}
+use Rattle.px_xmp_document.specs.Bindings.{is_plain, space_limit, is_usual_space}
 use Rattle.px_xmp_forms.specs.Languages.{is_part_octet, AreParts, IsLanguage}
 use Rattle.px_xmp_forms.specs.Uris.{is_uri_octet, IsAbsolute}
 use Rattle.px_xmp.specs.Names.{rdf_space, meta_space}

@@ -5,7 +5,7 @@ use Rattle.std.proofs.lemmas.Option.{same_Some}
 use Rattle.px_bytes.specs.Parts.{limit}
 use Rattle.px_xmp_marks.specs.Reading.{Attr, name_view}
 use Rattle.px_xmp_marks.specs.declared.tags.StartTag.{StartTag}
-use Rattle.px_xmp_spaces.specs.Scopes.{Item}
+use Rattle.px_xmp_document.specs.Scopes.{Item}
 use Rattle.px_xmp_forms.specs.Forms.{is_white}
 use Rattle.px_xmp_forms.specs.Entries.{Entry}
 use Rattle.px_xmp_text.specs.Values.{Compound}

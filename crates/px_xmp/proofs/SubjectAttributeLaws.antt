@@ -2,7 +2,7 @@
 use Rattle.std.proofs.Common.{◌≡◌, ℕ, Bool, true, false, if◌then◌else◌, Option, Some, option_map, List, [], ◌∷◌, refl, subst, map}
 use Rattle.px_xmp_marks.specs.Reading.{Attr, next_view}
 use Rattle.px_xmp_marks.specs.declared.listing.NextAttribute.{NextAttribute}
-use Rattle.px_xmp_spaces.specs.Scopes.{Item}
+use Rattle.px_xmp_document.specs.Scopes.{Item}
 use Rattle.px_xmp_forms.specs.Entries.{Entry}
 use Rattle.px_xmp.specs.Names.{is_about}
 use Rattle.px_xmp.specs.Tags.{Field, field_of, fields_in}

@@ -1,7 +1,7 @@
 -- What is left of rdf:RDF and of the root is read.
 use Rattle.std.proofs.Common.{◌≡◌, ◌++◌, ◌∙◌, inr, refl, ℕ, Bool, false, Option, Some, option_map, List, sym, ap, subst, append_assoc}
 use Rattle.px_xmp_text.specs.Values.{PacketIsInjective}
-use Rattle.px_xmp_spaces.specs.Scopes.{ended}
+use Rattle.px_xmp_document.specs.Scopes.{ended}
 use Rattle.px_xmp_forms.specs.Entries.{Entry}
 use Rattle.px_xmp_forms.specs.Outputs.{State}
 use Rattle.px_xmp_forms.specs.declared.output.Output.{Output}

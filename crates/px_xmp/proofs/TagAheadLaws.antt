@@ -3,7 +3,7 @@ use Rattle.std.proofs.Common.{◌≡◌, ◌≤◌, ◌+◌, ◌*◌, ℕ, true,
 use Rattle.px_bytes.specs.Parts.{limit}
 use Rattle.px_xmp_text.specs.Grammar.{OnlyReferencesAreRead}
 use Rattle.px_xmp_text.specs.Texts.{normal_text}
-use Rattle.px_xmp_spaces.specs.Scopes.{Item}
+use Rattle.px_xmp_document.specs.Scopes.{Item}
 use Rattle.px_xmp_forms.specs.Forms.{most, is_white}
 use Rattle.px_xmp.specs.Marks.{Mark, Start, End, IsKind}
 use Rattle.px_xmp.specs.Nodes.{Nodes, Nothing, Words, Element, AreWords, AreNodes}

@@ -2,8 +2,8 @@
 use Rattle.std.proofs.Common.{◌≡◌, ℕ, Bool, true, false, if◌then◌else◌, Option, Some, None, MatchOption, List, [], ◌∷◌, map, sym, ap, subst, refl, ◌∙◌}
 use Rattle.px_xmp_marks.specs.Reading.{Attr, Next, next_attribute}
 use Rattle.px_xmp_marks.specs.Laws.{AttributesInOrder}
-use Rattle.px_xmp_spaces.specs.Scopes.{Item, Element, ended}
-use Rattle.px_xmp_spaces.specs.Bindings.{declared_prefix}
+use Rattle.px_xmp_document.specs.Scopes.{Item, Element, ended}
+use Rattle.px_xmp_document.specs.Bindings.{declared_prefix}
 use Rattle.px_xmp.specs.Tags.{with_prefix, declared, names_language, language_after, is_plain, plain, field_of, fields_in, inside}
 use Rattle.px_xmp.specs.calls.Listed.{AreListed, ArePlain, IsNextPlain, first_after, or_rest}
 

@@ -5,11 +5,11 @@ use Rattle.std.proofs.lemmas.Bool.{cases_Bool, cond-true, cond-false}
 use Rattle.px_xmp_text.specs.Texts.{has_references, begins_with_feed, piece, text_in, text_of}
 use Rattle.px_xmp_text.specs.Laws.{FaultOrText}
 use Rattle.px_xmp_text.specs.declared.pieces.TextKind.TheVariants.{CharacterData, CdataSection}
-use Rattle.px_xmp_spaces.specs.Scopes.{Item}
-use Rattle.px_xmp_tree.specs.Kinds.{Kind, Opening, Closing, Alone, Misc, Data, AreKinds}
-use Rattle.px_xmp_tree.specs.Kinds as kinds
-use Rattle.px_xmp_tree.specs.Nesting.{Content, AfterMisc, AfterData, AfterAlone, AfterElement, marks, AreMisc, IsRoot, AreRooted}
-use Rattle.px_xmp_tree.specs.Nesting as nesting
+use Rattle.px_xmp_document.specs.Scopes.{Item}
+use Rattle.px_xmp_markup.specs.Kinds.{Kind, Opening, Closing, Alone, Misc, Data, AreKinds}
+use Rattle.px_xmp_markup.specs.Kinds as kinds
+use Rattle.px_xmp_markup.specs.Nesting.{Content, AfterMisc, AfterData, AfterAlone, AfterElement, marks, AreMisc, IsRoot, AreRooted}
+use Rattle.px_xmp_markup.specs.Nesting as nesting
 use Rattle.px_xmp.specs.Tags.{tag_of, inside}
 use Rattle.px_xmp.specs.Nodes.{Nodes, Nothing, Words, Element, AreWords, AreNodes}
 use Rattle.px_xmp.specs.Laws.{FilesHaveNodes}

@@ -5,7 +5,7 @@ use Rattle.std.specs.List.{AllByRecursion, list_all, starts_with}
 use Rattle.px_xmp_text.specs.Texts.{normal_octet, normal_text}
 use Rattle.px_xmp_text.specs.Values.{Label, Property, Item, Simple, Literal, Uri, Compound, Structure, Bag, Seq, Alt, Content, End, Flat, Nested, Without, IsLabel, IsSimple, IsContent}
 use Rattle.px_xmp_marks.specs.Reading as reading
-use Rattle.px_xmp_spaces.specs.Scopes.{xmlns_space}
+use Rattle.px_xmp_document.specs.Scopes.{xmlns_space}
 use Rattle.px_xmp_forms.specs.Labels.{before_name}
 use Rattle.px_xmp_forms.specs.Languages.{is_part_octet, AreParts}
 use Rattle.px_xmp_forms.specs.Spaces.{rdf_space, meta_space, xml_space, is_known_space, is_space_octet, is_rare_space}

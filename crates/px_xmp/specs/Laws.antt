@@ -2,8 +2,8 @@
 use Rattle.std.specs.Prelude.{◌≡◌, ◌↔◌, ℕ, Some, List, [], ◌++◌, length, Ok}
 use Rattle.px_xmp_text.specs.Values.{Structure, Content, IsContent, normal_packet}
 use Rattle.px_xmp_marks.specs.Reading.{Named, Attr}
-use Rattle.px_xmp_spaces.specs.Scopes.{Item}
-use Rattle.px_xmp_spaces.specs.Tags.{opened}
+use Rattle.px_xmp_document.specs.Scopes.{Item}
+use Rattle.px_xmp_document.specs.Tags.{opened}
 use Rattle.px_xmp_document.specs.Document.{IsFile}
 use Rattle.px_xmp.specs.Marks.{Mark, IsKind}
 use Rattle.px_xmp.specs.Tags.{inside}
@@ -18,7 +18,7 @@ abbrev pub KindsAreRead : Type 0
 KindsAreRead = (k : Mark) (x rest : List ℕ) → IsKind k x rest
     → (r : Read) × (read (x ++ rest) ≡ Some r) × (r.size ≡ length x) × IsReadAs r.what k
 
--- What is in scope in an element is what px_xmp_spaces judges, if it finds nothing wrong with the tag.
+-- What is in scope in an element is what px_xmp_document judges, if it finds nothing wrong with the tag.
 abbrev pub ScopesAreJudged : Type 0
 ScopesAreJudged = (n : Named) (attributes : List Attr) (scope inner : List Item) → opened n attributes scope ≡ Ok inner
     → inside scope attributes ≡ inner

@@ -3,7 +3,7 @@ use Rattle.std.specs.Prelude.{◌≡◌, ◌≤◌, ◌<◌, ◌++◌, ℕ, Bool
 use Rattle.px_xmp_marks.specs.Reading.{Named, Attr}
 use Rattle.px_xmp_marks.specs.Grammar.{IsStartTag}
 use Rattle.px_xmp_marks.specs.Marks.{AreMarks}
-use Rattle.px_xmp_spaces.specs.Tags.{attribute_limit}
+use Rattle.px_xmp_document.specs.Tags.{attribute_limit}
 use Rattle.px_xmp_forms.specs.Languages.{language_limit}
 use Rattle.px_xmp.specs.Nodes.{Nodes, Nothing, Words, Element}
 

@@ -3,8 +3,8 @@
 use Rattle.std.specs.Prelude.{◌&&◌, ◌||◌, ℕ, Bool, not, codes, if◌then◌else◌, Option, Some, None, List, []}
 use Rattle.px_xmp_text.specs.Values.{Compound, Bag, Seq, Alt}
 use Rattle.px_xmp_marks.specs.Reading.{Named}
-use Rattle.px_xmp_spaces.specs.Scopes.{Item, is_same, xml_space, xmlns_space, space_of}
-use Rattle.px_xmp_spaces.specs.Tags.{attribute_space}
+use Rattle.px_xmp_document.specs.Scopes.{Item, is_same, xml_space, xmlns_space, space_of}
+use Rattle.px_xmp_document.specs.Tags.{attribute_space}
 use Rattle.px_xmp_forms.specs.Labels.{before_name}
 
 -- an expanded name (Namespaces, 2.1): a namespace, which is empty for none, and a local name

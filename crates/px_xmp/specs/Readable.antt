@@ -6,8 +6,8 @@ use Rattle.px_xmp_text.specs.Characters.{AreCharacters}
 use Rattle.px_xmp_text.specs.Texts.{normal_text}
 use Rattle.px_xmp_text.specs.Values.{Label, Property, Item, Simple, Literal, Uri, Compound, Structure, Content, End, Flat, Nested, Without}
 use Rattle.px_xmp_marks.specs.Grammar.{IsNcName}
-use Rattle.px_xmp_tree.specs.Nesting.{limit}
-use Rattle.px_xmp_spaces.specs.Bindings.{is_usual_space, is_reserved}
+use Rattle.px_xmp_markup.specs.Nesting.{limit}
+use Rattle.px_xmp_document.specs.Bindings.{is_usual_space, is_reserved}
 use Rattle.px_xmp_forms.specs.Languages.{IsLanguage}
 use Rattle.px_xmp_forms.specs.Spaces.{is_rare_space}
 use Rattle.px_xmp_forms.specs.Uris.{IsAbsolute}
@@ -49,7 +49,7 @@ abbrev pub inner_depth : Compound → ℕ → ℕ
 inner_depth Structure d = suc d
 inner_depth array d = suc (suc d)
 
--- no element of content inside d elements is inside 100 others, a limit of px_xmp_tree
+-- no element of content inside d elements is inside 100 others, a limit of px_xmp_markup
 abbrev pub IsShallow : ℕ → Content → Type 0
 IsShallow d End = ⊤
 IsShallow d (Flat l p rest) = (d < limit) × IsShallow d rest

@@ -5,12 +5,12 @@ use Rattle.std.specs.Prelude.{length, drop, Result, Ok, Err}
 use Rattle.std.specs.List.{starts_with}
 use Rattle.px_bytes.specs.Parts.{limit}
 use Rattle.px_xmp_marks.specs.Declarations.{every}
-use Rattle.px_xmp_tree.specs.declared.faults.Cause.{Cause as NestingCause}
-use Rattle.px_xmp_tree.specs.declared.faults.Cause.TheVariants as nesting
-use Rattle.px_xmp_attributes.specs.declared.faults.Cause.{Cause as AttributeCause}
-use Rattle.px_xmp_attributes.specs.declared.faults.Cause.TheVariants as attributes
-use Rattle.px_xmp_spaces.specs.declared.faults.Cause.{Cause as SpaceCause}
-use Rattle.px_xmp_spaces.specs.declared.faults.Cause.TheVariants as spaces
+use Rattle.px_xmp_markup.specs.declared.faults.TreeCause.{TreeCause}
+use Rattle.px_xmp_markup.specs.declared.faults.TreeCause.TheVariants as nesting
+use Rattle.px_xmp_markup.specs.declared.faults.AttributeCause.{AttributeCause}
+use Rattle.px_xmp_markup.specs.declared.faults.AttributeCause.TheVariants as attributes
+use Rattle.px_xmp_document.specs.declared.faults.SpaceCause.{SpaceCause}
+use Rattle.px_xmp_document.specs.declared.faults.SpaceCause.TheVariants as spaces
 use Rattle.px_xmp_document.specs.declared.faults.Cause.{Cause as DocumentCause}
 use Rattle.px_xmp_document.specs.declared.faults.Cause.TheVariants as documents
 use Rattle.px_xmp_document.specs.Document.{IsSplit, order_mark_len, IsFile}
@@ -51,7 +51,7 @@ IsMarkCause x cause =
     ⊎ ((starts_with nat_eq x (codes "<!DOCTYPE") ≡ false) × (is_unread cause ≡ true))
 
 -- nested elements are wrong, at octets x
-abbrev pub IsNestingCause : NestingCause → List ℕ → Cause → Type 0
+abbrev pub IsNestingCause : TreeCause → List ℕ → Cause → Type 0
 IsNestingCause nesting.NoMark x cause = IsMarkCause x cause
 IsNestingCause nesting.DocumentType x cause = cause ≡ DocumentType
 IsNestingCause nesting.OtherEnd x cause = cause ≡ OtherEnd
@@ -66,7 +66,7 @@ abbrev pub attribute_cause : AttributeCause → Cause
 attribute_cause attributes.NoMark = BadMarkup
 attribute_cause attributes.AttributeTwice = AttributeTwice
 
--- the cause of a refusal that a fault of prefixes or namespaces is, or a limit that px_xmp_spaces
+-- the cause of a refusal that a fault of prefixes or namespaces is, or a limit that px_xmp_document
 -- has
 abbrev pub space_cause : SpaceCause → Cause
 space_cause spaces.NoMark = BadMarkup

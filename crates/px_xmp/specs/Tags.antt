@@ -1,8 +1,8 @@
 -- Start tags with their namespaces. Namespaces in XML 1.0, 6; XML 1.0, 2.12.
 use Rattle.std.specs.Prelude.{◌≡◌, ◌⊎◌, ⊤, ◌&&◌, ℕ, Bool, not, codes, if◌then◌else◌, Option, Some, None, is_none, List, [], ◌∷◌, map}
 use Rattle.px_xmp_marks.specs.Reading.{Named, Attr}
-use Rattle.px_xmp_spaces.specs.Scopes.{Item, Element, Declaration, is_same}
-use Rattle.px_xmp_spaces.specs.Bindings.{declared_prefix}
+use Rattle.px_xmp_document.specs.Scopes.{Item, Element, Declaration, is_same}
+use Rattle.px_xmp_document.specs.Bindings.{declared_prefix}
 use Rattle.px_xmp_forms.specs.Languages.{IsLanguage}
 use Rattle.px_xmp.specs.Names.{Name, element_name, attribute_name}
 

@@ -1,7 +1,7 @@
 // The attributes of a tag, apart from declarations.
 ghost use Rattle.std.specs.Prelude.{◌≡◌, ◌≤◌, ◌<◌, List, true, length, option_map, is_some, IfSome};
 ghost use Rattle.px_xmp_marks.specs.Reading.{Attr, name_view, next_view};
-ghost use Rattle.px_xmp_spaces.specs.Bindings.{declared_prefix};
+ghost use Rattle.px_xmp_document.specs.Bindings.{declared_prefix};
 ghost use Rattle.px_xmp.specs.Tags.{names_language, is_plain, DeclaresLanguage, inherited};
 ghost use Rattle.px_xmp.specs.calls.Listed.{AreListed, IsNextPlain};
 ghost use Rattle.px_xmp.specs.calls.Fits.{LanguageFits};

@@ -3,47 +3,48 @@ ghost use Rattle.std.specs.Prelude.{◌≡◌, ◌≤◌, length};
 ghost use Rattle.px_xmp.specs.Refusals.{IsNestingCause, attribute_cause, space_cause, IsDocumentCause, IsCauseOf};
 
 use crate::why::mark_cause;
-use px_xmp_document::{Cause as DocumentCause, Fault};
+use px_xmp_document::{Cause as DocumentCause, Fault, SpaceCause};
 use px_xmp_forms::Cause;
+use px_xmp_markup::{AttributeCause, TreeCause};
 
 // The cause for a fault of the nesting of elements. `octets` begin where the fault is.
-fn nesting_cause(cause: px_xmp_tree::Cause, octets: &[u8]) -> Cause
+fn nesting_cause(cause: TreeCause, octets: &[u8]) -> Cause
     ensures { IsNestingCause cause octets.now result }
 {
     match cause {
-        px_xmp_tree::Cause::NoMark => mark_cause(octets),
-        px_xmp_tree::Cause::DocumentType => Cause::DocumentType,
-        px_xmp_tree::Cause::OtherEnd => Cause::OtherEnd,
-        px_xmp_tree::Cause::TooDeep => Cause::TooDeep,
-        px_xmp_tree::Cause::OutsideRoot => Cause::NoRoot,
-        px_xmp_tree::Cause::SecondRoot => Cause::NoRoot,
-        px_xmp_tree::Cause::NoRoot => Cause::NoRoot,
-        px_xmp_tree::Cause::NoEnd => Cause::BadMarkup,
+        TreeCause::NoMark => mark_cause(octets),
+        TreeCause::DocumentType => Cause::DocumentType,
+        TreeCause::OtherEnd => Cause::OtherEnd,
+        TreeCause::TooDeep => Cause::TooDeep,
+        TreeCause::OutsideRoot => Cause::NoRoot,
+        TreeCause::SecondRoot => Cause::NoRoot,
+        TreeCause::NoRoot => Cause::NoRoot,
+        TreeCause::NoEnd => Cause::BadMarkup,
     }
 }
 
 // The cause for a fault of attributes.
-fn attributes_cause(cause: px_xmp_attributes::Cause) -> Cause
+fn attributes_cause(cause: AttributeCause) -> Cause
     ensures { result ≡ attribute_cause cause }
 {
     match cause {
-        px_xmp_attributes::Cause::NoMark => Cause::BadMarkup,
-        px_xmp_attributes::Cause::AttributeTwice => Cause::AttributeTwice,
+        AttributeCause::NoMark => Cause::BadMarkup,
+        AttributeCause::AttributeTwice => Cause::AttributeTwice,
     }
 }
 
 // The cause for a fault of prefixes.
-fn spaces_cause(cause: px_xmp_spaces::Cause) -> Cause
+fn spaces_cause(cause: SpaceCause) -> Cause
     ensures { result ≡ space_cause cause }
 {
     match cause {
-        px_xmp_spaces::Cause::NoMark => Cause::BadMarkup,
-        px_xmp_spaces::Cause::Undeclared => Cause::BadPrefix,
-        px_xmp_spaces::Cause::Reserved => Cause::BadPrefix,
-        px_xmp_spaces::Cause::RareSpace => Cause::RareNamespace,
-        px_xmp_spaces::Cause::TooMany => Cause::RareCount,
-        px_xmp_spaces::Cause::ManyAttributes => Cause::RareCount,
-        px_xmp_spaces::Cause::SameName => Cause::AttributeTwice,
+        SpaceCause::NoMark => Cause::BadMarkup,
+        SpaceCause::Undeclared => Cause::BadPrefix,
+        SpaceCause::Reserved => Cause::BadPrefix,
+        SpaceCause::RareSpace => Cause::RareNamespace,
+        SpaceCause::TooMany => Cause::RareCount,
+        SpaceCause::ManyAttributes => Cause::RareCount,
+        SpaceCause::SameName => Cause::AttributeTwice,
     }
 }
 

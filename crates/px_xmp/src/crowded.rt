@@ -1,14 +1,14 @@
 // Tags with more attributes than this reader judges.
 ghost use Rattle.std.specs.Prelude.{◌≡◌, ◌≤◌, ℕ, List, true, false, length, MatchOption};
 ghost use Rattle.px_xmp_marks.specs.Reading.{Attr};
-ghost use Rattle.px_xmp_spaces.specs.Tags.{attribute_limit};
+ghost use Rattle.px_xmp_document.specs.Tags.{attribute_limit};
 ghost use Rattle.px_xmp.specs.calls.Listed.{AreListed};
 ghost use Rattle.px_xmp.specs.Limits.{IsFirstCrowded, NoneCrowded};
 ghost use Rattle.px_xmp.specs.calls.Crowded.{AreMany, HasMany, IsInRun, equals_signs, has};
 
 use px_xmp_marks::{StartTag, len_before, next_attribute};
 
-// The most attributes of a tag that this reader judges, as px_xmp_spaces does.
+// The most attributes of a tag that this reader judges, as px_xmp_document does.
 const ATTRIBUTE_LIMIT: usize = 256;
 
 // Octets are cut into windows of so many. An attribute has five octets or more, with the space before it. So a tag

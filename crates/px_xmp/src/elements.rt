@@ -1,6 +1,6 @@
 // What is known of an element while its content is read.
 ghost use Rattle.std.specs.Prelude.{◌≡◌, ◌≤◌, suc, true, option_map, is_some, IfSome};
-ghost use Rattle.px_xmp_tree.specs.Nesting.{limit};
+ghost use Rattle.px_xmp_markup.specs.Nesting.{limit};
 ghost use Rattle.px_xmp.specs.Tags.{DeclaresLanguage, inherited};
 ghost use Rattle.px_xmp.specs.calls.Contents.{content_of};
 ghost use Rattle.px_xmp.specs.calls.Fits.{LanguageFits};

@@ -17,7 +17,7 @@ pub fn kinds_are_read()
     px_xmp_marks::laws::instructions_are_read();
 }
 
-/// The namespaces in scope in an element are those that `px_xmp_spaces` finds for its tag, if it finds no fault.
+/// The namespaces in scope in an element are those that `px_xmp_document` finds for its tag, if it finds no fault.
 pub fn scopes_are_judged()
     ensures { ScopesAreJudged }
 {}

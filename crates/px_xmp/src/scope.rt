@@ -3,8 +3,8 @@
 // in the packet; or `OutOfMemory`, a failed allocation.
 ghost use Rattle.std.specs.Prelude.{◌≡◌, ◌≤◌, ◌∷◌, [], List, Some, length, option_map, if◌then◌else◌, OnOk, IfOk, MatchOption};
 ghost use Rattle.px_xmp_marks.specs.Reading.{Attr, name_view};
-ghost use Rattle.px_xmp_spaces.specs.Scopes.{built_in, space_of, ended};
-ghost use Rattle.px_xmp_spaces.specs.Bindings.{declared_prefix};
+ghost use Rattle.px_xmp_document.specs.Scopes.{built_in, space_of, ended};
+ghost use Rattle.px_xmp_document.specs.Bindings.{declared_prefix};
 ghost use Rattle.px_xmp_forms.specs.Allocations.{CountsAllocFailureInPacket};
 ghost use Rattle.px_xmp_forms.specs.Causes.{IsRare, FailsByMemory};
 ghost use Rattle.px_xmp.specs.Names.{or_none, element_name, attribute_name};
@@ -132,7 +132,7 @@ pub(crate) struct Scope<'a> {
 
 impl<'a> Model for Scope<'a> {
     ghost use Rattle.std.specs.Prelude.{List};
-    ghost use Rattle.px_xmp_spaces.specs.Scopes.{Item};
+    ghost use Rattle.px_xmp_document.specs.Scopes.{Item};
     ghost use Rattle.px_xmp.specs.calls.Entries.{all_entries};
 
     ghost Value = { List Item };

@@ -1,12 +1,10 @@
 -- The first fault of elements: those with one are wrong, and have no other.
 use Rattle.std.proofs.Common.{◌≡◌, ℕ, List, ap}
-use Rattle.px_xmp_tree.specs.Laws.{OneFault as OneTreeFault}
-use Rattle.px_xmp_attributes.specs.Laws.{OneFault as OneAttributeFault}
-use Rattle.px_xmp_spaces.specs.Laws.{OneFault as OneSpaceFault}
+use Rattle.px_xmp_markup.specs.Laws.{OneTreeFault, OneAttributeFault}
 use Rattle.px_xmp_document.specs.declared.faults.Cause.{Cause}
 use Rattle.px_xmp_document.specs.declared.faults.Cause.TheVariants.{NoCharacter, OtherEncoding, Nesting, Attributes, Spaces}
 use Rattle.px_xmp_document.specs.Elements.{AreElements, IsElementFault}
-use Rattle.px_xmp_document.specs.Laws.{OneElementFault}
+use Rattle.px_xmp_document.specs.Laws.{OneElementFault, OneSpaceFault}
 
 no_elements : OneTreeFault → OneAttributeFault → OneSpaceFault → (x : List ℕ) (c : Cause) (n : ℕ) → IsElementFault x c n → AreElements x → ⊥
 no_elements tree attributes spaces x NoCharacter n h e = h

@@ -1,3 +1,10 @@
+pub mod PieceLaws
+pub mod ScopeLaws
+pub mod SpaceFaultLaws
+pub mod PlainLaws
+pub mod TagNameLaws
+pub mod LocalNameLaws
+pub mod KeyLaws
 pub mod DocumentLaws
 pub mod ElementLaws
 pub mod TreeLaws

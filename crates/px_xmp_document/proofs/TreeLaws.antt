@@ -1,8 +1,8 @@
 -- A tree is marks in a row.
 use Rattle.std.proofs.Common.{ℕ, false, true, List, [], ◌∷◌, refl, inl, inr}
 use Rattle.px_xmp_marks.specs.Marks.{IsMark, AreMarks, RowOrFault}
-use Rattle.px_xmp_tree.specs.Kinds.{Kind, Opening, Closing, Alone, Misc, Data, IsKind, AreKinds}
-use Rattle.px_xmp_attributes.specs.declared.faults.Cause.TheVariants.{NoMark, AttributeTwice}
+use Rattle.px_xmp_markup.specs.Kinds.{Kind, Opening, Closing, Alone, Misc, Data, IsKind, AreKinds}
+use Rattle.px_xmp_markup.specs.declared.faults.AttributeCause.TheVariants.{NoMark, AttributeTwice}
 use Rattle.px_xmp_document.specs.Laws.{AttributesAreTwice}
 
 pub kind_mark : (k : Kind) (x y : List ℕ) → IsKind k x y → IsMark x y

@@ -8,17 +8,17 @@ use Rattle.px_xmp_marks.specs.Reading.{Named, Attr, attributes_of, Start, start_
 use Rattle.px_xmp_marks.specs.Grammar.{IsStartTag}
 use Rattle.px_xmp_marks.specs.Laws.{HasAttributes, StartTagsAreRead, OnlyStartTagsAreRead, EndTagsAreRead, OnlyEndTagsAreRead}
 use Rattle.px_xmp_marks.specs.Marks.{IsMark, AreMarks}
-use Rattle.px_xmp_tree.specs.Kinds.{Kind, Closing, IsKind, AreKinds, Marked, mark, start_kind, OnlyKindsAreRead}
-use Rattle.px_xmp_tree.specs.Nesting.{Place, Among, After, LeadTo}
-use Rattle.px_xmp_tree.specs.declared.faults.Cause.{Cause}
-use Rattle.px_xmp_tree.specs.Faults.{IsWrong, IsFaulty, IsFault as IsTreeFault}
-use Rattle.px_xmp_tree.specs.calls.Steps.{Step, StepsLead}
-use Rattle.px_xmp_attributes.specs.Distinct.{AreDistinct, HasDistinct}
-use Rattle.px_xmp_spaces.specs.Pieces.{Piece, Closing as ClosingPiece, Other, IsPiece, ArePieces}
-use Rattle.px_xmp_spaces.specs.Scopes.{Item, ended}
-use Rattle.px_xmp_spaces.specs.Tags.{passed}
-use Rattle.px_xmp_spaces.specs.Faults.{Lead}
-use Rattle.px_xmp_spaces.specs.calls.Passing.{start_piece}
+use Rattle.px_xmp_markup.specs.Kinds.{Kind, Closing, IsKind, AreKinds, Marked, mark, start_kind, OnlyKindsAreRead}
+use Rattle.px_xmp_markup.specs.Nesting.{Place, Among, After, LeadTo}
+use Rattle.px_xmp_markup.specs.declared.faults.TreeCause.{TreeCause}
+use Rattle.px_xmp_markup.specs.TreeFaults.{IsWrong, IsFaulty, IsTreeFault}
+use Rattle.px_xmp_markup.specs.calls.Steps.{Step, StepsLead}
+use Rattle.px_xmp_markup.specs.Distinct.{AreDistinct, HasDistinct}
+use Rattle.px_xmp_document.specs.Pieces.{Piece, Closing as ClosingPiece, Other, IsPiece, ArePieces}
+use Rattle.px_xmp_document.specs.Scopes.{Item, ended}
+use Rattle.px_xmp_document.specs.Tags.{passed}
+use Rattle.px_xmp_document.specs.SpaceFaults.{Lead}
+use Rattle.px_xmp_document.specs.calls.Passing.{start_piece}
 use Rattle.px_xmp_document.specs.Elements.{AreElements}
 use Rattle.px_xmp_document.specs.calls.Walks.{PassesTag, Goes}
 use Rattle.px_xmp_document.proofs.TreeLaws.{kind_mark}
@@ -204,28 +204,28 @@ all_passed x s b = ((b.kinds, b.are_kinds, b.lead), (b.marks, b.are_marks, b.dis
 
 -- ---- what is wrong with the nesting
 
-tag_wrong : OnlyStartTagsAreRead → (x : List ℕ) (t : Start) (p : Place) (c : Cause) → start_tag x ≡ Some t
+tag_wrong : OnlyStartTagsAreRead → (x : List ℕ) (t : Start) (p : Place) (c : TreeCause) → start_tag x ≡ Some t
     → IsWrong (start_kind t.is_empty t.name) p c → IsFaulty p x c
 tag_wrong only x t p c e wrong =
     let (m, rest, read, whole, size, holds, is) = only x t e in
     inr (inl (start_kind t.is_empty t.name, (m, rest, tag_kind t.is_empty t.name read m rest is, whole), wrong))
 
-pub end_wrong : OnlyEndTagsAreRead → (x : List ℕ) (t : End) (p : Place) (c : Cause) → end_tag x ≡ Some t → IsWrong (Closing t.name) p c
+pub end_wrong : OnlyEndTagsAreRead → (x : List ℕ) (t : End) (p : Place) (c : TreeCause) → end_tag x ≡ Some t → IsWrong (Closing t.name) p c
     → IsFaulty p x c
 end_wrong only x t p c e wrong =
     let (m, rest, whole, size, is) = only x t e in inr (inl (Closing t.name, (m, rest, is, whole), wrong))
 
-pub other_wrong : OnlyKindsAreRead → (x : List ℕ) (k : Marked) (p : Place) (c : Cause) → mark x ≡ Some k → IsWrong k.kind p c → IsFaulty p x c
+pub other_wrong : OnlyKindsAreRead → (x : List ℕ) (k : Marked) (p : Place) (c : TreeCause) → mark x ≡ Some k → IsWrong k.kind p c → IsFaulty p x c
 other_wrong only x k p c e wrong =
     let (m, rest, whole, size, is) = only x k e in inr (inl (k.kind, (m, rest, is, whole), wrong))
 
 -- the same of what is found or not
-pub tag_wrongs : OnlyStartTagsAreRead → (x : List ℕ) (t : Start) (p : Place) → start_tag x ≡ Some t → (e : Option Cause)
-    → IfSome e (λ (c : Cause). IsWrong (start_kind t.is_empty t.name) p c) → IfSome e (λ (c : Cause). IsFaulty p x c)
+pub tag_wrongs : OnlyStartTagsAreRead → (x : List ℕ) (t : Start) (p : Place) → start_tag x ≡ Some t → (e : Option TreeCause)
+    → IfSome e (λ (c : TreeCause). IsWrong (start_kind t.is_empty t.name) p c) → IfSome e (λ (c : TreeCause). IsFaulty p x c)
 tag_wrongs only x t p e None wrong = wrong
 tag_wrongs only x t p e (Some c) wrong = tag_wrong only x t p c e wrong
 
-pub wrong_here : (x : List ℕ) (at : ℕ) (p : Place) (s : List Item) (c : Cause) → at ≤ length x → Before x (drop at x) p s
+pub wrong_here : (x : List ℕ) (at : ℕ) (p : Place) (s : List Item) (c : TreeCause) → at ≤ length x → Before x (drop at x) p s
     → IsFaulty p (drop at x) c → IsTreeFault x c at
 wrong_here x at p s c within b wrong = record {
   within = within;

@@ -1,11 +1,11 @@
 -- The elements that follow the declaration, and what is wrong with them: with their nesting, else with their attributes, else
 -- with their prefixes.
 use Rattle.std.specs.Prelude.{ℕ, List}
-use Rattle.px_xmp_tree.specs.Nesting.{IsTree}
-use Rattle.px_xmp_tree.specs.Faults.{IsFault as IsTreeFault}
-use Rattle.px_xmp_attributes.specs.Distinct.{IsDistinctRow}
-use Rattle.px_xmp_attributes.specs.Faults.{IsFault as IsAttributeFault}
-use Rattle.px_xmp_spaces.specs.Faults.{HasSpaces, IsFault as IsSpaceFault}
+use Rattle.px_xmp_markup.specs.Nesting.{IsTree}
+use Rattle.px_xmp_markup.specs.TreeFaults.{IsTreeFault}
+use Rattle.px_xmp_markup.specs.Distinct.{IsDistinctRow}
+use Rattle.px_xmp_markup.specs.AttributeFaults.{IsAttributeFault}
+use Rattle.px_xmp_document.specs.SpaceFaults.{HasSpaces, IsSpaceFault}
 use Rattle.px_xmp_document.specs.declared.faults.Cause.{Cause}
 use Rattle.px_xmp_document.specs.declared.faults.Cause.TheVariants.{NoCharacter, OtherEncoding, Nesting, Attributes, Spaces}
 

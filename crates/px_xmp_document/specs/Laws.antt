@@ -1,10 +1,16 @@
--- The law of the first fault.
-use Rattle.std.specs.Prelude.{◌≡◌, ℕ, List}
-use Rattle.px_xmp_tree.specs.Nesting.{IsTree}
-use Rattle.px_xmp_attributes.specs.declared.faults.Cause.{Cause as AttributeCause}
-use Rattle.px_xmp_attributes.specs.declared.faults.Cause.TheVariants.{AttributeTwice}
-use Rattle.px_xmp_attributes.specs.Faults.{IsFault as IsAttributeFault}
+-- The laws of the first fault, and of namespaces.
+use Rattle.std.specs.Prelude.{◌≡◌, ℕ, true, Some, List}
+use Rattle.px_xmp_text.specs.Texts.{text_of}
+use Rattle.px_xmp_text.specs.declared.pieces.TextKind.TheVariants.{AttributeValue}
+use Rattle.px_xmp_marks.specs.Declarations.{every}
+use Rattle.px_xmp_markup.specs.Nesting.{IsTree}
+use Rattle.px_xmp_markup.specs.declared.faults.AttributeCause.{AttributeCause}
+use Rattle.px_xmp_markup.specs.declared.faults.AttributeCause.TheVariants.{AttributeTwice}
+use Rattle.px_xmp_markup.specs.AttributeFaults.{IsAttributeFault}
 use Rattle.px_xmp_document.specs.declared.faults.Cause.{Cause}
+use Rattle.px_xmp_document.specs.declared.faults.SpaceCause.{SpaceCause}
+use Rattle.px_xmp_document.specs.Bindings.{is_plain}
+use Rattle.px_xmp_document.specs.SpaceFaults.{HasSpaces, IsSpaceFault}
 use Rattle.px_xmp_document.specs.Elements.{AreElements, IsElementFault}
 use Rattle.px_xmp_document.specs.Document.{IsFile}
 use Rattle.px_xmp_document.specs.Faults.{IsFileFault}
@@ -22,3 +28,12 @@ OneElementFault = (x : List ℕ) (c : Cause) (n : ℕ) → IsElementFault x c n
 -- Of elements that are nested, none begins with no mark: the attributes of one are wrong because one is there twice.
 abbrev pub AttributesAreTwice : Type 0
 AttributesAreTwice = (x : List ℕ) (c : AttributeCause) (n : ℕ) → IsTree x → IsAttributeFault x c n → c ≡ AttributeTwice
+
+-- Octets with a fault are no row in which each prefix is declared, and have one first fault.
+abbrev pub OneSpaceFault : Type 0
+OneSpaceFault = (x : List ℕ) (c : SpaceCause) (n : ℕ) → IsSpaceFault x c n
+    → (HasSpaces x → ⊥) × ((d : SpaceCause) (m : ℕ) → IsSpaceFault x d m → (c ≡ d) × (n ≡ m))
+
+-- The name of a namespace that is accepted is its own text, as the value of an attribute.
+abbrev pub PlainSpacesAreTexts : Type 0
+PlainSpacesAreTexts = (u : List ℕ) → every is_plain u ≡ true → text_of AttributeValue u ≡ Some u

@@ -1,3 +1,8 @@
+pub mod Pieces
+pub mod Scopes
+pub mod Bindings
+pub mod Tags
+pub mod SpaceFaults
 pub mod Elements
 pub mod Document
 pub mod Faults

@@ -3,26 +3,28 @@ ghost use Rattle.std.specs.Prelude.{MatchOption};
 ghost use Rattle.px_xmp_document.specs.Elements.{AreElements, IsElementFault};
 
 use crate::faults::{Cause, Fault};
+use crate::spaces::space_fault;
 use crate::walk::walk;
+use px_xmp_markup::{attribute_fault, tree_fault};
 
 // The first fault of the elements, by a walk for the nesting, one for the attributes and one for
 // the prefixes. None: there is none.
 fn layered_fault(octets: &[u8]) -> Option<Fault>
     ensures { MatchOption result (AreElements octets.now) (λ f. IsElementFault octets.now f.cause f.offset) }
 {
-    if let Some(fault) = px_xmp_tree::first_fault(octets) {
+    if let Some(fault) = tree_fault(octets) {
         return Some(Fault {
             cause: Cause::Nesting(fault.cause),
             offset: fault.offset,
         });
     }
-    if let Some(fault) = px_xmp_attributes::first_fault(octets) {
+    if let Some(fault) = attribute_fault(octets) {
         return Some(Fault {
             cause: Cause::Attributes(fault.cause),
             offset: fault.offset,
         });
     }
-    match px_xmp_spaces::first_fault(octets) {
+    match space_fault(octets) {
         Some(fault) => Some(Fault {
             cause: Cause::Spaces(fault.cause),
             offset: fault.offset,

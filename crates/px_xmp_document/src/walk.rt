@@ -3,25 +3,23 @@
 ghost use Rattle.std.specs.Prelude.{◌≡◌, ◌≤◌, false, None, Some, List, length, map, take, option_map};
 ghost use Rattle.std.specs.Prelude.{MatchOption, IfSome, IfOk, IfErr, IsOk};
 ghost use Rattle.px_xmp_marks.specs.Reading.{attribute_view, attributes_of, name_view, start_tag, end_tag, start_tag_view};
-ghost use Rattle.px_xmp_tree.specs.Kinds.{Closing, start_kind};
-ghost use Rattle.px_xmp_tree.specs.Faults.{IsWrong, IsFaulty, IsFault as IsTreeFault};
-ghost use Rattle.px_xmp_tree.specs.calls.Steps.{Step};
-ghost use Rattle.px_xmp_spaces.specs.Scopes.{Item, ended};
+ghost use Rattle.px_xmp_markup.specs.Kinds.{Closing, start_kind};
+ghost use Rattle.px_xmp_markup.specs.TreeFaults.{IsWrong, IsFaulty, IsTreeFault};
+ghost use Rattle.px_xmp_markup.specs.calls.Steps.{Step};
+ghost use Rattle.px_xmp_document.specs.Scopes.{Item, ended};
 ghost use Rattle.px_xmp_document.specs.Elements.{AreElements};
 ghost use Rattle.px_xmp_document.specs.calls.Walks.{GoesOn, PassesTag};
 
-use px_xmp_attributes::are_repeated;
+use crate::scopes::Scope;
+use crate::tags::ATTRIBUTE_LIMIT;
 use px_xmp_marks::{Attribute, EndTag, Name, StoredTag, read_end_tag, read_stored_tag};
-use px_xmp_spaces::Scope;
-use px_xmp_tree::{Cause, Fault, MarkKind, Nesting, read_other_mark, start_kind};
+use px_xmp_markup::{
+    MarkKind, Nesting, TreeCause, TreeFault, are_repeated, read_other_mark, start_kind,
+};
 
 // So many attributes of a tag are stored in one space for all tags, which few tags exceed: a larger one costs more to clear than
 // small documents cost to read.
 const STORED: usize = 64;
-
-// The most attributes that are stored for one tag, the limit of px_xmp_spaces: a tag with more is
-// refused.
-const MANY: usize = 256;
 
 // An attribute that is not read.
 fn no_attribute<'a>(octets: &'a [u8]) -> Attribute<'a> {
@@ -43,7 +41,7 @@ fn pass_tag<'a>(
     attributes: &[Attribute<'a>],
     nesting: &mut Nesting<'a>,
     scope: &mut Scope<'a>,
-) -> Result<(), Option<Cause>>
+) -> Result<(), Option<TreeCause>>
     requires { length attributes.now ≤ 256 }
     ensures passed { IsOk result
         → PassesTag (start_tag_view stored.entry.tag) (map attribute_view attributes.now) nesting.old nesting.new scope.old scope.new }
@@ -64,7 +62,11 @@ fn pass_tag<'a>(
 }
 
 // Passes an end tag, or returns what is wrong with it. None: nothing is.
-fn pass_end<'a>(tag: EndTag<'a>, nesting: &mut Nesting<'a>, scope: &mut Scope<'a>) -> Option<Cause>
+fn pass_end<'a>(
+    tag: EndTag<'a>,
+    nesting: &mut Nesting<'a>,
+    scope: &mut Scope<'a>,
+) -> Option<TreeCause>
     ensures step { MatchOption result (Step (Closing (name_view tag.entry.name)) nesting.old nesting.new)
         (λ c. IsWrong (Closing (name_view tag.entry.name)) nesting.old c) }
     ensures scope { scope.new ≡ ended scope.old }
@@ -81,7 +83,7 @@ fn pass_stored<'a>(
     space: &[Attribute<'a>],
     nesting: &mut Nesting<'a>,
     scope: &mut Scope<'a>,
-) -> Result<usize, Option<Cause>>
+) -> Result<usize, Option<TreeCause>>
     requires few { length space.now ≤ 256 }
     requires tag { Some (start_tag_view stored.tag) ≡ start_tag octets.now }
     requires within { (1 ≤ stored.tag.size) × (stored.tag.size ≤ length octets.now) }
@@ -108,11 +110,11 @@ fn pass_large<'a>(
     octets: &'a [u8],
     nesting: &mut Nesting<'a>,
     scope: &mut Scope<'a>,
-) -> Result<usize, Option<Cause>>
+) -> Result<usize, Option<TreeCause>>
     ensures passed { IfOk result (λ n. GoesOn octets.now n nesting.old nesting.new scope.old scope.new) }
     ensures wrong { IfErr result (λ e. IfSome e (λ c. IsFaulty nesting.old octets.now c)) }
 {
-    let mut space = [no_attribute(octets); MANY];
+    let mut space = [no_attribute(octets); ATTRIBUTE_LIMIT];
     match read_stored_tag(octets, &mut space) {
         Some(stored) => pass_stored(octets, stored, &space, nesting, scope),
         None => Err(None),
@@ -129,7 +131,7 @@ fn begins_markup(octets: &[u8]) -> bool
 }
 
 // Passes the mark at the start, which is no tag. Returns its length, or what is wrong with its nesting.
-fn pass_mark<'a>(octets: &'a [u8], nesting: &mut Nesting<'a>) -> Result<usize, Cause>
+fn pass_mark<'a>(octets: &'a [u8], nesting: &mut Nesting<'a>) -> Result<usize, TreeCause>
     requires some { 1 ≤ length octets.now }
     requires start { start_tag octets.now ≡ None }
     requires end { end_tag octets.now ≡ None }
@@ -138,8 +140,8 @@ fn pass_mark<'a>(octets: &'a [u8], nesting: &mut Nesting<'a>) -> Result<usize, C
 {
     px_xmp_marks::laws::start_tags_are_read();
     px_xmp_marks::laws::end_tags_are_read();
-    px_xmp_tree::laws::kinds_are_read();
-    px_xmp_tree::laws::only_kinds_are_read();
+    px_xmp_markup::laws::kinds_are_read();
+    px_xmp_markup::laws::only_kinds_are_read();
     let Some(mark) = read_other_mark(octets) else {
         return Err(nesting.unread(octets));
     };
@@ -154,7 +156,7 @@ fn pass_other<'a>(
     octets: &'a [u8],
     nesting: &mut Nesting<'a>,
     scope: &mut Scope<'a>,
-) -> Result<usize, Cause>
+) -> Result<usize, TreeCause>
     requires some { 1 ≤ length octets.now }
     requires start { start_tag octets.now ≡ None }
     ensures passed { IfOk result (λ n. GoesOn octets.now n nesting.old nesting.new scope.old scope.new) }
@@ -178,7 +180,7 @@ fn pass<'a>(
     space: &mut [Attribute<'a>; STORED],
     nesting: &mut Nesting<'a>,
     scope: &mut Scope<'a>,
-) -> Result<usize, Option<Cause>>
+) -> Result<usize, Option<TreeCause>>
     requires { 1 ≤ length octets.now }
     ensures passed { IfOk result (λ n. GoesOn octets.now n nesting.old nesting.new scope.old scope.new) }
     ensures wrong { IfErr result (λ e. IfSome e (λ c. IsFaulty nesting.old octets.now c)) }
@@ -202,11 +204,11 @@ fn pass<'a>(
 }
 
 // Whether nothing is wrong with elements. `Err`: the first fault of their nesting, or None, if something else is wrong before it.
-pub(crate) fn walk(octets: &[u8]) -> Result<(), Option<Fault>>
+pub(crate) fn walk(octets: &[u8]) -> Result<(), Option<TreeFault>>
     ensures right { IsOk result → AreElements octets.now }
     ensures wrong { IfErr result (λ e. IfSome e (λ f. IsTreeFault octets.now f.cause f.offset)) }
 {
-    px_xmp_tree::laws::steps_lead();
+    px_xmp_markup::laws::steps_lead();
     let mut nesting = Nesting::new(octets);
     let mut scope = Scope::new();
     let mut space = [no_attribute(octets); STORED];
@@ -215,13 +217,13 @@ pub(crate) fn walk(octets: &[u8]) -> Result<(), Option<Fault>>
         match pass(octets.split_at(at).1, &mut space, &mut nesting, &mut scope) {
             Ok(size) => at += size,
             Err(wrong) => match wrong {
-                Some(cause) => return Err(Some(Fault { cause, offset: at })),
+                Some(cause) => return Err(Some(TreeFault { cause, offset: at })),
                 None => return Err(None),
             },
         }
     }
     match nesting.cut() {
-        Some(cause) => Err(Some(Fault { cause, offset: at })),
+        Some(cause) => Err(Some(TreeFault { cause, offset: at })),
         None => Ok(()),
     }
 }

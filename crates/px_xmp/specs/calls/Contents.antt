@@ -6,10 +6,10 @@ use Rattle.px_xmp_text.specs.declared.pieces.TextKind.TheVariants.{AttributeValu
 use Rattle.px_xmp_text.specs.Values.{Label, Compound, Structure}
 use Rattle.px_xmp_text.specs.Values as values
 use Rattle.px_xmp_marks.specs.Reading.{Attr, Next}
-use Rattle.px_xmp_spaces.specs.Scopes.{ended}
+use Rattle.px_xmp_document.specs.Scopes.{ended}
 use Rattle.px_xmp_forms.specs.Forms.{is_white}
 use Rattle.px_xmp_forms.specs.Uris.{IsAbsolute}
-use Rattle.px_xmp_tree.specs.Nesting.{limit}
+use Rattle.px_xmp_markup.specs.Nesting.{limit}
 use Rattle.px_xmp_forms.specs.Entries.{Value, Plain, Inside, Entry, before}
 use Rattle.px_xmp_forms.specs.Outputs.{State, Open, Has, nothing, begun, changed, with_text, with_inner, with_entry, value_of}
 use Rattle.px_xmp_forms.specs.Outputs.{JoinsProperties, JoinsMembers}

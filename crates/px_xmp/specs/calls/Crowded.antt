@@ -4,7 +4,7 @@ use Rattle.std.specs.Prelude.{Option, Some, None, List, [], ◌∷◌, length, t
 use Rattle.std.specs.List.{list_any}
 use Rattle.px_xmp_marks.specs.Reading.{Attr}
 use Rattle.px_xmp_marks.specs.declared.tags.StartTag.{StartTag}
-use Rattle.px_xmp_spaces.specs.Tags.{attribute_limit}
+use Rattle.px_xmp_document.specs.Tags.{attribute_limit}
 use Rattle.px_xmp.specs.calls.Listed.{AreListed}
 
 -- there are more attributes, or not

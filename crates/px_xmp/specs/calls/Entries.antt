@@ -2,7 +2,7 @@
 use Rattle.std.specs.Prelude.{ℕ, List, take, map, reverse}
 use Rattle.px_xmp.specs.declared.scope.Entry.{Entry}
 use Rattle.px_xmp.specs.declared.scope.Entry.TheVariants as entries
-use Rattle.px_xmp_spaces.specs.Scopes.{Item, Element, Declaration}
+use Rattle.px_xmp_document.specs.Scopes.{Item, Element, Declaration}
 
 -- a stored entry as an item of what is in scope: an open element, or a declaration
 abbrev pub entry_view : Entry → Item

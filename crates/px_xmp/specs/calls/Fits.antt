@@ -6,7 +6,7 @@ use Rattle.px_xmp_text.specs.declared.pieces.TextKind.TheVariants.{AttributeValu
 use Rattle.px_xmp_text.specs.Texts.{text_of}
 use Rattle.px_xmp_text.specs.Values as values
 use Rattle.px_xmp_text.specs.Values.{Label, Compound, Structure, Content, IsContent, written}
-use Rattle.px_xmp_tree.specs.Nesting as Nesting
+use Rattle.px_xmp_markup.specs.Nesting as Nesting
 use Rattle.px_bytes.specs.Parts.{limit}
 use Rattle.px_xmp_forms.specs.Entries.{Value, Entry, before, row, AreDistinct}
 use Rattle.px_xmp_forms.specs.Forms.{most, HaveShortLanguages, TextFits, is_white}

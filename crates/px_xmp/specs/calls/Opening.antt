@@ -1,7 +1,7 @@
 -- Names and tags, as they are stored.
 use Rattle.std.specs.Prelude.{◌≡◌, None, option_map, List}
 use Rattle.px_xmp_marks.specs.Reading.{Attr}
-use Rattle.px_xmp_spaces.specs.Scopes.{Item}
+use Rattle.px_xmp_document.specs.Scopes.{Item}
 use Rattle.px_xmp.specs.declared.names.Named.{Named}
 use Rattle.px_xmp.specs.declared.scope.Declared.{Declared}
 use Rattle.px_xmp.specs.declared.elements.Opened.{Opened}

@@ -1,7 +1,7 @@
 -- Why a packet is refused as one that is wrong.
 use Rattle.std.specs.Prelude.{◌≡◌, ◌⊎◌, ℕ, true, false, Some, List, ⊤, Result, Ok, Err}
 use Rattle.px_xmp_text.specs.Texts.{text_of}
-use Rattle.px_xmp_spaces.specs.Scopes.{Item}
+use Rattle.px_xmp_document.specs.Scopes.{Item}
 use Rattle.px_xmp_forms.specs.Causes.{is_rare_in_rdf}
 use Rattle.px_xmp_forms.specs.Forms.{is_white}
 use Rattle.px_xmp_forms.specs.declared.faults.Refusal.{Refusal}

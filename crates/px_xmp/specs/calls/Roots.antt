@@ -3,7 +3,7 @@ use Rattle.std.specs.Prelude.{◌≡◌, ◌⊎◌, ◌++◌, ℕ, Bool, codes, 
 use Rattle.px_xmp_text.specs.Texts.{text_of}
 use Rattle.px_xmp_text.specs.declared.pieces.TextKind.TheVariants.{AttributeValue}
 use Rattle.px_xmp_text.specs.Values.{Structure, Content}
-use Rattle.px_xmp_spaces.specs.Scopes.{ended}
+use Rattle.px_xmp_document.specs.Scopes.{ended}
 use Rattle.px_xmp_forms.specs.Entries.{Entry}
 use Rattle.px_xmp_forms.specs.Outputs.{State, Has, changed}
 use Rattle.px_xmp_forms.specs.declared.output.Output.{Output}

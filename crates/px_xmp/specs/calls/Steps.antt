@@ -3,7 +3,7 @@ use Rattle.std.specs.Prelude.{◌≡◌, ◌≤◌, ◌+◌, ◌++◌, ◌==◌,
 use Rattle.px_bytes.specs.Parts.{limit}
 use Rattle.px_xmp_text.specs.Texts.{text_of}
 use Rattle.px_xmp_marks.specs.Reading.{Named, Attr}
-use Rattle.px_xmp_spaces.specs.Scopes.{Item}
+use Rattle.px_xmp_document.specs.Scopes.{Item}
 use Rattle.px_xmp.specs.Marks.{Mark, Start, End, IsKind, AreRow}
 use Rattle.px_xmp.specs.Tags.{Tag, tag_of, inside}
 use Rattle.px_xmp.specs.Nodes.{Nodes, Nothing, AreNodes}

@@ -1,14 +1,14 @@
 -- What a walk over elements passes, if nothing is wrong.
 use Rattle.std.specs.Prelude.{◌≡◌, ◌≤◌, ℕ, List, ◌++◌, length, Ok}
 use Rattle.px_xmp_marks.specs.Reading.{Attr, Start}
-use Rattle.px_xmp_tree.specs.Kinds.{Kind, IsKind, start_kind}
-use Rattle.px_xmp_tree.specs.Nesting.{Place}
-use Rattle.px_xmp_tree.specs.calls.Steps.{Step}
-use Rattle.px_xmp_attributes.specs.Distinct.{AreDistinct, HasDistinct}
-use Rattle.px_xmp_spaces.specs.Pieces.{Piece, IsPiece}
-use Rattle.px_xmp_spaces.specs.Scopes.{Item}
-use Rattle.px_xmp_spaces.specs.Tags.{passed}
-use Rattle.px_xmp_spaces.specs.calls.Passing.{start_piece}
+use Rattle.px_xmp_markup.specs.Kinds.{Kind, IsKind, start_kind}
+use Rattle.px_xmp_markup.specs.Nesting.{Place}
+use Rattle.px_xmp_markup.specs.calls.Steps.{Step}
+use Rattle.px_xmp_markup.specs.Distinct.{AreDistinct, HasDistinct}
+use Rattle.px_xmp_document.specs.Pieces.{Piece, IsPiece}
+use Rattle.px_xmp_document.specs.Scopes.{Item}
+use Rattle.px_xmp_document.specs.Tags.{passed}
+use Rattle.px_xmp_document.specs.calls.Passing.{start_piece}
 
 -- a start tag with these attributes leads from a place and a scope to the next ones, and has each attribute once
 abbrev pub PassesTag : Start → List Attr → Place → Place → List Item → List Item → Type 0

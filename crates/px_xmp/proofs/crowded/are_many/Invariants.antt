@@ -1,6 +1,6 @@
 use Rattle.std.proofs.Common.{◌≤◌, List, length}
 use Rattle.px_xmp_marks.specs.Reading.{Attr}
-use Rattle.px_xmp_spaces.specs.Tags.{attribute_limit}
+use Rattle.px_xmp_document.specs.Tags.{attribute_limit}
 use Rattle.px_xmp.specs.calls.Listed.{AreListed}
 use Rattle.px_xmp.proofs.CrowdedLaws.{LeftOf}
 use Rattle.px_xmp.proofs.crowded.are_many.Given as goal

@@ -1,5 +1,5 @@
 use Rattle.std.proofs.Common.{◌≡◌, ◌≤◌}
-use Rattle.px_xmp_spaces.specs.Scopes.{space_of}
+use Rattle.px_xmp_document.specs.Scopes.{space_of}
 use Rattle.px_xmp.specs.calls.Entries.{entries_of}
 use Rattle.px_xmp.proofs.scope.find.Given as goal
 

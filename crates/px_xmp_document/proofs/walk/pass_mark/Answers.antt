@@ -1,5 +1,5 @@
 use Rattle.std.proofs.Common.{sym}
-use Rattle.px_xmp_tree.specs.Kinds.{mark_view}
+use Rattle.px_xmp_markup.specs.Kinds.{mark_view}
 use Rattle.px_xmp_document.proofs.WalkLaws.{other_goes, other_wrong}
 use Rattle.px_xmp_document.proofs.walk.pass_mark.Goals as goal
 

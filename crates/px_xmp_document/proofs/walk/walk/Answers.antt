@@ -1,7 +1,7 @@
 use Rattle.std.proofs.Common.{◌≡◌, IfSome, [], length, drop, sym, ap, subst, arith, drop-drop, length-drop}
 use Rattle.std.proofs.lemmas.List.{drop_all}
-use Rattle.px_xmp_tree.specs.Nesting.{Among}
-use Rattle.px_xmp_tree.specs.Faults.{IsFaulty}
+use Rattle.px_xmp_markup.specs.Nesting.{Among}
+use Rattle.px_xmp_markup.specs.TreeFaults.{IsFaulty}
 use Rattle.px_xmp_document.specs.calls.Walks.{Goes}
 use Rattle.px_xmp_document.proofs.WalkLaws.{Before, none_before, one_more, all_passed, wrong_here}
 use Rattle.px_xmp_document.proofs.walk.walk.Goals as goal

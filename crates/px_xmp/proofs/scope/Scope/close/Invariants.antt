@@ -1,5 +1,5 @@
 use Rattle.std.proofs.Common.{◌≡◌, length}
-use Rattle.px_xmp_spaces.specs.Scopes.{ended}
+use Rattle.px_xmp_document.specs.Scopes.{ended}
 use Rattle.px_xmp.proofs.scope.Scope.close.Given as goal
 
 -- the element that ends is still the innermost one

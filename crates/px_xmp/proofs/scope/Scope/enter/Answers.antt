@@ -1,6 +1,6 @@
 use Rattle.std.proofs.Common.{ap, ◌∙◌, List}
 use Rattle.px_xmp_marks.specs.Reading.{name_view}
-use Rattle.px_xmp_spaces.specs.Scopes.{Item}
+use Rattle.px_xmp_document.specs.Scopes.{Item}
 use Rattle.px_xmp.specs.Names.{element_name}
 use Rattle.px_xmp.proofs.TagLaws.{fields_same}
 use Rattle.px_xmp.proofs.scope.Scope.enter.Goals as goal

@@ -1,4 +1,0 @@
-pub mod Distinct
-pub mod Faults
-pub mod Laws
-pub mod calls

@@ -1,0 +1,7 @@
+use Rattle.std.proofs.Common.{◌≡◌, drop, map}
+use Rattle.px_xmp_marks.specs.Reading.{name_view}
+use Rattle.px_xmp_markup.specs.calls.Names.{is_among}
+use Rattle.px_xmp_markup.proofs.attributes.is_among.Given as goal
+
+abbrev pub invariant-loop-other : goal.invariant-loop-other
+invariant-loop-other l = is_among (name_view l.name) (map name_view (drop l.other-index l.names)) ≡ is_among (name_view l.name) (map name_view l.names)

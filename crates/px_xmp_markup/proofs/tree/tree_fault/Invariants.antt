@@ -1,0 +1,10 @@
+use Rattle.std.proofs.Common.{◌≤◌, ◌-◌, length, drop}
+use Rattle.px_xmp_markup.proofs.TreeFaultLaws.{Before}
+use Rattle.px_xmp_markup.proofs.tree.tree_fault.Given as goal
+
+-- what was read leads to this place
+abbrev pub invariant-loop-at : goal.invariant-loop-at
+invariant-loop-at l = record { within : l.at ≤ length l.octets; read : Before l.octets (drop l.at l.octets) l.nesting }
+
+abbrev pub decreases-loop-at : goal.decreases-loop-at
+decreases-loop-at l = length l.octets - l.at

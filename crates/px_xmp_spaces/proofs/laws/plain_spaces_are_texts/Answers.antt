@@ -1,5 +1,0 @@
-use Rattle.px_xmp_spaces.proofs.PlainLaws.{plain_text}
-use Rattle.px_xmp_spaces.proofs.laws.plain_spaces_are_texts.Goals as goal
-
-pub returns : goal.returns
-returns c = plain_text

@@ -1,4 +1,0 @@
-pub mod Entries
-pub mod Passing
-pub mod Names
-pub mod Keys

@@ -1,4 +1,0 @@
-pub mod StackLaws
-pub mod NestingLaws
-pub mod KindLaws
-pub mod FaultLaws

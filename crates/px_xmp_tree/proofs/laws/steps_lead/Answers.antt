@@ -1,5 +1,0 @@
-use Rattle.px_xmp_tree.proofs.NestingLaws.{step_leads}
-use Rattle.px_xmp_tree.proofs.laws.steps_lead.Goals as goal
-
-pub returns : goal.returns
-returns c = step_leads

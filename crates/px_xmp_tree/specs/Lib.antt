@@ -1,5 +1,0 @@
-pub mod Kinds
-pub mod Nesting
-pub mod Faults
-pub mod Laws
-pub mod calls
