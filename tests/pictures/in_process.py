@@ -29,19 +29,6 @@ class InProcess(WithPictures):
         __tracebackhide__ = True
         return [json.loads(it) for it in self.printed(*words, "--json", status=status)]
 
-    def transcript(self, *calls):
-        """What commands print, each with its words, its messages on standard error, and its status if that isn't 0."""
-        lines = []
-        for status, *words in calls:
-            found = self.printed(*words, status=status)
-            lines += [
-                "$ exifnorm-pictures " + " ".join(words).replace("@", "F").replace("\n", "\\n"),
-                *found,
-                *(f"(stderr) {it}" for it in self.complaint.splitlines()),
-            ]
-            lines += [f"(status {status})"] * bool(status) + [""]
-        return "\n".join(lines)
-
 
 class InFolder(InProcess):
     """A test whose commands run in its process too, each in the test's folder. Those with an input or variables of their own don't."""

@@ -5,6 +5,7 @@ import contextlib
 import hashlib
 import io
 import re
+import subprocess
 from types import SimpleNamespace
 from unittest import mock
 
@@ -14,18 +15,20 @@ from made_files import xmp as packet_of
 from studio import name_of
 
 from exifnorm_pictures import xmp
-from exifnorm_pictures.cli import names, page_file, parser
+from exifnorm_pictures.cli import names, output, page_file, parser
 from exifnorm_pictures.cli.commands import report
 from exifnorm_pictures.cli.options import Files
 from exifnorm_pictures.comparison import differing
 from exifnorm_pictures.extract import exiftool, programs
 from exifnorm_pictures.fields import listing, plain_texts, xmp_properties
 from exifnorm_pictures.fields.field import Field
+from exifnorm_pictures.files.session import Session
 from exifnorm_pictures.model import records, sides, texts, verdicts
 from exifnorm_pictures.model.found import NotRead
 from exifnorm_pictures.model.records import BlockRecord, PictureRecord, Stamp
 from exifnorm_pictures.model.sides import Side
 from exifnorm_pictures.model.verdicts import Verdict
+from exifnorm_pictures.refusals import mend
 from exifnorm_pictures.scan import moved, walk
 
 
@@ -170,9 +173,17 @@ def block(name, status="accepted", text="d", octets="o", kind="exif"):
     return SimpleNamespace(kind=kind, name=name, status=status, digest=text, octets=octets, meaning=text)
 
 
+def block_record(status, cause, place):
+    return BlockRecord("exif", "Exif", "somewhere", "own", status, None, cause, place, 9, "0" * 64)
+
+
 def line_of(status, cause, place):
-    it = BlockRecord("exif", "Exif", "somewhere", "own", status, None, cause, place, 9, "0" * 64)
+    it = block_record(status, cause, place)
     return it.refusal, it.line
+
+
+def programs_of_picture(picture):
+    return picture.programs
 
 
 def marks(*four):
@@ -186,7 +197,18 @@ KNOWN, OTHER_PART, UNKNOWN = NotRead("b", "1"), NotRead("a", "2"), NotRead("c", 
 BOTH = [block("Exif"), block("second Exif", text="e", octets="p")]
 OCTETS_OF_BOTH = hashlib.sha256(b"Exif: o\nsecond Exif: p").hexdigest()
 LEAST, GREATEST = -(1 << 63), (1 << 63) - 1
+OWN = PictureRecord.of(b"/a", b"/", extractor="own")
+CLOSED = PictureRecord.of(b"/a\n/b", b"", problem="Unreadable", detail="permission denied")
+NOT_MADE = (block_record("failed", "OutOfMemory", None), block_record("too long", "NormalTooLong", None))
+IN_ORDER = "main 010f, exif 9003, gps 0001, thumb 0112, thumb ffff, thumb jpeg, thumb strip, iptc 2:5, iptc 2:25".split(", ")
+
+
+def names_in_order(fields):
+    return [f"{it.directory} {it.tag}" for it in differing.differences([], [Field(*it.split(), "SHORT", 1, (1,)) for it in fields])]
+
+
 RESULTS = [
+    (names_in_order, (IN_ORDER[::-1],), IN_ORDER),  # a thumbnail is after its fields
     (sentence, ([("same", True), ("same", False), ("same", False)],), "Exif, IPTC and XMP are the same"),
     (sentence, ([("same", True), ("different", False), ("same", False)],), "Exif and XMP are the same, IPTC is different"),
     (
@@ -244,6 +266,18 @@ RESULTS = [
     (line_of, ("too long", "NormalTooLong", None), ("NormalTooLong", "refused: NormalTooLong")),
     (line_of, ("failed", "OutOfMemory", None), ("OutOfMemory", "failed: OutOfMemory")),
     (lambda: PictureRecord.of(b"/a", b"/").state, (), "no block"),
+    # the programs that have extracted the blocks of a picture, or have found that it has none, or have read its MakerNotes
+    (programs_of_picture, (OWN,), set()),
+    (programs_of_picture, (OWN._replace(notes=b"[]"),), {"exiftool"}),
+    (programs_of_picture, (OWN._replace(extractor="exiftool"),), {"exiftool"}),
+    (programs_of_picture, (OWN._replace(blocks=(block_record("accepted", None, 1)._replace(extractor="exiv2"),)),), {"exiv2"}),
+    (
+        output.record_lines,
+        (PictureRecord.of(b"/a", b"/", blocks=NOT_MADE),),
+        ["/a: Exif: failed: OutOfMemory", "/a: Exif: too long: NormalTooLong"],
+    ),
+    (output.closed_folder, (CLOSED,), ["the folder /a\\n/b can't be read: permission denied"]),
+    (output.closed_folder, (CLOSED._replace(root=b"/a"),), []),  # a file that can't be read has its own row
     # a page begins with its type, in letters of either kind (HTML, 13.1.1)
     *((page_file._is_page, (it,), True) for it in (b"<!DOCTYPE html>", b"<!doctype HTML>")),
     *((page_file._is_page, (it,), False) for it in (b"<!DOCTYPE htm", b" <!DOCTYPE html>", b"")),
@@ -349,6 +383,17 @@ ANSWERS = {
     "it is about another file": (b"[{}]", b'[{"SourceFile": "b"}]'),
     "a value is neither a text nor a number": (b'[{"SourceFile": "a", "b": []}]', b'[{"SourceFile": "a", "b": null}]'),
 }
+HOW = {"stdout": subprocess.PIPE, "stderr": subprocess.PIPE, "bufsize": 0, "cwd": "/", "start_new_session": True, "env": ("C", True)}
+
+
+def started(**more):
+    """How a program is started, but for what happens just before it begins."""
+    with mock.patch.object(subprocess, "Popen", lambda _, **how: how):
+        how = programs.start(["a", "b"], "/", **more)
+    assert how.pop("preexec_fn")
+    return {**how, "env": (how["env"]["LC_ALL"], "PATH" in how["env"])}
+
+
 OF_EXIFTOOL = [
     *((failed, (exiftool._members, octets, [b"a"]), ("Failed", NOT_UNDERSTOOD + why)) for why, them in ANSWERS.items() for octets in them),
     *((failed, (exiftool.octets, f"base64:{it}"), ("Failed", f"{NOT_UNDERSTOOD}a block is no base64")) for it in ("abc", "ab=!", "HA*I=")),
@@ -371,10 +416,85 @@ OF_EXIFTOOL = [
         for program, package in (("exiftool", "libimage-exiftool-perl"), ("exiv2", "exiv2"), ("another", "another"))
     ),
     (failed, (records.has, int, 1, "a"), ("Damaged", "'a' is a value of another type")),
+    # in a session of its own, in the C locale, with pipes for both outputs
+    (started, (), {**HOW, "stdin": subprocess.DEVNULL}),
+    (lambda: started(is_asked=True), (), {**HOW, "stdin": subprocess.PIPE}),
 ]
 
 
-ROWS = [*LINES, *OF_XMP, *RESULTS, *ARGUMENTS, *OF_EXIFTOOL]
+# ---- the remedies of `mend`, with the arguments that docs/REFUSALS.md shows
+
+
+def programs_of(step, *ends, has_exiv2=True):
+    """What a remedy calls, if its programs end with these statuses and outputs, and its result."""
+    left, calls = list(ends), []
+
+    def run(words, _):
+        calls.append(" ".join(words))
+        return programs.Done(*left.pop(0))
+
+    with mock.patch.multiple(programs, run=run, needed=lambda it: it, is_there=lambda it: has_exiv2 and it == "exiv2"):
+        result = step(Session(), "p")
+    assert not left, "fewer programs are called"
+    return calls, result
+
+
+NONE, FAILS, EVERY = (0, b""), (1, b""), (0, b"PageName : a\nDocumentName : b\nHostComputer : c\n")
+TOOL = "exiftool -config  -q -q -m"
+ASKING, RECORD = f"{TOOL} -s -IFD0:PageName -IFD0:DocumentName -IFD0:HostComputer p", f"{TOOL} -b -IPTC p"
+WITH, WITHOUT = (f"{TOOL} -overwrite_original -IFD0:PageName={text} p" for text in ("zz", ""))
+OF_RECORD = [
+    f"{TOOL} -overwrite_original -IFD0:PageName={text} -IPTC:SubjectReference{sign}=exifnorm:01000000:mend p"
+    for text, sign in (("zz", "+"), ("", "-"))
+]
+BY_EXIV2 = ["exiv2 -q -Q m -M set Exif.Image.PageName Ascii zz p", "exiv2 -q -Q m -M del Exif.Image.PageName p"]
+REBUILD = f"{TOOL} -overwrite_original -all= -tagsfromfile @ -all:all -unsafe p"
+PRINTED = (
+    f"{TOOL} -a -u -s -G1 -x System:all -x File:all -x Composite:all -x ExifTool:all -x JFIF:all -all -all# p",
+    b"[IFD0] Make      : A  b\n\n[IFD0] Make : A b\n[IFD1] ThumbnailOffset : 8\n[IFD1] Thumb : (Binary data 9 bytes, use -b option to extract)\n"
+    b"[M] Start Of : 1\n[M] Started : \xff\n[E] Padding : 1\n[P] IPTCDigest : 0\n[IFD0] Flash : ",
+    {"[IFD0] Make : A b": 2, "[IFD1] Thumb : (Binary data 9 bytes)": 1, "[M] Started : \\xff": 1, "[IFD0] Flash : Fired (1)": 1},
+)
+OF_MEND = [
+    (programs_of, (mend._touch, NONE, NONE, NONE, NONE), ([ASKING, RECORD, WITH, WITHOUT], True)),
+    (programs_of, (mend._touch, NONE, (0, b"\x1c\2\0\0\2\0\4"), NONE, NONE), ([ASKING, RECORD, *OF_RECORD], True)),
+    (programs_of, (mend._touch, NONE, NONE, FAILS), ([ASKING, RECORD, WITH], False)),
+    (programs_of, (mend._touch, NONE, NONE, NONE, FAILS), ([ASKING, RECORD, WITH, WITHOUT], False)),
+    (programs_of, (mend._touch, EVERY), ([ASKING], False)),
+    (programs_of, (mend._by_exiv2, NONE, NONE, NONE), ([ASKING, *BY_EXIV2], True)),
+    (programs_of, (mend._by_exiv2, NONE, FAILS), ([ASKING, BY_EXIV2[0]], False)),
+    (programs_of, (mend._by_exiv2, NONE, NONE, FAILS), ([ASKING, *BY_EXIV2], False)),
+    (lambda: programs_of(mend._by_exiv2, NONE, has_exiv2=False), (), ([ASKING], False)),
+    (programs_of, (mend._by_exiv2, EVERY), ([ASKING], False)),
+    *((programs_of, (mend._rebuild, end), ([REBUILD], end == NONE)) for end in (NONE, FAILS)),
+    *(
+        (programs_of, (mend._free_field, (0, printed)), ([ASKING], field_name))
+        for printed, field_name in (
+            (b"DocumentName : PageName\n", "PageName"),
+            (b"PageName  : x\n", "DocumentName"),
+            (b"PageName: x\nDocumentName:y\n", "HostComputer"),
+            (b"\xff : x\nPageName : HostComputer", "DocumentName"),
+        )
+    ),
+    (programs_of, (mend._printed, (0, PRINTED[1] + b"Fired\n" + PRINTED[1] + b"1\n")), ([PRINTED[0]], PRINTED[2])),
+    # ExifTool and exiv2 look at endings of names, so these are kept if they are short and plain
+    *(
+        (texts.ending_of, (name,), ending)
+        for name, ending in (
+            (b"b.Jp2", ".Jp2"),
+            (b"b", ""),
+            (b"b.abcdefgh", ".abcdefgh"),
+            (b"b.abcdefghi", ""),
+            (b"b.a-b", ""),
+            ("b.\u00e9".encode(), ""),
+            (b"b.c.d", ".d"),
+            (b"b.jpg\n", ""),
+        )
+    ),
+]
+
+
+ROWS = [*LINES, *OF_XMP, *RESULTS, *ARGUMENTS, *OF_EXIFTOOL, *OF_MEND]
 
 
 @pytest.mark.parametrize("call, arguments, expected", ROWS, ids=[f"{it[0].__name__}-{number}" for number, it in enumerate(ROWS)])

@@ -2,11 +2,12 @@
 
 import json
 import os
+import shutil
 
 import pytest
 from made_blocks import BLOCKS
 from made_files import app1, exif, jpeg
-from studio import needs, put
+from studio import collection, interpreter_with, needs, put, tool
 from test_repairs import REFUSED
 
 from exifnorm_pictures.extract.extraction import blocks_of_file
@@ -103,3 +104,14 @@ def test_explain_recommends_what_helps(archive, called_lines):
         assert ("Remedy: none is known" in text) == (name == "none.jpg"), (name, text)
         if os.path.exists(archive / "out" / "copy.jpg"):
             os.remove(archive / "out" / "copy.jpg")
+
+
+@needs("exiftool", "piexif")
+def test_what_piexif_writes_is_repaired(folder, called):
+    """A program that many scripts use, and whose blocks are refused."""
+    shutil.copy(os.path.join(collection(), "picture.jpg"), folder / "a.jpg")
+    call = "import piexif; piexif.insert(piexif.dump(piexif.load('a.jpg')), 'a.jpg', 'b.jpg')"
+    tool(folder, interpreter_with("piexif"), "-c", call)
+    assert [called("explain", name)[0] for name in ("a.jpg", "b.jpg")] == [0, 2]
+    status, printed, _ = called("mend", "b.jpg", "c.jpg", "--json")
+    assert (status, json.loads(printed)["step"], called("explain", "c.jpg")[0]) == (0, "repair", 0)

@@ -2,7 +2,6 @@
 
 import contextlib
 import io
-import json
 import os
 import re
 import shutil
@@ -15,16 +14,14 @@ from unittest import mock
 from studio import WithPictures, put, read, write
 
 from exifnorm_pictures.catalogue.store import VERSION, Catalogue, NoCatalogue
-from exifnorm_pictures.cli import main, names, objects, output, parser
+from exifnorm_pictures.cli import names, parser
 from exifnorm_pictures.cli.options import Files
 from exifnorm_pictures.cli.topics import TOPICS
-from exifnorm_pictures.extract import exiftool, extraction, programs
-from exifnorm_pictures.files import atomic, opening, session, signals
-from exifnorm_pictures.model.problems import TEXTS
-from exifnorm_pictures.model.records import BlockRecord, Damaged, PictureRecord, Stamp
-from exifnorm_pictures.scan import looking, progress, walk, workers
+from exifnorm_pictures.extract import exiftool, programs
+from exifnorm_pictures.files import atomic, signals
+from exifnorm_pictures.model.records import Damaged
+from exifnorm_pictures.scan import progress, walk, workers
 from exifnorm_pictures.scan.batches import How
-from exifnorm_pictures.scan.walk import FoundFile
 
 
 class CommandLine(unittest.TestCase):
@@ -52,22 +49,14 @@ class CommandLine(unittest.TestCase):
 
 
 class Stream(io.StringIO):
-    """Standard error, on a terminal or elsewhere; it can be closed by its reader."""
+    """Standard error, which its reader can close."""
 
-    def __init__(self, on_terminal=False):
-        super().__init__()
-        self.on_terminal, self.has_reader, self.flushed = on_terminal, True, 0
-
-    def isatty(self):
-        return self.on_terminal
+    has_reader = True
 
     def write(self, text):
         if not self.has_reader:
             raise BrokenPipeError(32, "Broken pipe")
         return super().write(text)
-
-    def flush(self):
-        self.flushed += 1
 
 
 class Progress(unittest.TestCase):
@@ -87,30 +76,6 @@ class Progress(unittest.TestCase):
             self.shown(Stream(), steps),
             "10 of 3000 pictures\n500 of 3000 pictures\n2000 of 3000 pictures, 663 a second, 2 s left\n3000 of 3000 pictures, 732 a second\n",
         )
-
-    def test_a_line_that_changes(self):
-        """On a terminal five times a second; the end of the line comes with the last one."""
-        stream = Stream(on_terminal=True)
-        steps = [(1.0, 0), (1.19, 20), (1.2001, 600), (10000.0, 3000)]
-        self.assertEqual(
-            self.shown(stream, steps),
-            "\r\x1b[K0 of 3000 pictures\r\x1b[K600 of 3000 pictures\r\x1b[K3000 of 3000 pictures, 0 a second\n",
-        )
-        self.assertEqual(stream.flushed, 3)
-
-    def test_a_message_stands_alone(self):
-        """On a terminal the line that changes is taken away before a message; elsewhere nothing is."""
-        stream = Stream(on_terminal=True)
-        it = progress.Progress(3, stream)
-        it.done(1)
-        it.clear()
-        it.clear()
-        self.assertEqual(stream.getvalue(), "\r\x1b[K1 of 3 pictures\r\x1b[K")
-        other = Stream()
-        it = progress.Progress(3, other)
-        it.done(1)
-        it.clear()
-        self.assertEqual(other.getvalue(), "1 of 3 pictures\n")
 
     def test_the_time_left(self):
         """From 5 s on it is within a factor of 2, however long the first results take, and soon after pictures take longer or shorter."""
@@ -153,11 +118,6 @@ class Progress(unittest.TestCase):
             stream.getvalue(),
             "10 of at least 500 pictures\n610 of at least 610 pictures, 200 a second\n620 of 620 pictures, 103 a second\n",
         )
-
-    def test_nothing(self):
-        self.assertEqual(self.shown(Stream(), [(5.0, 10)], quiet=True), "")
-        self.assertEqual(self.shown(Stream(), [(5.0, 0)], total=0), "")
-        self.assertEqual(self.shown(Stream(), [(0.0, 3000)]), "3000 of 3000 pictures, 3000000 a second\n")
 
     def test_a_reader_that_has_gone(self):
         stream = Stream()
@@ -270,45 +230,13 @@ class Messages(WithPictures):
                 "a further process can't be started: resource temporarily unavailable",
             )
 
-    def test_of_exiftools_end(self):
+    def test_of_an_exiftool_that_ended(self):
         os.mkdir(self.path("room"))
-        for script, text in (
-            ("exit 3", "ExifTool ended with status 3 at this file"),
-            ("exec >&-; sleep 1", "ExifTool ended with status 0 at this file"),
-        ):
-            write(self.path("exiftool"), f"#!/bin/sh\nread line\n{script}\n".encode())
-            os.chmod(self.path("exiftool"), 0o755)
-            with mock.patch.object(programs, "needed", lambda _: self.path("exiftool")):
-                it = exiftool.Process(self.path("room"), 60.0)
-                self.assertEqual(self.raised(programs.Failed, it.ask, [b"a"], [], ()), text)
-                it.close()
         with mock.patch.object(programs, "needed", lambda _: shutil.which("true")):
             it = exiftool.Process(self.path("room"), 60.0)
-            it.process.wait()
-            self.assertEqual(self.raised(programs.Failed, it.ask, [b"a"], ["x" * 100_000], ()), "ExifTool ended before it was asked")
-            it.close()
-
-    def test_of_files(self):
-        found = FoundFile(b"/a", b"/", Stamp(1, 2, 3, 4))
-        at, rest = PictureRecord(path=b"/a", root=b"/"), {}
-        marked = at.stamped(found.stamp)
-        for why, expected in (
-            (programs.Failed("exiv2 failed"), marked._replace(problem="ToolFailed", detail="exiv2 failed", extractor="own", **rest)),
-            (OSError(13, "Permission denied"), at._replace(problem="Unreadable", detail="permission denied")),
-            (
-                programs.Missing("exiftool"),
-                marked._replace(problem="NeedsExifTool", detail=str(programs.Missing("exiftool")), extractor="own", **rest),
-            ),
-        ):
-            with mock.patch.object(looking.extraction, "blocks_of_file", mock.Mock(side_effect=why)):
-                self.assertEqual(looking.look(found, How(), session.Session()), expected)
-        self.assertEqual(
-            self.raised(OSError, opening.opened, os.fsencode(self.folder)),
-            f"[Errno 22] it is no regular file: {os.fsencode(self.folder)!r}",
-        )
-        for name, problem, detail in ((self.folder, "NotAFile", TEXTS["NotAFile"]), (self.path("a"), "NoFile", TEXTS["NoFile"])):
-            it = extraction.blocks_of_file(os.fsencode(name))
-            self.assertEqual((it.problem, it.detail, it.blocks, it.not_read), (problem, detail, [], []))
+        it.process.wait()
+        self.assertEqual(self.raised(programs.Failed, it.ask, [b"a"], ["x" * 100_000], ()), "ExifTool ended before it was asked")
+        it.close()
 
     def test_streams_that_are_closed(self):
         """Each gets /dev/null, so that no file gets its number; without standard output nothing can be done."""
@@ -334,44 +262,3 @@ class Messages(WithPictures):
             signals.ready_streams()
             self.assertEqual((sys.stderr.name, sys.stderr.mode), ("/dev/null", "w"))
             sys.stderr.close()
-
-    def test_of_the_end(self):
-        printed = []
-        with mock.patch.object(main.signals, "say", printed.append), mock.patch.object(main.signals, "drop") as dropped:
-            self.assertEqual(main._output_failed(OSError(28, "No space left on device")), 4)
-            self.assertEqual(main._output_failed(BrokenPipeError(32, "Broken pipe")), 4)
-            self.assertEqual(dropped.mock_calls, [mock.call(sys.stdout)] * 2)
-        self.assertEqual(printed, ["exifnorm-pictures: standard output: no space left on device"])
-        with mock.patch.object(sys, "stdout", None):
-            self.assertEqual(self.raised(signals.ClosedOutput, signals.ready_streams), "standard output is closed")
-        with contextlib.redirect_stderr(io.StringIO()) as printed:
-            signals.say("a text")
-        self.assertEqual(printed.getvalue(), "a text\n")
-        broken = Stream()
-        broken.has_reader = False
-        with contextlib.redirect_stderr(broken), mock.patch.object(signals, "drop") as dropped:
-            signals.say("a text")
-        self.assertEqual(dropped.mock_calls, [mock.call(broken)])
-
-
-class OfPictures(unittest.TestCase):
-    """A picture that was looked at, in lines and as an object."""
-
-    maxDiff = None
-
-    def test_a_block_of_which_no_form_was_made(self):
-        refused = BlockRecord("exif", "second Exif", "somewhere", "own", "refused", None, "Overlap", 34, 100, "0" * 64)
-        blocks = tuple(
-            refused._replace(status=one, cause=cause, place=None)
-            for one, cause in (("failed", "OutOfMemory"), ("too long", "NormalTooLong"))
-        )
-        it = PictureRecord.of(b"/a", b"/", type="JPEG", blocks=blocks)
-        self.assertEqual(output.record_lines(it), ["/a: second Exif: failed: OutOfMemory", "/a: second Exif: too long: NormalTooLong"])
-        members = [(it["status"], it["cause"], it["offset"]) for it in json.loads(objects.record_lines(it)[0])["blocks"]]
-        self.assertEqual(members, [("failed", "OutOfMemory", None), ("too long", "NormalTooLong", None)])
-
-    def test_a_folder_that_cannot_be_read(self):
-        """It is in no folder of a catalogue; a file that can't be read has its own row."""
-        it = PictureRecord.of(b"/a\n/b", b"", problem="Unreadable", detail="permission denied")
-        self.assertEqual(output.closed_folder(it), ["the folder /a\\n/b can't be read: permission denied"])
-        self.assertEqual(output.closed_folder(it._replace(root=b"/a")), [])

@@ -1,36 +1,26 @@
 """Single functions of exifnorm_pictures: at limits, orders and names that no picture of the other tests reaches."""
 
-import contextlib
 import hashlib
 import io
-import json
 import os
 import re
-import shutil
 import sqlite3
-import sys
-import tempfile
+import shutil
 import unittest
 from unittest import mock
 
-from made_files import app1_xmp, chunk, exif, page, png, tiff, title
-from studio import TOP, WithPictures, needs, put, read, tool, write
+from studio import TOP, WithPictures, needs, put, read, tool
 
 from exifnorm_pictures.catalogue.store import Catalogue, NoCatalogue
 from exifnorm_pictures.cli import main
-from exifnorm_pictures.cli.commands import mend as mend_cli, same
-from exifnorm_pictures.cli.options import Output
-from exifnorm_pictures.comparison import differing
+from exifnorm_pictures.cli.commands import same
 from exifnorm_pictures.extract import exiftool, programs
-from exifnorm_pictures.extract.formats import png as png_
 from exifnorm_pictures.fields import names
-from exifnorm_pictures.fields.field import Field
 from exifnorm_pictures.files import session
 from exifnorm_pictures.judge import judge
 from exifnorm_pictures.model import xmp_names as short_names
-from exifnorm_pictures.model.found import Broken, NotRead
+from exifnorm_pictures.model.found import NotRead
 from exifnorm_pictures.model.records import PictureRecord
-from exifnorm_pictures.refusals import explain, mend
 from exifnorm_pictures.scan import index, walk
 
 
@@ -107,16 +97,6 @@ class Names(unittest.TestCase):
                     self.assertIn(name.replace("-", "").lower(), known.get((where, key), ()), (where, key))
             self.assertEqual(standard, {}, where)
 
-    def test_files_in_the_order_of_their_names(self):
-        """First those of a folder, then those of each folder in it; a catalogue is none, also where it is named by itself."""
-        with tempfile.TemporaryDirectory() as folder:
-            for name in ("b/2", "b/1", "a/z/1", "a/b", "c", "A"):
-                os.makedirs(os.path.dirname(os.path.join(folder, name)), exist_ok=True)
-                write(os.path.join(folder, name), b"")
-            left_out = os.fsencode(os.path.join(folder, "c"))
-            found = [os.fsdecode(it.path) for it in walk.below([os.fsencode(folder), left_out], self.fail, (left_out,))]
-        self.assertEqual([os.path.relpath(it, folder) for it in found], ["A", "a/b", "a/z/1", "b/1", "b/2"])
-
 
 class Indexed(WithPictures):
     def test_files_of_the_catalogue(self):
@@ -149,28 +129,6 @@ class Indexed(WithPictures):
             with mock.patch.object(index, "LONGEST_WAIT", -1):
                 index.index(index.IndexOptions([os.fsencode(self.path("p"))], quiet=True, look=looked), made)
 
-    def test_a_folder_that_cannot_be_read_hides_no_other(self):
-        for name in ("ab", "a"):
-            put(self.folder, {f"{name}/1.jpg": b""})
-        with Catalogue(self.path("c"), make=True) as made:
-            asked = index.IndexOptions([os.fsencode(self.folder)], quiet=True)
-            index.index(asked, made)
-            for name in ("ab", "a"):
-                os.remove(self.path(name, "1.jpg"))
-            real = os.scandir
-
-            def refused(folder):
-                if folder == os.fsencode(self.path("a")):
-                    raise PermissionError(13, "Permission denied")
-                return real(folder)
-
-            with mock.patch.object(os, "scandir", refused):
-                index.index(asked, made)
-            found = dict(
-                made.rows("SELECT path, problem FROM pictures", (), lambda row: (os.path.relpath(os.fsdecode(row[0]), self.folder), row[1]))
-            )
-        self.assertEqual((found["a/1.jpg"], found["ab/1.jpg"]), ("NoPicture", "Vanished"))
-
 
 class Extracted(WithPictures):
     def test_what_exiftool_does_not_extract_has_a_digest(self):
@@ -187,13 +145,6 @@ class Extracted(WithPictures):
             found = judge.judge("exif", b"abc")
         self.assertEqual((found.status, found.digest, found.cause, found.place, found.length), ("too long", None, "NormalTooLong", None, 3))
 
-    @needs("exiftool")
-    def test_two_packets_that_exiftool_extracts(self):
-        packets = [app1_xmp(title(it)) for it in ("one", "two")]
-        write(self.path("a.exv"), b"\xff\x01Exiv2" + b"".join(packets) + b"\xff\xd9")
-        found = json.loads(self.asked("index", "a.exv", "--catalogue", "c", "--quiet", "--json")[0])
-        self.assertEqual([(it["kind"], it["name"]) for it in found["blocks"]], [("xmp", "XMP"), ("xmp", "second XMP")])
-
     def test_an_output_without_end(self):
         with mock.patch.object(programs, "OUTPUT", 100_000):
             with self.assertRaisesRegex(programs.Failed, "^yes wrote more than 100,000 bytes about one file$"):
@@ -202,19 +153,6 @@ class Extracted(WithPictures):
             self.assertEqual(programs.run(["head", "-c", "100", "/dev/zero"], 10.0).stdout, bytes(100))
             with self.assertRaisesRegex(programs.Failed, "^head wrote more than 100 bytes about one file$"):
                 programs.run(["head", "-c", "101", "/dev/zero"], 10.0)
-
-    def test_a_damaged_chunk(self):
-        good = png(chunk(b"eXIf", exif(b"Abc")))
-        at = good.index(b"eXIf")
-        self.assertEqual(len(png_.read(io.BytesIO(good)).blocks), 1)
-        for place in (at, at + 10, at + 4 + len(exif(b"Abc"))):
-            damaged = bytearray(good)
-            damaged[place] ^= 0x20
-            if place == at:  # another kind, which is not read
-                self.assertEqual(png_.read(io.BytesIO(bytes(damaged))).blocks, [])
-            else:
-                with self.assertRaisesRegex(Broken, "check sum"):
-                    png_.read(io.BytesIO(bytes(damaged)))
 
 
 class Parts(unittest.TestCase):
@@ -228,27 +166,6 @@ class Parts(unittest.TestCase):
         self.assertIsNone(PictureRecord.of(b"/a", b"/", unread=(parts[0], NotRead("a chunk", ""))).not_read)
 
 
-class Listed(unittest.TestCase):
-    def test_a_thumbnail_is_after_its_fields(self):
-        in_order = "main 010f, exif 9003, gps 0001, thumb 0112, thumb ffff, thumb jpeg, thumb strip, iptc 2:5, iptc 2:25".split(", ")
-        found = differing.differences([], [Field(*it.split(), "SHORT", 1, (1,)) for it in reversed(in_order)])
-        self.assertEqual([f"{it.directory} {it.tag}" for it in found], in_order)
-        self.assertEqual([it.name for it in found[5:7]], ["IFD1:ThumbnailImage", "IFD1:ThumbnailTIFF"])
-
-    def test_a_next_offset_that_is_missing(self):
-        whole = bytes.fromhex("4d4d002a00000008 0001 0112 0003 00000001 00060000 00000000")
-        for cut in range(1, 7):
-            found = explain.explain("exif", whole[:-cut])
-            self.assertEqual(found.judgement.cause, "DirectoryOutside")
-            self.assertEqual(any(f"({cut} bytes of 4)" in it for it in found.here), cut <= 4, found.here)
-
-    def test_the_entry_before_a_doubled_one(self):
-        block = tiff(page((0x010F, 2, b"Ab\0\0"), (0x010F, 2, b"Cd\0\0")))
-        found = explain.explain("exif", block)
-        self.assertEqual(found.judgement.cause, "Doubled")
-        self.assertEqual(sum("Make (010f)" in it for it in found.here), 2, found.here)
-
-
 class Ended(unittest.TestCase):
     def test_each_failure_has_its_line_and_status(self):
         for why, status, line in (
@@ -258,60 +175,9 @@ class Ended(unittest.TestCase):
             (NoCatalogue("a catalogue"), 4, "a catalogue"),
             (programs.Failed("a program"), 4, "a program"),
             (OSError(28, "No space left on device", "a"), 4, "a: no space left on device"),
+            (PermissionError(13, "Permission denied", b"/a\xff"), 4, "/a\\xff: permission denied"),
+            (sqlite3.OperationalError("disk I/O error"), 4, "disk I/O error"),
         ):
             lines = []
             with mock.patch.object(same, "run", side_effect=why), mock.patch.object(main.signals, "say", lines.append):
                 self.assertEqual((main._run(["same", "c"]), lines), (status, [f"exifnorm-pictures: {line}"]))
-
-    def test_errors_of_other_packages(self):
-        """Their texts are for people, but only a package that was imported has them: most commands don't need all."""
-        import exifnorm
-
-        for why, line, modules in (
-            (sqlite3.OperationalError("disk I/O error"), "disk I/O error", ()),
-            (exifnorm.LibraryMissing("no library"), "no library", ()),
-            (PermissionError(13, "Permission denied", b"/a\xff"), "/a\\xff: permission denied", ("exifnorm", "sqlite3")),
-        ):
-            lines = []
-            with mock.patch.dict(sys.modules), mock.patch.object(main.signals, "say", lines.append):
-                for it in modules:
-                    del sys.modules[it]
-                self.assertEqual((main._failed_by(why, False), lines), (4, [f"exifnorm-pictures: {line}"]))
-
-
-class Mended(WithPictures):
-    def test_values_that_any_writer_changes(self):
-        """Offsets, padding and the digest of the record are no values of a picture."""
-        lines = b"[IFD0] Make : Abc\n[IFD0] StripOffsets : 8\n[ExifIFD] Padding : 1\n[Photoshop] IPTCDigest : 00ff\n[IFD1] Make  :  Abc\n"
-        with mock.patch.object(programs, "exiftool", lambda *words: list(words)), mock.patch.object(
-            programs, "run", lambda *_: programs.Done(0, lines)
-        ):
-            self.assertEqual(sorted(mend._printed(session.Session(), "a")), ["[IFD0] Make : Abc", "[IFD1] Make : Abc"])
-
-    def test_statuses(self):
-        """Those of `mend --help`; the greatest counts."""
-        ends = {
-            "copy": (mend.Mended(mend.Remedy.COPY, {}, is_written=True), 0),
-            "touch": (mend.Mended(mend.Remedy.TOUCH, {}, is_written=True), 0),
-            "lost": (mend.Mended(mend.Remedy.REBUILD, {}, ["a"], is_written=True), 1),
-            "lossless": (mend.Mended(mend.Remedy.REBUILD, {}, ["a"]), 2),
-            "none": (mend.Mended(mend.Remedy.NONE, {}), 2),
-            "problem": (mend.Mended(mend.Remedy.NONE, {}, problem="NoPicture"), 2),
-        }
-        for name, (found, status) in ends.items():
-            with mock.patch.object(mend, "mend", lambda *_, found=found: found), contextlib.redirect_stdout(io.StringIO()):
-                self.assertEqual(mend_cli._mend_one(Output(), None, b"a", b"b")[0], status, name)
-        for why, status in ((mend.NotWritten("no"), 4), (programs.Failed("no"), 2)):
-            with mock.patch.object(mend, "mend", mock.Mock(side_effect=why)), contextlib.redirect_stdout(io.StringIO()):
-                self.assertEqual(mend_cli._mend_one(Output(), None, b"a", b"b")[0], status, why)
-
-    def test_a_link_in_the_way(self):
-        """Also one that leads nowhere is a file that is there."""
-        write(self.path("a.jpg"), b"")
-        os.symlink("nowhere", self.path("out.jpg"))
-        with mock.patch.object(programs, "needed", lambda _: ""), mock.patch.object(
-            mend, "blocks_of_file", lambda _: self.fail("it is read")
-        ):
-            with self.assertRaisesRegex(mend.NotWritten, "there already"):
-                mend.mend(os.fsencode(self.path("a.jpg")), os.fsencode(self.path("out.jpg")), session.Session(room=self.folder))
-        self.assertEqual((os.readlink(self.path("out.jpg")), read(self.path("a.jpg"))), ("nowhere", b""))

@@ -13,7 +13,7 @@ import pytest
 from exifnorm_pictures.catalogue.store import VERSION
 from exifnorm_pictures.cli import parser
 from museum import run
-from studio import needs
+from studio import needs, without_own_script
 from test_report import Text
 
 pytestmark = pytest.mark.xdist_group("museum")
@@ -47,6 +47,7 @@ CALLS = {
         index --files-from some --catalogue three --jobs 1
             index --files-from some0 -0 --catalogue three --json
         index nowhere --catalogue four
+        index one/desk --catalogue few --keep-old nowhere/old --jobs 1 --quiet
         index archive/work archive/texts --shards parts --jobs 1 --quiet
             list parts --where 'title = "A vase"'
             same parts --kind iptc
@@ -242,8 +243,13 @@ CALLS = {
         mend --files-from some mended --json
             mend --files-from some0 -0 mended
         mend one/refused mended4
+        mend one/refused/Doubled.jpg mended.jpg
+        mend archive/states/cut-in-its-picture.jpg mended5.jpg
+        mend archive/states/cut-in-its-head.jpg mended6.jpg --json
     """,
 }
+# What a page runs, or loads from elsewhere, or leads to
+OUTSIDE = re.compile(r"<script|<link|src=.(?!data:)|href=.(?!file:///|#|\.{1,2}/|data:image/)")
 # Options that no call can have here, and why
 ELSEWHERE = {"--scheduler": "needs a cluster: test_shard_tasks.py", "--help": "help.txt has it", "--no-programs": "test_options.py"}
 
@@ -265,7 +271,7 @@ def transcript(line, folder):
     """A call with what it prints and its status."""
     status, printed, messages = run(line, folder)
     progress = re.compile(r"[\d,]+ of (at least )?[\d,]+ pictures")
-    messages = [f"(stderr) {message}" for message in messages if not progress.match(message)]
+    messages = [f"(stderr) {message}" for message in messages if "--quiet" in line or not progress.match(message)]
     lines = [f"$ exifnorm-pictures {line}", *printed, *messages, f"(status {status})", ""]
     text = "\n".join(lines).replace(str(folder), "F").replace(os.fsencode(folder).hex(), "F".encode().hex())
     text = re.sub(r', "unproved": \["[^"]*"\]', "", text)  # of a quick build
@@ -321,10 +327,11 @@ def test_texts_that_a_catalogue_keeps(museum, golden):
 def test_what_a_page_says(museum, golden):
     """The texts of a report: its contents with their counts, and each list."""
     (museum / "rules").write_text(RULES, encoding="utf-8")
-    run("report full --since full.before --rules rules --html page.html", museum)
+    run("report full --since full.before --rules rules --html page.html --title 'One & two'", museum)
     html = (museum / "page.html").read_text(encoding="utf-8")
     page = Text(html)
-    assert (page.wrong, page.open) == ([], [])
+    assert "<h1>One &amp; two</h1>" in html
+    assert (page.wrong, page.open, OUTSIDE.findall(without_own_script(html))) == ([], [], [])
     lines = []
     for name, texts in {"contents": page.found["nav"], **page.sections, "footer": page.found["footer"]}.items():
         lines += ["", f"[{name}]", *filter(None, (" ".join(it.split()) for it in " ".join(texts).split("\n")))] if name else []

@@ -86,8 +86,9 @@ def test_a_value_of_another_type_is_refused(museum):
     with contextlib.closing(sqlite3.connect("plain")) as base, base:
         base.execute("PRAGMA ignore_check_constraints = ON")
         base.execute("UPDATE pictures SET path = 1.5 WHERE id = (SELECT max(id) FROM pictures)")
-    status, _, messages = run("same plain --no-look", museum)
-    assert status > 2 and "1.5 is a value of another type" in "\n".join(messages), (status, messages)
+    for line, why in (("same plain --no-look", "1.5 is a value of another type"), ("changed plain before", "isn't bytes")):
+        status, _, messages = run(line, museum)
+        assert status > 2 and "plain is damaged" in messages[-1] and why in messages[-1], (line, status, messages)
 
 
 @needs("exiftool")

@@ -4,8 +4,8 @@ import json
 import re
 
 import pytest
-from made_files import A, app1, app1_xmp, jpeg, title, webp
-from studio import needs, put
+from made_files import A, B, app1, app1_xmp, jpeg, title, webp
+from studio import SMALL_JPEG, needs, put
 from test_cuts import FILES
 from test_never_the_same import reached
 
@@ -68,6 +68,25 @@ def test_one_list_in_all_commands(name, folder, called):
     assert [it["not_read"] for it in json.loads(called("compare", "--json", name, name)[1])["pictures"]] == [expected] * 2
     (conflict, *_) = map(json.loads, called("check", "--json", name)[1].splitlines())
     assert conflict["record"] == "summary" or conflict["not_read"] == expected
+
+
+HIDING = SMALL_JPEG[:-2] + app1(A) + b"\x11" * 100_000 + SMALL_JPEG[-2:]
+
+
+def test_whole_pictures_are_read_if_that_is_asked_for(folder, called):
+    """A block between the head and the tail of a long picture is a part that isn't read, which is found with --whole alone."""
+    put(folder, {"x/a.jpg": HIDING, "y/a.jpg": HIDING.replace(A, B)})
+    index = ("index", "x", "--quiet", "--again", "--catalogue")
+    for words in (
+        ("show", "x/a.jpg"),
+        ("show", "--captions", "x/a.jpg"),
+        ("explain", "x/a.jpg"),
+        (*index, "c"),
+        (*index, "d", "--jobs", "2"),
+    ):
+        found = [json.loads(called(*words, "--json", *more)[1].splitlines()[0]) for more in ((), ("--whole",))]
+        assert [bool(it.get("not_read")) for it in found] == [False, True], words
+    assert [called("changed", "x", "y", *more)[0] for more in ((), ("--whole",))] == [0, 2]
 
 
 TITLED = title("Bowl")

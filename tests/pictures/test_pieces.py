@@ -2,9 +2,6 @@
 
 import contextlib
 import os
-import resource
-import sqlite3
-import subprocess
 from types import SimpleNamespace
 from unittest import mock
 
@@ -12,7 +9,6 @@ from studio import WithPictures, write
 
 from exifnorm_pictures.extract import exiftool, programs
 from exifnorm_pictures.files import session
-from exifnorm_pictures.model import records
 from exifnorm_pictures.model.records import PictureRecord, Stamp
 from exifnorm_pictures.scan import batches, walk, workers
 from exifnorm_pictures.scan.walk import FoundFile
@@ -55,44 +51,6 @@ class Work(WithPictures):
         self.assertEqual((it.file, it.states, it.lines, it.unread, it.left), (self.path("rows"), {"NoPicture": 3}, [], [], found[3:]))
         self.assertEqual(([one.path for one in few.entries], few.left), ([b"/0", b"/1", b"/2"], found[3:]))
 
-    def test_rows_of_a_part(self):
-        """Those that can't be read have none: if they were known before, their earlier results stay."""
-        entries = [
-            PictureRecord.of(b"/a", b"/", Stamp(1, 2, 3, 4), "JPEG", "own"),
-            PictureRecord.of(b"/b", b"/", problem="Unreadable", detail="why"),
-            PictureRecord.of(b"/c", b"/", problem="Vanished"),
-            PictureRecord.of(b"/d", b"/", extractor="exiftool", problem="NoPicture", detail="d"),
-        ]
-        it = batches.batch(self.path("rows"), entries, [FoundFile(b"/e", b"/", None)], lambda it: [os.fsdecode(it.path), it.detail])
-        self.assertEqual(
-            it,
-            (
-                self.path("rows"),
-                {"no block": 1, "Unreadable": 1, "Vanished": 1, "NoPicture": 1},
-                ["/a", "", "/b", "why", "/c", "", "/d", "d"],
-                {"exiftool"},
-                entries[1:3],
-                [FoundFile(b"/e", b"/", None)],
-                programs.told(),
-            ),
-        )
-        base = sqlite3.connect(self.path("rows"))
-        self.addCleanup(base.close)
-        self.assertEqual(
-            base.execute("SELECT id, path, size, inode, problem, detail, run FROM pictures").fetchall(),
-            [(1, b"/a", 1, 4, None, "", 0), (2, b"/d", None, None, "NoPicture", "d", 0)],
-        )
-        self.assertEqual(batches.batch(self.path("more"), entries[:1], [], None).lines, [])
-
-    def test_programs_that_have_read_a_picture(self):
-        """They have extracted its blocks, or have found that it has none; or ExifTool has read its MakerNotes."""
-        blocks = [records.BlockRecord("exif", "Exif", "place", it, "accepted", "d", None, None, 1, "o") for it in ("own", "exiv2")]
-        own = PictureRecord.of(b"/a", b"/", extractor="own")
-        found = [
-            it.programs for it in (own, own._replace(notes=b"[]"), own._replace(extractor="exiftool"), own._replace(blocks=tuple(blocks)))
-        ]
-        self.assertEqual(found, [set(), {"exiftool"}, {"exiftool"}, {"exiv2"}])
-
 
 class Walked(WithPictures):
     """The files of a command."""
@@ -131,22 +89,6 @@ class Walked(WithPictures):
         )
         self.assertEqual(found[0].stamp, Stamp.of(os.stat(self.path("d", "3"))))
         self.assertEqual(unlisted, [walk.Unlisted(names[2], "no such file or directory"), walk.Unlisted(names[4], "not a directory")])
-
-    def test_what_cannot_be_listed(self):
-        os.makedirs(self.path("d", "b"))
-        write(self.path("d", "c"), b"")
-        unlisted = []
-        real = os.scandir
-        refused = os.fsencode(self.path("d", "b"))
-
-        def scan(folder):
-            if folder == refused:
-                raise PermissionError(13, "Permission denied")
-            return real(folder)
-
-        with mock.patch.object(os, "scandir", scan):
-            found = list(walk.below([os.fsencode(self.path("d"))], unlisted.append))
-        self.assertEqual(([os.path.basename(it.path) for it in found], unlisted), ([b"c"], [walk.Unlisted(refused, "permission denied")]))
 
 
 class Sessions(WithPictures):
@@ -230,45 +172,6 @@ class Sessions(WithPictures):
             self.assertEqual((counts(), own.tool), ((2, 2), None))
             own.close_tool()
             self.assertEqual(counts(), (2, 2))
-
-    def test_two_sessions_share_nothing(self):
-        """Each thread may have its own: its folder, its time limit and its ExifTool."""
-        with session.Session(1.0, room=self.folder) as first, mock.patch.object(exiftool, "Process") as made:
-            made.side_effect = lambda *_: mock.Mock(process=mock.Mock(poll=lambda: None), ask=lambda *_: [{}])
-            with session.Session(2.0, room=self.folder) as second:
-                for its in (first, second):
-                    exiftool.ask(its, b"a", ())
-                self.assertEqual(made.call_args_list, [mock.call(first.folder(), 1.0), mock.call(second.folder(), 2.0)])
-                self.assertNotEqual(first.folder(), second.folder())
-                tools = first.tool, second.tool
-            self.assertEqual([it.close.call_count for it in tools], [0, 1])
-
-    def test_how_a_program_is_started(self):
-        """In a session of its own, in the C locale, with pipes for both outputs; it ends with this process, and gets the signals that this one gets."""
-        calls = []
-        with mock.patch.object(subprocess, "Popen", lambda words, **more: calls.append((words, more))):
-            programs.start(["a", "b"], "/")
-            programs.start(["a"], "/", is_asked=True)
-        (words, more), pipe, nowhere = calls[0], -1, -3
-        self.assertEqual(calls[1][1]["stdin"], pipe)
-        begin = more.pop("preexec_fn")
-        environment = more.pop("env")
-        self.assertEqual(
-            (words, more),
-            (["a", "b"], {"stdin": nowhere, "stdout": pipe, "stderr": pipe, "bufsize": 0, "cwd": "/", "start_new_session": True}),
-        )
-        self.assertEqual(environment, {**os.environ, "LC_ALL": "C"})
-        with contextlib.ExitStack() as mocks:
-            libc = mocks.enter_context(mock.patch.object(programs, "_libc"))
-            mask = mocks.enter_context(mock.patch.object(programs.signal, "pthread_sigmask"))
-            limit = mocks.enter_context(mock.patch.object(resource, "setrlimit"))
-            begin()
-        self.assertEqual(libc.mock_calls, [mock.call.prctl(1, 9)])  # PR_SET_PDEATHSIG, SIGKILL
-        ((which, (soft, _)), _) = limit.call_args
-        self.assertTrue(which == resource.RLIMIT_AS and 0 < soft <= 1 << 30, (which, soft))
-        self.assertEqual(
-            mask.mock_calls, [mock.call(programs.signal.SIG_SETMASK, programs.signal.pthread_sigmask(programs.signal.SIG_BLOCK, ()))]
-        )
 
     def test_versions(self):
         for program, printed, expected in (

@@ -10,7 +10,6 @@ from collections import Counter
 
 import pytest
 from exact_fields import field
-from made_files import jpeg, with_record
 from studio import SMALL_JPEG, needs, tool
 
 from exifnorm_pictures.cli import summary as page
@@ -138,42 +137,4 @@ def test_no_page_is_longer_than_30_lines(folder):
 # The whole page
 
 
-def test_nothing_to_compare(folder, run):
-    (folder / "empty").mkdir()
-    assert run("changed", "empty", "empty") == (0, ["No picture to compare."])
-
-
 # Fields of blocks that came or went
-
-
-@needs("exiftool")
-def test_a_removed_block_is_one_edit(run, folder):
-    """Three pictures lose their copyright, two of them with all of Exif; with --only each field is counted by itself."""
-    (folder / "before").mkdir()
-    (folder / "before/0.jpg").write_bytes(SMALL_JPEG)
-    words = ["-Copyright=Museum", "-Artist=Anna", "-Make=Abc", *(f"-{it}=1" for it in ("ISO", "FNumber", "Flash", "Sharpness", "Contrast"))]
-    tool(folder, "exiftool", "-q", "-overwrite_original", *words, "before/0.jpg")
-    for number in (1, 2, 3):
-        shutil.copy(folder / "before/0.jpg", folder / f"before/{number}.jpg")
-    shutil.copytree(folder / "before", folder / "after")
-    tool(folder, "exiftool", "-q", "-overwrite_original", "-Copyright=", "after/0.jpg")
-    tool(folder, "exiftool", "-q", "-overwrite_original", "-EXIF:all=", "after/1.jpg", "after/2.jpg")
-    status, lines = run("changed", "before", "after")
-    assert (
-        status == 1
-        and "2 pictures (edit 2): Exif (creator, copyright) removed" in lines
-        and "    copyright (Exif) removed: [-Museum-]" in lines
-    ), lines
-    for word in ("Copyright", "IFD0:Copyright"):
-        assert "3 pictures (edit 1): copyright (Exif) removed" in run("changed", "before", "after", "--only", word)[1]
-    assert "3 pictures (edit 1): copyright (Exif): {+Museum+}" in run("changed", "after", "before", "--only", "Copyright")[1]
-
-
-def test_the_end_of_a_long_caption(called, folder):
-    text = b"A long but ordinary caption text of a museum, with the place found in Switzerland and its year 1820"
-    for side, octets in (("before", text), ("after", text.replace(b"1820", b"1280"))):
-        (folder / side).mkdir()
-        for name in ("a.jpg", "b.jpg"):
-            (folder / side / name).write_bytes(jpeg(with_record(b"\x1c\2\x78\0" + bytes((len(octets),)) + octets)))
-    printed = called("changed", "before", "after")[1]
-    assert "2 pictures (edit 1): caption (IPTC): [-1820-]{+1280+}" in printed, printed

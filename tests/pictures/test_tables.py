@@ -2,12 +2,10 @@
 
 import contextlib
 import hashlib
-import itertools
 import json
 import os
 import re
 import sqlite3
-import tempfile
 import unittest
 from collections import Counter
 from unittest import mock
@@ -29,7 +27,6 @@ from exifnorm_pictures.fields.packing import packed
 from exifnorm_pictures.files.session import Session
 from exifnorm_pictures.model.found import EXIF, IPTC, NAMES, XMP, NotRead
 from exifnorm_pictures.model.records import PICTURES, BlockRecord, PictureRecord, Stamp
-from exifnorm_pictures.model.results import Result
 from exifnorm_pictures.report import contents, lists
 from exifnorm_pictures.report.changes import Changes
 from exifnorm_pictures.scan import looking
@@ -190,25 +187,6 @@ class Tables(WithPictures):
         before, after = ([one._replace(sha256="1" * 64) for one in pictures] for pictures in (before, after))
         self.assertEqual(self.compared(before, after)[0], {"a/p": "d/p", "b/q": "c/q"})
 
-    def test_chosen_pictures(self):
-        before = [picture(it, {EXIF: it}) for it in ("a", "b", "c", "gone")]
-        after = [picture(it, {EXIF: text}, root="/other/folder") for it, text in zip(("a", "b", "c", "new"), ("a", "B", "C", "n"))]
-        everything = {"same": 1, "different": 2, "missing after": 1, "missing before": 1}
-        self.assertEqual(self.compared(before, after)[1], everything)
-        for only, expected in (
-            ({b"a"}, {"same": 1}),
-            ({b"b", b"a"}, {"same": 1, "different": 1}),
-            ({b"/a/b"}, {"different": 1}),
-            ({b"/other/folder/b"}, {"different": 1}),
-            ({b"/other/folder/a"}, {"same": 1}),
-            ({b"gone"}, {"missing after": 1}),
-            ({b"/other/folder/new", b"c"}, {"missing before": 1, "different": 1}),
-            ({b"/x"}, {}),
-            (set(), {}),
-        ):
-            with self.subTest(only):
-                self.assertEqual(self.compared(before, after, only)[1], expected)
-
     def test_paths_of_several_folders(self):
         """Where a catalogue has more than one folder, whole paths are compared."""
         before = [picture("a"), picture("b", root="/b")]
@@ -226,18 +204,6 @@ class Tables(WithPictures):
         self.assertEqual(self.compared([], [picture("a")])[1], {"missing before": 1})
         odd = [picture("a\udcff'\n;", root="/\udc80 x'")]
         self.assertEqual(self.compared(odd, [picture("a\udcff'\n;", root="/other")])[1], {"same": 1})
-
-    def test_a_path_that_is_no_blob(self):
-        for side in (0, 1):
-            both = [self.catalogue(f"{it}{side}", picture("p", {EXIF: str(it)})) for it in (0, 1)]
-            both[side].base.execute("UPDATE pictures SET path = CAST(path AS TEXT)")
-            with self.assertRaisesRegex(NoCatalogue, f"/{side}{side} "):
-                list(changed.changed(*both, Counter()))
-        both = [self.catalogue(f"same{it}", picture("p")) for it in (0, 1)]
-        for it in both:
-            it.base.execute("UPDATE pictures SET path = CAST(path AS TEXT)")
-        with self.assertRaisesRegex(NoCatalogue, "/same0 "):
-            list(changed.changed(*both, Counter()))
 
     def test_all_is_read_of_one_moment(self):
         """What others write meanwhile counts in the next comparison."""
@@ -289,12 +255,6 @@ class Tables(WithPictures):
         self.assertEqual(
             [sentence_of(it) for it in Groups(made, look=False).by_meaning((EXIF, IPTC))][0], "Exif and IPTC are the same byte for byte"
         )
-
-    def test_bytes_that_differ_in_one_kind(self):
-        other = [it._replace(octets="0" * 64) if it.kind == IPTC else it for it in picture("a").blocks]
-        made = self.catalogue("c", with_blocks(picture("a"), other), picture("b"))
-        self.assertEqual([sentence_of(it) for it in Groups(made, look=False).by_meaning()], ["Exif, IPTC and XMP are the same"])
-        self.assertEqual([it.same_bytes for it in Groups(made, look=False).by_meaning((EXIF,))], [True])
 
 
 def with_fields(kind, name, text, fields, by="own"):
@@ -450,13 +410,6 @@ class Reported(WithPictures):
         made.end_run(1, "2000-01-01T00:00:09Z")
         self.about = contents.About(made, self.catalogue("old", *old), look=False)
 
-    def test_what_is_counted(self):
-        found = lists.counts_of(self.about)
-        states = Counter(it.state for it in self.about.catalogue.pictures())
-        self.assertEqual((found.total, found.states), (10, states), "a state by SQL is that of the record")
-        self.assertEqual(found.causes, {"DataSetCut": 1, "Overlap": 1, "NoRDF": 1})
-        self.assertEqual((found.parts, found.unread, found.groups), ([("trailer", 2), ("a chunk", 1)], 2, (2, 4)))
-
     def test_objects(self):
         """The objects of --json, in golden/report-objects.txt."""
         self.golden("report-objects.txt", "".join(json.dumps(it) + "\n" for _, it in contents.objects(self.about)))
@@ -465,19 +418,6 @@ class Reported(WithPictures):
         self.assertNotIn("unproved", next(contents.objects(self.about))[1])
         self.about.catalogue.set_versions(1, "1.0.0-unproved", None, None)
         self.assertEqual(next(contents.objects(self.about))[1]["unproved"], ["1.0.0-unproved"])
-
-    def test_chosen_pictures(self):
-        """Their counts, groups, refusals and unread parts alone."""
-        about = contents.About(self.about.catalogue, None, {b"/a/b1", b"/a/b2", b"/a/new", b"/a/r\xff", b"/a/no"}, look=False)
-        found = lists.counts_of(about)
-        self.assertEqual(
-            (found.total, dict(found.causes), found.parts, found.unread, found.groups),
-            (5, {"Overlap": 1, "NoRDF": 1}, [("a chunk", 1), ("trailer", 1)], 1, (1, 2)),
-        )
-        self.assertEqual([it.data.path for it in lists.problems(about)], [b"/a/no"])
-        kinds = [next(iter(it)) for _, it in contents.objects(about)]
-        self.assertEqual(kinds, ["pictures", "same", "refused", "refused", "problem", "not_read"])
-        self.assertEqual(next(contents.objects(about))[1]["pictures"], 5)
 
     def test_the_order_of_lists(self):
         """Files that can't be read come before those that are no pictures, what is in many pictures before what is in few."""
@@ -568,19 +508,6 @@ class File(WithPictures):
         with open(self.path("c"), "rb") as file:
             self.assertEqual((file.read(20)[18:], os.listdir(self.folder)), (b"\1\1", ["c"]))
 
-    def test_one_that_others_read_is_closed_soon(self):
-        with Catalogue(self.path("c"), make=True) as made:
-            made.begin_run("2000-01-01T00:00:00Z")
-            other = Catalogue(self.path("c"))
-            self.addCleanup(other.close)
-            with other.reading():
-                self.assertEqual(len(other.runs()), 1)
-                statements = []
-                made.base.set_trace_callback(statements.append)
-                made.close()
-        self.assertEqual(statements, ["PRAGMA busy_timeout = 200", "PRAGMA journal_mode = DELETE"])
-        self.assertIn("c-wal", os.listdir(self.folder))
-
 
 class Marks(WithPictures):
     def test_a_file_that_is_written_to_meanwhile(self):
@@ -603,65 +530,6 @@ class Marks(WithPictures):
         from exifnorm_pictures.scan.walk import FoundFile
 
         self.assertIsNone(looking._unless_changed(FoundFile(os.fsencode(self.path("nothing")), b"/", Stamp(1, 2, 3, 4)), 5))
-
-    def test_each_shows_an_edit(self):
-        from exifnorm_pictures.catalogue.store import Known
-        from exifnorm_pictures.scan.index import _is_unchanged
-        from exifnorm_pictures.scan.walk import FoundFile
-
-        marks = Stamp(1, 2, 3, 4)
-        known = Known(1, marks, None)
-        self.assertTrue(_is_unchanged(FoundFile(b"/a", b"/", marks), known))
-        for name in ("size", "modified", "changed", "inode"):
-            self.assertFalse(_is_unchanged(FoundFile(b"/a", b"/", marks._replace(**{name: 9})), known), name)
-        self.assertTrue(_is_unchanged(FoundFile(b"/a", b"/", marks._replace(device=9)), known), "another mount is no edit")
-        for found, before in (
-            (None, known),
-            (marks, None),
-            (marks, Known(1, None, None)),
-            (marks, Known(1, marks, "Unreadable")),
-            (marks, Known(1, marks, "Vanished")),
-            (None, Known(1, None, None)),
-        ):
-            self.assertFalse(_is_unchanged(FoundFile(b"/a", b"/", found), before))
-        self.assertTrue(_is_unchanged(FoundFile(b"/a", b"/", marks), Known(1, marks, "NoPicture")))
-
-
-class Remedies(WithPictures):
-    """Which remedy `mend` takes, by what each one loses and adds; here each writes some lines as its printed values."""
-
-    def best(self, **made):
-        from exifnorm_pictures.refusals import mend
-
-        def remedy(step):
-            def write(_, name):
-                tried.append(step)
-                with open(name, "w") as file:
-                    file.write("\n".join(made[step] or ()))
-                return made[step] is not None
-
-            return write
-
-        def printed(_, name):
-            with open(name) as file:
-                return Counter(file.read().split("\n"))
-
-        tried = []
-        with open(self.path("picture.jpg"), "w") as file:
-            file.write("a\nb\nc")
-        blocks = mock.patch.multiple(mend, _printed=printed, _refusals=lambda _: {}, _REMEDIES={it: remedy(it) for it in mend._REMEDIES})
-        with blocks, mock.patch.object(mend, "blocks_of_file", lambda _, **__: mend.Blocks()), tempfile.TemporaryDirectory() as room:
-            found = mend._best(None, os.fsencode(self.path("picture.jpg")), mend.Blocks(), None, room)
-        return found and (found[0], found[2], found[3]), tried
-
-    def test_the_one_that_loses_least(self):
-        steps = ["touch", "exiv2", "rebuild"]
-        self.assertEqual(self.best(touch="abc", exiv2="ab", rebuild="ab"), (("touch", [], []), steps[:1]))
-        self.assertEqual(self.best(touch="a", exiv2="ab", rebuild=""), (("exiv2", ["c"], []), steps))
-        self.assertEqual(self.best(touch="abx", exiv2="ab", rebuild="abxyz"), (("exiv2", ["c"], []), steps))
-        self.assertEqual(self.best(touch="abcx", exiv2=None, rebuild="abc"), (("rebuild", [], []), steps))
-        self.assertEqual(self.best(touch="abx", exiv2="aby", rebuild="abz"), (("touch", ["c"], ["x"]), steps))
-        self.assertEqual(self.best(touch=None, exiv2=None, rebuild=None), (None, steps))
 
 
 # numbers with zeros in front, where they are written in hexadecimal
@@ -725,14 +593,3 @@ class EqualChanges(unittest.TestCase):
         self.assertEqual(found[1], ("to a place", 1, [b"moved 0000"]))
         for _, count, names in found:
             self.assertEqual(count, len(names))
-
-
-class Statuses(unittest.TestCase):
-    def test_of_changed(self):
-        """The greatest status of all results."""
-        from exifnorm_pictures.cli.exit_codes import status_of_results
-
-        for one, other in itertools.product(Result, repeat=2):
-            both = [status_of_results(Counter([it])) for it in (one, other)]
-            self.assertEqual(status_of_results(Counter([one, other, Result.SAME])), max(both), (one, other))
-        self.assertEqual(status_of_results(Counter()), 0)

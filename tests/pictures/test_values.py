@@ -5,8 +5,6 @@ import io
 import os
 import sys
 import unittest
-import zlib
-from collections import Counter
 from unittest import mock
 
 from made_blocks import segment
@@ -14,8 +12,6 @@ from made_files import exif, jpeg, xmp
 from studio import WithPictures, run
 
 from exifnorm_pictures.catalogue.store import BLOCK_COLUMNS, PICTURE_COLUMNS, Catalogue, NoCatalogue
-from exifnorm_pictures.comparison.changed import states as changed
-from exifnorm_pictures.comparison.differing import bare
 from exifnorm_pictures.extract.formats import jpeg as jpeg_
 from exifnorm_pictures.files import signals
 from exifnorm_pictures.judge import judge
@@ -69,59 +65,6 @@ class RowsOfCatalogues(WithPictures):
             self.assertIn(repr(MEANT[value]), str(raised.exception), (table, column))
             made.base.execute("ROLLBACK")
         self.assertEqual([it.refusal for it in read()], ["Overlap at 34"])
-
-    def test_fields_that_cannot_be_read(self):
-        """They are neither a list in JSON nor one that zlib compressed, or are a list of something else."""
-        sides = [self.catalogue(b"/p", name=name) for name in ("before", "after")]
-        text = "CAST('{}' AS BLOB)".format
-        good = [text('[["main", "010f", "ASCII", 4, "abc"]]'), text('[["main", "010f", "ASCII", 4, "xyz"]]')]
-        wrong = (
-            "x'0011'",
-            "7",
-            "'text'",
-            text("["),
-            text("[1]"),
-            text('[["main"]]'),
-            text("[" * 100_000),
-            f"x'{zlib.compress(bytes([255])).hex()}'",
-        )
-        for side, fields in [(side, fields) for side in (0, 1) for fields in wrong]:
-            for it, digest, value in zip(sides, "ab", good):
-                it.base.execute(f"UPDATE blocks SET status = 'accepted', cause = NULL, place = NULL, digest = '{digest}', fields = {value}")
-                it.base.execute(f"UPDATE pictures SET exif = '{digest}'")
-            found = [
-                (it.result, [(one.name, bare(one.before), bare(one.after)) for one in it.changes])
-                for it in changed.changed(*sides, Counter())
-            ]
-            self.assertEqual(found, [("different", [("IFD0:Make", '"abc"', '"xyz"')])])
-            sides[side].base.execute(f"UPDATE blocks SET fields = {fields}")
-            with self.assertRaises(NoCatalogue, msg=(side, fields[:40])) as raised:
-                list(changed.changed(*sides, Counter()))
-            self.assertIsInstance(raised.exception.__cause__, Damaged)
-            self.assertTrue(str(raised.exception).startswith(f"{sides[side].name} "), raised.exception)
-
-    def test_versions_and_ends_of_runs(self):
-        """Each is that of one run."""
-        made = self.catalogue()
-        later = made.begin_run("2001-02-03T04:05:06Z")
-        made.set_versions(later, "1.0.0-unproved", "12.57", "0.27.6")
-        made.end_run(later, "2001-02-03T04:05:07Z")
-        last = made.begin_run("2002-01-01T00:00:00Z")
-        made.set_versions(last, "1.0.0", "13.00", None)
-        self.assertEqual(
-            made.runs(),
-            [
-                ("2000-01-01T00:00:00Z", None, None, None, None),
-                ("2001-02-03T04:05:06Z", "2001-02-03T04:05:07Z", "1.0.0-unproved", "12.57", "0.27.6"),
-                ("2002-01-01T00:00:00Z", None, "1.0.0", "13.00", None),
-            ],
-        )
-
-    def test_a_copy_that_cannot_be_made(self):
-        made = self.catalogue()
-        with self.assertRaises(NoCatalogue) as raised:
-            made.copy_to(self.path("missing", "old"))
-        self.assertEqual(str(raised.exception), f"{made.name}: unable to open database file")
 
     def test_what_is_below_the_root(self):
         """Each path but the root itself, also if a folder is given with a slash at its end."""
@@ -237,18 +180,3 @@ class Closed(WithPictures):
                 "print(*[it.name for it in ends.SIGNALS if signal.getsignal(it) == signal.SIG_DFL])"
             )
             self.assertEqual(self.by_itself(text), [ignored, ""])
-
-    def test_files_that_are_not_read(self):
-        """One that became a pipe after a look at it, and one whose first bytes can't be read."""
-        with open(self.path("a.jpg"), "wb") as file:
-            file.write(jpeg())
-        os.mkfifo(self.path("pipe"))
-        text = (
-            "import os\nfrom exifnorm_pictures.extract import extraction\n"
-            "def count(): return len(os.listdir('/proc/self/fd'))\n"
-            "def fails(*_): raise OSError(5, 'Input/output error')\n"
-            "opened, before = os.open, count()\nos.open = lambda path, *more: opened('pipe', *more)\n"
-            "print(extraction.blocks_of_file(b'a.jpg').problem, count() - before)\n"
-            "os.open, os.pread = opened, fails\nprint(extraction.blocks_of_file(b'a.jpg').problem, count() - before)\n"
-        )
-        self.assertEqual(self.by_itself(text), ["NotAFile 0", "Unreadable 0"])
