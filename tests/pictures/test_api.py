@@ -1,8 +1,6 @@
 """The public calls of exifnorm_pictures. Expected values come from ExifTool, from the commands, or from the maker of the samples."""
 
-import asyncio
 import concurrent.futures
-import csv
 import io
 import json
 import multiprocessing
@@ -500,19 +498,6 @@ def test_show_prints_the_json_of_a_picture(path, share, called, tmp_path):
     assert fields == [(it.name, it.key, it.text, it.exact, json.loads(json.dumps(it.json))) for it in ours.fields]
 
 
-@pytest.mark.parametrize("path", SAMPLES, ids=lambda it: it.name)
-def test_show_captions_prints_the_texts_of_a_picture(path, called):
-    ours = pictures.read(path)
-    them = json.loads(called("show", "--captions", "--json", str(path))[1])
-    assert sorted((it["label"], it["field"], it["texts"]) for it in them["captions"]) == sorted(
-        (it.label, it.field, list(it.texts)) for it in ours.captions
-    )
-    table = csv.DictReader(io.StringIO(called("show", "--captions", "--csv", str(path))[1].lstrip("\ufeff"), newline=""))
-    for row in table:
-        for label in {"title", "caption", "creator", "keywords", "copyright"} - {it.label for it in ours.conflicts}:
-            assert "; ".join(ours.texts(label)) == row[label].lstrip("'"), label
-
-
 @pytest.mark.parametrize("after", [VASE, BOWL, PHONE, "prints/1931-4-plan.png"])
 @pytest.mark.parametrize("name", [BOWL, VASE, PHONE, "arrivals/DSC_0042.jpg", "textiles/2011-2-sash.webp", "prints/1931-4-plan.png"])
 def test_compare_finds_what_the_command_finds(name, after, called):
@@ -684,15 +669,6 @@ def test_names_are_taken_as_they_are_needed():
         pictures.read_all([], jobs=0)
 
 
-def test_in_asyncio():
-    data = (BEFORE / BOWL).read_bytes()
-
-    async def main():
-        return await asyncio.gather(*(asyncio.to_thread(pictures.read_bytes, data) for _ in range(20)))
-
-    assert {it.texts("title") for it in asyncio.run(main())} == {("2003.12",)}
-
-
 @pytest.mark.parametrize("path", SAMPLES, ids=lambda it: it.name)
 def test_pictures_are_pickled(path):
     whole, again = pictures.read(path), pickle.loads(pickle.dumps(pictures.read(path)))
@@ -713,12 +689,6 @@ def test_a_typed_client():
     ]
 
 
-def test_equal_keys_are_equal_metadata():
-    assert pictures.read(BEFORE / VASE).meaning == pictures.read(AFTER / VASE).meaning != pictures.read(BEFORE / BOWL).meaning
-    plain = pictures.read_bytes(SMALL_JPEG)
-    assert plain.meaning is None and plain.is_whole and not list(plain.fields)
-
-
 def test_blocks_are_read_once(monkeypatch):
     """And fields are made when they are asked for."""
     calls, made = [], []
@@ -732,18 +702,6 @@ def test_blocks_are_read_once(monkeypatch):
     assert (bowl.meaning is not None, bowl.refusals, len(calls), len(made)) == (True, (), 2, 0)
     assert bowl.captions and bowl["IFD0:Model"] and list(bowl.fields) and len(calls) == 2 and len(made) == 2
     assert pictures.compare(bowl, pictures.read(BEFORE / BOWL)).same and (len(calls), len(made)) == (4, 2)
-
-
-def test_no_command_line_is_loaded():
-    code = "import sys, exifnorm as p; p.read(sys.argv[1]).captions; p.compare(sys.argv[1], sys.argv[1]); print('argparse' in sys.modules)"
-    done = subprocess.run(
-        [sys.executable, "-c", code, str(BEFORE / BOWL)],
-        stdout=subprocess.PIPE,
-        text=True,
-        check=True,
-        env={**os.environ, "PYTHONPATH": f"{TOP}/python"},
-    )
-    assert done.stdout == "False\n"
 
 
 def test_reading_loads_no_more_than_it_needs():

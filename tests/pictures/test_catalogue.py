@@ -11,7 +11,7 @@ from unittest import mock
 
 import exifnorm
 from in_process import InFolder
-from made_blocks import BLOCKS, LONG, MAKE, MODEL, block, with_exif
+from made_blocks import BLOCKS, MAKE, MODEL, block, with_exif
 from studio import SMALL_JPEG, Studio, WithPictures, needs, put, read, run, tool, write
 
 from exifnorm_pictures.model.problems import TEXTS
@@ -83,21 +83,6 @@ class Archive(InFolder):
         self.assertEqual(versions, [(library, None, None), (library, exiftool, None), *[(library, exiftool, exiv2)] * 2])
 
     @needs("exiftool")
-    def test_versions_of_programs_that_read_pictures_in_several_processes(self):
-        put(
-            self.folder,
-            {
-                **{f"p/{number}.jpg": ONE for number in range(70)},
-                "p/d.exv": EXV,
-            },
-        )
-        run(["exifnorm-pictures", "index", "p", "--catalogue", "many", "--jobs", "2", "--quiet"], self.folder)
-        base = sqlite3.connect(self.path("many"))
-        found = list(base.execute("SELECT exiftool, exiv2 FROM runs"))
-        base.close()
-        self.assertEqual(found, [(tool(self.folder, "exiftool", "-ver").decode().strip(), None)])
-
-    @needs("exiftool")
     def test_a_program_that_was_installed_since(self):
         write(self.path("p", "g.exv"), EXV)
         bare = os.path.join(Studio.room, "bin")
@@ -125,11 +110,6 @@ class Archive(InFolder):
                 self.assertEqual(self.run_again(), ({"a.jpg": "looked at"}, {"unchanged": 3, "accepted": 1}))
                 self.assertNotEqual(self.rows()["a.jpg"], before)
 
-    def test_another_mode(self):
-        os.chmod(self.path("p", "b.jpg"), 0o600)
-        self.assertEqual(self.run_again(), ({"b.jpg": "looked at"}, {"unchanged": 3, "accepted": 1}))
-        self.assertEqual(self.changed_rows(), {})
-
     def test_deleted_and_back(self):
         octets = read(self.path("p", "a.jpg"))
         os.remove(self.path("p", "a.jpg"))
@@ -139,23 +119,6 @@ class Archive(InFolder):
         write(self.path("p", "a.jpg"), octets)
         self.assertEqual(self.run_again(), ({"a.jpg": "looked at"}, {"unchanged": 3, "accepted": 1}))
         self.assertEqual(self.changed_rows(), {})
-
-    def test_moved_and_copied(self):
-        shutil.copy(self.path("c"), self.path("old"))
-        os.rename(self.path("p", "a.jpg"), self.path("p", "sub", "a.jpg"))
-        os.rename(self.path("p", "sub", "plain.jpg"), self.path("p", "plain2.jpg"))
-        write(self.path("p", "new.jpg"), read(self.path("p", "b.jpg")))  # a copy is no move
-        os.remove(self.path("p", "b.jpg"))  # but then it is one
-        os.remove(self.path("p", "sub", "c.jpg"))
-        named, counts = self.run_again()
-        self.assertEqual(counts, {"Moved": 3, "accepted": 2, "no block": 1, "Vanished": 1})
-        self.assertEqual({it for it in named if named[it] == "Moved"}, {"a.jpg", "b.jpg", "sub/plain.jpg"})
-        self.assertEqual(named["sub/c.jpg"], "Vanished")
-        found = [json.loads(it) for it in self.asked("changed", "old", "c", "--json", status=1)]
-        moves = {it["path"]: (it["moved_to"] or {}).get("path") for it in found[:-1]}
-        self.assertEqual(moves, {"a.jpg": "sub/a.jpg", "b.jpg": "new.jpg", "sub/plain.jpg": "plain2.jpg", "sub/c.jpg": None})
-        self.assertEqual(found[-1]["counts"], {"moved": 3, "missing after": 1})
-        self.assertEqual(self.run_again()[1], {"unchanged": 3})
 
     def test_what_a_picture_meant_is_kept_where_it_cannot_be_read(self):
         os.remove(self.path("p", "b.jpg"))
@@ -217,15 +180,6 @@ class Archive(InFolder):
         self.assertEqual(counts, {"unchanged": 4, "Unreadable": 1})
         subprocess.run(["rm", "-rf", self.path("p", "d" * 250)], check=True)
 
-    def test_times_and_links(self):
-        os.utime(self.path("p", "a.jpg"), (13_569_465_600, 13_569_465_600))  # the year 2400
-        os.symlink("loop", self.path("p", "loop"))
-        os.symlink("missing", self.path("p", "nowhere"))
-        os.symlink(".", self.path("p", "sub", "self"))
-        named, counts = self.run_again()
-        self.assertEqual(named, {"a.jpg": "looked at", "loop": "LinkToNothing", "nowhere": "LinkToNothing"})
-        self.assertEqual(self.run_again()[1]["unchanged"], 4)
-
     def test_the_catalogue_inside_the_folder(self):
         for _ in range(2):
             self.asked("index", "p", "--catalogue", "p/c", "--quiet")
@@ -236,15 +190,6 @@ class Archive(InFolder):
         os.symlink("p", self.path("link"))
         self.asked("index", "link", "--catalogue", "link/c", "--quiet")
         self.assertEqual(self.asked("index", "link", "--catalogue", "link/c", "--quiet"), ["4 unchanged"])
-
-    def test_again_and_jobs(self):
-        named, counts = self.run_again("--again", "--jobs", "1")
-        self.assertEqual((list(named), counts), (["a.jpg", "b.jpg", "sub/c.jpg", "sub/plain.jpg"], {"accepted": 3, "no block": 1}))
-        put(self.folder, {f"p/m{number}.jpg": ONE for number in range(200)})
-        one = self.run_again("--jobs", "1")
-        self.asked("index", "p", "--catalogue", "d", "--quiet", "--jobs", "3")
-        self.assertEqual(one[1], {"unchanged": 4, "accepted": 200})
-        self.assertEqual(self.rows(), self.rows("d"))
 
     def test_several_processes_find_what_one_finds(self):
         """Pictures that are new, the same, moved, refused, no longer readable and never readable: the same lines and the same rows."""
@@ -300,15 +245,6 @@ class Archive(InFolder):
         words = ["index", "p", "p/a.jpg", "p/../p", "p/sub", "--quiet", "--catalogue"]
         self.assertEqual(self.asked(*words, "twice"), ["3 accepted, 1 no block"])
         self.assertEqual(self.asked(*words, "twice"), ["4 unchanged"])
-
-    def test_quiet_and_progress(self):
-        self.asked("index", "p", "--catalogue", "d")
-        self.assertRegex(self.complaint, r"^(\d of (at least )?\d pictures(, .*)?\n)*4 of 4 pictures, \d+ a second\n$")
-        self.asked("index", "p", "--catalogue", "e", "--quiet")
-        self.assertEqual(self.complaint, "")
-        call = "import sys; from exifnorm_pictures.scan import index; from exifnorm_pictures.cli import main; index.BATCH = 2; sys.exit(main.main(sys.argv[1:]))"
-        done = run([sys.executable, "-c", call, "index", "p", "--catalogue", "f"], self.folder)
-        self.assertEqual(done.stderr.count(b"4 of 4 pictures"), 1, "the last line is printed once")
 
 
 class Processes(WithPictures):
@@ -470,30 +406,6 @@ class Kinds(InFolder):
             write(self.path(side, "a.jpg"), octets)
         return json.loads(self.asked("changed", "before", "after", "--json", "--all", status=status)[0])
 
-    def test_groups_in_order(self):
-        """The largest comes first; pictures that differ in what was not read are in none."""
-        os.mkdir(self.path("p"))
-        behind = {"f": THIRD + b"one", "g": THIRD + b"two"}
-        for name, octets in {"a": ONE, "b": OTHER, "c": ONE, "d": OTHER, "e": OTHER, **behind}.items():
-            write(self.path("p", name + ".jpg"), octets)
-        self.asked("index", "p", "--catalogue", "c", "--quiet")
-        *found, _ = [json.loads(it) for it in self.asked("same", "c", "--json", status=2)]
-        names = [[os.path.basename(it["path"]) for it in one["pictures"]] for one in found]
-        self.assertEqual(names, [["b.jpg", "d.jpg", "e.jpg"], ["a.jpg", "c.jpg"]])
-        os.remove(self.path("p", "e.jpg"))
-        os.rename(self.path("p", "c.jpg"), self.path("p", "z.jpg"))  # of one size, that with the first name comes first
-        self.asked("index", "p", "--catalogue", "d", "--quiet")
-        *found, _ = [json.loads(it) for it in self.asked("same", "d", "--json", status=2)]
-        names = [[os.path.basename(it["path"]) for it in one["pictures"]] for one in found]
-        self.assertEqual(names, [["a.jpg", "z.jpg"], ["b.jpg", "d.jpg"]])
-
-    def test_fields_of_a_second_block(self):
-        one, other = (SMALL_JPEG[:2] + with_exif(SMALL_JPEG, block([MAKE]))[2 : -len(SMALL_JPEG) + 2] + it[2:] for it in (ONE, OTHER))
-        found = self.compared(one, other)
-        (field,) = found["fields"]
-        self.assertEqual((field["name"], field["block"]), ("IFD0:Make (second Exif)", "second Exif"))
-        self.assertEqual((field["before"]["value"], field["after"]["value"]), ("One", "Two"))
-
     def test_what_is_no_file_is_not_compared(self):
         """A pipe, and a link that leads to no file, on one side or on both."""
         for side in ("before", "after"):
@@ -506,14 +418,3 @@ class Kinds(InFolder):
         self.assertEqual(
             lines, ["b.jpg: missing before", "1 same, 1 missing before", "Only metadata was compared: --pixels compares the pictures, too."]
         )
-
-    def test_what_was_never_compared_is_the_same_by_its_bytes_alone(self):
-        from made_files import page, tiff
-
-        os.mkdir(self.path("p"))
-        for name in ("a", "b"):
-            write(self.path("p", name + ".tif"), tiff(page((0x0190, LONG, 8))))  # a pointer that is not followed
-        write(self.path("p", "other.tif"), tiff(page((0x0190, LONG, 9))))
-        self.asked("index", "p", "--catalogue", "c", "--quiet")
-        (found, _) = [json.loads(it) for it in self.asked("same", "c", "--json", status=2)]
-        self.assertEqual((found["basis"], [os.path.basename(it["path"]) for it in found["pictures"]]), ("bytes", ["a.tif", "b.tif"]))

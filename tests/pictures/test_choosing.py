@@ -10,7 +10,7 @@ import subprocess
 import pytest
 from made_blocks import BLOCKS, LONG, MAKE, block, entry, table
 from made_files import app1, app1_xmp, exif, iim, jpeg, with_record, xmp
-from studio import SMALL_JPEG, errors, needs, put, tool
+from studio import SMALL_JPEG, needs, put, tool
 
 from exifnorm_pictures.comparison.changed.block_pairs import Weight, weights_of
 from exifnorm_pictures.fields.choosing import SAVES, Choice, kinds_of
@@ -344,20 +344,6 @@ def test_maker_notes(compared):
 # changed
 
 
-def test_changed_has_what_was_left_out(run, folder):
-    for side, make in (("before", b"abc"), ("after", b"xyz")):
-        put(folder, {f"{side}/{name}": jpeg(app1(exif(make))) for name in ("a", "b")})
-    for words, lines in (([], 7), (["--each"], 5)):
-        status, found, err = run("changed", "before", "after", "--ignore", "Make", "--ignore", "GPS", *words)
-        assert (status, errors(err)) == (0, []) and "No picture has a field GPS." in found
-        assert "Left out though it differs: IFD0:Make (2 pictures)." in found and len(found) == lines
-    *_, last = (json.loads(it) for it in run("changed", "before", "after", "--ignore", "Make", "--json")[1])
-    assert (last["counts"], last["left_out"]) == ({BUT: 2}, {"IFD0:Make": 2})
-    assert run("changed", "before", "after", "--ignore", "Maek")[0] == 3
-    found = json.loads(run("changed", "before", "after", "--ignore", "Make", "--all", "--json")[1][0])
-    assert (found["result"], found["left_out"], found["fields"]) == (BUT, ["IFD0:Make"], [])
-
-
 # same
 
 
@@ -464,22 +450,6 @@ def test_least_fields(run, folder):
 
 
 # report
-
-
-def test_a_report_without_some_fields(run, folder):
-    put(folder, {f"p/{name}": jpeg(app1(exif(octets)), with_record(iim(b"Vase"))) for name, octets in {"a": b"abc", "b": b"xyz"}.items()})
-    run("index", "p", "--catalogue", "old", "--quiet")
-    (folder / "p" / "a").write_bytes(jpeg(app1(exif(b"new")), with_record(iim(b"Vase"))))
-    run("index", "p", "--catalogue", "c", "--quiet")
-    report = ("report", "c", "--since", "old", "--html", "page.html", "--no-look")
-    assert run(*report)[0] == 0
-    page = (folder / "page.html").read_text()
-    assert "IFD0:Make" in page and "No two pictures have the same metadata" in page
-    assert run(*report, "--ignore", "Make", "--ignore", "GPS")[2] == ""
-    page = (folder / "page.html").read_text()
-    assert "No picture has a field GPS." in page
-    assert "Left out though it differs: IFD0:Make (1 picture)." in page and "the same but for the fields left out" in page
-    assert run(*report, "--ignore", "Maek")[0] == 3
 
 
 def test_pictures_that_differ_in_what_no_field_shows_are_no_group(called, folder):

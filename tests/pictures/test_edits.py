@@ -1,7 +1,5 @@
 """Edits: what was taken out and put in, and the groups of pictures that were edited alike."""
 
-import csv
-import json
 import re
 from collections import Counter
 
@@ -355,22 +353,6 @@ def test_the_odd_ones_come_first(day, called):
     ]
 
 
-def test_the_pictures_of_a_group(day, called):
-    """By their names, with NUL for other programs, and as rows and objects."""
-    status, out, _ = called("changed", "before", "after", "--edit", "2")
-    assert (status, out) == (1, "007.jpg\n")
-    names = called("changed", "before", "after", "--edit", "1")[1].splitlines()
-    assert len(names) == 197 and not {"007.jpg", "012.jpg", "016.jpg"} & set(names)
-    paths = called("changed", "before", "after", "--edit", "1", "-0")[1].split("\0")
-    assert [it.rpartition("/")[2] for it in paths] == [*names, ""] and paths[0].startswith("/")
-    rows = list(csv.DictReader(called("changed", "before", "after", "--edit", "1", "--csv")[1].splitlines()))
-    assert [it["picture"] for it in rows] == names and {it["edit number"] for it in rows} == {"1"}
-    *pictures, summary_ = map(json.loads, called("changed", "before", "after", "--edit", "1", "--json")[1].splitlines())
-    assert [it["path"] for it in pictures] == names and summary_["counts"] == {"different": 200}
-    status, out, err = called("changed", "before", "after", "--edit", "99")
-    assert (status, out) == (3, "") and "--edit 99" in err
-
-
 def test_words_are_coloured_if_that_is_asked_for():
     """Otherwise brackets mark them. A line is as wide as the screen, and no text of a picture reaches the terminal as it is."""
     found = summary.Summary()
@@ -385,50 +367,3 @@ def test_words_are_coloured_if_that_is_asked_for():
         assert "\x1b" not in "".join(bare) and max(map(len, bare)) <= 60
         assert ("\x1b[31;9m1943\x1b[m\x1b[32;4m1093\x1b[m" in "".join(page_lines)) == colours
         assert ("[-1943-]{+1093+}" in "".join(page_lines)) != colours
-
-
-def test_json_and_csv_have_the_groups(day, called):
-    objects = [json.loads(it) for it in called("changed", "before", "after", "--json")[1].splitlines()]
-    assert {it["record"] for it in objects[:-1]} == {"picture"}
-    groups = objects[-1]["edits"]
-    assert [it["pictures"] for it in groups] == [1, 1, 1, 197]
-    numbers = [it["edit"] for it in objects[:-1]]
-    assert all(sum(numbers.count(one) for one in it["edit"]) == it["pictures"] for it in groups)
-    rows = list(csv.DictReader(called("changed", "before", "after", "--csv")[1].splitlines()))
-    assert sum(it["edit"] == "caption (IPTC): .. {+, recto+}" for it in rows) == 197
-    assert sorted(it["edit number"] for it in rows) == sorted(map(str, numbers))
-
-
-def test_the_report_begins_with_the_odd_ones(day, called):
-    for side in ("before", "after"):
-        called("index", side, "--catalogue", f"{side}.catalogue", "--quiet")
-    called("report", "after.catalogue", "--since", "before.catalogue", "--html", "page.html")
-    page = (day / "page.html").read_text(encoding="utf-8")
-    summary = page[page.index('id="summary"') : page.index('id="glance"')]
-    places = [summary.index(it) for it in (">007.jpg<", ">012.jpg<", ">016.jpg<", "<h4>197 pictures")]
-    assert places == sorted(places) and summary.count('<rect class="odd"') == 3
-    assert "#find=edit:1;&amp;kind=changed" in summary and page.count("edit:1;") == 198
-
-
-def test_all_counts_of_the_page_are_those_of_json(day, called):
-    """And each leads to what it counts."""
-    (day / "after/new.jpg").write_bytes(record(b"Another day", b"loan"))
-    (day / "after/copy.jpg").write_bytes((day / "after/new.jpg").read_bytes())
-    (day / "after/003.jpg").unlink()
-    for side in ("before", "after"):
-        called("index", side, "--catalogue", f"{side}.catalogue", "--quiet")
-    words = ("report", "after.catalogue", "--since", "before.catalogue")
-    called(*words, "--html", "page.html")
-    page = (day / "page.html").read_text(encoding="utf-8")
-    objects = [json.loads(it) for it in called(*words, "--json")[1].splitlines()]
-    records = Counter(it["record"] for it in objects)
-    results = next(it["results"] for it in objects if it["record"] == "changes")
-    listed = dict(re.findall(r'kind=changed/([^"]+)">([\d,]+) ', page))
-    assert {it.replace("%20", " "): int(count) for it, count in listed.items()} == results
-    contents = dict(re.findall(r'<li><a href="#(\w+)">[^<]+</a> <span class="note">([\d,]+) ', page))
-    assert int(contents["changed"]) == sum(results.values()) == records["change"]
-    assert int(contents["same"]) == records["group"] > 0
-    assert int(contents["folders"]) == next(it["pictures"] for it in objects if it["record"] == "summary") == 201
-    for place in re.findall(r'href="#([\w-]+)"', page):
-        assert f'id="{place}"' in page, place
-    assert '<a class="name" href="./after/new.jpg">' in page and "file://" not in page

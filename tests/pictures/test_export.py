@@ -11,7 +11,6 @@ from pathlib import Path
 
 import pytest
 from hypothesis import given, settings, strategies as st
-from made_blocks import BLOCKS, with_exif
 from made_files import app1, app1_xmp, exif, jpeg, xmp
 from made_more_files import gif
 from studio import SMALL_JPEG, TOP, needs, put, tool
@@ -430,14 +429,6 @@ def test_what_is_missing_is_null(exported, folder):
     assert missing >= {f"{table}.{column}" for table, columns in _EMPTY_IS_NULL.items() for column in columns}, missing
     (row,) = FieldRows().of_block(packed([Field("main", "0112", "SHORT", 1, (0,))]).octets)
     assert row.cells[-1] == 0
-
-
-def test_a_refused_block_has_its_cause_and_its_repair(exported):
-    Path("a.jpg").write_bytes(with_exif(SMALL_JPEG, BLOCKS["Overlap"]))
-    Path("b.jpg").write_bytes(with_exif(SMALL_JPEG, BLOCKS["Unsorted"]))
-    base = exported(".")
-    found = asked(base, "SELECT status, cause, repair IS NOT NULL FROM blocks JOIN pictures ON id = picture ORDER BY path")
-    assert [it[:2] for it in found] == [("refused", "Overlap"), ("refused", "Unsorted")] and found[1][2] == 1
 
 
 def test_no_text_has_nul(exported, folder):

@@ -83,12 +83,6 @@ class Found(unittest.TestCase):
                     found_in(filled[:length])
             self.assertEqual(named(found_in(filled[:before])), [])
 
-    def test_other_bytes_before_the_signature(self):
-        self.assertEqual(named(found_in(jpeg(segment(0xE1, b"\0exif\0\xff" + A)))), [("exif", "Exif", A)])
-        self.assertEqual(named(found_in(jpeg(segment(0xE1, b"1234Exif\0\0" + A)))), [("exif", "Exif", A)])
-        self.assertEqual(named(found_in(jpeg(segment(0xE1, b"12345Exif\0\0" + A)))), [])
-        self.assertEqual(named(found_in(webp((b"EXIF", b"Exif\0\0" + A)))), named(found_in(png(chunk(b"eXIf", A)))))
-
     def test_an_index_that_leads_to_no_picture(self):
         """The first picture is read all the same, and to its end, as nothing is known of where the others are."""
         found = found_in(mpf(app1(A), b"no picture at all"))
@@ -98,27 +92,6 @@ class Found(unittest.TestCase):
         at = len(octets) - len(b"no picture at all") - 2
         hidden = octets[:at] + app1_xmp(T) + b"\x11" * 100_000 + octets[at : at + 2]
         self.assertIn("metadata segment behind the first scan", [it.what for it in found_in(hidden).not_read])
-
-    def test_pages_without_pixels(self):
-        octets = tiff(page((0x010F, ASCII, b"Maker one\0"), (0x014A, LONG, page((0x010F, ASCII, b"below\0")))), page())
-        found = found_in(octets)
-        self.assertEqual([it[1] for it in named(found)], ["Exif", "Exif of SubIFD 1 of page 1", "Exif of page 2"])
-        where = [it.where for it in found.blocks]
-        self.assertRegex(where[0], r"^directory at \d+, without StripByteCounts, StripOffsets, SubIFDs$")
-        tags = [struct.unpack_from(">H", found.blocks[0].data, at)[0] for at in range(10, 10 + 12 * 8, 12)]
-        self.assertEqual(tags, [0x100, 0x101, 0x102, 0x103, 0x106, 0x10F, 0x115, 0x116])
-        self.assertIn(b"Maker one\0", found.blocks[0].data)
-
-    def test_engine_refuses_in_the_page_what_it_refuses_in_the_file(self):
-        from exifnorm_pictures.judge import judge
-
-        shared = bytearray(tiff(page((0x010F, ASCII, b"Abcdefgh"), (0x0110, ASCII, b"Ijklmnop"))))
-        at = shared.index(struct.pack(">HHI", 0x0110, ASCII, 8)) + 8
-        first = shared.index(b"Abcdefgh")
-        for place, cause in ((first + 2, "Overlap"), (100000, "ValueOutside")):
-            struct.pack_into(">I", shared, at, place)
-            judged = judge.judge_all(found_in(bytes(shared)))
-            self.assertEqual([it.cause for it in judged], [cause])
 
 
 @needs("exiftool")
@@ -413,16 +386,6 @@ class Harm(unittest.TestCase):
             reader_of(octets)(stream, True)
         self.assertLess(stream.octets, (most or 4 * len(octets)) + 4096)
 
-    def test_lengths(self):
-        self.broken(b"\xff\xd8\xff\xe1\xff\xff" + b"Exif\0\0")
-        self.broken(b"\xff\xd8\xff\xe1\0\1" + bytes(10))
-        self.broken(png()[:33] + struct.pack(">I", 0xFFFFFFFF) + b"eXIf")
-        self.broken(b"RIFF\xff\xff\xff\xffWEBPEXIF")
-        self.broken(b"RIFF\x10\0\0\0WEBPEXIF\xff\xff\xff\xff" + bytes(8))
-        self.broken(b"MM\0*\0\0\0\x08\xff\xff" + bytes(100))
-        self.broken(b"MM\0*" + b"\xff" * 4)
-        self.assertIn("wrong check sum", self.broken(png(chunk(b"eXIf", A, wrong=1))))
-
     def test_loops(self):
         octets = bytearray(tiff(page(), page()))
         struct.pack_into(">I", octets, len(octets) - 4, 8)
@@ -439,13 +402,6 @@ class Harm(unittest.TestCase):
         at = value.index(struct.pack(">HHI", 0x010F, ASCII, 8)) + 8
         struct.pack_into(">I", value, at, struct.unpack_from(">I", value, 4)[0])
         self.assertIn("shares bytes with a directory", self.broken(bytes(value)))
-
-    def test_depth(self):
-        below = page()
-        for _ in range(10):
-            below = page((0x014A, LONG, below))
-        self.assertEqual(len(found_in(tiff(below)).blocks), 11)
-        self.assertIn("below one another", self.broken(tiff(page((0x014A, LONG, below)))))
 
     def test_many_markers(self):
         self.too_much(b"\xff\xd8" + b"\xff\xfe\0\2" * 100_001, budgets.SEGMENTS)

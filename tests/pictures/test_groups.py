@@ -12,7 +12,7 @@ import hypothesis.strategies as st
 import pytest
 from exifnorm_pictures.cli import main
 from made_blocks import ASCII, BLOCKS, LONG, MAKE, UNDEFINED, block, entry, table
-from made_files import app1, app1_xmp, exif, jpeg, title, turned
+from made_files import app1, app1_xmp, exif, jpeg, page, tiff, title, turned
 from studio import needs, put
 
 A, B = exif(b"abc"), exif(b"xyz")
@@ -48,11 +48,14 @@ FILES = {
     "k1": with_short_note(64),
 }
 CONTENT = {octets: name[0] for name, octets in FILES.items()}
-# Files of which XMP or all blocks may be lost with the end, and one that is compared after a repair and has a part that isn't read
+# Files of which XMP or all blocks may be lost with the end, one that is compared after a repair and has a part that isn't read, and two with a part
+# of which no digest is known, which are the same as those with the same bytes alone
 OPEN = {
     "l1": FILES["d1"][: FILES["d1"].index(b"http://ns.adobe.com")],
     "l2": FILES["a1"][:40],
     "m1": jpeg(app1(UNSORTED), behind=b"one"),
+    "n1": tiff(page((0x0190, LONG, 8))),  # a pointer that isn't followed
+    "o1": tiff(page((0x0190, LONG, 9))),
 }
 
 
@@ -178,6 +181,8 @@ def change_file(number, name, afterwards):
         ("l2", "a1", None, 2),
         ("m1", "c1", None, 2),
         ("m1", "b1", None, 0),
+        ("n1", "n1", "bytes", 2),
+        ("n1", "o1", None, 2),
     ],
 )
 def test_what_a_group_rests_on(asked, folder, one, other, basis, status):
@@ -266,21 +271,6 @@ def test_files_that_are_gone_or_have_changed(asked, folder):
     assert group["count"] == 4 and group["gone"] == []
     (folder / "p/c.jpg").unlink()
     assert asked("same", "c")[:-1] == [], "one file is no group"
-
-
-def test_forget(asked, folder):
-    for name in ("p/sub/a.jpg", "p/subs/b.jpg", "p/c.jpg"):
-        (folder / name).parent.mkdir(parents=True, exist_ok=True)
-        (folder / name).write_bytes(FILES["a1"])
-    indexed(asked, "p")
-    shutil.rmtree(folder / "p/sub")
-    assert [it["forgotten"] for it in asked("catalogue", "forget", "c", "p/sub", "p/nothing")] == [1, 0]
-    (group, _) = asked("same", "c")
-    assert names_of(group["pictures"]) == ["c.jpg", "b.jpg"]
-    assert [it["forgotten"] for it in asked("catalogue", "forget", "c", "p/c.jpg")] == [1]
-    assert (folder / "p/c.jpg").exists()
-    asked("catalogue", "forget", "nothing", "p", status=3)
-    assert not (folder / "nothing").exists()
 
 
 # Canon's MakerNote is a directory whose offsets count from the header; 0009 is OwnerName

@@ -352,22 +352,6 @@ def test_counts_add_up(seed, folder, called):
 # Forms
 
 
-def test_forms_say_the_same(folder, called):
-    put(
-        folder / "p",
-        {"a.jpg": picture([("title", "1998.10"), ("keywords", "a"), ("keywords", "b")]), "b.jpg": picture([("keywords", "c")])},
-    )
-    called("index", "p", "--catalogue", "c", "--quiet")
-    rows = list(csv.reader(io.StringIO(called("list", "c", "--csv", "--columns", "title,keywords")[1])))
-    assert [row[1:] for row in rows] == [["title", "keywords", "not known"], ["1998.10", "a; b", ""], ["", "c", ""]]
-    printed = called("list", "c", "--columns", "title,keywords")[1].splitlines()
-    assert printed[1:3] == ["  title     1998.10", "  keywords  a; b"] and printed[4] == "  title     (none)"
-    assert printed[-1] == "2 of 2 pictures"
-    objects = [json.loads(it) for it in called("list", "c", "--json", "--columns", "title,keywords")[1].splitlines()]
-    assert [it["texts"] for it in objects[:-1]] == [{"title": ["1998.10"], "keywords": ["a", "b"]}, {"title": [], "keywords": ["c"]}]
-    assert called("list", "c", "-0")[1] == "".join(f"{folder}/{row[0]}\0" for row in rows[1:])
-
-
 @pytest.mark.parametrize("at_once", [1, 2, 3, 1000])
 @pytest.mark.parametrize("question", [[], ["--with", "title"], ["--without", "title"]], ids=" ".join)
 def test_each_picture_has_its_own_texts(at_once, question, folder, called, monkeypatch):

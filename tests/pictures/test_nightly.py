@@ -410,27 +410,6 @@ def test_a_letter_fits_a_page(seed):
         assert all(f"{it.count:,} " in "\n".join(printed) for it in news)
 
 
-def test_names_in_a_letter(archive, called, folder):
-    """What a registrar reads, with a name that is no UTF-8."""
-    called("nightly", "p", "--catalogue", "c.catalogue")
-    lose(archive)
-    put(os.fsencode(archive), {b"web/\xff.jpg": picture(10, title="10")})
-    aged(archive)
-    status, printed, _ = called("nightly", "p", "--catalogue", "c.catalogue", "--html", "p/page.html")
-    assert status == 1
-    lines = printed.splitlines()
-    assert lines[0].startswith("p since ") and lines[0].endswith(": 13 pictures then or now, 3 with news")
-    assert lines[2:5] == [
-        "  1 lost its title: web/0.jpg",
-        "  1 shows where it was taken: web/1.jpg",
-        r"  1 is new: web/\xff.jpg",
-    ]
-    assert b"web/0.jpg" in (archive / "page.html").read_bytes()
-    _, after, _ = called(*printed.split("exifnorm-pictures ")[1].replace("\\\n", " ").split())
-    assert "web/0.jpg" in after and "web/1.jpg" in after
-    assert called("nightly", "p", "--catalogue", "c.catalogue", "--html", "p/page.html") == (0, "", "")
-
-
 def test_a_folder_of_pages(archive, called, folder):
     """It is replaced at each night with news, also if it lies in the archive, whose pictures it doesn't join."""
     (folder / "rules").write_text("every picture needs title\n")
@@ -481,18 +460,6 @@ def test_the_line_for_cron(archive, folder):
     shutil.copy(archive / "web/0.jpg", archive / "web/4.jpg")
     status, head, messages = cron()
     assert (status, messages) == (1, b"") and head.endswith(": 13 pictures then or now, 1 with news")
-
-
-def test_files_of_the_run_are_no_pictures(archive, called):
-    """The catalogue, what is kept beside it, and the page may lie in the archive."""
-    words = ("nightly", "p", "--catalogue", "p/c.catalogue", "--html", "p/page.html")
-    status, printed, _ = called(*words)
-    assert (status, printed.splitlines()[0]) == (1, "p, the first night: 12 pictures")
-    assert called(*words) == (0, "", "")
-    lose(archive)
-    aged(archive / "web")
-    assert called(*words)[0] == 1
-    assert called(*words) == (0, "", "")
 
 
 @pytest.mark.parametrize(

@@ -11,7 +11,7 @@ import openpyxl
 import pytest
 from made_blocks import block, entry
 from made_files import A, app1, exif, jpeg
-from meanings import ASCII, BYTE, UNDEFINED
+from meanings import ASCII, UNDEFINED
 from studio import TOP, put
 
 from exifnorm_pictures.cli import parser
@@ -95,21 +95,7 @@ def of_each_command(*spellings):
 
 TRACEBACKS, LIMITS, SHEETS, LISTS = (of_each_command(it) for it in ("--debug", "--limit", "--xlsx", "--files-from"))
 WHOLE, HOWS = of_each_command("--whole"), of_each_command("--jobs", "--sidecars", "--pixels")
-CHOICES = of_each_command("--ignore", "--only", "--equal-numbers")
 NAMED = {"index": ("c", "p"), "nightly": ("c", "p")}  # whose catalogue can be given in two ways
-
-
-@pytest.mark.parametrize("command, option", TRACEBACKS)
-def test_a_traceback_of_each_command(command, option, archive, called, monkeypatch):
-    def fail(arguments):
-        raise RuntimeError("broken here")
-
-    monkeypatch.delenv("EXIFNORM_DEBUG", raising=False)
-    monkeypatch.setattr(importlib.import_module(f"exifnorm_pictures.cli.commands.{command.split()[-1]}"), "run", fail)
-    for words, has_traceback in (((), False), ((option,), True)):
-        status, printed, messages = called(*command.split(), *COMMANDS[command], *words)
-        assert (status, printed) == (4, "") and "broken here" in messages
-        assert ("in fail" in messages) is has_traceback, words
 
 
 @pytest.mark.parametrize("command, option", LIMITS)
@@ -135,54 +121,6 @@ def test_a_spreadsheet_of_each_command_has_its_table(command, option, archive, c
     assert status in (0, 1, 2), messages
     rows = [[str("" if cell.value is None else cell.value) for cell in row] for row in openpyxl.load_workbook("t.xlsx").active.iter_rows()]
     assert rows == table and rows
-
-
-@pytest.mark.parametrize("command, option", LISTS)
-def test_names_that_end_with_nul_of_each_command(command, option, archive, called):
-    """They are the names of lines; without the option they would be one name, which no file has."""
-    words = ["made"] if command == "mend" else [it for it in COMMANDS[command] if it not in LISTED]
-    catalogue = (archive / "c").read_bytes()
-
-    def answer(names, *given):
-        (archive / "c").write_bytes(catalogue)
-        (archive / "made").mkdir()
-        (archive / "names").write_bytes(names)
-        found = called(*command.split(), *words, option, "names", *given)[:2]
-        shutil.rmtree(archive / "made")
-        for path in ("other", "page", "tables"):
-            (archive / path).unlink(missing_ok=True)
-        return found
-
-    expected = answer(b"p/a.jpg\n")
-    assert answer(b"p/a.jpg\0", "-0") == expected
-    assert answer(b"p/a.jpg\0p/no.jpg\0") != expected
-
-
-@pytest.mark.parametrize("command, option", CHOICES)
-def test_fields_that_count_of_each_command(command, option, archive, called):
-    """Two pictures whose fields differ only in the type of one byte: the option lets them be the same."""
-    for name, kind in (("p", BYTE), ("q", UNDEFINED)):
-        octets = block([entry(0x010F, ASCII, 4, b"Ann\0"), entry(0xC000, kind, 1, b"\3\0\0\0")])
-        (archive / name / "a.jpg").write_bytes(jpeg(app1(octets)))
-    name = "IFD0:0xc000" if option == "--ignore" else "IFD0:Make"
-    (archive / "names").write_text(name, encoding="ascii")
-    called("index", "p", "q", "--catalogue", "both", "--quiet")
-    called("index", "p", "--catalogue", "c", "--quiet")
-    called("index", "q", "--catalogue", "d", "--quiet")
-    words = {
-        "same": ("both",),
-        "changed": ("p", "q"),
-        "compare": ("p/a.jpg", "q/a.jpg"),
-        "report": ("d", "--since", "c", "--json", "--html", "page"),
-    }[command]
-
-    def answer(*given):
-        return called(*command.split(), *words, *given)[:2]
-
-    found = answer(option, *([name] * (option != "--equal-numbers")))
-    assert found != answer()
-    if option != "--equal-numbers":
-        assert found == answer(option, "@names")
 
 
 @pytest.mark.parametrize("command, option", WHOLE)

@@ -15,15 +15,13 @@ from in_process import InProcess
 from made_blocks import ASCII, BLOCKS, LONG, UNDEFINED, segment, with_exif
 from made_files import A, B, K, L, T, T_OTHERWISE, U, XMP_HEAD, turned, xmp
 from made_files import app1, app13, app1_xmp, chunk, extension, jpeg, mpf, page, png, png_xmp, profile, resource, tiff, webp, with_record
-from studio import SMALL_JPEG, errors, needs, put, read, run, without_own_script, write
+from studio import SMALL_JPEG, errors, needs, put, read, run, write
 
 from exifnorm_pictures.cli import looking
 from exifnorm_pictures.scan import index
 from exifnorm_pictures.extract.formats import jpeg_tail
 
 DOUBLED = BLOCKS["Doubled"]
-# what a page runs, or loads from elsewhere, or leads to
-OUTSIDE = re.compile(r"<script|<link|src=.(?!data:)|href=.(?!file:///|#|\.{1,2}/|data:image/)")
 MANY = b"\x11" * 100_000  # picture data that is longer than the tail
 
 
@@ -274,36 +272,6 @@ class Catalogues(Promises):
                 self.printed("changed", "@/x", "@/both", "--jobs", "3", *more, status=1)
                 self.assertEqual(errors(self.complaint), [])
         self.assertEqual([it.args[0].how.processes for it in read_.mock_calls], [3, 3])
-
-    def test_report(self):
-        self.files("p", a=jpeg(app1(DOUBLED)), b=jpeg(app1(A)), c=jpeg(app1(A)), d=jpeg(behind=b"rest"))
-        self.index("@/p")
-        self.files("p", b=jpeg(app1(B)), c=jpeg(app1(B)))
-        self.index("@/p", "--keep-old", "@/old")
-        report = ("report", "@/c", "--since", "@/old", "--html")
-        write(self.path("text"), b"a text")
-        self.printed(*report, "@/text", status=4)
-        self.assertEqual(read(self.path("text")), b"a text")
-        for name in ("One", "Another"):
-            self.printed(*report, "@/page", "--title", name)
-        html = read(self.path("page")).decode()
-        self.assertEqual((re.findall("<h1>(.*)</h1>", html), re.findall("<title>(.*?)</title>", html)[0]), (["Another"], "Another"))
-        self.assertEqual(OUTSIDE.findall(without_own_script(html)), [])
-        self.assertEqual(
-            OUTSIDE.findall("<script></script><link><img src='a'><img src='data:,'><a href='b'>"), ["<script", "<link", "src='", "href='"]
-        )
-        for part in (
-            "<b>2</b> accepted",
-            '">Doubled</a></th>',
-            "2 pictures <span",
-            '<image href="data:image/',
-            "IFD0:Make",
-            "trailer of 4 bytes",
-            "Remedy",
-        ):
-            self.assertIn(part, html)
-        for more, has in (([], False), (["--since", "@/old"], True)):
-            self.assertEqual(any("results" in it for it in self.objects("report", "@/c", *more)), has)
 
 
 class Pictures(Promises):

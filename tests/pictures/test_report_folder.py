@@ -2,7 +2,6 @@
 
 import errno
 import fcntl
-import json
 import os
 import re
 import shutil
@@ -17,7 +16,6 @@ from urllib.parse import unquote_to_bytes
 
 import pytest
 from made_blocks import BLOCKS, MAKE, MODEL, block, with_exif
-from made_files import app1, exif, jpeg
 from studio import SMALL_JPEG, put
 from test_report import Text
 
@@ -419,17 +417,6 @@ def test_another_picture_is_shown_beside_the_earlier_one(is_replaced: bool, fold
     assert files_of(re.findall('<a href="([^"]*)"', after), folder) == {os.fsencode(folder / sides[1] / "a.jpg")} and "<svg" in after
 
 
-def test_damaged_pictures_come_first(folder: Path, called: Called) -> None:
-    files = {f"p/{number}.jpg": picture(b"%03d" % number) for number in range(5)}
-    put(str(folder), files)
-    called("index", "p", "--catalogue", "c", "--quiet")
-    put(str(folder), {**{it: picture(b"new") for it in files}, "p/3.jpg": files["p/3.jpg"][:-9]})
-    called("index", "p", "--catalogue", "c", "--keep-old", "old", "--quiet")
-    called("report", "c", "--since", "old", "--html", "page.html")
-    kinds = re.findall(r'data-kind="([^"]*)"', (folder / "page.html").read_text(encoding="utf-8"))
-    assert "damaged" in kinds[0] and "different" in kinds[1:]
-
-
 def test_a_picture_has_each_tag_once(folder: Path, called: Called) -> None:
     """Also one that is cut off without a block, which its state and a list show."""
     put(str(folder), {"p/1.jpg": picture(b"new"), "p/2.jpg": SMALL_JPEG[:12], "p/3.jpg": with_exif(SMALL_JPEG, BLOCKS["Overlap"])})
@@ -481,33 +468,3 @@ def test_long_texts_cost_a_limited_number_of_steps(monkeypatch: pytest.MonkeyPat
     first, second = marker.marked("x " + "a " * 30_000 + "y", "x " + "b " * 30_000 + "y")
     assert compared <= 1_000_000 and "".join(texts(first)) == "x " + "a " * 30_000 + "y"
     assert [it.is_changed for it in second or ()] == [False, True, False]
-
-
-def test_rules_have_the_notes_of_check(folder: Path, called: Called) -> None:
-    """Of a folder and of a text that may be mistyped."""
-    put(str(folder), {"p/a.jpg": jpeg(app1(exif(b"abc")))})
-    (folder / "rules").write_text('title never in wbe/\ncredit is "<Museum>"\n')
-    called("index", "p", "--catalogue", "c", "--quiet")
-    called("report", "c", "--rules", "rules", "--html", "page.html")
-    broken = " ".join(Text((folder / "page.html").read_text(encoding="utf-8")).sections["broken"])
-    notes = json.loads(called("check", "--rules", "rules", "c", "--json")[1].splitlines()[-1])["notes"]
-    assert len(notes) == 2 and all(note in broken for note in notes), (notes, broken)
-
-
-def test_rules_and_moved_folders(folder: Path, called: Called) -> None:
-    put(str(folder), {f"p/monday/{number}.jpg": jpeg(app1(exif(b"ab%d" % number))) for number in range(5)})
-    (folder / "rules").write_text("every picture needs credit\n")
-    (folder / "p" / "zzz").mkdir()
-    (folder / "p" / "zzz" / "big.tif").write_bytes(b"II+\0\x10\0\0\0" + bytes(16))  # offsets of 16 bytes
-    called("index", "p", "--catalogue", "c", "--quiet")
-    shutil.move(str(folder / "p/monday"), str(folder / "p/tuesday"))
-    called("index", "p", "--catalogue", "c", "--keep-old", "old", "--quiet")
-    called("report", "c", "--since", "old", "--rules", "rules", "--html", "page.html")
-    page = Text((folder / "page.html").read_text(encoding="utf-8"))
-    assert "5 pictures moved from monday to tuesday" in " ".join(page.sections["summary"])
-    assert "6 files below" in " ".join(page.texts("header")), "files that are gone are counted"
-    problems = " ".join(page.sections["problems"])
-    assert 0 < problems.index("zzz/big.tif") < problems.index("monday/0.jpg"), "what needs somebody isn't the first one"
-    broken = " ".join(" ".join(page.sections["broken"]).split())
-    assert "every picture needs credit line 1, broken by 5 pictures" in broken and "1 of 1 rule broken, by 5 of 6 pictures" in broken
-    assert broken.count("no credit") == 5, "not each picture stands below its rule"

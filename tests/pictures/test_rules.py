@@ -10,10 +10,9 @@ import unicodedata
 
 import pytest
 from made_files import app1, app1_xmp, jpeg, xmp
-from studio import needs, put
+from studio import put
 from test_captions import data_set, with_record, with_texts
 from test_list import DATASETS, picture
-from test_maker_notes import noted
 
 TEXTS = (
     "clay",
@@ -164,41 +163,6 @@ def test_each_value_of_a_list_counts(folder, called):
     *broken, _ = map(json.loads, called("check", "--rules", "rules", "p", "--json")[1].splitlines())
     assert [(it["line"], it["text"]) for it in broken] == [(1, "glass"), (2, "glass"), (3, "glass"), (5, "clay"), (5, "glass")]
     assert [called("list", "p", "-0", "--where", f"XMP-dc:subject {it}")[1].count("\0") for it in tests] == [1, 1, 1, 1, 1]
-
-
-def test_nothing_is_broken(folder, called):
-    put(folder / "p", {"a.jpg": picture([("title", "A")])})
-    (folder / "rules").write_text("every picture needs title\ntitle is A\n")
-    assert called("check", "--rules", "rules", "p")[:2] == (0, "0 of 2 rules broken, by 0 of 1 picture\n")
-
-
-def test_pictures_that_were_not_wholly_read(folder, called):
-    """Such a picture doesn't break a rule by a text that may be in the part that wasn't read; but by one that was read."""
-    whole = picture([("title", "A")])
-    put(folder / "p", {"cut.jpg": whole[:30], "b.jpg": whole})
-    (folder / "rules").write_text("every picture needs title\ntitle is B\n")
-    status, printed, _ = called("check", "--rules", "rules", "p", "--json")
-    *objects, summary = map(json.loads, printed.splitlines())
-    assert status == 2 and [it["line"] for it in objects] == [2] and summary["not_known"] == 1
-
-
-@needs("exiftool")
-def test_owners_in_maker_notes(folder, called):
-    """An owner in a MakerNote breaks a rule where ExifTool was asked; where it wasn't, that isn't known."""
-    put(folder / "p", {"web/canon.jpg": noted(b"Annette")})
-    (folder / "rules").write_text("owner never in web/\n")
-    called("index", "p", "--catalogue", "c", "--quiet")
-    assert called("check", "--rules", "rules", "c")[0] == 2
-    called("index", "p", "--catalogue", "c", "--quiet", "--again", "--maker-notes")
-    status, printed, _ = called("check", "--rules", "rules", "c")
-    assert status == 1 and 'owner "Annette"' in printed
-
-
-def test_a_folder_without_pictures_is_named(folder, called):
-    put(folder / "p", {"web/a.jpg": picture([])})
-    (folder / "rules").write_text("title never in wbe/\ntitle never in web/\n")
-    printed = called("check", "--rules", "rules", "p")[1]
-    assert "wbe/" in printed and "line 2" not in printed
 
 
 def test_each_folder_without_pictures_is_named(folder, called):

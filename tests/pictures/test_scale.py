@@ -181,34 +181,6 @@ class Scale(WithPictures):
 
     # Statements, rows that Python gets, and steps of SQLite
 
-    def test_changed_is_linear(self):
-        """What is the same isn't fetched; of what differs each row is; and ten times as many pictures take about ten times the steps."""
-        cases = {
-            "nothing changed": ({}, "same", 0),
-            "half changed": ({"says": "n / 20 + n % 2 * 1000000"}, "different", 3),
-            "half changed equally": ({"says": "n / 20 + n % 2 * (1000000 - n / 20)"}, "different", 3),
-            "all moved": ({"folder": "other"}, "moved", 4),
-            "all copied": ({"folder": "other", "mark": 50000, "is_hashed": True}, "moved", 6),
-            "all gone": ({"folder": "other", "mark": 50000, "says": "n + 1000000"}, "missing after", 11),
-        }
-        for number, (what, (after, result, rows)) in enumerate(cases.items()):
-            with self.subTest(what):
-                few, many = (self.compared(f"{number}-{count}", count, **after) for count in (400, 4000))
-                self.assertIn(f" {result}", self.said)
-                self.assertLessEqual(many["rows"] - few["rows"], rows * 3600)
-                self.assertLess(many["steps"], 12 * few["steps"])
-
-    def compared(self, name, count, **after):
-        """What `changed` costs over two catalogues with this many pictures."""
-        is_hashed = after.get("is_hashed", False)
-        words = [self.catalogue(f"before{name}", count, is_hashed=is_hashed), self.catalogue(f"after{name}", count, **after)]
-        return self.counted("changed", *words, status=1 if after else 0)
-
-    def test_statements_of_same(self):
-        few = self.counted("same", self.catalogue("few", 200), "--no-look")
-        many = self.counted("same", self.catalogue("many", 2200), "--no-look")
-        self.assertEqual(many["statement"] - few["statement"], 100)  # of a group: its pictures
-
     def test_statements_of_an_index(self):
         new, again = [], []
         for count in (100, 200):
@@ -313,24 +285,3 @@ class Scale(WithPictures):
         self.assertEqual((alone["program"], both["program"]), (0, 0))  # ExifTool's version is in its answers
         again = self.counted("index", "g", *words, "1")
         self.assertEqual((again["session"], again["program"]), (0, 0))
-
-    def test_bytes_of_a_great_jpeg(self):
-        """Without --whole the head and the tail are read, each through a buffer of 65,536 bytes."""
-        picture = made.jpeg(made.app1(made.exif(b"Big")))
-        at = picture.rindex(b"\xff\xd9")
-        length = 20_000_000
-        write(self.path("small.jpg"), picture)
-        write(self.path("great.jpg"), picture[:at] + bytes(length) + picture[at:])
-        call = (
-            "import sys; from exifnorm_pictures.extract.extraction import blocks_of_file\n"
-            "def octets(): return int(open('/proc/self/io').read().split()[1])\n"
-            "def read(name, whole): at = octets(); blocks_of_file(name, whole); return octets() - at\n"
-            "read(b'small.jpg', True)\n"  # what Python loads at first isn't counted
-            "print(read(b'small.jpg', False), read(b'great.jpg', False), read(b'great.jpg', True))"
-        )
-        done = run([sys.executable, "-c", call], self.folder)
-        self.assertEqual(done.returncode, 0, done.stderr)
-        small, great, whole = map(int, done.stdout.split())
-        self.assertLess(small, 65536)
-        self.assertLess(great, 4 * 65536)
-        self.assertGreater(whole, length)

@@ -113,13 +113,6 @@ class TestChanged:
         write(self.folder / "a" / "x.jpg.xmp", ONE.replace(b"?xpacket begin", b"?xpacket  begin") + b" " * 20)
         assert results("b", "a", "--sidecars") == (0, {}), "other bytes of the same meaning"
 
-    @pytest.mark.parametrize("name", ["x.jpg.xmp", "y.xmp"])
-    def test_an_edited_sidecar(self, name, called_lines, results):
-        write(self.folder / "a" / name, OTHER)
-        assert results("b", "a", "--sidecars") == (1, {name[0] + ".jpg": "different"})
-        status, lines, _ = called_lines("changed", "b", "a", "--sidecars", "--each", "--no-programs")
-        assert (status, [it.strip()[:2] for it in lines[1:2]]) == (1, ["~ "]) and "sidecar" in lines[1] and "two" in lines[1], lines
-
     def test_a_lost_sidecar(self, results):
         os.remove(self.folder / "a" / "y.xmp")
         assert results("b", "a", "--sidecars") == (1, {"y.jpg": "different"})
@@ -130,14 +123,6 @@ class TestChanged:
         os.remove(self.folder / "b" / "y.xmp")
         assert results("b", "a", "--sidecars") == (1, {"y.jpg": "different"})
 
-    def test_a_moved_picture_takes_it_along(self, results):
-        write(self.folder / "a" / "y.xmp", OTHER)
-        write(self.folder / "b" / "y.xmp", OTHER)
-        (self.folder / "a" / "new").mkdir()
-        for name in ("y.jpg", "y.xmp"):
-            os.rename(self.folder / "a" / name, self.folder / "a" / "new" / name)
-        assert results("b", "a", "--sidecars") == (1, {"y.jpg": "moved"})
-
     def test_a_moved_picture_with_another_sidecar(self, results):
         (self.folder / "a" / "new").mkdir()
         os.rename(self.folder / "a" / "y.jpg", self.folder / "a" / "new" / "y.jpg")
@@ -146,13 +131,6 @@ class TestChanged:
         os.remove(self.folder / "b" / "z.jpg")
         status, found = results("b", "a", "--sidecars")
         assert (status, found["y.jpg"]) == (1, "missing after"), found
-
-    def test_by_another_name(self, results):
-        for side, name in (("b", "y"), ("a", "z")):
-            if name == "z":
-                os.rename(self.folder / side / "y.jpg", self.folder / side / "z.jpg")
-                os.rename(self.folder / side / "y.xmp", self.folder / side / "z.xmp")
-        assert results("b", "a", "--sidecars")[1] == {"y.jpg": "moved"}
 
     def test_what_cannot_be_read(self, results):
         for side in ("b", "a"):
@@ -223,9 +201,6 @@ class TestCatalogue:
         assert self.groups(called_lines) == [["x.jpg", "y.jpg", "z.jpg"]]
         os.remove(self.folder / "p" / "z.jpg")
         assert called_lines("index", "p", "--catalogue", "c", "--quiet")[1][-1] == "2 unchanged, 1 accepted, 1 gone since an earlier run"
-
-    def test_a_picture_by_its_name(self, called_lines):
-        assert called_lines("index", "p/x.jpg", "--catalogue", "c", "--quiet")[1] == ["1 unchanged"]
 
     def test_catalogues_that_are_not_alike(self, called_lines):
         """With sidecars and without: no answer, rather than one that is wrong."""

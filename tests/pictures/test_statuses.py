@@ -1,12 +1,10 @@
 """What `index` and the other commands end with, and what is looked at again although no file has changed."""
 
-import json
 import os
 import shutil
 import sqlite3
 
 import pytest
-from exifnorm_pictures.catalogue.store import Catalogue
 from exifnorm_pictures.cli import main
 from exifnorm_pictures.model.found import UNREAD_TRAILER
 from exifnorm_pictures.scan import index
@@ -57,13 +55,6 @@ def test_a_line_and_the_status_of_index(asked, folder, make, problem, status):
 def test_a_file_of_which_nothing_is_left(asked, folder, octets, words):
     (folder / "p/b.jpg").write_bytes(octets)
     assert asked("index", "p", "--catalogue", "c")[0] == f"p/b.jpg: NoPicture: {words}"
-
-
-@needs("exiftool")
-def test_a_copy_of_a_damaged_file_is_not_mended(asked, folder):
-    (folder / "cut.jpg").write_bytes(GOOD[:30])
-    assert asked("mend", "cut.jpg", "copy.jpg", status=2)[0].startswith("cut.jpg: cut off")
-    assert json.loads(asked("mend", "--json", "cut.jpg", "second.jpg", status=2)[0])["damage"]
 
 
 @pytest.mark.parametrize(
@@ -126,55 +117,11 @@ def test_what_a_missing_program_left_is_read_once_it_is_there(asked, monkeypatch
     assert asked("index", "p", "--catalogue", "c", "--quiet") == ["1 accepted" if there else "1 unchanged"]
 
 
-def test_a_page_has_the_remedy_of_each_cause(asked, folder):
-    put(
-        folder,
-        {
-            f"p/{number}.jpg": jpeg(app1_xmp(octets))
-            for number, octets in enumerate((b"<x", title("a") + b"<!", b"<!DOCTYPE x>" + title("a")))
-        },
-    )
-    asked("index", "p", "--catalogue", "c", "--quiet")
-    asked("report", "c", "--html", "page")
-    page = (folder / "page").read_text()
-    found = {json.loads(it)["cause"] for it in asked("report", "c", "--json") if '"record": "refusal"' in it}
-    assert len(found) > 1 and page.count("<b>Remedy.</b>") == len(found)
-
-
 def test_a_mistyped_folder_is_refused_also_by_a_catalogue_that_is_there(asked, folder):
     asked("index", "p", "--catalogue", "c")
     asked("index", "typo", "--catalogue", "c", status=3)
     shutil.rmtree(folder / "p")
     asked("index", "p", "--catalogue", "c", status=2)  # a folder of the catalogue, which may be an unmounted disk
-
-
-def removed(path):
-    path.unlink()
-
-
-def replaced(path):
-    path.rename(path.with_name("moved"))
-    path.write_bytes(b"somebody else's")
-
-
-def cut(path):
-    os.truncate(path, 4096)
-
-
-@pytest.mark.parametrize("harm", [removed, replaced, cut])
-def test_a_catalogue_that_is_gone_before_the_end(asked, folder, harm, monkeypatch):
-    """The status is about what is there at the end, and not about a file without a name."""
-    put(folder, {f"p/{name}.jpg": GOOD for name in "bcdefgh"})
-    asked("index", "p", "--catalogue", "c")
-    whole = Catalogue.close
-
-    def close(catalogue):
-        whole(catalogue)
-        if catalogue.name == "c" and catalogue._is_written:
-            harm(folder / "c")
-
-    monkeypatch.setattr(Catalogue, "close", close)
-    asked("index", "p", "--again", "--catalogue", "c", status=4)
 
 
 @pytest.mark.parametrize(
