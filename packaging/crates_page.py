@@ -19,7 +19,7 @@ GROUPS = {
     "Engine": "px_text px_engine",
     "Pictures": "px_jpeg px_pictures px_xmp_pictures",
     "Doors": "px_c px_words px_runs px_cli",
-    "Tests": "px_devices px_calls px_picture_calls",
+    "Tests": "px_calls",
 }
 HEAD = """# The crates
 

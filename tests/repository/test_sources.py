@@ -112,7 +112,7 @@ ALLOCATES = re.compile(
     r"(?<!\bmemory)\.(?:extend_from_slice|insert|push|push_str|reserve|reserve_exact|resize)\((?!memory\b)"
 )
 
-FOR_TESTS = ("px_calls", "px_devices", "px_picture_calls")  # crates
+FOR_TESTS = ("px_calls",)  # crates
 
 # The functions that call what allocates and are none of `Memory`: those over clap, which takes no `Memory`, the one that copies the
 # program's arguments, and the one of the files with known bytes, which the program never calls.

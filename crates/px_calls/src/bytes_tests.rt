@@ -1,9 +1,9 @@
 // px_bytes: ranges over an allocator, the texts of refusals, a failed flush, a write of no bytes, and a writer
 // into memory.
+use crate::devices::KeepsBack;
 use px_bytes::{
     Cause, Device, Growing, Memory, Ranges, ReadFault, Refusal, Sink, Watched, WriteRefusal,
 };
-use px_devices::KeepsBack;
 use std::test::Fail;
 
 #[test]

@@ -1,8 +1,8 @@
 // px_engine: two files in memory at once, captions as a list, and flushes: each run that writes flushes once
 // after the last byte and reports a failed flush. No run of the program shows that.
 use crate::built::{CAPTION, EXIF};
+use crate::devices::KeepsBack;
 use px_bytes::Watched;
-use px_devices::KeepsBack;
 use px_engine::{Fault, Label, captions, captions_of, normalise, normalise_both, read_any, show};
 use std::process::Abort;
 use std::test::Fail;

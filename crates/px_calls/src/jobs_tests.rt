@@ -1,8 +1,8 @@
 // px_runs: each line of the program is flushed, and the status reports a failed flush. No run of the program
 // shows that.
 use crate::built::CAPTION;
+use crate::devices::KeepsBack;
 use px_bytes::{Memory, Watched};
-use px_devices::KeepsBack;
 use px_runs::{Job, print_text, run_compare_in, run_one_in};
 use std::io;
 use std::process::Abort;

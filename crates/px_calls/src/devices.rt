@@ -1,7 +1,4 @@
-//! Writers for tests, with failures that no run of the program has. They are in a crate of their own because a
-//! must-fail edit of px_calls would load every library again.
-#![tactic(auto)]
-
+// Writers for tests, with failures that no run of the program has.
 ghost use Rattle.std.specs.Prelude.{◌≡◌, ◌+◌, ◌^◌, ◌-◌, min, length, Ok, IsErr};
 ghost use Rattle.std.specs.Io.{WritesAtMost};
 

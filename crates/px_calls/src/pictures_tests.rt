@@ -1,5 +1,6 @@
 // px_pictures: the blocks of a picture, whether two pictures have the same, and the first fault of two.
-use crate::pictures::{APP1, APP13, CAPTION, EXIF, RESOURCE, picture};
+use crate::built::{CAPTION, EXIF};
+use crate::pictures::{APP1, APP13, RESOURCE, picture};
 use px_bytes::{Cause, Memory};
 use px_jpeg::{HeadCause, HeadFault};
 use px_pictures::{

@@ -1,13 +1,6 @@
 // Pictures built by hand. A segment is a marker, the length of the rest, and the data: ITU-T T.81, B.1.1.4.
 use std::alloc::{AllocError, Global};
 
-// One field: Orientation, SHORT 1. TIFF 6.0, section 2.
-pub(crate) const EXIF: &[u8] =
-    b"MM\x00\x2a\x00\x00\x00\x08\x00\x01\x01\x12\x00\x03\x00\x00\x00\x01\x00\x01\x00\x00\x00\x00\x00\x00";
-
-// One DataSet: the caption 'abc'. IPTC-NAA IIM 4.2.
-pub(crate) const CAPTION: &[u8] = b"\x1c\x02\x78\x00\x03abc";
-
 // The start of a segment with 26 bytes of Exif. CIPA DC-008, 4.7.2.
 pub(crate) const APP1: &[u8] = b"\xff\xe1\x00\x22Exif\x00\x00";
 

@@ -1,5 +1,6 @@
 // px_jpeg: what the C library doesn't call: the parts of a head, its pieces, and where a piece of extended XMP belongs.
-use crate::pictures::{APP1, APP13, CAPTION, EXIF, RESOURCE, picture};
+use crate::built::{CAPTION, EXIF};
+use crate::pictures::{APP1, APP13, RESOURCE, picture};
 use px_jpeg::{Extended, Part, Piece, SegmentKind, read_extended, read_head};
 use std::test::Fail;
 
