@@ -124,14 +124,25 @@ $(built)/%.h: crates/px_c/include/%.h
 	mkdir -p $(built)
 	cp $< $@
 
+# The extension module by which Python calls the library, for every CPython from 3.9 on. Not every version of Python's headers is C99. The
+# names of the sources are relative, so every folder gives the same bytes.
+$(built)/_native.abi3.so: python/exifnorm/_native.c python/exifnorm/_packed.h $(headers) Makefile
+	$(cc) -std=c99 -O2 -fPIC -Wall -Wextra -pedantic -isystem '$(PYTHONINCLUDE)' -I crates/px_c/include $< -shared -s -Wl,-z,relro \
+	    -Wl,-z,now -Wl,-z,noexecstack $(LDFLAGS) -o $@
+
 check:
 	./test
 
 # A folder as exifnorm.pc names it, so that it moves with the prefix.
 below_prefix = $(patsubst $(PREFIX)/%,$${prefix}/%,$(1))
 
+# without Python.h, ctypes makes the calls
+extension = $(if $(wildcard $(PYTHONINCLUDE)/Python.h),$(built)/_native.abi3.so)
+left_out = there is no $(PYTHONINCLUDE)/Python.h, so _native.abi3.so is left out: Python calls the library by ctypes
+
+.SECONDEXPANSION:
 # Everything as it is installed, below out/stage.
-stage: all
+stage: all $$(extension)
 	rm -rf $(stage)
 	install -d '$(stage)$(BINDIR)' '$(stage)$(LIBDIR)/pkgconfig' '$(stage)$(INCLUDEDIR)' '$(stage)$(DOCDIR)' \
 	    '$(stage)$(MANDIR)/man1' '$(stage)$(MANDIR)/man3' '$(stage)$(BASHDIR)' '$(stage)$(ZSHDIR)' '$(stage)$(FISHDIR)'
@@ -165,7 +176,7 @@ stage: all
 	    install -D -m 644 "$$file" "$(stage)$(PYTHONDIR)/$${file#python/}" || exit 1; \
 	done
 	ln -s "$$(realpath -m --relative-to='$(PYTHONDIR)/exifnorm' '$(LIBDIR)')/$(SONAME)" '$(stage)$(PYTHONDIR)/exifnorm/$(SONAME)'
-	CC='$(CC)' LDFLAGS='$(LDFLAGS)' python3 packaging/extension.py '$(stage)$(PYTHONDIR)/exifnorm/_native.abi3.so' '$(PYTHONINCLUDE)'
+	$(if $(extension),install -m 644 $(extension) '$(stage)$(PYTHONDIR)/exifnorm/',@echo 'exifnorm: $(left_out)')
 	python3 packaging/dist_info.py python '$(stage)$(PYTHONDIR)'
 	'$(PYTHON)' packaging/command.py '$(BINDIR)' '$(PYTHONDIR)' $(if $(INTERPRETER),'$(INTERPRETER)') >'$(stage)$(BINDIR)/exifnorm-pictures'
 	chmod 755 '$(stage)$(BINDIR)/exifnorm-pictures'
@@ -175,16 +186,19 @@ stage: all
 	$(if $(filter aarch64,$(MACHINE)),install -m 755 out/aarch64/bin/exifnorm '$(stage)$(BINDIR)/')
 
 install: stage
-	python3 packaging/manifest.py install $(stage) '$(DESTDIR)' '$(MANIFEST)'
-	@python3 packaging/next_steps.py '$(DESTDIR)' '$(BINDIR)' '$(LIBDIR)' '$(DOCDIR)'
+	sh packaging/manifest.sh install $(stage) '$(DESTDIR)' '$(MANIFEST)'
+	@[ -n '$(DESTDIR)' ] || printf '%s\n' '' 'exifnorm is installed. Next:' \
+	    '  ldconfig   # as root: programs in C then find $(LIBDIR)/$(SONAME); or set LD_LIBRARY_PATH' '  export PATH=$(BINDIR):$$PATH' \
+	    '  apt-get install libimage-exiftool-perl   # ExifTool, which exifnorm-pictures needs' \
+	    '  exifnorm-pictures changed $(DOCDIR)/samples/before $(DOCDIR)/samples/after   # a first try'
 
 uninstall:
-	python3 packaging/manifest.py uninstall '$(DESTDIR)' '$(MANIFEST)'
+	sh packaging/manifest.sh uninstall '$(DESTDIR)' '$(MANIFEST)'
 
 # The date of the version, so that the same sources make the same bytes at any time.
 epoch = $$(date -d "$$(sed -n 's/^ -- .*>  //p' debian/changelog | head -n 1)" +%s)
 
-wheel: library
+wheel: library $$(extension)
 	rm -f $(built:lib=wheel)/*.whl
 	SOURCE_DATE_EPOCH=$(epoch) EXIFNORM_MACHINE=$(MACHINE) '$(PYTHON)' -m pip wheel --no-build-isolation --no-deps \
 	    --disable-pip-version-check -w $(built:lib=wheel) ./python

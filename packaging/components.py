@@ -23,6 +23,10 @@ from pathlib import Path
 from typing import Any, Iterator
 
 TOP = Path(__file__).resolve().parent.parent
+sys.path.insert(0, str(TOP / "build"))
+
+from crates import Crates, below
+
 BUILT = ("px_cli", "px_c")  # the crates of the program and of the library
 OWN = "MIT OR Apache-2.0"
 UNKNOWN = "NOASSERTION"
@@ -37,27 +41,6 @@ class Crate:
     version: str
     licence: str
     files: list[Path]
-
-
-def uses(lines: str) -> dict[str, list[str]]:
-    """The crates that each crate of crates.txt uses.
-
-    >>> uses("a: b c\\nd staticlib: a  # more\\n")
-    {'a': ['b', 'c'], 'd': ['a']}
-    """
-    parts = (line.partition("#")[0].partition(":") for line in lines.splitlines())
-    return {head.split()[0]: rest.split() for head, _, rest in parts if head.strip()}
-
-
-def below(names: tuple[str, ...], table: dict[str, list[str]]) -> set[str]:
-    """All crates that some crates use, over any number of steps."""
-    reached: set[str] = set()
-    left = list(names)
-    while left:
-        new = set(table.get(left.pop(), ())) - reached
-        reached |= new
-        left += new
-    return reached
 
 
 def kit_crates(kit: Path, names: set[str]) -> set[str]:
@@ -154,8 +137,8 @@ def main(words: list[str]) -> None:
     if len(words) != 5:
         sys.exit(__doc__)
     version, seconds, kit, is_release = words[0], int(words[1]), Path(words[2]), words[4] == "--release"
-    table = uses((TOP / "crates.txt").read_text(encoding="utf-8"))
-    names = kit_crates(kit, {it for it in below(BUILT, table) if it not in table})
+    table = Crates.read(TOP).uses
+    names = kit_crates(kit, {used for built in BUILT for it in (built, *below(built, table)) for used in table[it] if used not in table})
     crates = [crate_of(kit, it) for it in sorted(names)]
     linked = [package(it.name, it.version, it.licence) for it in crates] + (c_packages() if is_release else [])
     text = json.dumps(document(version, seconds, linked, tools() if is_release else []), indent=1)

@@ -10,7 +10,6 @@ bytes. The folder out/release is replaced at the end, if everything was made.
 
 from __future__ import annotations
 
-import fcntl
 import hashlib
 import os
 import platform
@@ -191,11 +190,8 @@ def main(words: list[str]) -> int:
     if len(words) not in (2, 3):
         sys.exit(__doc__)
     try:
-        WORK.parent.mkdir(exist_ok=True)
-        with open(WORK.with_suffix(".lock"), "wb") as lock:
-            fcntl.flock(lock, fcntl.LOCK_EX)  # another run uses the same folder, so it is waited for
-            release(words[0], int(words[1]), "".join(words[2:]))
-            print(f"release: {MADE.relative_to(TOP)} has {len(list(MADE.iterdir()))} files; its README says which is for whom")
+        release(words[0], int(words[1]), "".join(words[2:]))
+        print(f"release: {MADE.relative_to(TOP)} has {len(list(MADE.iterdir()))} files; its README says which is for whom")
     except (Failed, NotBuilt, OSError, subprocess.SubprocessError) as why:
         print(f"release: {why}", file=sys.stderr)
         return 1

@@ -33,7 +33,6 @@ def copy(source: Path, target: Path) -> None:
 
 def put(in_c: Path, folder: Path) -> None:
     """Writes the files into a folder."""
-    project = tomllib.loads((PYTHON / "pyproject.toml").read_text(encoding="utf-8"))["project"]
     for package in ("exifnorm", "exifnorm_pictures"):
         for file in sorted((PYTHON / package).rglob("*")):
             if file.suffix in KEPT:
@@ -44,8 +43,7 @@ def put(in_c: Path, folder: Path) -> None:
         copy(in_c / name, folder / "c" / name)
     copy(SOURCES / "in_c.c", folder / "c" / "in_c.c")
     copy(SOURCES / "setup_in_c.py", folder / "setup.py")
-    description = (PYTHON / project["readme"]).read_text(encoding="utf-8")
-    (folder / "PKG-INFO").write_text(metadata(project, description), encoding="utf-8")
+    (folder / "PKG-INFO").write_text(metadata(PYTHON), encoding="utf-8")
 
 
 def make(in_c: Path, seconds: int, target: Path) -> Path:

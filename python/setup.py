@@ -1,6 +1,6 @@
 """Puts the library libexifnorm.so.1 and the extension module into the wheel, and gives the wheel the tag of the machine that they are for.
 
-`make` builds the library. setuptools builds in out/wheel, so the sources stay unchanged. With EXIFNORM_MACHINE=aarch64 in the environment
+`make` builds both, and setuptools builds in out/wheel, so the sources stay unchanged. With EXIFNORM_MACHINE=aarch64 in the environment
 the wheel is for aarch64, and has no extension module: this Python's headers are for this machine.
 """
 
@@ -61,8 +61,8 @@ def platform_tag(machine: str, glibc: list[tuple[int, int] | None]) -> str:
 
 
 class BuildWithLibrary(build_py):
-    """Copies the library beside the modules, and builds the extension module there if it can be built. Any CPython from 3.9 on can
-    load it, and another Python does without it: so it doesn't change for which Pythons the wheel is."""
+    """Copies the library beside the modules, and the extension module if `make` has built it. Any CPython from 3.9 on can load it, and
+    another Python does without it: so it doesn't change for which Pythons the wheel is."""
 
     def run(self) -> None:
         if not LIBRARY.exists():
@@ -73,8 +73,8 @@ class BuildWithLibrary(build_py):
         shutil.copyfile(LIBRARY, target)
         target.chmod(0o755)
         subprocess.run([f"{TOOLS}strip", "--strip-unneeded", target], check=True)
-        if not IS_FOR_ANOTHER:
-            subprocess.run([sys.executable, TOP / "packaging" / "extension.py", target.with_name(EXTENSION)], check=True)
+        if LIBRARY.with_name(EXTENSION).exists():
+            shutil.copyfile(LIBRARY.with_name(EXTENSION), target.with_name(EXTENSION))
 
 
 class ForOneMachine(Distribution):

@@ -3,14 +3,13 @@
 import ctypes
 import importlib.machinery
 import importlib.util
-import sys
 import sysconfig
 from pathlib import Path
 
 import pytest
 
 import exifnorm
-from commands import TOP, run
+from commands import run
 from compiling import HERE, HEADERS
 from exifnorm import _calls, _library, _reading
 from small_blocks import outcome
@@ -44,7 +43,7 @@ def extension(session_folder):
     headers, path = sysconfig.get_paths()["include"], session_folder / "_native.abi3.so"
     if not Path(headers, "Python.h").exists():
         pytest.skip(f"there is no {headers}/Python.h (Debian's package python3-dev)")
-    run(sys.executable, TOP / "packaging" / "extension.py", path, CC="cc -Werror")
+    run("make", path, f"built={session_folder}", f"PYTHONINCLUDE={headers}", "CC=cc -Werror")
     return path
 
 

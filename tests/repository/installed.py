@@ -21,12 +21,6 @@ HEADER = text_of("crates", "px_c", "include", "exifnorm.h")
 CALLS = sorted(re.findall(r"^uint32_t (exifnorm_\w+)\(", HEADER, re.MULTILINE))
 
 
-def with_block(path: Path, block: bytes) -> Path:
-    """A new JPEG with a block of Exif."""
-    path.write_bytes(b"\xff\xd8\xff\xe1" + (len(block) + 8).to_bytes(2, "big") + b"Exif\0\0" + block + b"\xff\xd9")
-    return path
-
-
 def kind_of(path: Path) -> int | str:
     """The mode of a file or a folder, or where a link leads."""
     return os.readlink(path) if path.is_symlink() else stat.S_IMODE(path.stat().st_mode)

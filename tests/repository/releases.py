@@ -1,4 +1,4 @@
-"""Two releases of the sources as they are, which the tests of packages share, and the use of what is in them."""
+"""Two releases of the sources as they are, which the tests of packages share."""
 
 import os
 import shutil
@@ -80,17 +80,3 @@ def two_releases(session_folder):
 def one(folder, pattern):
     (found,) = folder.glob(pattern)
     return found
-
-
-def changed_words(folder):
-    return ["changed", folder / "samples/before", folder / "samples/after"]
-
-
-def uses(program, pictures, samples, **more):
-    """Uses both programs of an installation on a block and on the samples."""
-    surroundings = environment(**more)
-    if program:
-        assert run(program, "compare", TOP / "README.md", "/dev/null", status=2, env=surroundings).startswith("refused")
-        assert run(program, "--version", env=surroundings).startswith("exifnorm ")
-    said = run(pictures, *changed_words(samples), status=1, env=surroundings)
-    assert "Riverside Museum" in said and "Anna Wirth" in said, said

@@ -1,7 +1,7 @@
 """The completions that packaging/completions.py makes of a command's help, for a command that is written out here.
 
 How bash, zsh and fish read completions is in their own manuals: COMPREPLY and `complete`, `_describe` and `_arguments`, and `complete -C`.
-test_install.py tests those of the installed commands.
+test_installed.py tests those of the installed commands.
 """
 
 import shutil

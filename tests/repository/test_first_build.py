@@ -1,8 +1,7 @@
 """Builds with the toolchain itself: a small repository from nothing, and these sources without proofs.
 
 ./test builds its program and its library over what `rt ci` has just proved, so the way from nothing is tested here: with a library of
-one function, two that are proved side by side over it, a program over all, and the same for C. Beside it ./test proves them by `rt ci`,
-and `rt lib` builds the archive: all have to make the same bytes.
+one function, two that are proved side by side over it, a program over all, and the same for C. `rt lib` has to make the same archive.
 """
 
 import os
@@ -10,7 +9,6 @@ import shutil
 import subprocess
 import sys
 import uuid
-from concurrent.futures import ThreadPoolExecutor
 from pathlib import Path
 
 import pytest
@@ -22,7 +20,7 @@ HOURS = 4 * 3600  # what a command may take at most, also on a very busy machine
 
 pytestmark = [pytest.mark.proof, pytest.mark.timeout(2 * HOURS), pytest.mark.xdist_group("first_build")]
 
-PROGRAM, ARCHIVE = "out/exifnorm", "out/proved/libpx_c.a"
+ARCHIVE = "out/proved/libpx_c.a"
 
 # A library over px_bytes.
 OVER = """// The same under another name.
@@ -156,79 +154,35 @@ class Project:
         how = {"cwd": self.top / folder, "stdin": subprocess.DEVNULL, "capture_output": True, "text": True, "timeout": HOURS}
         return subprocess.run(words, env={**environment, **named}, check=False, **how)
 
-    def test(self) -> subprocess.CompletedProcess:
-        """./test, in which `true` stands for Python and runs no tests."""
-        return self.call("./test", EXIFNORM_PYTHON="true")
-
     def bytes_of(self, name: str) -> bytes:
         return (self.top / name).read_bytes()
 
 
-def from_nothing(top: Path) -> Project:
-    """The repository that is built as users do."""
-    user = Project(top)
-    user.made = user.call("make", "program")
-    user.launched = user.call("./exifnorm", "a b")
-    user.library = user.call("make", "library")
-    user.by_rt = user.call("rt", "lib", folder="crates/px_c")
-    return user
+@pytest.fixture(scope="module")
+def user(session_folder):
+    """The repository, built as users do."""
+    if not shutil.which("rt"):
+        pytest.skip("there is no command rt on the PATH")
+    return Project(session_folder / "user")
 
 
-def by_the_gate(top: Path) -> Project:
-    """The repository that ./test proves and builds; then again."""
-    gate = Project(top)
-    gate.tested, gate.again = gate.test(), gate.test()
-    return gate
-
-
-def build_both(folder: Path) -> tuple[Project, Project]:
-    """Makes and builds both repositories at once."""
-    with ThreadPoolExecutor(2) as pool:
-        user, gate = pool.submit(from_nothing, folder / "user"), pool.submit(by_the_gate, folder / "gate")
-        return user.result(), gate.result()
-
-
-def test_make_proves_and_builds_and_the_launcher_runs_it(user, gate):
-    assert (user.made.returncode, user.made.stdout) == (0, ""), user.made
-    assert "proving px_bytes (1 of 4, 3 left)" in user.made.stderr, user.made
-    assert (user.launched.returncode, user.launched.stdout, user.launched.stderr) == (0, "one: a b\n", ""), user.launched
-    for name in ("bytes", "one", "two", "cli"):
-        assert (user.top / f"out/proved/px_{name}.made-from").exists(), "what was built isn't kept"
+def test_make_proves_and_builds_and_the_launcher_runs_it(user):
+    made, launched = user.call("make", "program"), user.call("./exifnorm", "a b")
+    assert (made.returncode, made.stdout) == (0, "") and "proving px_bytes (1 of 4, 3 left)" in made.stderr, made
+    assert (launched.returncode, launched.stdout, launched.stderr) == (0, "one: a b\n", ""), launched
     assert "logic=proved" in (user.top / "out/build-px_bytes.log").read_text(encoding="utf-8"), "the log has no proof"
+    library, by_rt = user.call("make", "library"), user.call("rt", "lib", folder="crates/px_c")
+    assert (library.returncode, by_rt.returncode) == (0, 0), (library, by_rt)
+    assert "proving px_c (1 of 1, 0 left)" in library.stderr, "what the program stands on was proved again"
+    archive = user.bytes_of("crates/px_c/out/libpx_c.a")
+    assert archive[:8] == b"!<arch>\n" and archive == user.bytes_of(ARCHIVE), "another archive than that of `rt lib`"
 
 
-def test_each_crate_is_proved_once_by_the_gate(user, gate):
-    assert gate.tested.returncode == 0, gate.tested
-    assert gate.tested.stdout.count("fn px_bytes::echo: proved\n") == 1, gate.tested
-    assert gate.tested.stdout.count("fn px_cli::main: proved\n") == 1, gate.tested
-    assert "proving px_c (1 of 1, 0 left)" in gate.tested.stderr and "proving px_bytes" not in gate.tested.stderr, gate.tested
-    assert not (gate.top / "out/gate").exists(), "the copy is left"
-    assert gate.again.returncode == 0 and "all was proved by an earlier run" in gate.again.stdout and not gate.again.stderr, gate.again
-
-
-def test_all_make_the_same_program(user, gate):
-    assert gate.bytes_of(PROGRAM)[:4] == b"\x7fELF", "no program"
-    assert gate.bytes_of(PROGRAM) == user.bytes_of(PROGRAM)
-    assert gate.call("./exifnorm", "a b").stdout == "one: a b\n", "it does something else"
-
-
-def test_all_make_the_same_archive(user, gate):
-    assert (user.library.returncode, user.by_rt.returncode) == (0, 0), (user.library, user.by_rt)
-    assert "proving px_c (1 of 1, 0 left)" in user.library.stderr, "what the program stands on was proved again"
-    by_rt = user.bytes_of("crates/px_c/out/libpx_c.a")
-    assert by_rt[:8] == b"!<arch>\n", "no archive"
-    assert by_rt == user.bytes_of(ARCHIVE) == gate.bytes_of(ARCHIVE), "another archive than that of `rt lib`"
-
-
-def test_what_the_gate_refuses_is_not_built(user, gate):
-    """It changes what was built, so it is the last one."""
-    for name, text, why in (("px_one", NEVER, "no call of `px_one::one`"), ("px_two", WAITS, "may-wait=1")):
-        (user.top / f"crates/{name}/src/lib.rt").write_text(text, encoding="utf-8")
-        ran = user.call("python3", "build/prove.py", name)
-        assert ran.returncode == 1 and f"fn {name}" in ran.stderr and ": proved" in ran.stderr and why in ran.stderr, ran
-    (gate.top / "crates/px_one/src/lib.rt").write_text(NEVER, encoding="utf-8")
-    ran = gate.test()
-    assert ran.returncode == 1 and ran.stdout.endswith("0 passed, 1 failed\n") and "proving" not in ran.stderr, ran
+@pytest.mark.parametrize("name, text, why", [("px_one", NEVER, "no call of `px_one::one`"), ("px_two", WAITS, "may-wait=1")])
+def test_what_the_gate_refuses_is_not_built(user, name, text, why):
+    (user.top / f"crates/{name}/src/lib.rt").write_text(text, encoding="utf-8")
+    ran = user.call("python3", "build/prove.py", name)
+    assert ran.returncode == 1 and f"fn {name}" in ran.stderr and ": proved" in ran.stderr and why in ran.stderr, ran
 
 
 # ---- these sources without proofs

@@ -9,7 +9,7 @@ import pytest
 
 TOP = Path(__file__).resolve().parents[2]
 PYTHON = ("python", "build", "packaging", "tests", "bench", "docs", "samples")
-SHELL = ("test", "exifnorm", "exifnorm-pictures", ".ci/run", *(str(it.relative_to(TOP)) for it in TOP.glob("build/*.sh")))
+SHELL = ("test", "exifnorm", "exifnorm-pictures", ".ci/run", *(str(it.relative_to(TOP)) for it in TOP.glob("packaging/*.sh")))
 TEXTS = ("python", "build", "packaging", "bench", "crates", "debian", "docs", "Makefile", *(it.name for it in TOP.glob("*.md")))
 
 

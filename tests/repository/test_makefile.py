@@ -1,7 +1,7 @@
 """Tests of the Makefile's rules for the program and the library, over the toolchain of room.py: which change builds what again, and that
 nothing that was compiled without proofs passes for proved.
 
-They need make, cc, ld, objcopy and ar. test_install.py tests what is installed.
+They need make, cc, ld, objcopy and ar. test_installed.py tests what is installed.
 """
 
 import os
@@ -10,7 +10,7 @@ import subprocess
 import sys
 
 import pytest
-from room import HANDLES, TOP, Room
+from room import TOP, Room
 
 CRATES = "px_bytes: byteorder\npx_engine: px_bytes\npx_aside: px_bytes\npx_cli: px_engine\npx_c staticlib: px_bytes px_engine\n"
 LIBRARIES = ["libexifnorm.a", "libexifnorm.so.1", "exifnorm.h"]
@@ -69,7 +69,7 @@ def test_make_builds_the_program_and_the_library_once(made):
     assert built(made) == before and made.built() == []
 
 
-@pytest.mark.parametrize("name", ["px_bytes/src/lib.rt", "px_engine/specs/Words.antt", "px_c/proofs/Answers.antt", "px_c/src/further.rt"])
+@pytest.mark.parametrize("name", ["px_bytes/src/lib.rt", "px_engine/specs/Words.antt", "px_c/proofs/Answers.antt"])
 def test_each_changed_source_is_in_the_library(made, name):
     before = built(made)
     made.write(f"crates/{name}", "changed")
@@ -87,16 +87,11 @@ def test_other_changes_are_in_what_is_built(made):
     assert made.make("LDFLAGS=-Wl,--build-id=0x0123456789abcdef").returncode == 0
     assert made.call("a", program=made.top / "out/exifnorm").stdout == "two: a\n"
     files = contents(built(made))
-    assert files["exifnorm.h"] == b"/* two */\n"
+    assert files["exifnorm.h"] == b"/* two */\n" and bytes.fromhex("0123456789abcdef") in files["libexifnorm.so.1"]
     assert all(b"toolchain 2" in files[name] and b"own two" in files[name] for name in LIBRARIES[:2])
-    assert bytes.fromhex("0123456789abcdef") in files["libexifnorm.so.1"], "the linker had other flags than the caller's"
-    own_code(made, "void nowhere(void);\nvoid exifnorm_more(void) { nowhere(); }\n")
-    made.write("crates/px_c/src/lib.rt", "three")
-    ran = made.make("library")
-    assert ran.returncode == 2 and "nowhere" in ran.stderr, ran
 
 
-@pytest.mark.parametrize("crate, target", [("px_c", "library"), ("px_bytes", "library"), ("px_cli", "program"), ("px_engine", "all")])
+@pytest.mark.parametrize("crate, target", [("px_bytes", "library"), ("px_cli", "program")])
 def test_a_proof_that_fails_fails_make(made, crate, target):
     (made.folder / f"says-{crate}").write_text("logic=failed functions=1 sum=1f\n")
     made.write(f"crates/{crate}/proofs/Answers.antt", "wrong")
@@ -105,9 +100,6 @@ def test_a_proof_that_fails_fails_make(made, crate, target):
     (made.folder / f"says-{crate}").unlink()
     made.write(f"crates/{crate}/proofs/Answers.antt", "one")
     assert made.make(target).returncode == 0, "it is not built again"
-    made.write("HANDLES", "Handles allowed: Wait.\n")
-    assert made.make(target).returncode != 0, "HANDLES was changed"
-    made.write("HANDLES", HANDLES)
 
 
 def test_a_library_that_is_half_made_is_made_again(made):
@@ -126,24 +118,12 @@ def test_a_library_that_is_half_made_is_made_again(made):
     assert made.make("library").returncode == 0 and contents(built(made)) == whole, "what another left is kept"
 
 
-def test_the_archive_and_the_library_show_their_calls_alone(made):
-    for name, words in (("libexifnorm.a", ["-g"]), ("libexifnorm.so.1", ["-D"])):
-        shown = made.call(*words, "--defined-only", str(made.top / "out/lib" / name), program="nm").stdout
-        names = {line.split()[-1].partition("@")[0] for line in shown.splitlines() if len(line.split()) > 2}
-        assert names - {"EXIFNORM_1"} <= {"exifnorm_text", "exifnorm_own"} and (name.endswith("1") or "exifnorm_text" in names), shown
-
-
 def test_check_ends_as_the_tests_do_and_other_targets_are_made_whatever_files_there_are(made):
     for status in (0, 1, 127):
         made.write("status", str(status))
         assert (made.make("check").returncode == 0) == (status == 0), status
     for target in ("uninstall", "dist"):
-        assert "python3 packaging/" in made.make("-n", target).stdout
-    made.write("crates/px_cli/out/px_cli", "what rt run left")
-    (line,) = (
-        line for line in made.make("-n", "stage", "stage=.").stdout.splitlines() if line.endswith("/bin/exifnorm'") and "out/" in line
-    )
-    assert line.startswith("install -m 755 out/exifnorm "), line
+        assert " packaging/" in made.make("-n", target).stdout
 
 
 # ---- nothing that is compiled without proofs passes for proved
@@ -153,37 +133,19 @@ INSTALLED = {
     "archive": ["make", "dist"],
     "debian": ["make", "-f", "debian/rules", "override_dh_auto_build"],
 }
-REFUSE_PROGRAM = {**INSTALLED, "make": ["make", "program"]}
-REFUSE_LIBRARY = {
-    **INSTALLED,
+OF_LIBRARY = {
     "make": ["make", "library"],
     "wheel": ["make", "wheel"],
     "setup": ["env", "-C", "python", sys.executable, "setup.py", "build"],
 }
 
 
-def require_refused(room: Room, words: list) -> None:
-    ran = room.call(*words[1:], program=words[0], cwd=room.top)
-    assert ran.returncode != 0 and "was compiled without proofs" in ran.stderr, (words, ran)
-    assert not (room.top / "installed").exists()
-    assert not [*(room.top / "out/dist").rglob("*"), *(room.top / "out/wheel").rglob("*.whl")]
-
-
-def test_no_program_without_proofs_passes_for_proved(made):
-    made.write("out/proved/px_cli", "exifnorm 1.2.3-unproved")
-    for words in REFUSE_PROGRAM.values():
-        require_refused(made, words)
-
-
-def test_no_library_without_proofs_passes_for_proved(made):
-    for name in LIBRARIES[:2]:
-        (made.top / "out/lib" / name).rename(made.folder / "away")
-        made.write(f"out/lib/{name}", "1.2.3-unproved")
-        for words in REFUSE_LIBRARY.values() if name.endswith("1") else [REFUSE_LIBRARY["make"]]:
-            require_refused(made, words)
-        (made.folder / "away").replace(made.top / "out/lib" / name)
-
-
-def test_the_guard_refuses_what_it_cannot_read(folder):
-    ran = subprocess.run([sys.executable, TOP / "build/guard.py", folder / "missing"], capture_output=True, text=True, check=False)
-    assert (ran.returncode, ran.stderr) == (1, f"exifnorm: cannot read {folder}/missing: No such file or directory\n")
+@pytest.mark.parametrize("name", ["proved/px_cli", "lib/libexifnorm.a", "lib/libexifnorm.so.1"])
+def test_nothing_without_proofs_passes_for_proved(made, name):
+    (made.top / "out" / name).rename(made.folder / "away")
+    made.write(f"out/{name}", "exifnorm 1.2.3-unproved")
+    every = {**INSTALLED, **OF_LIBRARY} if name.endswith("1") else {"make": ["make", "all"], **INSTALLED}
+    for words in every.values():
+        ran = made.call(*words[1:], program=words[0], cwd=made.top)
+        assert ran.returncode != 0 and "was compiled without proofs" in ran.stderr, (words, ran)
+        assert not [*made.top.glob("installed"), *made.top.glob("out/dist/*"), *made.top.rglob("*.whl")]

@@ -1,4 +1,4 @@
-"""`make release` in two folders: the same bytes, and each form installed and used. And what `make install`, `clean` and `help` do."""
+"""`make release` in two folders: the same bytes, and the forms that test_installed.py doesn't use. And what `make clean` and `help` do."""
 
 import base64
 import gzip
@@ -7,18 +7,15 @@ import os
 import re
 import shutil
 import subprocess
-import sys
-import threading
-from concurrent.futures import ThreadPoolExecutor
 from pathlib import Path
+from unittest import mock
 
 import pytest
 
 import guard
 import machines
-import next_steps
 import release
-from releases import DEBS, TOP, environment, one, run, uses
+from releases import DEBS, TOP, environment, one, run
 
 PYTHON = "/usr/bin/python3"
 SYSTEM_PATH = "/usr/sbin:/usr/bin:/sbin:/bin"
@@ -79,38 +76,18 @@ def test_no_file_that_git_does_not_list_is_in_it(made, tmp_path):
 # ---- each form, installed
 
 
-def test_the_wheel_is_used_in_a_venv(made, tmp_path):
-    run(PYTHON, "-m", "venv", "--without-pip", tmp_path / "venv")
-    words = ["--no-index", "--no-deps", "--disable-pip-version-check", one(made, "*x86_64.whl")]
-    run(PYTHON, "-m", "pip", "--python", tmp_path / "venv/bin/python", "install", *words, env=environment())
-    uses(None, tmp_path / "venv/bin/exifnorm-pictures", TOP)
-    said = run(tmp_path / "venv/bin/python", "-c", "import exifnorm; print(exifnorm.version())", env=environment(), cwd=tmp_path)
-    assert re.match(r"\d+\.\d+\.\d+$", said)
-
-
-def test_pip_compiles_the_source_distribution(made, tmp_path):
+@pytest.mark.parametrize("pattern, is_in_c", [("*x86_64.whl", ""), (f"exifnorm-{machines.VERSION}.tar.gz", " (C)")])
+def test_pip_installs_the_wheel_and_compiles_the_source_distribution(made, tmp_path, pattern, is_in_c):
     """Without the kit and without another library, with any C compiler."""
-    version = re.search(r"(?m)^version = .(.*).$", (TOP / "python/pyproject.toml").read_text())[1]
     run(PYTHON, "-m", "venv", "--without-pip", "--system-site-packages", tmp_path / "venv")
-    words = ["--no-index", "--no-deps", "--no-build-isolation", "--disable-pip-version-check", made / f"exifnorm-{version}.tar.gz"]
+    words = ["--no-index", "--no-deps", "--no-build-isolation", "--disable-pip-version-check", one(made, pattern)]
     run(PYTHON, "-m", "pip", "--python", tmp_path / "venv/bin/python", "install", *words, env=environment(CFLAGS="-O0"))
-    uses(None, tmp_path / "venv/bin/exifnorm-pictures", TOP)
+    said = run(
+        tmp_path / "venv/bin/exifnorm-pictures", "changed", TOP / "samples/before", TOP / "samples/after", status=1, env=environment()
+    )
+    assert "Riverside Museum" in said and "Anna Wirth" in said, said
     said = run(tmp_path / "venv/bin/python", "-c", "import exifnorm; print(exifnorm.version())", env=environment(), cwd=tmp_path)
-    assert said == f"{version} (C)\n"
-
-
-def test_the_archive_is_used_where_it_is_unpacked(made, tmp_path):
-    (place := tmp_path / "a folder").mkdir()
-    run("tar", "-xf", one(made, "*-linux-*.tar.gz"), "-C", place)
-    tree = one(place, "exifnorm-*")
-    assert {"README", "INSTALL", "bin", "lib", "include", "share"} == {it.name for it in tree.iterdir()}
-    uses(tree / "bin/exifnorm", tree / "bin/exifnorm-pictures", tree / "share/doc/exifnorm")
-    shutil.copytree(TOP / "tests/library/examples", tree / "examples")
-    place.rename(tmp_path / "moved")  # pkg-config can't quote a space
-    tree = one(tmp_path / "moved", "exifnorm-*")
-    places = {"PKG_CONFIG_LIBDIR": str(tree / "lib/pkgconfig"), "LD_LIBRARY_PATH": str(tree / "lib")}
-    program = "cc compare.c $(pkg-config --cflags --libs exifnorm) -o compare && ./compare"
-    assert run("sh", "-c", program, cwd=tree / "examples", env=environment(**places)) == "same\n"
+    assert said == f"{machines.VERSION}{is_in_c}\n"
 
 
 # ---- the forms for aarch64, and the programs without libraries
@@ -180,12 +157,24 @@ def test_a_program_without_libraries_answers_in_its_folder_alone(made, tmp_path,
 
 def test_the_list_of_components_has_what_is_linked_and_what_it_was_made_with(made):
     found = json.loads(one(made, "*.spdx.json").read_text(encoding="utf-8"))
-    licences = {it["name"]: it["licenseDeclared"] for it in found["packages"]}
-    assert licences["glibc"] == "LGPL-2.1-or-later" and licences["libgcc"] == "GPL-3.0-or-later WITH GCC-exception-3.1"
-    assert licences["binaryen"] == licences["wabt"] == "Apache-2.0" and licences["clap"] == "Apache-2.0 OR MIT"
-    numbers = {it["SPDXID"]: it["name"] for it in found["packages"]}
-    tools = {numbers[it["spdxElementId"]] for it in found["relationships"] if it["relationshipType"] == "BUILD_TOOL_OF"}
-    assert tools == {"binaryen", "wabt"}
+    licences, numbers = (
+        {it[key]: it[value] for it in found["packages"]} for key, value in (("name", "licenseDeclared"), ("SPDXID", "name"))
+    )
+    known = {
+        "glibc": "LGPL-2.1-or-later",
+        "libgcc": "GPL-3.0-or-later WITH GCC-exception-3.1",
+        "binaryen": "Apache-2.0",
+        "wabt": "Apache-2.0",
+    }
+    known |= {"exifnorm": "MIT OR Apache-2.0", "byteorder": "MIT", "memchr": "MIT", "thiserror": "MIT"}
+    known |= {"std": "NOASSERTION", "std_io": "NOASSERTION", **dict.fromkeys(("clap", "hex", "itoa", "md5"), "Apache-2.0 OR MIT")}
+    assert {name: licences.get(name) for name in known} == known
+    named = set(re.findall(r"\b(?!px_|staticlib)[a-z][a-z0-9_]*\b", (TOP / "crates.txt").read_text(encoding="utf-8")))
+    assert named <= set(licences)
+    parts = [(it["relationshipType"], numbers.get(it["spdxElementId"])) for it in found["relationships"]]
+    assert {name for kind, name in parts if kind == "BUILD_TOOL_OF"} == {"binaryen", "wabt"}
+    linked = {numbers[it["relatedSpdxElement"]] for it in found["relationships"] if it["relationshipType"] == "STATIC_LINK"}
+    assert linked == set(licences) - {"exifnorm", "binaryen", "wabt"}
 
 
 # ---- what was compiled without proofs is in none
@@ -320,96 +309,26 @@ def test_the_sums_are_signed(small, key):
 
 def test_what_the_owner_has_to_fill_in_is_printed_and_nothing_is_signed(small, key, capfd):
     (small / "page.md").write_text(f"one\nWrite to {release.TOKEN}.\n")
-    run("git", "-c", "user.name=a", "-c", "user.email=a@b", "commit", "-qam", "two", cwd=small)
-    assert release.main(["1.0", "0", key]) == 1
-    assert f"page.md:2: Write to {release.TOKEN}." in capfd.readouterr().err
-    assert not (small / "out/release").exists()
-    assert release.main(["1.0", "0"]) == 0
-    assert f"page.md:2: Write to {release.TOKEN}." in capfd.readouterr().err
-    assert not (small / "out/release/SHA256SUMS.asc").exists()
-
-
-def test_a_change_that_is_not_committed_is_not_signed(small, key, capfd):
+    assert release.main(["1.0", "0", key]) == 1 and not (small / "out/release").exists()
+    assert release.main(["1.0", "0"]) == 0 and not (small / "out/release/SHA256SUMS.asc").exists()
+    assert capfd.readouterr().err.count(f"page.md:2: Write to {release.TOKEN}.") == 2
     (small / "page.md").write_text("two\n")
-    assert release.main(["1.0", "0", key]) == 1
-    assert "not every change is committed" in capfd.readouterr().err
+    assert release.main(["1.0", "0", key]) == 1 and "not every change is committed" in capfd.readouterr().err
 
 
-@pytest.mark.parametrize("why", [release.Failed("make ended with status 2"), OSError(28, "No space left on device"), KeyboardInterrupt()])
+@pytest.mark.parametrize("why", [release.Failed("make ended with status 2"), OSError(28, "No space left on device")])
 def test_a_release_that_fails_keeps_the_earlier_one(small, monkeypatch, capfd, why):
     assert release.main(["1.0", "0"]) == 0
-
-    def fails(*_):
-        raise why
-
     before = {it.name: it.read_bytes() for it in (small / "out/release").iterdir()}
-    monkeypatch.setattr(release, "build", fails)
-    if isinstance(why, Exception):
-        assert release.main(["1.0", "0"]) == 1
-        assert str(why) in capfd.readouterr().err
-    else:
-        with pytest.raises(KeyboardInterrupt):
-            release.main(["1.0", "0"])
+    monkeypatch.setattr(release, "build", mock.Mock(side_effect=why))
+    assert release.main(["1.0", "0"]) == 1 and str(why) in capfd.readouterr().err
     assert {it.name: it.read_bytes() for it in (small / "out/release").iterdir()} == before
-
-
-def test_two_releases_at_once_come_one_after_the_other(small, monkeypatch):
-    """Both would otherwise build in one folder. The first build ends after the second run has asked for the lock."""
-    runs, begun, asked, built, lock = [], threading.Event(), threading.Event(), release.build, release.fcntl.flock
-
-    def build(*words):
-        runs.append("begin")
-        begun.set()
-        asked.wait(600)
-        runs.append("end")
-        return built(*words)
-
-    def flock(*words):
-        if begun.is_set():
-            asked.set()
-        lock(*words)
-
-    monkeypatch.setattr(release, "build", build)
-    monkeypatch.setattr(release.fcntl, "flock", flock)
-    with ThreadPoolExecutor() as pool:
-        first = pool.submit(release.main, ["1.0", "0"])
-        begun.wait(600)
-        assert [release.main(["1.0", "0"]), first.result()] == [0, 0]
-    assert runs == ["begin", "end", "begin", "end"]
 
 
 def test_without_a_tool_the_package_is_named(small, monkeypatch, capfd):
     monkeypatch.setattr(release, "TOOLS", {"no-such-tool": "its-package"})
     assert release.main(["1.0", "0"]) == 1
     assert "install its-package" in capfd.readouterr().err
-
-
-# ---- what `make install` ends with
-
-
-def next_lines(*words, path="/usr/bin:/bin"):
-    return run(sys.executable, TOP / "packaging/next_steps.py", *words, env={"PATH": path}).splitlines()
-
-
-def test_an_installation_into_the_folder_of_a_package_prints_nothing():
-    assert next_lines("/stage", "/usr/bin", "/usr/lib", "/usr/share/doc/exifnorm") == []
-
-
-def test_it_names_exiftool_the_path_and_the_library(tmp_path):
-    said = "\n".join(next_lines("", tmp_path / "bin", tmp_path / "lib", "/doc", path="/nowhere"))
-    assert "libimage-exiftool-perl" in said
-    assert f"export PATH={tmp_path}/bin:$PATH" in said
-    assert f"export LD_LIBRARY_PATH={tmp_path}/lib" in said
-    (tmp_path / "exiftool").touch(mode=0o755)
-    said = "\n".join(next_lines("", "/usr/bin", "/usr/local/lib", "/doc", path=f"/usr/bin:{tmp_path}"))
-    assert "exiftool" not in said and "PATH=" not in said
-    assert "ldconfig" in said, "a folder of ld.so.conf"
-
-
-def test_a_library_that_the_loader_finds_needs_no_step(monkeypatch):
-    monkeypatch.setattr(next_steps, "listed", lambda option: f"\t{next_steps.SONAME} (libc6,x86-64) => /usr/lib/{next_steps.SONAME}\n")
-    assert list(next_steps.library_steps("/usr/lib")) == []
-    assert len(list(next_steps.library_steps("/other/lib"))) == 1
 
 
 def test_help_lists_the_targets():
