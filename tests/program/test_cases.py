@@ -1,4 +1,4 @@
-"""The built program by the cases of cases/*.json, with their cost counted, without memory, and with devices that move one byte or fail."""
+"""The built program by the cases of cases/*.json, with their cost counted, without memory, and with devices that move one byte at a time."""
 
 from typing import Iterable, Union
 
@@ -7,7 +7,7 @@ from allocations import after_arguments, every, problems_without_memory
 from cases import Case, Sweep, read_all
 from judging import problems_of_case, problems_of_sweep
 from made_cases import cases_of_causes
-from watching import problems_of_cost, problems_of_failures, problems_of_short_calls
+from watching import problems_of_cost, problems_of_short_calls
 
 ALL = read_all()
 CASES = [it for it in ALL if isinstance(it, Case)]
@@ -16,15 +16,6 @@ COUNTED = [it for it in CASES if not (it.endless or it.in_pieces or it.input_fro
 SHORT = [it for it in COUNTED if "/dev/zero" not in it.words and len(it.input) + sum(map(len, it.files.values())) < 1000]
 WITHOUT_MEMORY = [it for it in CASES if it.refuses_allocations]
 FIRST = {tuple(it.words): it for it in reversed(WITHOUT_MEMORY)}  # the first case of equal arguments
-FAILING = (
-    "four directories in another order",
-    "four directories, by show",
-    "two keywords with a caption",
-    "four directories in two",
-    "one SHORT, by check",
-    "show of a loop",
-    "comparing one SHORT with a loop",
-)
 
 
 def each(cases: Iterable[Union[Case, Sweep]]) -> pytest.MarkDecorator:
@@ -57,8 +48,3 @@ def test_without_each_allocation(program, refuse, case):
 @each(SHORT)
 def test_byte_by_byte(program, watch, case):
     assert problems_of_short_calls(program, watch, case) == []
-
-
-@each([it for it in SHORT if it.name.startswith(FAILING)])
-def test_byte_by_byte_and_each_call_fails_once(program, watch, case):
-    assert problems_of_failures(program, watch, case, short=1) == []

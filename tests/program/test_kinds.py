@@ -8,7 +8,7 @@ from hypothesis import strategies as st
 from judging import problems_of_case
 from kinds import LARGE_MAKERS, small_kinds
 from made_cases import COMMANDS, case_of, cases_of_kind, cases_of_long_values
-from watching import problems_of_cost, problems_of_failures
+from watching import problems_of_cost
 
 SMALL = list(small_kinds())
 LAYOUTS = [pytest.param(it, id=f"{kind.name}, layout {at}") for kind in SMALL for at, it in enumerate(kind.blocks, 1) if len(it) < 10_000]
@@ -27,13 +27,6 @@ def test_result_and_cost(program, watch, kind, checks):
 def test_without_some_allocations(program, refuse, kind, checks):
     for case in cases_of_kind(kind):
         checks.equal(case.name, problems_without_memory(program, refuse, case, some()), [])
-
-
-@pytest.mark.parametrize("kind", [pytest.param(it, id=it.name) for it in SMALL if not it.name.startswith("type")])
-def test_each_call_fails_once(program, watch, kind, checks):
-    for case in cases_of_kind(kind):
-        if len(case.output or b"") < 20_000:
-            checks.equal(case.name, problems_of_failures(program, watch, case), [])
 
 
 @pytest.mark.parametrize("block", LAYOUTS)

@@ -1,7 +1,5 @@
-"""Runs a case under watch_calls.c. It counts what the run costs, in numbers that don't depend on the machine, and shows what the program
-does if one read or write fails once and the device then works again."""
+"""Runs a case under watch_calls.c. It counts what the run costs, in numbers that don't depend on the machine."""
 
-import errno
 import os
 from dataclasses import dataclass
 from functools import lru_cache
@@ -167,49 +165,6 @@ def problems_of_cost(program, shim, case):
         if came > limit:
             found.append(f"{name}: expected at most {limit}, and {came} came")
     return found
-
-
-def failures_of(case):
-    """Each way in which a device fails once, with the line that reports it. A read that returns 0 is no failure but the end of the input."""
-    for error in (errno.EIO, errno.EINTR):
-        yield "FAIL_READ", error, b"failed: ReadFailed"
-    for error in (errno.EIO, errno.EINTR, 0):
-        yield "FAIL_WRITE", error, b"failed: WriteFailed"
-
-
-def says_failed(case, outcome, line, expected, taken=None):
-    """Whether a run reports the failure, and left only a prefix of the expected output: of the normal form in OUT, and of the text on
-    standard output, of which exactly `taken` bytes are expected if that is given. A line that could not be written isn't repeated."""
-    out, left = expected.files.get(case.out, b""), outcome.files.get(case.out, b"")
-    lines = [b"", *(line + side + b"\n" for side in (b"", b" in file 1", b" in file 2"))]
-    starts = [outcome.output[: len(outcome.output) - len(it)] for it in lines if outcome.output.endswith(it)]
-    return (
-        outcome.status == 4
-        and outcome.errors == b""
-        and out.startswith(left)
-        and any(expected.output.startswith(it) and taken in (None, len(left + it)) for it in starts)
-    )
-
-
-def problems_of_failures(program, shim, case, short=0):
-    """What is wrong if each read and each write in turn fails once. If each write moves one byte, as many bytes have been written as
-    there were writes before the one that failed."""
-    expected, _ = watched(program, shim, case)
-    found = []
-    for call, error, line in failures_of(case):
-        for number in range(1, 500):
-            outcome, counts = watched(program, shim, case, **{call: number, "FAIL_AS": error, "SHORT": short})
-            if counts is None:
-                found.append(f"{call} {number} as {error}: the run came to no end")
-                break
-            if not counts.failed:
-                break
-            taken = number - 1 if short == 1 and call == "FAIL_WRITE" else None
-            if not says_failed(case, outcome, line, expected, taken):
-                found.append(f"{call} {number} as {error}: status {outcome.status} with {outcome.output[:80]!r}")
-        else:
-            found.append(f"{call}: more than 499 calls")
-    return found[:5]
 
 
 def problems_of_short_calls(program, shim, case):
