@@ -72,7 +72,7 @@ def test_all_is_well(gate):
     "command, script",
     [
         ("rt", "echo proving; exit 1"),
-        ("make", "exit 2"),
+        ("make", COMMANDS["make"] + "; exit 2"),
         ("make", "printf '#!/bin/sh\\necho exifnorm 1.0.0-unproved\\n' >out/exifnorm; chmod +x out/exifnorm"),
         ("make", "printf '#!/bin/sh\\nexit 70\\n' >out/exifnorm; chmod +x out/exifnorm"),
         ("python3", "exit 1"),

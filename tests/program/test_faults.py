@@ -232,6 +232,8 @@ def ways(call: Call) -> Iterator[Tuple[str, str]]:
     if call.name == "brk":
         yield from (("retval=0", ""), ("retval=0", "+"))  # it returns no error, except out of memory
         return
+    if call.name == "write":
+        yield "retval=0", ""
     for error in (*ERRORS, "ENOSPC") if call.name in ("openat", "write", "ftruncate") else ERRORS:
         yield f"error={error}", ""
     yield "error=EIO", "+"

@@ -1,15 +1,12 @@
-/* Counts what a program asks of the system, and lets one of its reads or writes fail. So a test sees what a run costs, and what the
- * program does if a device fails once and then works again.
+/* Counts what a program asks of the system. So a test sees what a run costs.
  *
  * Compiled as a shared library and preloaded. Only what happens from the beginning of the program's main to its return counts. With
  * WATCH_TELLS=FD one line is written to that open file at the end: the calls for memory, the bytes that they requested, the most
- * bytes allocated at once, the reads, the writes, the milliseconds of processor time, and whether a call was made to fail. With
- * FAIL_READ=N or FAIL_WRITE=N the Nth read or write fails with the error number FAIL_AS, or returns 0 if that is 0. With SHORT=N each
- * read and each write moves at most N bytes. Every other call is the C library's own.
+ * bytes allocated at once, the reads, the writes, and the milliseconds of processor time. With SHORT=N each read and each write moves at most
+ * N bytes. Every other call is the C library's own.
  */
 #define _GNU_SOURCE
 #include "main_only.h"
-#include <errno.h>
 #include <malloc.h>
 #include <stdint.h>
 #include <stdio.h>
@@ -17,9 +14,8 @@
 #include <unistd.h>
 
 static int is_watching;
-static long calls, reads, writes, failed;
+static long calls, reads, writes;
 static size_t asked, held, most;
-static long failed_read, failed_write, failed_as;
 static size_t longest;
 
 typedef ssize_t Write(int, const void *, size_t);
@@ -31,9 +27,6 @@ static ssize_t own_write(int to, const void *from, size_t size) {
 }
 
 static void begins(void) {
-    failed_read = number_in("FAIL_READ", 0);
-    failed_write = number_in("FAIL_WRITE", 0);
-    failed_as = number_in("FAIL_AS", EIO);
     longest = (size_t)number_in("SHORT", 0);
     is_watching = 1;
 }
@@ -49,7 +42,7 @@ static void ends(void) {
     is_watching = 0;
     int tells = (int)number_in("WATCH_TELLS", -1);
     char line[200];
-    int size = snprintf(line, sizeof line, "%ld %zu %zu %ld %ld %ld %ld\n", calls, asked, most, reads, writes, spent(), failed);
+    int size = snprintf(line, sizeof line, "%ld %zu %zu %ld %ld %ld\n", calls, asked, most, reads, writes, spent());
     if (tells >= 0 && own_write(tells, line, (size_t)size) != size)
         _exit(99);
 }
@@ -106,15 +99,6 @@ void free(void *old) {
     own(old);
 }
 
-/* Whether this call is the one that fails. */
-static int is_failed(long count, long expected) {
-    if (!is_watching || count != expected)
-        return 0;
-    failed = 1;
-    errno = (int)failed_as;
-    return 1;
-}
-
 /* How many of these bytes a call moves. */
 static size_t moved(size_t size) {
     return is_watching && longest && longest < size ? longest : size;
@@ -122,15 +106,11 @@ static size_t moved(size_t size) {
 
 ssize_t write(int to, const void *from, size_t size) {
     writes += is_watching;
-    if (is_failed(writes, failed_write))
-        return failed_as ? -1 : 0;
     return own_write(to, from, moved(size));
 }
 
 ssize_t read(int from, void *to, size_t size) {
     OWN("read", Read);
     reads += is_watching;
-    if (is_failed(reads, failed_read))
-        return failed_as ? -1 : 0;
     return own(from, to, moved(size));
 }

@@ -75,8 +75,8 @@ def with_slack(count):
 
 @dataclass
 class Counts:
-    """What a run asked of the system: calls for memory, bytes requested, the most bytes allocated at once, reads, writes, and
-    milliseconds of processor time."""
+    """What a run asked of the system: calls for memory, bytes requested, the most bytes allocated at once, reads, writes, and milliseconds
+    of processor time."""
 
     calls: int
     asked: int
@@ -84,7 +84,6 @@ class Counts:
     reads: int
     writes: int
     spent: int
-    failed: int  # whether a read or a write was failed
 
 
 def watched(program, shim, case, **failing):
@@ -146,7 +145,6 @@ def limits_of(case, outcome):
         reads=sum(it // CHUNK + 2 for it in sizes) if not case.input else sum(sizes) + 2,  # a pipe may give one byte at a time
         writes=(case.most_writes or (1 if sent <= ROOM else 2 * sent // ROOM + 2)) + (outcome.status == 4),  # one that failed, and the line
         spent=SPENT + sum(sizes) // BYTES_A_MILLISECOND,
-        failed=0,
     )
 
 
