@@ -29,7 +29,7 @@ WORDS = {
         xmp="APP1, with extended XMP; resource 0424; Canon's trailer",
         by_bytes="trailers, other segments of applications, a second picture after the first, resource 0423",
         not_read="a part after the first scan that isn't followed",
-        not_compared="pixels, comments, other resources, the segments below",
+        not_compared="pixels, other resources, the segments below",
     ),
     "PNG": Words(
         exif="eXIf; raw profiles `exif` and `APP1`",

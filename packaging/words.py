@@ -76,7 +76,7 @@ def of_formats() -> dict[str, Any]:
         "links": structure._LINKS,
         "sizes": {number: it.size for number, it in tiff_types.TIFF.items()},
         "pixels": [*tiff_entries.PIXELS],
-        "notCompared": [[marker, head.decode("latin-1")] for marker, head, *_ in jpeg_segments.NOT_COMPARED],
+        "notCompared": [[marker, head.decode("latin-1")] for marker, head, *_ in jpeg_segments.NOT_COMPARED if head],
         "trailers": [[sign.decode("latin-1").replace(r"\Z", "$"), it.name] for sign, it in trailers._SIGNS],
         "mayHave": [*found._MAY_HAVE.items()],
         "pointers": tiff._POINTERS,

@@ -997,8 +997,9 @@ static PyObject *xmp_packed(PyObject *capsule, PyObject *arguments)
 
 /* ---- the head of a JPEG */
 
-/* Whether a segment begins like one of these, which are tuples that begin with a marker and octets; -1 with an exception. */
-static int has_mark(PyObject *marks, uint32_t marker, const unsigned char *data, size_t size)
+/* What a segment is that begins like one of these, which are tuples of a marker, octets and that: borrowed. NULL if it is none, or with an
+ * exception. */
+static PyObject *name_of(PyObject *marks, uint32_t marker, const unsigned char *data, size_t size)
 {
     for (Py_ssize_t i = 0; i < PyTuple_Size(marks); i++) {
         PyObject *mark = PyTuple_GetItem(marks, i), *octets = PyTuple_GetItem(mark, 1);
@@ -1006,18 +1007,32 @@ static int has_mark(PyObject *marks, uint32_t marker, const unsigned char *data,
         struct bytes bytes = {NULL, 0};
 
         if (number == -1 || get_bytes(octets, &bytes) < 0) {
-            return -1;
+            return NULL;
         }
         if (number == (long)marker && size >= bytes.length && memcmp(data, bytes.start, bytes.length) == 0) {
-            return 1;
+            return PyTuple_GetItem(mark, 2);
         }
     }
-    return 0;
+    return NULL;
 }
 
-/* The data of IPTC in Photoshop's resources. LEFT if these have more than one, or something else that is looked at. */
-static int find_record(const struct calls *calls, const unsigned char *data, size_t size, struct bytes *record, struct bytes *sum)
+/* Adds what a part is, where it begins, and its length to a list; -1 with an exception. Takes over `what`, which may be NULL with one. */
+static int add_rest(PyObject *rest, PyObject *what, size_t at, size_t length)
 {
+    PyObject *row = what == NULL ? NULL : Py_BuildValue("(Nnn)", what, (Py_ssize_t)at, (Py_ssize_t)length);
+    int done = row == NULL ? -1 : PyList_Append(rest, row);
+
+    Py_XDECREF(row);
+    return done;
+}
+
+/* The data of IPTC in Photoshop's resources, whose others are added to a list by their numbers. LEFT if these have more than one, or something
+ * else that is looked at; FAILED with an exception. */
+static int find_record(const struct calls *calls, const struct bytes *bytes, const struct bytes *run, struct bytes *record, struct bytes *sum,
+                       PyObject *rest)
+{
+    const unsigned char *data = run->start;
+    size_t size = run->length;
     struct exifnorm_photoshop_resource rows[FEW];
     size_t count = 0, after = 0;
 
@@ -1034,6 +1049,8 @@ static int find_record(const struct calls *calls, const unsigned char *data, siz
         if (found != NULL) {
             found->start = data + rows[i].start;
             found->length = rows[i].size;
+        } else if (add_rest(rest, PyLong_FromLong((long)rows[i].number), (size_t)(data - bytes->start) + rows[i].start, rows[i].size) < 0) {
+            return FAILED;
         }
         after = rows[i].start + rows[i].size + rows[i].size % 2;
     }
@@ -1062,60 +1079,86 @@ static int is_scan(const struct bytes *bytes, size_t at, size_t size)
     return 0;
 }
 
-/* Of a JPEG whose head has at most one block of a kind, each in one piece, and nothing rare: where its first scan begins, whether that is all of
- * the rest, and for XMP, Exif and IPTC the offset of the segment and the block; None of any other. */
-static PyObject *jpeg_head(PyObject *capsule, PyObject *arguments)
+/* Finds the blocks of a JPEG by the numbers of their kinds, whether only picture data follow its head, and where these begin. LEFT of one with
+ * anything that is rare; FAILED with an exception. Adds the parts of `without` to a list. */
+static int find_blocks(const struct calls *calls, const struct bytes *bytes, PyObject *without, struct bytes *found, size_t *at, size_t *after,
+                       PyObject *rest)
 {
-    const struct calls *calls = PyCapsule_GetPointer(capsule, NULL);
     static const size_t marks[] = {0, 6, 14, 29};
-    struct bytes bytes, found[4] = {{NULL, 0}, {NULL, 0}, {NULL, 0}, {NULL, 0}}, record = {NULL, 0}, sum = {NULL, 0};
     struct exifnorm_jpeg_part parts[FEW];
     struct exifnorm_jpeg_fault fault = {0, 0};
-    size_t at[4] = {0, 0, 0, 0}, count = 0, after;
-    PyObject *object, *not_compared;
-    Py_ssize_t size;
-    int known;
+    size_t count = 0;
 
-    if (calls == NULL || !PyArg_ParseTuple(arguments, "SnO!", &object, &size, &PyTuple_Type, &not_compared) || get_bytes(object, &bytes) < 0) {
-        return NULL;
-    }
-    if (calls->jpeg_parts(bytes.start, bytes.length, parts, FEW, &count, &fault) != EXIFNORM_DONE || count == 0 || count > FEW
+    if (calls->jpeg_parts(bytes->start, bytes->length, parts, FEW, &count, &fault) != EXIFNORM_DONE || count == 0 || count > FEW
         || parts[count - 1].marker != 0xDA) {
-        return Py_BuildValue("");
+        return LEFT;
     }
     for (size_t i = 0; i < count; i++) {
-        const unsigned char *data = bytes.start + parts[i].start;
-        uint32_t kind = parts[i].kind;
+        const unsigned char *data = bytes->start + parts[i].start;
+        uint32_t kind = parts[i].kind, marker = parts[i].marker;
 
-        if (parts[i].start > bytes.length || parts[i].size > bytes.length - parts[i].start) {
-            return Py_BuildValue("");
+        if (parts[i].start > bytes->length || parts[i].size > bytes->length - parts[i].start) {
+            return LEFT;
         }
-        if (kind == EXIFNORM_JPEG_OTHER && (parts[i].marker < 0xE0 || parts[i].marker > 0xEF)) {
+        if (kind == EXIFNORM_JPEG_OTHER && (marker < 0xE0 || marker > 0xEF) && marker != 0xFE) {
             continue;
         }
-        known = kind == EXIFNORM_JPEG_OTHER ? has_mark(not_compared, parts[i].marker, data, parts[i].size) : 0;
-        if (known != 0) {
-            if (known < 0) {
-                return NULL;
+        if (kind == EXIFNORM_JPEG_OTHER) {
+            PyObject *name = name_of(without, marker, data, parts[i].size);
+
+            if (name == NULL) {
+                return PyErr_Occurred() == NULL ? LEFT : FAILED;
+            }
+            Py_INCREF(name);
+            if (add_rest(rest, name, parts[i].start, parts[i].size) < 0) {
+                return FAILED;
             }
             continue;
         }
         if (kind < EXIFNORM_JPEG_EXIF || kind > EXIFNORM_JPEG_XMP || !parts[i].begins || found[kind].start != NULL) {
-            return Py_BuildValue("");
+            return LEFT;
         }
         found[kind].start = data;
         found[kind].length = parts[i].size;
         at[kind] = parts[i].start - 4 - marks[kind];
     }
-    after = parts[count - 1].start + parts[count - 1].size;
-    if (found[EXIFNORM_JPEG_PHOTOSHOP].start != NULL
-        && find_record(calls, found[EXIFNORM_JPEG_PHOTOSHOP].start, found[EXIFNORM_JPEG_PHOTOSHOP].length, &record, &sum) != MADE) {
-        return Py_BuildValue("");
+    *after = parts[count - 1].start + parts[count - 1].size;
+    return MADE;
+}
+
+/* Of a JPEG whose head has at most one block of a kind, each in one piece, and nothing rare: where its first scan begins, whether that is all of
+ * the rest, for XMP, Exif and IPTC the offset of the segment and the block, Photoshop's sum, and the parts that can have no metadata, each with
+ * its name or the number of its resource, its offset and its length; None of any other. */
+static PyObject *jpeg_head(PyObject *capsule, PyObject *arguments)
+{
+    const struct calls *calls = PyCapsule_GetPointer(capsule, NULL);
+    struct bytes bytes, found[4] = {{NULL, 0}, {NULL, 0}, {NULL, 0}, {NULL, 0}}, record = {NULL, 0}, sum = {NULL, 0};
+    const struct bytes *exif = &found[EXIFNORM_JPEG_EXIF], *xmp = &found[EXIFNORM_JPEG_XMP], *run = &found[EXIFNORM_JPEG_PHOTOSHOP];
+    size_t at[4] = {0, 0, 0, 0}, after = 0;
+    PyObject *object, *without, *rest, *made = NULL;
+    Py_ssize_t size;
+    int done;
+
+    if (calls == NULL || !PyArg_ParseTuple(arguments, "SnO!", &object, &size, &PyTuple_Type, &without) || get_bytes(object, &bytes) < 0) {
+        return NULL;
     }
-    return Py_BuildValue("(ni(ny#)(ny#)(ny#)y#)", (Py_ssize_t)after, size < 0 ? 0 : is_scan(&bytes, after, (size_t)size),
-                         (Py_ssize_t)at[EXIFNORM_JPEG_XMP], found[EXIFNORM_JPEG_XMP].start, (Py_ssize_t)found[EXIFNORM_JPEG_XMP].length,
-                         (Py_ssize_t)at[EXIFNORM_JPEG_EXIF], found[EXIFNORM_JPEG_EXIF].start, (Py_ssize_t)found[EXIFNORM_JPEG_EXIF].length,
-                         (Py_ssize_t)at[EXIFNORM_JPEG_PHOTOSHOP], record.length == 0 ? NULL : record.start, (Py_ssize_t)record.length,
-                         sum.start == NULL ? (const unsigned char *)"" : sum.start,
-                         (Py_ssize_t)(sum.length < 16 ? sum.length : 16));
+    rest = PyList_New(0);
+    if (rest == NULL) {
+        return NULL;
+    }
+    done = find_blocks(calls, &bytes, without, found, at, &after, rest);
+    if (done == MADE && run->start != NULL) {
+        done = find_record(calls, &bytes, run, &record, &sum, rest);
+    }
+    if (done == LEFT) {
+        made = Py_BuildValue("");
+    } else if (done == MADE) {
+        made = Py_BuildValue("(ni(ny#)(ny#)(ny#)y#O)", (Py_ssize_t)after, size < 0 ? 0 : is_scan(&bytes, after, (size_t)size),
+                             (Py_ssize_t)at[EXIFNORM_JPEG_XMP], xmp->start, (Py_ssize_t)xmp->length,
+                             (Py_ssize_t)at[EXIFNORM_JPEG_EXIF], exif->start, (Py_ssize_t)exif->length,
+                             (Py_ssize_t)at[EXIFNORM_JPEG_PHOTOSHOP], record.length == 0 ? NULL : record.start, (Py_ssize_t)record.length,
+                             sum.start == NULL ? (const unsigned char *)"" : sum.start, (Py_ssize_t)(sum.length < 16 ? sum.length : 16), rest);
+    }
+    Py_DECREF(rest);
+    return made;
 }

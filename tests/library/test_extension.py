@@ -74,7 +74,7 @@ OF_PACKETS = ("xmp_normalise", "xmp_unsorted")
 PACKED = {
     "packed": [(it, hashlib.sha256) for it in (ONE, CAPTION, BLOCKS["a text in 8,191 bytes"], b"", b"x")],
     "xmp_packed": [(it, hashlib.sha256, str, lambda octets: b"[]") for it in PACKETS],
-    "jpeg_head": [(it, 100, ((0xE0, b"JFIF"),)) for it in (PICTURE, *PICTURES.values())],
+    "jpeg_head": [(it, 100, ((0xE0, b"JFIF", "JFIF"),)) for it in (PICTURE, *PICTURES.values())],
 }
 # The arguments of each call of the library.
 ARGUMENTS = {
@@ -303,8 +303,8 @@ def test_allocations_of_functions_that_fail(loaded, native, refusing):
 
 # The part of the stable ABI that it uses, with what CPython 3.9 has of it: "Contents of Limited API" in Python's documentation.
 STABLE = """PyArg_UnpackTuple PyBytes_AsString PyBytes_AsStringAndSize PyBytes_FromStringAndSize PyBytes_Type PyCMethod_New
-    PyCapsule_GetPointer PyCapsule_New PyErr_NoMemory PyErr_SetString PyEval_RestoreThread PyEval_SaveThread PyExc_ValueError
-    PyLong_AsLong PyLong_FromUnsignedLong PyMem_Calloc PyMem_Free PyMem_Malloc PyMem_Realloc PyModuleDef_Init PyModule_GetState
+    PyCapsule_GetPointer PyCapsule_New PyErr_NoMemory PyErr_Occurred PyErr_SetString PyEval_RestoreThread PyEval_SaveThread PyExc_ValueError
+    PyList_Append PyList_New PyLong_AsLong PyLong_FromLong PyLong_FromUnsignedLong PyMem_Calloc PyMem_Free PyMem_Malloc PyMem_Realloc PyModuleDef_Init PyModule_GetState
     PyObject_IsTrue PyTuple_GetItem PyTuple_New PyTuple_SetItem PyTuple_Size PyTuple_Type PyUnicode_AsUTF8String PyUnicode_DecodeUTF8
     Py_DecRef Py_IncRef _PyArg_ParseTupleAndKeywords_SizeT _PyArg_ParseTuple_SizeT _PyObject_CallFunction_SizeT
     _PyObject_CallMethod_SizeT _Py_BuildValue_SizeT _Py_Dealloc""".split()

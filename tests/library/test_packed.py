@@ -71,7 +71,7 @@ def both(native, shared, monkeypatch):
 
 def read(octets):
     blocks = jpeg.read(io.BytesIO(octets))
-    about = blocks.blocks[:], blocks.not_read[:], blocks.damage, blocks.iptc_digest, blocks.counts, blocks.has_more
+    about = blocks.blocks[:], blocks.not_read[:], blocks.damage, blocks.iptc_digest, blocks.counts, blocks.has_more, blocks.rest
     return about, judge.judge_all(blocks, True), blocks.not_read
 
 
@@ -103,7 +103,7 @@ def test_usual_pictures_are_not_left(native, shared, monkeypatch):
     """The module makes all of a picture as programs write it."""
     monkeypatch.setattr(_library, "_native", native)
     library = _library.Library(str(shared))
-    assert library.jpeg_head(PICTURE, len(PICTURE), ())[0] == len(PICTURE) - len(b"data\xff\xd9")
+    assert library.jpeg_head(PICTURE, len(PICTURE), ((0xFE, b"", "comment"),))[0] == len(PICTURE) - len(b"data\xff\xd9")
     forms = [form for form in map(library.normalise, BLOCKS + RECORDS) if isinstance(form, bytes)]
     assert len(forms) > 4 and all(library.packed(form, hashlib.sha256) for form in forms)
     assert sum(library.xmp_packed(it, hashlib.sha256, str, lambda octets: b"[]") is not None for it in PACKETS) > 10
@@ -122,6 +122,7 @@ WRONG = [
     ("jpeg_head", (PICTURE, 1, [])),
     ("jpeg_head", (JFIF, 1, (5,))),
     ("jpeg_head", (JFIF, 1, (("", b"JFIF"),))),
+    ("jpeg_head", (JFIF, 1, ((0xE0, b"JFIF"),))),
     ("jpeg_head", (JFIF, 1, ((0xE0, "JFIF"),))),
 ]
 
@@ -130,4 +131,4 @@ WRONG = [
 def test_wrong_arguments(native, shared, monkeypatch, name, arguments):
     monkeypatch.setattr(_library, "_native", native)
     call = getattr(_library.Library(str(shared)), name)
-    assert outcome(call, *arguments)[0] in ("TypeError", "AttributeError", "SystemError"), arguments
+    assert outcome(call, *arguments)[0] in ("TypeError", "AttributeError", "SystemError", "IndexError"), arguments

@@ -166,6 +166,55 @@ def test_a_part_that_is_gone_is_named_by_each_command(name, folder, called):
     )
 
 
+@pytest.mark.parametrize("name", NAMED)
+def test_without_pixels_a_part_is_known_by_its_length(name, folder, called):
+    """A night in which it goes is news; and nothing is said of files of which one has digests in place of lengths."""
+    poor, rich, part = NAMED[name]
+    night = ("nightly", "n", "--catalogue", "c")
+    put(folder / "n", {"x": rich + b"behind" * ("PNG" in name)})
+    called(*night)
+    called("index", "n", "--catalogue", "by-digests", "--quiet", "--pixels")
+    called("index", "n", "--catalogue", "by-lengths", "--quiet")
+    assert called("changed", "by-lengths", "by-digests")[0] == called("changed", "by-digests", "by-lengths")[0] == 0
+    put(folder / "n", {"x": poor + b"behind" * ("PNG" in name)})
+    status, printed, _ = called(*night)
+    assert status == (2 if name in NOT_READ else 1) and (f"{part} removed" in printed) != (name in NOT_READ)
+    assert part in called("changed", "c.before", "c", "--each")[1]
+
+
+def names_met(octets):
+    """The names of the rest of a file whose lengths a reader of metadata meets, or of parts that it names."""
+    blocks = readers.reader_of(octets[: readers.HEAD], b"")(io.BytesIO(octets), False)
+    return {it.partition(" (")[0] for it in (*blocks.rest, *(part.what for part in blocks.not_read))}
+
+
+@pytest.mark.parametrize(
+    "name", [it for it in FILES if it.startswith(("a JPEG", "several", "resources", "a PNG", "profiles", "a WebP")) and "XL" not in it]
+)
+def test_a_reader_meets_all_rest_but_what_is_behind_the_pixels(name):
+    octets = FILES[name]
+    rest_of = {it.name.partition(" (")[0] for it in parts_of(octets) if it.kind == parts.REST and it.name != parts.TRAILER}
+    assert {it for it in rest_of if it not in names_met(octets)} <= {"MPF picture 2", "MPF picture 3", "zTXt chunk Rawprofile"}
+
+
+def test_lengths_of_what_is_not_whole(folder, called):
+    """Of a head with a fault it isn't known what it had; a part with another length has changed; one of the same length isn't known to have."""
+    whole = jpeg(app1(A), segment(0xFE, b"by Anna"), segment(0xE2, b"ICC_PROFILE\0\1\1abc"))
+    now = {
+        "a": whole.replace(b"\xff\xe2", b"\0\xe2"),
+        "b": whole.replace(b"\0\x09by Anna", b"\0\x08by Ida"),
+        "c": whole.replace(b"by Anna", b"by Otto"),
+    }
+    for catalogue, files in (("c", dict.fromkeys(now, whole)), ("d", now)):
+        put(folder / "n", files)
+        called("index", "n", "--catalogue", catalogue, "--quiet")
+    results = [json.loads(it) for it in called("changed", "c", "d", "--json", "--all", "--no-programs")[1].splitlines()]
+    notes = {
+        it["path"]: (it["result"], "removed" in it["note"], "comment changed" in it["note"]) for it in results if it["record"] == "picture"
+    }
+    assert notes == {"a": ("not known", False, False), "b": ("other parts, the same metadata", False, True), "c": ("same", False, False)}
+
+
 def test_parts_that_each_lacks(folder, called):
     """None may go, and each says which parts it has or lacks."""
     put(folder / "p", {"a": jpeg(app1(A), segment(0xFE, b"one")), "b": jpeg(app1(A), segment(0xEB, JUMBF)), "c": jpeg(app1(A))})

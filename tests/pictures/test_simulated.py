@@ -226,7 +226,7 @@ def result_of(old, new, pixels):
         return "different"
     if pixels and old.picture != new.picture:
         return OTHER_PICTURE
-    return OTHER_PARTS if pixels and old.has_credentials != new.has_credentials else "same"
+    return OTHER_PARTS if old.has_credentials != new.has_credentials else "same"
 
 
 NEWS = {

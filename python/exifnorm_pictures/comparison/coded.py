@@ -47,6 +47,13 @@ SQL = f"""CASE WHEN new.damage != '' AND old.damage = '' THEN '{Coded.DAMAGED}' 
     WHEN old.sha256 != '' AND new.sha256 != '' AND old.type != '{XMP_FILE}' THEN '{Coded.UNREAD}' ELSE '{Coded.UNKNOWN}' END"""
 
 
+def parts_that_differ(picture: PictureRecord, other: PictureRecord, coded: Coded) -> list[str]:
+    """What is known to have come, gone or changed of the rest of two files of one format: by digests if both have one of the coded picture, and
+    by lengths if neither has."""
+    is_alike = picture.type == other.type and bool(picture.coded_picture) == bool(other.coded_picture)
+    return rest.changes(picture.beside, other.beside) if is_alike and coded != Coded.SAME and not coded.is_damaged else []
+
+
 def coded_result(picture: PictureRecord, other: PictureRecord) -> tuple[Coded, str]:
     """Whether two files have the same coded picture, and a note. One that is damaged is no other picture than a whole one, and isn't the same either."""
     if picture.damage or other.damage:
@@ -84,18 +91,19 @@ _RESULTS = {
     Coded.OTHER: (None, Result.OTHER_PICTURE_ALONE, Result.OTHER_PICTURE),
     Coded.BESIDE: (None, Result.OTHER_PARTS, None),
     Coded.UNREAD: (None, Result.OTHER_BYTES, None),
+    Coded.UNKNOWN: (None, Result.OTHER_PARTS, None),
 }
-_NOTHING = (None, None, None)
 
 
 def result_with(coded: Coded, result: Result, parts: Sequence[str]) -> tuple[Result, str]:
     """The result of the metadata and the coded pictures together, and what isn't in its word, as the other `parts` that differ."""
-    together = _RESULTS.get(coded, _NOTHING)[0 if result.has_changed else 1 if result.is_equal else 2]
+    together = _RESULTS.get(coded, (None, None, None))[0 if result.has_changed else 1 if result.is_equal else 2]
     if together == Result.OTHER_PARTS:
         together = _of_parts(rest.counting(parts))
-    if together and coded != Coded.BESIDE:
-        return together, ""
-    return together or result, {Coded.OTHER: "the picture differs, too", Coded.BESIDE: ", ".join(parts)}.get(coded, "")
+    if coded == Coded.OTHER:
+        parts = [*["the picture differs, too"] * (together is None), *rest.counting(parts)]
+    by_lengths = "; of other parts only names and lengths were compared" * bool(parts and coded in (Coded.UNKNOWN, Coded.UNREAD))
+    return together or result, ", ".join(parts) + by_lengths
 
 
 def _of_parts(counting: Sequence[str]) -> Optional[Result]:

@@ -8,7 +8,7 @@ here; its frames are rest. JPEG XL: the codestream, also of several boxes.
 from __future__ import annotations
 
 import hashlib
-from typing import Iterator
+from typing import Iterable, Iterator
 
 from ..model.budgets import Budget
 from ..model.found import CUT, IN_PICTURE, Blocks, Broken
@@ -23,7 +23,7 @@ from .formats.streams import Stream, add_to, read_at, size_of
 _EXIF_HEAD = 10  # bytes before a block of Exif, as most programs write them
 
 
-def add_heif(stream: Stream, coded: "hashlib.blake2b") -> list[Part]:
+def add_heif(stream: Stream, coded: "hashlib.blake2b", budget: Budget) -> Iterable[Part]:
     """Adds the coded pictures of a HEIF to a digest. Returns claims to the parts of the file. Raises `Broken` and `TooMuch`."""
     every, _ = boxes_to_fault(stream)  # after which is a trailer, or the reader of the blocks says that the file is cut
     meta = [it for it in every if it.kind == b"meta"]
@@ -170,7 +170,7 @@ class _Heif:
                 yield Part(REST, start, start + len(name), "names of items")
 
 
-def add_jxl(stream: Stream, coded: "hashlib.blake2b") -> list[Part]:
+def add_jxl(stream: Stream, coded: "hashlib.blake2b", budget: Budget) -> Iterable[Part]:
     """The same of a JPEG XL. Raises `Broken` and `TooMuch`."""
     if read_at(stream, 0, len(jxl.BARE)) == jxl.BARE:
         codestream, claims = [(0, size_of(stream))], []  # type: list[Range], list[Part]

@@ -13,7 +13,7 @@ from __future__ import annotations
 import contextlib
 import hashlib
 import zlib
-from typing import Iterable, Iterator, NamedTuple
+from typing import Callable, Iterable, NamedTuple, Sequence
 
 from ..files import opening
 from ..model import rest
@@ -24,15 +24,13 @@ from .coded_tiff import NotFollowed
 from .formats import heif, jpeg, jxl, parts, png, tiff, webp
 from .formats.jpeg_segments import Head, read_head
 from .formats.streams import File, Stream, add_to, pieces, read_at
-from .formats.tiff_directories import Directories
-from .formats.tiff_entries import BIG
 
 
 class CodedPicture(NamedTuple):
     """What is known of the coded picture of a file."""
 
     digest: str = ""  # BLAKE2b in 64 hexadecimal digits; empty if it isn't known
-    beside: str = ""  # the rest of the file by name, as `model.rest` has it; empty without any
+    beside: str = ""  # the rest of the file by name, as `model.rest` has it; empty without any, or if there is no digest
     damage: str = ""  # what is damaged
 
 
@@ -63,25 +61,12 @@ def followed(stream: Stream, budget: Budget) -> tuple[str, list[parts.Part]]:
     """The digest, and all parts of the file; none in a format that isn't followed here. Raises `Broken` and `TooMuch`."""
     stream.seek(0)
     head = stream.read(12)
-    coded = hashlib.blake2b(digest_size=32)
-    claims: Iterable[parts.Part]
-    if head.startswith(jpeg.START):
-        claims = _jpeg(stream, coded, budget)
-    elif head.startswith(png.START):
-        claims = _png(stream, coded, budget)
-    elif webp.is_webp(head):
-        claims = _webp(stream, coded, budget)
-    elif head[:4] in tiff.HEADS:
-        claims = coded_tiff.add(Directories(stream), coded, budget)
-    elif head[:4] in tiff.BIG_HEADS:
-        claims = coded_tiff.add(Directories(stream, BIG), coded, budget)
-    elif heif.is_heif(head):
-        claims = coded_boxes.add_heif(stream, coded)
-    elif head.startswith((jxl.START, jxl.BARE)):
-        claims = coded_boxes.add_jxl(stream, coded)
-    else:
+    add = next((add for is_of, add in _FOLLOWED if is_of(head)), None)
+    if add is None:
         return "", []
-    return coded.hexdigest(), parts.whole(stream, claims)
+    coded = hashlib.blake2b(digest_size=32)
+    found = parts.whole(stream, add(stream, coded, budget))
+    return coded.hexdigest(), found
 
 
 # JPEG
@@ -90,7 +75,7 @@ _JFIF, _ADOBE = 0xE0, 0xEE
 _NO_FRAMES = (0xC4, 0xC8, 0xCC)  # tables, and what is reserved
 
 
-def _jpeg(stream: Stream, coded: "hashlib.blake2b", budget: Budget) -> list[parts.Part]:
+def _jpeg(stream: Stream, coded: "hashlib.blake2b", budget: Budget) -> Iterable[parts.Part]:
     head = read_head(stream, 0, budget)
     claims = list(jpeg.parts(stream, head, budget))
     picture = [it for it in claims if it.kind == parts.PICTURE]
@@ -128,7 +113,7 @@ _ALPHA = 0x10  # the bit of VP8X that says that a picture is transparent somewhe
 _MOVES = 0x02  # the bit of VP8X that says so; a picture that doesn't move has VP8X only if it has metadata or ALPH
 
 
-def _png(stream: Stream, coded: "hashlib.blake2b", budget: Budget) -> Iterator[parts.Part]:
+def _png(stream: Stream, coded: "hashlib.blake2b", budget: Budget) -> Iterable[parts.Part]:
     last, data = b"", 0
     chunks = list(png.chunks(stream, budget))
     for at, kind, length in chunks:
@@ -155,7 +140,7 @@ def _check(stream: Stream, coded: "hashlib.blake2b | None", chunk: tuple[int, by
         raise Broken(f"wrong check sum of the chunk at {at}")
 
 
-def _webp(stream: Stream, coded: "hashlib.blake2b", budget: Budget) -> Iterator[parts.Part]:
+def _webp(stream: Stream, coded: "hashlib.blake2b", budget: Budget) -> Iterable[parts.Part]:
     flags = _ALPHA
     chunks = list(webp.chunks(stream, webp.end_of(stream), budget))
     for at, kind, length in chunks:
@@ -174,3 +159,15 @@ def _webp(stream: Stream, coded: "hashlib.blake2b", budget: Budget) -> Iterator[
 def _has_alpha(kind: bytes, data: bytes) -> bool:
     """Whether a chunk with these first bytes has transparency (RFC 9649, 3.4: the bit after the signature, the width and the height)."""
     return kind == b"ALPH" or (kind == b"VP8L" and len(data) == 5 and bool(data[4] & 0x10))
+
+
+# How files of each format begin, and what adds the coded picture of one to a digest and returns claims to its parts
+_Add = Callable[[Stream, "hashlib.blake2b", Budget], Iterable[parts.Part]]
+_FOLLOWED: Sequence[tuple[Callable[[bytes], bool], _Add]] = (
+    (lambda head: head.startswith(jpeg.START), _jpeg),
+    (lambda head: head.startswith(png.START), _png),
+    (webp.is_webp, _webp),
+    (lambda head: head[:4] in (*tiff.HEADS, *tiff.BIG_HEADS), coded_tiff.add),
+    (heif.is_heif, coded_boxes.add_heif),
+    (lambda head: head.startswith((jxl.START, jxl.BARE)), coded_boxes.add_jxl),
+)

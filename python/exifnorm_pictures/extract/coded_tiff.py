@@ -9,16 +9,16 @@ from __future__ import annotations
 
 import functools
 import hashlib
-from typing import Iterator, Sequence
+from typing import Iterable, Iterator, Sequence
 
 from ..model.budgets import STRIPS, Budget
 from ..model.found import IN_PICTURE, Broken
 from ..model.tiff_types import IFD, LONG, LONG8, SHORT
 from .formats import tiff
 from .formats.parts import Part
-from .formats.streams import add_to
+from .formats.streams import Stream, add_to, read_at
 from .formats.tiff_directories import Directories, Directory
-from .formats.tiff_entries import IN_ENTRY, Entry
+from .formats.tiff_entries import BIG, CLASSIC, IN_ENTRY, Entry
 
 _WIDTH, _HEIGHT, _BITS, _COMPRESSION, _PHOTOMETRIC = 0x0100, 0x0101, 0x0102, 0x0103, 0x0106
 _SAMPLES, _ROWS, _PLANES, _TILE_WIDTH, _TILE_HEIGHT = 0x0115, 0x0116, 0x011C, 0x0142, 0x0143
@@ -43,8 +43,9 @@ class NotFollowed(Broken):
     """A coded picture in a form that isn't followed here, which is no damage."""
 
 
-def add(directories: Directories, coded: "hashlib.blake2b", budget: Budget) -> Iterator[Part]:
+def add(stream: Stream, coded: "hashlib.blake2b", budget: Budget) -> Iterable[Part]:
     """Adds the coded picture to a digest. Returns claims to the parts of the file. Raises `Broken` and `TooMuch`."""
+    directories = Directories(stream, BIG if read_at(stream, 0, 4) in tiff.BIG_HEADS else CLASSIC)
     left, strips = directories.size, 0  # strips may share bytes in a made file
     reader, pages = tiff.Reader(directories, False), []
     for page in reader.pages():

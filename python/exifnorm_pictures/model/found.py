@@ -171,6 +171,7 @@ class Blocks:
         self.counts: dict[str, int] = {}  # of blocks by name
         self.has_more = False  # whether ExifTool may find blocks in a part that was not read
         self.iptc_digest = b""  # of the record, as Photoshop has noted it
+        self.rest: dict[str, int] = {}  # bytes of the parts by name that can have no metadata, as far as their lengths are read
         self.budget = budget or Budget()
 
     def add(self, kind: str, data: bytes, where: str, part: str = "", extractor: str = OWN, note: int | None = None) -> None:
@@ -200,6 +201,10 @@ class Blocks:
         if len(self.not_read) >= FEW:
             self.budget.spend(NOT_READ)
         self.not_read.append(part)
+
+    def pass_over(self, name: str, length: int) -> None:
+        """Counts the bytes of a part that can have no metadata."""
+        self.rest[name] = self.rest.get(name, 0) + length
 
     def is_iptc_changed(self) -> bool:
         """Whether a program that doesn't write XMP has changed the record since Photoshop noted its digest, as the guidelines of the Metadata

@@ -166,7 +166,9 @@ class PictureRecord(NamedTuple):
     maker_notes: Annotated[str, Is("where the MakerNotes begin, which decides what they mean; empty if there is none", longest=_EACH)] = ""
     file: Annotated[str, "SHA-256 of the whole file, if nothing else of it can be compared; else empty"] = ""
     coded_picture: Annotated[Optional[str], "BLAKE2b of the coded picture; empty: not known of this file; NULL: not requested"] = None
-    beside: Annotated[str, "the rest of the file: BLAKE2b by name, in lines; empty: there is none, or not known"] = ""
+    beside: Annotated[
+        Optional[str], "the rest of the file by name, in lines: BLAKE2b, or lengths without a coded_picture; empty: none; NULL: not known"
+    ] = None
     damage: Annotated[str, "where the file is cut off, or its coded picture is damaged; empty: nowhere, or not known"] = ""
     sha256: Annotated[Optional[str], "SHA-256 of the whole file; empty: it can't be read; NULL: not requested"] = None
     sidecars: Annotated[str, Is("names, sizes, times and inodes of its XMP sidecars; empty if there is none", longest=_EACH)] = ""

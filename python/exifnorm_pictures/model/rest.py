@@ -1,6 +1,7 @@
 """The rest of a file, which is neither metadata nor coded picture nor structure: digests by name, as a text of a catalogue.
 
-A part of more bytes than may be read has an empty digest, and is never equal to another one.
+A part of more bytes than may be read has an empty digest, and is never equal to another one. Of a file without a digest of its coded picture
+the text has lengths in place of digests, of the parts whose lengths a reader of metadata meets and that programs don't write by themselves.
 """
 
 from __future__ import annotations
@@ -33,24 +34,26 @@ def text_of(digests: dict[str, str]) -> str:
     return "\n".join(lines)
 
 
-def names_in(text: str) -> dict[str, str]:
+def names_in(text: str | None) -> dict[str, str]:
     """The digests by name.
 
     >>> names_in("1e colour profile\\n comment")
     {'colour profile': '1e', 'comment': ''}
     """
-    lines = (line.partition(" ") for line in text.split("\n") if line)
+    lines = (line.partition(" ") for line in (text or "").split("\n") if line)
     return {name: digest for digest, _, name in lines}
 
 
-def changes(before: str, after: str) -> list[str]:
-    """What has come, gone or changed. Of two files of which one has more names than are kept, it isn't known whether a name came or went.
+def changes(before: str | None, after: str | None) -> list[str]:
+    """What is known to have come, gone or changed. Of two files of which one has more names than are kept, it isn't known whether a name came or went.
 
     >>> changes("1e colour profile\\n0f comment", "2d colour profile\\n3c trailer")
     ['colour profile changed', 'comment removed', 'trailer added']
     >>> changes(" trailer", " trailer")
     ['trailer too large to compare']
     """
+    if before is None or after is None:
+        return []
     old, new = names_in(before), names_in(after)
     words = {(True, False): "removed", (False, True): "added", (True, True): "changed"}
     names = sorted({**old, **new}) if FURTHER not in {**old, **new} else [*sorted(set(old) & set(new) - {FURTHER}), FURTHER]
@@ -81,7 +84,7 @@ def counting(found: Sequence[str]) -> list[str]:
     return [it for it in found if it.endswith(TOO_LARGE) or not is_by_programs(it.rpartition(" ")[0])]
 
 
-def count(text: str) -> int:
+def count(text: str | None) -> int:
     """How many parts count.
 
     >>> count("1e colour profile\\n0f JFIF")
@@ -102,10 +105,10 @@ class Fullest(Generic[T]):
     """
 
     def __init__(self) -> None:
-        self._found: dict[str, T] = {}
+        self._found: dict[str | None, T] = {}
         self._with: dict[str, list[tuple[T, set[str]]]] = {}  # the files that have a line, and all of their lines
 
-    def has_all_of(self, file: T, text: str) -> T:
+    def has_all_of(self, file: T, text: str | None) -> T:
         """The first one that has all parts of a file with this text: itself, if there is no other."""
         if text not in self._found:
             lines = {""}  # which each file has

@@ -13,7 +13,8 @@ from ..files.opening import held
 from ..files.session import Session
 from ..judge import judge
 from ..model.budgets import WHOLE_FILE, TooMuch
-from ..model.found import UNREAD_NOTES, Blocks
+from ..model import rest
+from ..model.found import OWN, UNREAD_NOTES, Blocks, damage as faults_in
 from ..model.problems import NO_BYTES, Problem
 from ..model.records import RACY, BlockRecord, PictureRecord, Stamp
 from ..model.texts import reason
@@ -47,7 +48,7 @@ def _look(file: FoundFile, how: How, session: Session, packs: bool) -> PictureRe
         if file.sidecars:
             whole_file = sidecars.with_sidecars(whole_file, file.path, file.sidecars)
         notes, is_known = _maker_notes(session, file.path, blocks, judged) if how.maker_notes else (None, True)
-        pixels = _pixels(file.path, blocks) if how.pixels else (None, "", "", None)
+        coded, beside, damage, whole = _pixels(file.path, blocks) if how.pixels else (None, _lengths(blocks), "", None)
     except LibraryMissing:  # an OSError too, but not of this file
         raise
     except OSError as error:
@@ -56,13 +57,24 @@ def _look(file: FoundFile, how: How, session: Session, packs: bool) -> PictureRe
         return failed(file, "out of memory")
     except Exception as error:
         return PictureRecord.of_blocks(file.path, file.root, file.stamp, extraction.failed(error, session))
-    coded, beside, damage, whole = pixels
 
-    more = {"notes": notes, "coded_picture": coded, "beside": beside, "damage": damage, "sha256": whole, "sidecars": marks}
     stamp = _unless_changed(file, began)
     if stamp and not is_known:
         stamp = stamp._replace(changed=RACY)  # the next run asks again
-    return PictureRecord.of_blocks(file.path, file.root, stamp, blocks, judged, file=whole_file, **more)
+    return PictureRecord.of_blocks(
+        file.path,
+        file.root,
+        stamp,
+        blocks,
+        judged,
+        file=whole_file,
+        notes=notes,
+        coded_picture=coded,
+        beside=beside,
+        damage=damage,
+        sha256=whole,
+        sidecars=marks,
+    )
 
 
 def _read(file: FoundFile, how: How, session: Session, packs: bool) -> tuple[Blocks, list[BlockRecord]]:
@@ -97,14 +109,22 @@ def _maker_notes(session: Session, path: bytes, blocks: Blocks, judged: Sequence
         return None, False
 
 
-def _pixels(path: bytes, blocks: Blocks) -> tuple[str | None, str, str, str | None]:
-    """What --pixels adds to a record: the digests of the coded picture and of what is beside it, its damage, and the digest of the whole file;
-    empty if not known."""
+def _lengths(blocks: Blocks) -> str | None:
+    """The rest of a file, as far as its reader meets it; None if this hasn't read the file to its end."""
+    is_read = blocks.extractor == OWN and not (blocks.problem or blocks.damage or faults_in(it.what for it in blocks.not_read))
+    lengths = {name: str(length) for name, length in blocks.rest.items() if not rest.is_by_programs(name)}
+    return rest.text_of(lengths) if is_read else None
+
+
+def _pixels(path: bytes, blocks: Blocks) -> tuple[str | None, str | None, str, str | None]:
+    """What --pixels adds to a record: the digest of the coded picture, the rest of the file, its damage, and the digest of the whole file; empty
+    if not known."""
     from ..extract import coded_picture
 
     coded = coded_picture.CodedPicture() if blocks.problem else coded_picture.of_file(path, blocks.budget)
     is_read = blocks.problem not in NO_BYTES
-    return coded.digest, coded.beside, coded.damage, digest_of_file(path, 1 << 62) if is_read else ""
+    beside = coded.beside if coded.digest else _lengths(blocks)
+    return coded.digest, beside, coded.damage, digest_of_file(path, 1 << 62) if is_read else ""
 
 
 def file_digest(path: bytes, blocks: Blocks, whole: bool) -> str:

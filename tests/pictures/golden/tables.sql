@@ -1,4 +1,4 @@
--- version 9
+-- version 10
 CREATE TABLE blocks (
     picture INTEGER NOT NULL REFERENCES pictures(id) ON DELETE CASCADE,
     number INTEGER NOT NULL,        -- the order in the file
@@ -55,7 +55,7 @@ CREATE TABLE pictures (
     maker_notes TEXT NOT NULL,      -- where the MakerNotes begin, which decides what they mean; empty if there is none
     file TEXT NOT NULL,             -- SHA-256 of the whole file, if nothing else of it can be compared; else empty
     coded_picture TEXT,             -- BLAKE2b of the coded picture; empty: not known of this file; NULL: not requested
-    beside TEXT NOT NULL,           -- the rest of the file: BLAKE2b by name, in lines; empty: there is none, or not known
+    beside TEXT,                    -- the rest of the file by name, in lines: BLAKE2b, or lengths without a coded_picture; empty: none; NULL: not known
     damage TEXT NOT NULL,           -- where the file is cut off, or its coded picture is damaged; empty: nowhere, or not known
     sha256 TEXT,                    -- SHA-256 of the whole file; empty: it can't be read; NULL: not requested
     sidecars TEXT NOT NULL,         -- names, sizes, times and inodes of its XMP sidecars; empty if there is none

@@ -116,7 +116,8 @@ def _lines(comparison: ComparedPair, rows: Sequence[FieldRow], names: Sequence[b
         return
     # `_of_pictures` says the rest of a damaged file
     note = comparison.compared.note.removeprefix(f"{coded_result(*comparison.records)[1]}; ")
-    note = note.removesuffix(f"; {', '.join(comparison.compared.parts)}")
+    if comparison.compared.picture == Coded.BESIDE:  # which `_of_pictures` says, too
+        note = note.removesuffix(f"; {', '.join(comparison.compared.parts)}")
     yield f"{note[:1].upper()}{note[1:]}. {_of_pictures(comparison, names)}".rstrip()
     if any(not it.is_accepted for record in comparison.records for it in record.blocks):
         yield "More about a block that isn't accepted: exifnorm-pictures explain PICTURE"

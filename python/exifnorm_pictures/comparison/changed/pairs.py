@@ -48,7 +48,9 @@ _SAME = f"""(typeof(old.path) = 'blob' AND old.problem IS NULL AND new.problem I
     AND old.damage = new.damage
     AND (nullif(old.coded_picture, '') = new.coded_picture AND {SAME_REST}
         OR (ifnull(old.coded_picture, '') = '' OR ifnull(new.coded_picture, '') = '')
-        AND (ifnull(old.sha256, '') = '' OR ifnull(new.sha256, '') = '' OR old.sha256 = new.sha256))) IS NOT TRUE"""
+        AND (ifnull(old.sha256, '') = '' OR ifnull(new.sha256, '') = '' OR old.sha256 = new.sha256)
+        AND (old.beside IS NULL OR new.beside IS NULL OR old.beside = new.beside
+            OR ifnull(old.coded_picture, '') != ifnull(new.coded_picture, '')))) IS NOT TRUE"""
 
 # The new names of pictures, the surest first: the same file under the same name, the same file, a file of the same bytes, .., the only one with
 # the same blocks, size and time. Then the only one with the same blocks and size, if no other picture of its catalogue means the same: scans of

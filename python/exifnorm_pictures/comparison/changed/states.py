@@ -20,12 +20,12 @@ from ...model.found import EXIF, NAMES, OWN, PROGRAMS, hidden_kinds, lost_kinds
 from ...model.problems import Problem
 from ...model.records import BlockRecord, PictureRecord, is_same_file
 from ...model.results import Result
-from ...model.rest import changes as changes_of_rest, counting
+from ...model.rest import counting
 from ...model.sides import REACHED, Status
 from ...model.steps import Step
 from ...model.verdicts import Judged, Verdict, left_open, verdicts
 from .block_pairs import NOTHING, Details, Lost, details_of
-from ..coded import Coded, coded_result as result_of_coded, result_with
+from ..coded import Coded, coded_result as result_of_coded, parts_that_differ, result_with
 from ..differing import FieldDifference
 from .note_pairs import Noted, noted
 from .pairs import AFTER, BEFORE, Pair, Pairs
@@ -91,7 +91,7 @@ def compared(pair: Pair, sides: Sides, session: Optional[Session], choice: Choic
     if pair.old is None or pair.new is None:
         return comparison
     coded, damage = result_of_coded(pair.old, pair.new)
-    parts = changes_of_rest(pair.old.beside, pair.new.beside) if coded in (Coded.BESIDE, Coded.OTHER) else []
+    parts = parts_that_differ(pair.old, pair.new, coded)
     comparison = comparison._replace(picture=coded, parts=parts, damage=(pair.old.damage, pair.new.damage))
     if pair.place is not None and comparison.result == Result.MOVED and counting(parts):
         return comparison._replace(result=Result.MOVED_EDITED, note=_joined(comparison.note, ", ".join(parts)))

@@ -39,7 +39,7 @@ class Kind(Word):
     DAMAGED = ("damaged",)
     RULE = ("rule broken",)
     OTHER_PICTURE = ("other picture",)
-    PARTS = ("other parts",)  # the same coded picture in a file of which another part came, went or changed
+    PARTS = ("other parts",)  # a part of the file came, went or changed, and the coded picture isn't known to have
     UNREADABLE = ("not readable", True)
     OPEN = ("not comparable", True)
     UNREAD = ("not wholly read", True)  # so that it may break a rule
@@ -233,9 +233,8 @@ class Between:
 
 def _kinds(comparison: Compared) -> Iterator[tuple[Kind, str]]:
     """What a comparison itself says, besides the fields; of each part of the file by itself."""
-    kind = _OF_CODED.get(comparison.picture)
-    if kind:
-        yield from ((kind, part) for part in (counting(comparison.parts) if kind == Kind.PARTS else [""]))
+    kind = _OF_CODED.get(comparison.picture, Kind.PARTS)
+    yield from ((kind, part) for part in (counting(comparison.parts) if kind == Kind.PARTS else [""]))
     if comparison.result in _OF_FILES:
         yield _OF_FILES[comparison.result], ""
     elif comparison.result.is_open and comparison.result not in (Result.DAMAGED, Result.DAMAGED_BEFORE):
@@ -252,7 +251,7 @@ def _kind_of_text(label: str, was_there: bool, is_there: bool) -> Kind:
 
 
 _OF_FILES = {Result.FILE_DIFFERENT: Kind.WRITTEN, Result.OTHER_BYTES: Kind.UNSEEN}
-_OF_CODED = {Coded.DAMAGED: Kind.DAMAGED, Coded.DAMAGED_BEFORE: Kind.READABLE, Coded.OTHER: Kind.OTHER_PICTURE, Coded.BESIDE: Kind.PARTS}
+_OF_CODED = {Coded.DAMAGED: Kind.DAMAGED, Coded.DAMAGED_BEFORE: Kind.READABLE, Coded.OTHER: Kind.OTHER_PICTURE}
 
 
 def _labels(comparison: Compared) -> list[str]:

@@ -1,13 +1,11 @@
 """JPEG: Exif in APP1, also split over segments, IPTC in the Photoshop resources of APP13, XMP in APP1 and extended XMP, in the picture
 itself and in those of its MPF index (CIPA DC-008 4.7, CIPA DC-007, XMP part 3).
 
-Not compared, because they contain no Exif, IPTC or XMP: comments, and the segments of `NOT_COMPARED`. All other segments of applications
-are compared by their bytes, and named.
+The segments of `NOT_COMPARED` are rest. All other segments of applications are compared by their bytes, and named.
 """
 
 from __future__ import annotations
 
-import contextlib
 import re
 from typing import Iterator, Sequence
 
@@ -22,7 +20,7 @@ from .jpeg_segments import APP0, APP1, APP13, APP14, APP15, APP2, APP3, COM, SOI
 from .jpeg_segments import EXIF_PIECE, NOT_COMPARED, PHOTOSHOP_PIECE, XMP_PACKET, XMP_PIECE
 from .jpeg_segments import Head, blocks_of, not_compared, read_head, read_up_to
 from .jpeg_tail import ALONE, WINDOW, Markers, Tail, segments, tail
-from .parts import COMMENT, CREDENTIALS, METADATA, PICTURE, REST as THE_REST, STRUCTURE, Part, Range, word
+from .parts import CREDENTIALS, METADATA, PICTURE, REST as THE_REST, STRUCTURE, Part, Range, word
 from .streams import HEAD, Stream, digest_of, digest_of_rest, read_at, size_of
 from .trailers import add_blocks, known_trailer
 
@@ -78,6 +76,7 @@ class _Head:
         self._exif: list[tuple[str, bytes]] = []  # the position of each block, and its bytes
         self._runs: list[tuple[str, bytes]] = []  # Photoshop resources, the same way
         self._pieces = Pieces()
+        self._rest = ""  # the name of the last part that can have no metadata
         self.is_all = False  # whether nothing follows but one plain scan and the end mark, as far as that is known
 
     def read_usual(self, first: bytes, end: int) -> bool:
@@ -86,11 +85,13 @@ class _Head:
         found = library().jpeg_head(first, end, NOT_COMPARED)
         if not found:
             return False
-        self.end, self.is_all, *blocks, self.blocks.iptc_digest = found
+        self.end, self.is_all, *blocks, self.blocks.iptc_digest, rests = found
         self.has_scan = True
         for kind, where, (at, data) in zip((XMP, EXIF, IPTC), _WHERE, blocks):
             if data is not None:
                 self.blocks.add(kind, data, where % at)
+        for what, at, length in rests:
+            self._pass_over(what if isinstance(what, str) else photoshop.name_of(what), first[at : at + _FEW], length)
         return True
 
     def read(self, stream: Stream, start: int, budget: Budget, first: bytes = b"") -> None:
@@ -100,8 +101,8 @@ class _Head:
         for marker, kind, begins, at, size in head.parts:
             if begins:
                 self._block(kind, start + at - 4, next(blocks))
-            elif not kind and APP0 <= marker <= APP15:
-                self._segment(marker, start + at - 4, head.octets[at : at + size])
+            elif not kind and (marker in _BESIDE or marker == APP14):
+                self.segment(marker, start + at - 4, head.octets[at : at + size])
         for place, data in self._exif:
             self.blocks.add(EXIF, data, place, self.part)
         photoshop.add_resources(self.blocks, self._runs, self.part)
@@ -122,7 +123,7 @@ class _Head:
         elif not self._pieces.add(data, f"APP1 segment at {at - len(EXTENDED)}"):
             self.blocks.leave(f"piece of extended XMP that does not fit the others{self.of}", EXTENDED + data)
 
-    def _segment(self, marker: int, start: int, data: bytes) -> None:
+    def segment(self, marker: int, start: int, data: bytes) -> None:
         """Adds what a segment of no known kind has."""
         kind, mark = _kind_of(marker, data)
         if kind == EXIF:
@@ -133,8 +134,15 @@ class _Head:
             self._runs.append((f"APP13 segment at {start}", data[mark:]))
         elif kind == _INDEX:
             self.indexes.append((start + 4 + mark, data[mark:]))
-        elif not not_compared(marker, data):
+        elif not_compared(marker, data):
+            self._pass_over(kind, data[:_FEW], len(data))
+        else:
             self.blocks.leave(kind + self.of, data)
+
+    def _pass_over(self, what: str, first: bytes, length: int) -> None:
+        """Counts a part that can have no metadata, and begins so."""
+        self._rest = _name_of(what, first, self._rest)
+        self.blocks.pass_over(self._rest + self.of, length)
 
 
 _RESOURCES, _INDEX = "Photoshop resources", "MPF index"
@@ -143,8 +151,6 @@ _WHERE = ("APP1 segment at %d", "APP1 segment at %d", "Photoshop resource 0404 i
 
 def _kind_of(marker: int, data: bytes) -> tuple[str, int]:
     """What a segment has whose mark the library doesn't know, and the length of the mark; or its name."""
-    if marker == COM:
-        return COMMENT, 0
     if marker == APP1 and (like := _EXIF_LIKE.match(data)):  # a lenient form: a mark that is written in another way
         return EXIF, like.end()
     if marker == APP1 and (like := _XMP_LIKE.match(data)):
@@ -223,14 +229,12 @@ def parts(stream: Stream, head: Head, budget: Budget) -> Iterator[Part]:
     """Claims to the parts of a JPEG with this head, in their order but for those of Photoshop's resources. The pictures of its index are rest.
     Raises `Broken` and `TooMuch`."""
     yield from _of_picture(stream, head, 0, size_of(stream), budget)
-    starts: set[int] = set()
+    first, size = _Head(Blocks()), size_of(stream)
+    first.end = head.end
     for marker, _, _, at, length in head.parts:
-        data = head.octets[at : at + length]
-        if marker == APP2 and data.startswith(mpf.HEAD):
-            with contextlib.suppress(Broken):  # what a wrong index leads to is rest in any case
-                index = at + len(mpf.HEAD), data[len(mpf.HEAD) :]
-                starts.update(_pictures(Blocks(), stream, index, head.end, size_of(stream)))
-    places = [*sorted(starts), size_of(stream)]
+        if marker == APP2:
+            first.segment(marker, at - 4, head.octets[at : at + length])
+    places = [*_further(stream, first, size), size]  # what a wrong index leads to is rest in any case
     for number, (start, end) in enumerate(zip(places, places[1:]), 2):
         following = read_head(stream, start, budget)
         if following.fault or not following.has_scan:
@@ -289,7 +293,7 @@ def _of_head(head: Head, start: int, budget: Budget) -> Iterator[Part]:
             runs += [[]] if begins or not piece else []
             runs[-1].append((first + mark, end))
         elif kind == THE_REST:
-            last = _name_of(what, data, last)
+            last = _name_of(what, data[:_FEW], last)
             yield Part(kind, first, end, last)
         else:
             yield Part(kind, first + mark, end)
@@ -307,6 +311,9 @@ _CLASSES = {EXIF: METADATA, XMP: METADATA, _INDEX: STRUCTURE}  # all others are 
 _PIECES = {EXIF_PIECE: (EXIF, 0), PHOTOSHOP_PIECE: (_RESOURCES, 0), XMP_PACKET: (XMP, 0), XMP_PIECE: (XMP, 0)}
 
 
-def _name_of(what: str, data: bytes, last: str) -> str:
+_FEW = 64  # bytes of a rest that show what it is
+
+
+def _name_of(what: str, first: bytes, last: str) -> str:
     """The name of a rest: content credentials may go on in the segments behind their first one."""
-    return CREDENTIALS if what == "JUMBF" and (b"c2pa" in data[:64] or last == CREDENTIALS) else what
+    return CREDENTIALS if what == "JUMBF" and (b"c2pa" in first or last == CREDENTIALS) else what

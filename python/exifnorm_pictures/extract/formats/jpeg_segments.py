@@ -9,15 +9,16 @@ import exifnorm
 from exifnorm._jpeg import PART_KINDS, PartRow, part_rows, whole_blocks
 
 from ...model.budgets import SEGMENTS, SEGMENT_BYTES, Budget
-from .parts import PROFILE
+from .parts import COMMENT, PROFILE
 from .streams import HEAD, Stream
 
 SOI, EOI, SOS, COM = 0xD8, 0xD9, 0xDA, 0xFE
 END_MARK = bytes((0xFF, EOI))
 APP0, APP1, APP2, APP3, APP13, APP14, APP15 = 0xE0, 0xE1, 0xE2, 0xE3, 0xED, 0xEE, 0xEF
 
-# The segments of applications that contain no Exif, IPTC or XMP, and are compared only as the rest of a file: the marker, how the segment
-# begins, the name of the part, and its name in docs/COMPARED.md, whose list is made of this table.
+# The segments that contain no Exif, IPTC or XMP, and are compared only as the rest of a file: the marker, how the segment begins, the name of
+# the part, and its name in docs/COMPARED.md, whose list is made of this table, as that of the page is. Nothing in a segment says that it has no
+# metadata: that is what the standards of these say, and any other segment of an application may have some.
 NOT_COMPARED = (
     (0xE0, b"JFIF\0", "JFIF", "JFIF (APP0)"),
     (0xE0, b"JFXX\0", "thumbnail of JFIF", "the thumbnail of JFIF (APP0)"),
@@ -25,6 +26,7 @@ NOT_COMPARED = (
     (0xEB, b"JP", "JUMBF", "JUMBF (APP11)"),
     (0xED, b"Adobe_CM", "Adobe_CM", "Adobe_CM (APP13)"),
     (0xEE, b"Adobe", "colour transform of Adobe", "the colour transform of Adobe (APP14)"),
+    (COM, b"", COMMENT, "comments (COM)"),
 )
 
 

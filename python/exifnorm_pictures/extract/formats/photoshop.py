@@ -22,7 +22,7 @@ SIGNATURES = (b"8BIM", b"PHUT", b"AgHg", b"DCSR", b"MeSa")  # Photoshop, PhotoDe
 _KINDS = {0x0404: IPTC, 0x0422: EXIF, 0x0424: XMP}
 _MORE_EXIF = 0x0423
 _SUM = 0x0425  # MD5 of the record for which Photoshop wrote the packet of XMP
-KEPT = (*_KINDS, _MORE_EXIF, _SUM)  # the resources that are looked at
+KEPT = (*_KINDS, _MORE_EXIF, _SUM)  # the resources that are looked at: nothing but its number says that another one has no metadata
 _HEAD = 12  # bytes of a resource without a name before its data
 _NAMES = {
     0x03ED: "resolution",
@@ -38,6 +38,15 @@ _NAMES = {
     **dict.fromkeys(range(0x07D0, 0x0BB7), "path"),
     0x0BB7: "name of the clipping path",
 }
+
+
+def name_of(number: int) -> str:
+    """The name of a resource.
+
+    >>> name_of(0x07D0)
+    'Photoshop resource 07d0 (path)'
+    """
+    return f"Photoshop resource {number:04x}" + (f" ({_NAMES[number]})" if number in _NAMES else "")
 
 
 def resources(data: bytes, most: int = LIMITS[RESOURCES]) -> tuple[list[exifnorm.Resource], bytes]:
@@ -58,7 +67,7 @@ def resources(data: bytes, most: int = LIMITS[RESOURCES]) -> tuple[list[exifnorm
 def add_resources(blocks: Blocks, runs: Sequence[tuple[str, bytes]], part: str = "") -> None:
     """Adds the blocks in some runs of resources, each run with its position. A resource that continues in the next run is joined, as
     exiv2 does."""
-    most = LIMITS[RESOURCES] * blocks.budget.times
+    most, of = LIMITS[RESOURCES] * blocks.budget.times, f" of {part}" * bool(part)
     if len(runs) > 1 and any(resources(data, most)[1] for _, data in runs[:-1]):
         runs = [(runs[0][0], b"".join(data for _, data in runs))]
     for where, data in runs:
@@ -68,6 +77,8 @@ def add_resources(blocks: Blocks, runs: Sequence[tuple[str, bytes]], part: str =
         for number, start, size in rows:
             if number in KEPT:
                 add_one(blocks, number, data[start : start + size], where, part)
+            else:
+                blocks.pass_over(name_of(number) + of, size)
         if rest:
             blocks.leave(f"bytes behind the Photoshop resources in the {where}", rest)
 
@@ -95,7 +106,7 @@ def parts(runs: Sequence[Sequence[Range]], data: Sequence[bytes], most: int = LI
         joined, at = Joined(ranges), 0
         for number, start, size in rows:
             kind = METADATA if number in _KINDS else STRUCTURE if number == _SUM else REST
-            name = " ".join(filter(None, [f"Photoshop resource {number:04x}", f"({_NAMES[number]})" if number in _NAMES else ""]))
+            name = name_of(number)
             head = REST if kind == REST or start - at > _HEAD else STRUCTURE
             end = start + size
             for what, first, last in ((head, at, start), (kind, start, end), (STRUCTURE, end, min(end + size % 2, len(octets)))):

@@ -63,8 +63,12 @@ def _class_of(stream: Stream, chunk: Chunk) -> tuple[str, str]:
         return PICTURE, ""
     if kind == b"eXIf" or (kind in TEXTS and _is_metadata(stream, *chunk)):
         return METADATA, ""
-    keyword = word(read_at(stream, at + 8, min(length, 12))) if kind in TEXTS else ""
-    return REST, _NAMES.get(kind) or f"{word(kind)} chunk {keyword}".strip()
+    return REST, _name_of(kind, read_at(stream, at + 8, min(length, 12)) if kind in TEXTS else b"")
+
+
+def _name_of(kind: bytes, text: bytes = b"") -> str:
+    """The name of a chunk that is rest; of a text by its keyword."""
+    return _NAMES.get(kind) or f"{word(kind)} chunk {word(text[:12])}".rstrip()
 
 
 def _is_metadata(stream: Stream, at: int, kind: bytes, length: int) -> bool:
@@ -90,6 +94,8 @@ class _Reader:
     def chunk(self, at: int, kind: bytes, length: int) -> None:
         """Adds the blocks of a chunk."""
         if kind not in (b"eXIf", b"zxIf", *TEXTS):
+            if kind not in PIXELS and length:
+                self.blocks.pass_over(_name_of(kind), length)
             return
         self.budget.spend(CHUNK_BYTES, length)
         data = read_at(self.stream, at + 8, length)
@@ -107,6 +113,7 @@ class _Reader:
         keyword, _, text = data.partition(b"\0")
         keyword = keyword.lower()
         if keyword != _XMP_KEYWORD and not keyword.startswith(_PROFILE):
+            self.blocks.pass_over(_name_of(kind, data), len(data))
             return
         try:
             text = self._opened(kind, text)
@@ -156,7 +163,9 @@ class _Reader:
                 self.has_rest = self.has_rest or photoshop.has_rest(data)
         elif kind == b"xmp":
             self.blocks.add(XMP, data, where)
-        elif kind not in (b"icc", b"icm"):
+        elif kind in (b"icc", b"icm"):
+            self.blocks.pass_over(PROFILE, len(data))
+        else:
             self.blocks.leave("raw profile of another kind", data)
 
 

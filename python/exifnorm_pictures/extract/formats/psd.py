@@ -75,6 +75,8 @@ def _add_resources(blocks: Blocks, stream: Stream, at: int, end: int) -> None:
         if number in photoshop.KEPT:
             blocks.budget.spend(RESOURCE_BYTES, length)
             photoshop.add_one(blocks, number, read_at(stream, start, length), "image resources")
+        else:
+            blocks.pass_over(photoshop.name_of(number), length)
         at = start + length + length % 2
     leave(blocks, "bytes behind the Photoshop resources in the image resources", stream, at, end)
 

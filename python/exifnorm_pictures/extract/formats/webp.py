@@ -33,7 +33,9 @@ def read(stream: Stream, whole: bool = False) -> Blocks:
     end, after = end_of(stream), _FIRST
     for at, kind, length in chunks(stream, end, blocks.budget):
         after = at + 8 + length + length % 2
-        if kind not in _WITHOUT:
+        if kind == b"ICCP":
+            blocks.pass_over(PROFILE, length)
+        elif kind not in _WITHOUT:
             blocks.budget.spend(CHUNK_BYTES, length)
             _add(blocks, kind, read_at(stream, at + 8, length), at)
     leave_rest(blocks, stream, min(after, end))
