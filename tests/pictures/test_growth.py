@@ -301,3 +301,17 @@ def test_folders(name, counting, start, folder, is_long):
         if grows > OF_A_PICTURE * size + FEW["memory"] + OF_A_PAGE * words.startswith("report"):
             bad[words, "memory of a picture"] = grows / size
     assert not bad, bad
+
+
+@pytest.mark.parametrize("words", ("same C", "catalogue export C listed --quiet"))
+def test_names_of_a_list(words, counting, folder):
+    """They are in a table on the disk."""
+    archive = Archive(counting, folder, lambda mark, side: FOLDERS["names"].put(1, mark, side))
+    archive.run(INDEX)
+
+    def memory(number):
+        (folder / "names").write_text("".join(f"{it:0200x}\n" for it in range(number)))  # more than a cache of SQLite
+        return archive.run(f"{words} --files-from names", range(5)).memory
+
+    once, twice = memory(10_000), memory(20_000)
+    assert twice - once <= FEW["memory"]

@@ -179,6 +179,7 @@ def test_a_line_that_is_long_is_shown_around_its_mistake(archive, called):
 # Of each kind of file that is a list: what makes it, its name, how it begins, its limit, what reads it, and the status if it is longer
 LISTS = {
     "names": ("", "names", b"p/a.jpg", (walk, "LONGEST_LIST"), "same c --files-from names", 3),
+    "many names": ("", "names", b"\n", (walk, "MOST_NAMES"), "same c --files-from names", 3),
     "rules": ("", "rules", b"title is A", (word_files, "_LONGEST"), "check c --rules rules", 3),
     "words": ("", "words", b"A", (word_files, "_LONGEST"), "check c --rules of-words", 3),
     "fields": ("", "names", b"Make", (word_files, "_LONGEST"), "compare p/a.jpg p/b.jpg --only @names", 3),

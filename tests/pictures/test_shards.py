@@ -338,7 +338,7 @@ def test_with_sidecars_and_without(archive, called_lines):
 
 def test_a_list_replaces_a_list_alone(archive):
     shards.put_list(str(archive / "shards"), ["two.catalogue"])
-    assert shards.listed(str(archive / "shards")) == ["two.catalogue"]
+    assert list(shards.listed(str(archive / "shards"))) == ["two.catalogue"]
     (archive / "other").mkdir()
     (archive / "other" / "catalogues").write_text("mine\n")
     with pytest.raises(Exception, match="file of another kind"):

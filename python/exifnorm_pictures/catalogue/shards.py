@@ -54,15 +54,15 @@ def is_folder(name: str) -> bool:
 def is_of_folder(name: str) -> bool:
     """Whether a name is that of a folder of catalogues, or of a catalogue that such a folder lists."""
     folder, file = os.path.split(name)
-    return is_folder(name) or (is_folder(folder or ".") and file in _listed(folder or "."))
+    return is_folder(name) or (is_folder(folder or ".") and file in listed(folder or "."))
 
 
 def shards_of(folder: str) -> Shards:
     """The catalogues of a folder. Raises `NoCatalogue` if none is there."""
-    there = {identity(path): path for path in (os.path.join(folder, it) for it in _listed(folder)) if is_made(path)}
+    there = {identity(path): path for path in (os.path.join(folder, it) for it in listed(folder)) if is_made(path)}
     if not there:
-        raise NoCatalogue(f"{folder}: none of its {in_words(sum(1 for _ in _listed(folder)), 'catalogue')} is there")
-    missing = (it for it in (os.path.join(folder, name) for name in _listed(folder)) if identity(it) not in there)
+        raise NoCatalogue(f"{folder}: none of its {in_words(sum(1 for _ in listed(folder)), 'catalogue')} is there")
+    missing = (it for it in (os.path.join(folder, name) for name in listed(folder)) if identity(it) not in there)
     return Shards(
         folder,
         list(there.values()),
@@ -78,12 +78,8 @@ def is_made(name: str) -> bool:
     return os.path.exists(name) and os.path.getsize(name) > 0
 
 
-def listed(folder: str) -> list[str]:
-    """The names of the catalogues of a folder, relative to it."""
-    return list(_listed(folder))
-
-
-def _listed(folder: str) -> Iterator[str]:
+def listed(folder: str) -> Iterator[str]:
+    """The names of the catalogues of a folder, relative to it. They may be millions, of which each takes more memory than its bytes."""
     return (os.fsdecode(line.rstrip(b"\n")) for line in io.BytesIO(list_of(folder) or b"") if line != b"\n")
 
 
@@ -110,7 +106,7 @@ def _lock(folder: str, lock: int) -> None:
 
 def elsewhere(folder: str) -> Iterator[str]:
     """The names in a folder of catalogues that lead out of it, of which each may be a stranger's word: no command writes to what they name."""
-    return (it for it in itertools.chain([LIST], _listed(folder)) if os.path.basename(it) != it or os.path.islink(os.path.join(folder, it)))
+    return (it for it in itertools.chain([LIST], listed(folder)) if os.path.basename(it) != it or os.path.islink(os.path.join(folder, it)))
 
 
 def put_list(folder: str, names: Sequence[str]) -> None:

@@ -800,6 +800,12 @@ class Catalogue:
             self.base.executemany("INSERT OR IGNORE INTO chosen VALUES (?)", ((it,) for it in paths))
         return "temp.chosen"
 
+    def not_there(self, chosen: Optional[str]) -> Iterator[bytes]:
+        """The paths of such a table, if there is one, that no picture has, in their order."""
+        if chosen:
+            query = f"SELECT path FROM {chosen} AS one WHERE NOT EXISTS (SELECT 1 FROM pictures WHERE path = one.path) ORDER BY path"
+            yield from self.rows(query, (), root_of_row)
+
     def roots(self) -> list[bytes]:
         """Each folder that was indexed. No index has them, so all pictures are gone through: once, and again after somebody has written."""
         state = self._state()

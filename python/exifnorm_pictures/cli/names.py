@@ -4,8 +4,8 @@ from __future__ import annotations
 
 import os
 import sys
-from itertools import chain
-from typing import Callable, Iterable, Iterator, Optional
+from itertools import chain, islice
+from typing import TYPE_CHECKING, Iterator, Optional
 
 from ..files.opening import reading
 from ..model.errors import WrongUse
@@ -15,6 +15,9 @@ from .options import Files
 from .output import say_notes
 from .parser import refuse
 
+if TYPE_CHECKING:
+    from ..catalogue.store import Catalogue
+
 
 def each_of_list(files: Files) -> Iterator[bytes]:
     """The names of --files-from. Those of standard input come one by one, and what was printed is written before more are read."""
@@ -22,28 +25,26 @@ def each_of_list(files: Files) -> Iterator[bytes]:
         yield from names_in_list(files.files_from, files.null, sys.stdout.flush)
 
 
-def from_list(files: Files) -> Optional[list[bytes]]:
-    """All names of --files-from; None without a list."""
-    names = list(each_of_list(files))
-    return names if files.files_from else None
-
-
 def chosen_paths(files: Files) -> Optional[set[bytes]]:
-    """The names of --files-from as absolute paths."""
-    names = from_list(files)
-    return None if names is None else {os.path.abspath(it) for it in names}
+    """The names of --files-from as absolute paths; None without a list."""
+    return {os.path.abspath(it) for it in each_of_list(files)} if files.files_from else None
+
+
+def chosen_in(catalogue: Catalogue, files: Files) -> Optional[str]:
+    """The same as a table beside a catalogue."""
+    return catalogue.choose(map(os.path.abspath, each_of_list(files))) if files.files_from else None
 
 
 SHOWN = 3  # names of a list that are printed in a line
 
 
-def say_unknown(names: Iterable[bytes], is_known: Callable[[bytes], bool]) -> None:
-    """Names on standard error those of --files-from that no picture has: the answer is about the others alone."""
-    unknown = sorted(it for it in names if not is_known(it))
-    if unknown:
-        have = "1 name of the list is no picture's" if len(unknown) == 1 else f"{len(unknown):,} names of the list are no picture's"
-        shown = [*map(shown_path, unknown[:SHOWN]), *[".."] * (len(unknown) > SHOWN)]
-        say_notes(f"{have}: {', '.join(shown)}")
+def say_unknown(unknown: Iterator[bytes]) -> None:
+    """Names on standard error the first of those of --files-from that no picture has: the answer is about the others alone."""
+    shown = list(map(shown_path, islice(unknown, SHOWN)))
+    more = sum(1 for _ in unknown)
+    if shown:
+        have = "1 name of the list is no picture's" if len(shown) == 1 else f"{len(shown) + more:,} names of the list are no picture's"
+        say_notes(f"{have}: {', '.join([*shown, *['..'] * bool(more)])}")
 
 
 def named(files: Files) -> list[bytes]:

@@ -99,7 +99,7 @@ def _refuse_missing(tops: Sequence[bytes], gone: Sequence[Shard]) -> None:
 def _listed_with(where: str, parts: dict[str, Part]) -> list[str]:
     """All catalogues that are listed, to which those of some parts are added. Other runs may add theirs at the same time."""
     with shards.listing(where):
-        listed = shards.listed(where)
+        listed = list(shards.listed(where))
         known, first = set(map(_key_of, listed)), max(map(_number_of, listed), default=-1) + 1
         listed += [_name(number, key, parts[key]) for number, key in enumerate((key for key in parts if key not in known), first)]
         shards.put_list(where, listed)
@@ -119,13 +119,12 @@ def _check(where: str, tops: Sequence[bytes]) -> list[str]:
         return []
     if not os.path.isdir(where) or (not shards.is_folder(where) and any(not name.startswith(".") for name in os.listdir(where))):
         raise WrongFolder(f"{shown} is no folder of catalogues: give a new folder to --shards")
-    listed = shards.listed(where)
     for name in shards.elsewhere(where):
         raise WrongFolder(f"{shown} isn't written to: {shown_path(os.fsencode(os.path.join(where, name)))} lies elsewhere")
-    for name in listed:
+    for name in shards.listed(where):
         if not re.fullmatch(r"[0-9]{5,}-.*-[0-9a-f]{16}\.catalogue", name):
             raise WrongFolder(f"{shown} lists {shown_path(os.fsencode(name))}, which isn't of index --shards: give a new folder")
-    return listed
+    return list(shards.listed(where))
 
 
 def _parts(top: bytes, excluded: Excluded, known: dict[str, str], roots: set[bytes]) -> Iterator[Part]:

@@ -2,6 +2,7 @@
 
 from __future__ import annotations
 
+import contextlib
 import io
 import os
 import stat
@@ -170,48 +171,43 @@ def outermost(names: Iterable[bytes]) -> Iterator[bytes]:
             yield top.rstrip(b"/") or b"/"
 
 
-LONGEST_LIST = 1 << 28  # bytes of a list that is a file, or a device that has no end
-
-
-def names_in_list(name: str, by_nul: bool, before_read: Callable[[], object] = bool) -> Iterator[bytes]:
-    """The names in a list file: one for each line, or each ended by a NUL. Raises `BadList`.
-
-    Those of standard input, `-`, come one by one, each before more is read, so that a program can ask for a name and wait for the answer.
-    `before_read` is called each time that more of it is read. A file is read whole first.
-    """
-    if name != "-":
-        with open(name, "rb") as file:
-            octets = file.read(LONGEST_LIST + 1)
-        if len(octets) > LONGEST_LIST:
-            raise BadList(f"{shown_path(name)} has more than {LONGEST_LIST >> 20} MB: a longer list is read from standard input, by -")
-        if not by_nul and b"\0" in octets:
-            raise _ended_by_nul(name)
-        yield from filter(None, octets.split(b"\0" if by_nul else b"\n"))
-        return
-    if sys.stdin is None:
-        raise BadList("standard input is closed")
-    name_so_far = bytearray()
-    while piece := _more(before_read):
-        if not by_nul and b"\0" in piece:
-            raise _ended_by_nul(name)
-        first, *others = piece.split(b"\0" if by_nul else b"\n")
-        name_so_far += first
-        for other in others:
-            if name_so_far:
-                yield bytes(name_so_far)
-            name_so_far = bytearray(other)
-    if name_so_far:
-        yield bytes(name_so_far)
-
-
-def _more(before_read: Callable[[], object]) -> bytes:
-    """What is there of standard input, or what comes next; nothing at its end."""
-    before_read()
-    return cast(io.BufferedIOBase, sys.stdin.buffer).read1(_CHUNK)
-
-
+LONGEST_LIST = 1 << 28  # bytes of a list that is a file, or a device that has no end ..
+MOST_NAMES = 5_000_000  # .. and its names: each takes more memory than it has bytes
 _CHUNK = 1 << 16
 
 
-def _ended_by_nul(name: str) -> BadList:
-    return BadList(f"the list {name} contains a NUL: if its names end with NUL, give -0")
+def names_in_list(name: str, by_nul: bool, before_read: Callable[[], object] = bool) -> Iterator[bytes]:
+    """The names in a list: one for each line, or each ended by a NUL. Raises `BadList`.
+
+    They come one by one, each before more is read, so that a program can write a name to standard input, `-`, and wait for the answer.
+    `before_read` is called each time that more is read.
+    """
+    end, begun = b"\0" if by_nul else b"\n", bytearray()
+    for piece in _pieces(name, end, before_read):
+        if not by_nul and b"\0" in piece:
+            raise BadList(f"the list {name} contains a NUL: if its names end with NUL, give -0")
+        *ended, last = piece.split(end)
+        if ended:
+            yield from filter(None, (bytes(begun) + ended[0], *ended[1:]))
+            begun.clear()
+        begun += last
+    if begun:
+        yield bytes(begun)
+
+
+def _pieces(name: str, end: bytes, before_read: Callable[[], object]) -> Iterator[bytes]:
+    """What is there of a list, or what comes next. One that isn't standard input is refused beyond a limit, a file before it is read."""
+    if name == "-" and sys.stdin is None:
+        raise BadList("standard input is closed")
+    read = names = 0
+    with contextlib.ExitStack() as opened:
+        file = None if name == "-" else opened.enter_context(open(name, "rb"))
+        stream = file or cast(io.BufferedIOBase, sys.stdin.buffer)
+        before_read()
+        while piece := stream.read1(_CHUNK):
+            read, names = read + len(piece), names + piece.count(end)
+            if file and (max(read, os.fstat(file.fileno()).st_size) > LONGEST_LIST or names > MOST_NAMES):
+                most = f"{LONGEST_LIST >> 20} MB or {MOST_NAMES:,} names"
+                raise BadList(f"{shown_path(name)} has more than {most}: a longer list is read from standard input, by -")
+            yield piece
+            before_read()

@@ -27,7 +27,7 @@ from .. import changed_tables
 from ..choice import choice_of, listings_of, note_absent, refuse_unknown
 from ..exit_codes import UNKNOWN, status_of_results
 from ..looking import catalogue_of, files_of, is_of_pictures
-from ..names import from_list, refuse_pictures, say_unknown
+from ..names import each_of_list, refuse_pictures, say_unknown
 from ..options import Fields, Output, Run, group_of, groups_of
 from ..output import print_line, print_lines, say_notes, table_of
 from ..parser import refuse
@@ -49,7 +49,7 @@ def run(arguments: argparse.Namespace) -> int:
     _refuse_missing(*sides)
     refuse_pictures(*sides)
     _refuse_for_catalogues(run, *sides)
-    listed = from_list(files)
+    listed = list(each_of_list(files)) if files.files_from else None
     with contextlib.ExitStack() as open_:
         run = _with_sidecars(run, *sides)
         before, after = (open_.enter_context(catalogue_of(it, run, True)) for it in sides)
@@ -63,7 +63,8 @@ def run(arguments: argparse.Namespace) -> int:
             said = work.undo.put(arguments.undo, heads_of((before, after))[AFTER], kept)
             say_notes(*said) if output.csv or output.json or arguments.null else print_lines(said)
         if listed:
-            say_unknown(listed, _knows(before, after))
+            is_known = _knows(before, after)
+            say_unknown(iter(sorted(it for it in listed if not is_known(it))))
     return max(status_of_results(work.counts), UNKNOWN * bool(work.undo and work.undo.left))
 
 

@@ -20,7 +20,7 @@ from ...model.errors import WrongUse
 from ...model.texts import in_words, path_members, shown_path
 from ..exit_codes import SUCCESS
 from ..looking import files_of, opened
-from ..names import chosen_paths, say_unknown
+from ..names import chosen_in, say_unknown
 from ..objects import print_object
 from ..options import groups_of
 from ..output import print_line
@@ -30,17 +30,16 @@ def run(arguments: argparse.Namespace) -> int:
     """Writes a catalogue as plain tables of SQLite."""
     _refuse_table(arguments.file)
     files, run, output = groups_of(arguments)
-    chosen = chosen_paths(files)
     name = arguments.source
     with opened(name, run) as catalogue:
         file = os.path.join(run.session.room, "export")
         with tables(file) as written:
             _add_about(written, catalogue)
-            only = None if chosen is None else catalogue.choose(chosen)
+            only = chosen_in(catalogue, files)
             work = Export(catalogue, written, only, None if arguments.no_look else run.session)
             work.all(run.quiet or not sys.stderr.isatty())
         _put(file, arguments.file, files_of(name))
-        say_unknown(chosen or (), catalogue.has)
+        say_unknown(catalogue.not_there(only))
     counts = {name: written.counts.get(name, 0) for name in ("pictures", "fields", "captions", "conflicts", "groups")}
     if output.json:
         left_out = {"texts_not_kept": work.missing, "absent_groups": work.groups.absent, "maker_notes_not_read": work.maker_notes}

@@ -40,5 +40,5 @@ def run(arguments: argparse.Namespace) -> int:
         if output.json:
             for record, members in contents.objects(about):
                 print_object("report", record, members)
-        say_unknown(chosen or (), catalogue.has)
+        say_unknown(catalogue.not_there(about.table()))
     return SUCCESS

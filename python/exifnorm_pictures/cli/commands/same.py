@@ -26,7 +26,7 @@ from .. import listed_texts
 from ..choice import choice_for
 from ..exit_codes import UNKNOWN, status_of_results
 from ..looking import Preparing, keep_texts, opened
-from ..names import chosen_paths, say_unknown
+from ..names import chosen_in, say_unknown
 from ..objects import line_of, print_object
 from ..options import Fields, Output, Run, group_of, groups_of
 from ..output import print_line, print_lines, say_notes, table_of
@@ -126,12 +126,11 @@ def run(arguments: argparse.Namespace) -> int:
     files, run, output = groups_of(arguments)
     name = arguments.source
     kinds = KINDS if arguments.kind in ("all", PIXELS, FILE) else (arguments.kind,)
-    chosen = chosen_paths(files)
     if arguments.columns or arguments.differ:
         keep_texts(name, run)
     with contextlib.ExitStack() as open_:
         catalogue = open_.enter_context(opened(name, run))
-        only = None if chosen is None else catalogue.choose(chosen)
+        only = chosen_in(catalogue, files)
         choice = choice_for(group_of(Fields, arguments), catalogue)
         groups = Groups(catalogue, only, not arguments.no_look)
         texts = _Texts(catalogue, arguments.columns, arguments.differ, run, output.json)
@@ -141,7 +140,7 @@ def run(arguments: argparse.Namespace) -> int:
             listed.add(group)
         left = _left_out(catalogue, arguments.kind, kinds, only, choice)
         _print_end(output, listed, groups, left, arguments.least_fields)
-        say_unknown(chosen or (), catalogue.has)
+        say_unknown(catalogue.not_there(only))
     if left.is_open or texts.not_known or texts.has_unread:
         return UNKNOWN
     return status_of_results(listed.results)
