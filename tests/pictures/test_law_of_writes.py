@@ -1,14 +1,16 @@
 """The law of writes: whatever a stranger has put into a folder tree, a command creates, changes, renames and removes nothing but the outputs
-that its command line names, and its own temporary files.
+that its command line names, what SQLite has beside them, and its own temporary files. Nor does a program that reads these outputs then.
 
 strace sees each call of the system, also those of SQLite, which a library that is preloaded wouldn't see if SQLite were part of Python, and
 those of other programs. It attaches itself to a process that has imported the modules. Each path is judged as the kernel has it: of a file that is open where a link led, of another one below its folder.
 """
 
+import contextlib
 import fnmatch
 import os
 import re
 import shutil
+import sqlite3
 import struct
 import subprocess
 import sys
@@ -134,22 +136,24 @@ def journal_that_names(path, catalogue):
     return head.ljust(512, b"\0") + struct.pack(">I", 0x40000000 // size + 1) + name + struct.pack(">II", len(name), sum(name)) + magic
 
 
-def journals(top):
-    """Each catalogue has a journal that names a file of the user, also those that a command seems to have made before."""
+def put_journals(top, *names):
+    for name in names:
+        (top / "disk" / f"{name}-journal").write_bytes(journal_that_names(top / "home" / "thesis.txt", top / "disk" / name))
+
+
+def of_outputs(top):
+    """What a command seems to have made before, each with a journal that names a file of the user."""
     (top / "disk" / "state").mkdir()
     made = ("new", "kept", "n.tonight", "n.before", "state/verified.catalogue")
     for name in made:
         shutil.copy(top / "disk" / "c", top / "disk" / name)
-    for name in (
-        "c",
-        "old",
-        "real",
-        "n",
-        "tables",
-        *made,
-        *(os.path.relpath(it, top / "disk") for it in (top / "disk" / "d").glob("*.catalogue")),
-    ):
-        (top / "disk" / f"{name}-journal").write_bytes(journal_that_names(top / "home" / "thesis.txt", top / "disk" / name))
+    put_journals(top, "tables", *made)
+
+
+def journals(top):
+    """The same, and each catalogue that is read has such a journal."""
+    of_outputs(top)
+    put_journals(top, "c", "old", "real", "n", *(os.path.relpath(it, top / "disk") for it in (top / "disk" / "d").glob("*.catalogue")))
 
 
 def beside(top):
@@ -185,7 +189,8 @@ def another(top):
 
 
 def left(top):
-    """What killed runs seem to have left: folders and files of the user under such names."""
+    """What killed runs seem to have left: folders and files of the user under such names, and journals beside what is written."""
+    of_outputs(top)
     for folder in (top / "disk", top / "tmp"):
         for name in (".exifnorm-abcdefgh.part", "exifnorm-abcdefgh"):
             put(str(folder / name), {"notes.txt": b"mine"})
@@ -257,7 +262,7 @@ COMMANDS = {
     "report c --since old --html r/": [*folder_of_report("r"), *ASKED],
     "report c --html page.html --rules rules": ["page.html", FILE, *ASKED],
     "report d --html r/": [*folder_of_report("r"), *SHARDS],
-    "catalogue export c tables": ["tables", FILE, *ASKED],
+    "catalogue export c tables": [*catalogue("tables"), FILE, *ASKED],
     "mend p/refused.jpg copy.jpg": ["copy.jpg", FILE],
     "mend out --files-from names": ["out", "out/*"],
     "mend c out": ["out", "out/*"],
@@ -285,6 +290,14 @@ def tree(top):
     files = [it for it in top.rglob("*") if it.is_file() and not it.is_symlink()]
     mine = [it for it in files if top / "home" in it.parents or it.read_bytes().startswith(b"mine")]
     return {str(it.relative_to(top)): (it.read_bytes(), it.lstat().st_ino) for it in mine}
+
+
+def read_by_another(written):
+    """Another program reads what a run has written. SQLite removes then what a journal beside a file names, which no run leaves there."""
+    for path in map(Path, written):
+        if path.is_file() and path.read_bytes().startswith(b"SQLite"):
+            with contextlib.suppress(sqlite3.Error), contextlib.closing(sqlite3.connect(path)) as base:
+                base.execute("SELECT * FROM sqlite_master").fetchall()
 
 
 def words_of(line):
@@ -321,6 +334,7 @@ def test_nothing_else_is_written(stranger, saved, runner, tmp_path):
             *FREE,
         ]
         calls = {*written(str(saved / "disk"), traces)}
+        read_by_another({it[1] for it in calls})
         others = {it for it in calls if not any(fnmatch.fnmatchcase(it[1], due) for due in allowed)}
         wrong += [
             (words, call, path.replace(str(saved), "")) for call, path in sorted(others) if os.path.realpath(path) != str(saved / "disk")

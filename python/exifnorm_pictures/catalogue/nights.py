@@ -26,10 +26,9 @@ from ..files import atomic
 from ..model.errors import Failure
 from ..model.records import Stamp
 from ..model.texts import shown_path
-from .store import VERSION, Catalogue, Earlier, earlier_release, head_is_ours, head_of, is_left_open
+from .store import BESIDE, VERSION, Catalogue, Earlier, earlier_release, head_is_ours, head_of, is_left_open
 
 _HEAD = "The lock of exifnorm-pictures nightly, and what its catalogue of tonight was made from:\n"
-_SQLITES = ("-wal", "-shm", "-journal")  # files that SQLite keeps beside a catalogue
 
 
 class NotAlone(Failure):
@@ -59,7 +58,7 @@ class Nights:
     def names(self) -> tuple[str, ...]:
         """The names of all files, also of those that SQLite makes."""
         catalogues = (self.last, self.before, self.tonight, *self._of_days(), *[self.of_today] * bool(self.of_today))
-        return (*(name + ending for name in catalogues for ending in ("", *_SQLITES)), self._lock_name, *[self.kept] * bool(self.kept))
+        return (*(name + ending for name in catalogues for ending in ("", *BESIDE)), self._lock_name, *[self.kept] * bool(self.kept))
 
     @property
     def compared(self) -> tuple[str, str]:
@@ -107,8 +106,8 @@ class Nights:
             return
         _refuse_others(self.tonight)
         _refuse_others(self.of_today)
-        for ending in ("", *_SQLITES):
-            _remove(self.tonight + ending)
+        for ending in ("", *BESIDE):
+            atomic.remove(self.tonight + ending)
         if not self.is_first:
             with Catalogue(self.last) as catalogue:
                 copy_over(catalogue, self.tonight, room)
@@ -135,7 +134,7 @@ class Nights:
         """Gives a catalogue of an earlier release another name, with what SQLite has beside it after a run that was killed."""
         if not os.path.lexists(self.kept):
             _link(self.last, self.kept)
-        for ending in _SQLITES:
+        for ending in BESIDE:
             with contextlib.suppress(FileNotFoundError):
                 os.rename(self.last + ending, self.kept + ending)
 
@@ -156,15 +155,10 @@ def _replace(name: str, other: str) -> None:
     beside = f"{other}.new"
     for there in (other, beside):
         _refuse_others(there)
-    _remove(beside)
+    atomic.remove(beside)
     _link(name, beside)
     os.replace(beside, other)
-    _remove(beside)  # if a run was killed, both may be names of one file, of which the system keeps both
-
-
-def _remove(name: str) -> None:
-    with contextlib.suppress(FileNotFoundError):
-        os.unlink(name)
+    atomic.remove(beside)  # if a run was killed, both may be names of one file, of which the system keeps both
 
 
 def _link(name: str, other: str) -> None:
@@ -220,8 +214,5 @@ def copy_over(catalogue: Catalogue, name: str, room: str) -> None:
     """Copies a catalogue to a new file or over an earlier copy. Raises `NotReplaced` for any other file."""
     copy = os.path.join(room, "old")
     catalogue.copy_to(copy)
-    with open(copy, "rb") as source:
-        atomic.put(name, lambda file: shutil.copyfileobj(source, file), head_is_ours, (catalogue.name,))
-    for ending in _SQLITES:  # of the earlier copy, if a run was killed at it
-        _remove(name + ending)
+    atomic.put_copy(name, copy, head_is_ours, (catalogue.name,), BESIDE)
     os.unlink(copy)

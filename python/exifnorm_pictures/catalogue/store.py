@@ -169,6 +169,7 @@ def head_is_ours(head: bytes) -> bool:
     return head[:16] == b"SQLite format 3\0" and int.from_bytes(head[68:72], "big") == APPLICATION
 
 
+BESIDE = ("-wal", "-shm", "-journal")  # how files end that SQLite keeps beside another
 _OPEN = b"\2\2"  # of one that has a log
 _CLOSED = b"\1\1"  # at offset 18 of a SQLite file that has no log: a catalogue is closed like this, and a log is removed before
 

@@ -5,7 +5,6 @@ from __future__ import annotations
 
 import contextlib
 import os
-import shutil
 from typing import Iterator, Sequence
 
 from ..files import atomic
@@ -92,6 +91,5 @@ def written(name: str, session: Session) -> Iterator[Sheet]:
     sheet = Sheet(table)
     yield sheet
     sheet.close()
-    with open(table, "rb") as whole:
-        atomic.put(name, lambda file: shutil.copyfileobj(whole, file), lambda _: False)
+    atomic.put_copy(name, table, lambda _: False)
     print_line(f"{escaped(name)}: {in_words(max(0, sheet.rows - 1), 'row')}")

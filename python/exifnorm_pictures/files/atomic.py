@@ -10,9 +10,10 @@ import contextlib
 import fcntl
 import os
 import re
+import shutil
 import stat
 import zlib
-from typing import AnyStr, BinaryIO, Callable, Iterator, Pattern
+from typing import AnyStr, BinaryIO, Callable, Iterator, Pattern, Sequence
 
 from ..model.errors import Failure
 from ..model.texts import reason, shown_path
@@ -69,6 +70,24 @@ def put(name: str, write: Write, allowed: Callable[[bytes], bool], kept: tuple[s
         replace(os.fsencode(name), write, allowed, kept)
     except NotReplaced as error:
         raise NotReplaced(not_written(shown_path(name), error)) from None
+
+
+def put_copy(name: str, source: str, allowed: Callable[[bytes], bool], kept: tuple[str, ...] = (), beside: Sequence[str] = ()) -> None:
+    """The same with what the file `source` has. What is beside the file that is replaced, by the ends of its names, is removed with it."""
+
+    def write(file: BinaryIO) -> None:
+        with open(source, "rb") as whole:
+            shutil.copyfileobj(whole, file)
+        for ending in beside:
+            remove(os.path.realpath(name) + ending)
+
+    put(name, write, allowed, kept)
+
+
+def remove(name: str) -> None:
+    """Removes a file, if it is there."""
+    with contextlib.suppress(FileNotFoundError):
+        os.unlink(name)
 
 
 def _replace(there: bytes, write: Write, sources: tuple[str, ...]) -> None:

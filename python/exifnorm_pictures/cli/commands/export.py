@@ -4,14 +4,12 @@ from __future__ import annotations
 
 import argparse
 import os
-import shutil
 import sys
 from datetime import datetime, timezone
-from typing import Sequence
 
 import exifnorm
 
-from ...catalogue.store import Catalogue
+from ...catalogue.store import BESIDE, Catalogue
 from ...export.rows import Export
 from ...export.tables import VERSION, Tables, head_is_ours, tables
 from ...fields.left_out import of_maker_notes
@@ -38,7 +36,7 @@ def run(arguments: argparse.Namespace) -> int:
             only = chosen_in(catalogue, files)
             work = Export(catalogue, written, only, None if arguments.no_look else run.session)
             work.all(run.quiet or not sys.stderr.isatty())
-        _put(file, arguments.file, files_of(name))
+        atomic.put_copy(arguments.file, file, head_is_ours, tuple(files_of(name)), BESIDE)
         say_unknown(catalogue.not_there(only))
     counts = {name: written.counts.get(name, 0) for name in ("pictures", "fields", "captions", "conflicts", "groups")}
     if output.json:
@@ -80,9 +78,3 @@ def _add_about(written: Tables, catalogue: Catalogue) -> None:
         "indexed by": (last[2] if last else None) or "",
     }
     written.add("about", list(about.items()))
-
-
-def _put(text: str, name: str, kept: Sequence[str]) -> None:
-    """Copies the tables to their place, where they may replace an earlier export and no other file."""
-    with open(text, "rb") as whole:
-        atomic.put(name, lambda file: shutil.copyfileobj(whole, file), head_is_ours, tuple(kept))
