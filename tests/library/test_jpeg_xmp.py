@@ -22,7 +22,6 @@ DONE, REFUSED, NOT_READ = 0, 2, 7
 HEADS = {"JpegNoStart": 101, "JpegNoMarker": 102, "JpegLength": 103, "JpegCut": 104}
 PACKET, UNREAD, FAULT, FILLER = Struct("INN"), Struct("IIN"), Struct("IN"), 0xA5
 
-VASE_AS_ELEMENT = b"<r:RDF " + SPACES + b"><r:Description><d:source>Vase</d:source></r:Description></r:RDF>"
 URN = VASE.replace(b"Vase", b"Urn")
 
 
@@ -183,25 +182,7 @@ def test_two_tools_write_the_same(folder):
     assert exifnorm.xmp_normal(one) == exifnorm.xmp_normal(other) == exifnorm.xmp_normal(VASE) != exifnorm.xmp_normal(urn)
 
 
-def test_exiftools_extended_xmp_is_not_called_whole(folder):
-    need("exiftool")
-    file, long = folder / "long.jpg", folder / "long"
-    file.write_bytes(samples()[0].read_bytes())
-    long.write_text("x" * 100_000, encoding="ascii")
-    printed("exiftool", "-config", "", "-q", "-overwrite_original", "-all=", f"-XMP-dc:Description<={long}", file)
-    octets = file.read_bytes()
-    with pytest.raises(XmpNotRead) as raised:
-        exifnorm.jpeg_xmp(octets)
-    assert octets[: raised.value.offset].endswith(EXTENSION)
-
-
 # ---- the package
-
-
-def test_pictures_with_the_same_packet(way):
-    """Attributes and elements have one form, and a picture without XMP has no packet."""
-    forms = [exifnorm.xmp_normal(exifnorm.jpeg_xmp(picture(packet(it)))) for it in (VASE, VASE_AS_ELEMENT, URN)]
-    assert forms[0] == forms[1] != forms[2]
 
 
 def test_what_is_not_read_is_an_error_that_can_be_pickled(way):

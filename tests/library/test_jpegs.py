@@ -1,7 +1,6 @@
 """The package's calls for JPEGs, by ctypes and by the extension module, beside a walk in Python over segments and resources."""
 
 import pickle
-from concurrent.futures import ThreadPoolExecutor
 
 import pytest
 from hypothesis import HealthCheck, given, settings
@@ -46,33 +45,6 @@ def test_parts(octets):
     """Those of the walk, for the whole head and for its first bytes."""
     for length in range(len(octets) + 1):
         assert found_in(octets[:length]) == jpegs.parts(octets[:length])
-
-
-@ONE_WAY
-@given(HEADS, st.binary(max_size=50))
-def test_more_bytes_change_nothing(octets, more):
-    """A head, and a fault that is no missing end, stay as they are; parts before a missing end stay, but the last may get more bytes FF."""
-    parts, fault = found_in(octets)
-    longer, other = found_in(octets + more)
-    if fault and fault[0] == "JpegCut":
-        assert longer[: len(parts)] == parts
-    else:
-        assert (longer, other) == (parts, fault)
-
-
-@ONE_WAY
-@given(
-    st.lists(st.one_of(st.builds(resource, st.integers(0, 0xFFFF), st.binary(max_size=9)), st.binary(max_size=9)), max_size=6),
-    st.integers(0, 9),
-)
-def test_resources(them, less):
-    octets = b"".join(them)
-    octets = octets[: max(len(octets) - less, 0)]
-    found = exifnorm.photoshop_resources(octets)
-    expected, rest = jpegs.resources(octets)
-    assert [(number, octets[start : start + size]) for number, start, size in found] == expected
-    end = found[-1].start + found[-1].size + found[-1].size % 2 if found else 0
-    assert octets[end:] == rest
 
 
 def test_types_of_results():
@@ -166,21 +138,6 @@ def test_blocks_before_a_fault(octets, blocks):
     assert pickle.loads(pickle.dumps(raised.value)).blocks == raised.value.blocks
 
 
-def blocks_of(octets):
-    try:
-        return exifnorm.jpeg_blocks(octets)
-    except HeadRefused as why:
-        return list(why.blocks)
-
-
-@given(st.lists(SEGMENTS, max_size=6), st.integers(0, 200))
-@settings(suppress_health_check=[HealthCheck.function_scoped_fixture])
-def test_blocks_of_a_cut_picture_are_the_first_of_the_whole_one(segments, at):
-    octets = START + b"".join(segments) + END
-    cut = blocks_of(octets[:at])
-    assert cut == blocks_of(octets)[: len(cut)]
-
-
 def test_numbers_of_parts_and_resources():
     """More than fit into the first buffer, and no more than are allowed."""
     for count in (0, 1, 63, 64, 65, 1000):
@@ -199,11 +156,3 @@ def test_numbers_of_parts_and_resources():
     assert len(raised.value.parts) == 1000
     assert outcome(exifnorm.jpeg_parts, START + COMMENT * 1000 + b"x", 999) == ("TooMany", 999)
     assert str(pickle.loads(pickle.dumps(TooMany(7)))) == "more than 7"
-
-
-def test_many_threads(way):
-    """Each call has room of its own, also one that begins while another is made."""
-    heads = [START + b"\xff\x01" * count + (END if count % 2 else b"x") for count in range(16)]
-    expected = [found_in(it) for it in heads]
-    with ThreadPoolExecutor(8) as pool:
-        assert [*pool.map(found_in, heads * 500)] == expected * 500

@@ -7,12 +7,13 @@ import re
 import shutil
 import tarfile
 from pathlib import Path
-from typing import List
+from typing import Dict, List
 
 import c_source
 import guard
 import pytest
 from machines import HERE, MACHINES, VERSION, Builds, Machine
+from reading import CAUSES
 
 from commands import TOP, run
 
@@ -36,6 +37,12 @@ def test_it_answers_as_the_built_library(builds: Builds, files: Path, answers: s
     different = [(ours, theirs) for ours, theirs in zip(lines, answers.splitlines()) if ours != theirs]
     assert different[:5] == []
     assert len(lines) == len(answers.splitlines())
+
+
+def test_arguments_at_their_limits(builds: Builds) -> None:
+    """As of the built library: empty and largest blocks, outputs of each length, and each status."""
+    clang = next(machine for machine in MACHINES if machine.name == "clang")
+    assert re.fullmatch(r"[1-9]\d* checks\n", builds.said(clang, TOP / "tests/library/edges.c", f"{VERSION} (C)", *CAUSES))
 
 
 def test_products_and_quotients_of_128_bits(c_folder: Path, folder: Path) -> None:
@@ -163,29 +170,18 @@ def test_two_modules_that_differ_otherwise_are_refused(one: str, other: str) -> 
         c_source.joined_line(one, other, 100)
 
 
-def test_the_stack_is_that_of_the_deepest_call() -> None:
-    """The frames of all functions in a chain of calls; none of another branch."""
-    names = {"w2c_a": ["w2c_b", "w2c_c"], "w2c_b": ["w2c_d"], "w2c_c": [], "w2c_d": []}
-    functions = [
-        [f"static void {name}(u64 *stack) {{", *FRAME, *(f"  {below}(stack, w2c_j0);" for below in called), "}"]
-        for name, called in names.items()
-    ]
-    assert c_source.stack_of("\n".join(sum(functions, [])) + "\n") == 3 * 32
-
-
-def test_functions_that_call_each_other_take_their_frames_for_each_element() -> None:
-    """The frames of all in the cycle, and once those of what calls it and of what it calls."""
-    names = {"w2c_a": ["w2c_b"], "w2c_b": ["w2c_c"], "w2c_c": ["w2c_b", "w2c_d"], "w2c_d": []}
-    functions = [
-        [f"static void {name}(u64 *stack) {{", *FRAME, *(f"  {below}(stack, w2c_j0);" for below in called), "}"]
-        for name, called in names.items()
-    ]
-    assert c_source.stack_of("\n".join(sum(functions, [])) + "\n") == (1 + 2 * c_source.LEVELS + 1) * 32
-
-
-def test_a_function_that_calls_itself_takes_its_frame_for_each_element() -> None:
-    functions = ["static void w2c_a(u64 *stack) {", *FRAME, "  w2c_a(stack, w2c_j0);", "}"]
-    assert c_source.stack_of("\n".join(functions) + "\n") == c_source.LEVELS * 32
+@pytest.mark.parametrize(
+    "calls, frames",
+    [
+        ({"a": "bc", "b": "d", "c": "", "d": ""}, 3),  # those of a chain of calls, and none of another branch
+        ({"a": "b", "b": "c", "c": "bd", "d": ""}, 1 + 2 * c_source.LEVELS + 1),  # all in a cycle for each element, and what calls it
+        ({"a": "a"}, c_source.LEVELS),
+    ],
+)
+def test_the_stack_is_that_of_the_deepest_call(calls: Dict[str, str], frames: int) -> None:
+    bodies = {name: "".join(f"  w2c_{it}(stack, w2c_j0);\n" for it in called) for name, called in calls.items()}
+    text = "".join(f"static void w2c_{name}(u64 *stack) {{\n" + "\n".join(FRAME) + f"\n{body}}}\n" for name, body in bodies.items())
+    assert c_source.stack_of(text) == frames * 32
 
 
 def test_a_frame_of_unknown_size_is_refused() -> None:
