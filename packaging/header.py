@@ -1,11 +1,7 @@
-#!/usr/bin/env python3
-"""Writes the version and the lists of causes of blocks and of packets in exifnorm.h.
+"""exifnorm.h: the version and the lists of causes of blocks and of packets.
 
 The version is px_engine's. The causes, what they mean and their numbers are those of px_bytes and of
 px_xmp_forms.
-
-  packaging/header.py            writes them into the header
-  packaging/header.py --check    ends with 1 if the header has others
 """
 
 from __future__ import annotations
@@ -75,9 +71,9 @@ def macros(source: str) -> str:
     return f'#define EXIFNORM_VERSION "{version}"\n' + "".join(f"#define EXIFNORM_VERSION_{name} {number}\n" for name, number in numbers)
 
 
-def printed(header: str) -> str:
+def printed() -> str:
     """The header with the printed parts as they must be."""
-    parts = [(MACROS, macros(VERSION.read_text(encoding="utf-8")))]
+    header, parts = HEADER.read_text(encoding="utf-8"), [(MACROS, macros(VERSION.read_text(encoding="utf-8")))]
     for begins, source in LISTS:
         text = (CRATES / source).read_text(encoding="utf-8")
         listed = re.compile(rf"(?<=enum \{{\n)    {begins}_TOO_LONG = .*?(?=\}};\n)", re.S)
@@ -87,17 +83,3 @@ def printed(header: str) -> str:
         if count != 1:
             sys.exit("the header has no list of causes, or no version")
     return header
-
-
-def main(words: list[str]) -> int:
-    if words not in ([], ["--check"]):
-        sys.exit(__doc__)
-    header = HEADER.read_text(encoding="utf-8")
-    if words:
-        return int(printed(header) != header)
-    HEADER.write_text(printed(header), encoding="utf-8")
-    return 0
-
-
-if __name__ == "__main__":
-    sys.exit(main(sys.argv[1:]))

@@ -1,9 +1,4 @@
-#!/usr/bin/env python3
-"""Writes exifnorm_names.h: names of fields, and sentences for statuses and causes. They are those of the Python package.
-
-  packaging/names.py            writes the header
-  packaging/names.py --check    ends with 1 if the header is another one
-"""
+"""exifnorm_names.h: names of fields, and sentences for statuses and causes. They are those of the Python package."""
 
 from __future__ import annotations
 
@@ -13,7 +8,7 @@ from pathlib import Path
 from typing import Dict, Iterable, List, Tuple
 
 TOP = Path(__file__).resolve().parent.parent
-HEADER = TOP / "crates" / "px_c" / "include" / "exifnorm_names.h"
+HEADER = TOP / "crates" / "px_c" / "include" / "exifnorm.h"
 sys.path.insert(0, str(TOP / "python"))
 
 from exifnorm._causes import CAUSE_WORDS  # noqa: E402
@@ -204,21 +199,8 @@ def header() -> str:
     """The text of the header."""
     arrays, cases = tables()
     groups = [literal(group_of(directory)) for directory in DIRECTORIES]
-    source = (HEADER.parent / "exifnorm.h").read_text(encoding="utf-8")
+    source = HEADER.read_text(encoding="utf-8")
     switches = {"statuses": switch(statuses(source)), "causes": switch(causes(source))}
     size = sum(len(text) - 1 for text in re.findall(r'"(?:[^"\\]|\\.)*"', arrays + "".join(switches.values())))
     pictures = {key: literal(plain_name("thumb", key)) for key in ("jpeg", "strip")}
     return TEXT.format(tables=arrays, cases=cases, groups=", ".join(groups), count=len(groups), bytes=size, **pictures, **switches)
-
-
-def main(words: list[str]) -> int:
-    if words not in ([], ["--check"]):
-        sys.exit(__doc__)
-    if words:
-        return int(not HEADER.exists() or HEADER.read_text(encoding="utf-8") != header())
-    HEADER.write_text(header(), encoding="utf-8")
-    return 0
-
-
-if __name__ == "__main__":
-    sys.exit(main(sys.argv[1:]))

@@ -1,5 +1,5 @@
 #!/usr/bin/env python3
-"""Prints the pages, the tables and the drawings that are made from sources.
+"""Prints the pages, the tables, the drawings and the parts of headers that are made from sources.
 
   packaging/pages.py            writes them
   packaging/pages.py --check    names those that differ from what it would write, and ends with 1
@@ -18,6 +18,8 @@ from typing import Any, Callable, Dict, Iterator, List, Sequence, Tuple
 import crates_page
 import drawings
 import formats_page
+import header
+import names
 import refusals_page
 
 TOP = Path(__file__).resolve().parent.parent
@@ -29,6 +31,8 @@ from exifnorm_pictures.fields import rules  # noqa: E402
 
 OBJECTS = TOP / "python" / "exifnorm_pictures" / "output.schema.json"
 PAGES: Dict[str, Callable[[], str]] = {
+    "crates/px_c/include/exifnorm.h": header.printed,
+    "crates/px_c/include/exifnorm_names.h": names.header,
     "crates/README.md": crates_page.page,
     "docs/REFUSALS.md": refusals_page.page,
     "docs/exifnorm-pictures.1": lambda: manual(),
@@ -206,13 +210,15 @@ def printed(page: str) -> str:
 def main(words: List[str]) -> int:
     if words not in ([], ["--check"]):
         sys.exit(__doc__)
-    pages = {TOP / page: printed(page) for page in (*PAGES, *WITH_TABLES)}
-    there = {it: it.read_text(encoding="utf-8") if it.exists() else "" for it in pages}
-    others = [it for it, text in pages.items() if there[it] != text]
-    for it in others:
-        print(it.relative_to(TOP), "is not as printed" if words else "is written")
+    others = 0
+    for page in (*PAGES, *WITH_TABLES):  # one after the other: some are made of those before them
+        text, path = printed(page), TOP / page
+        if path.exists() and path.read_text(encoding="utf-8") == text:
+            continue
+        others += 1
+        print(page, "is not as printed" if words else "is written")
         if not words:
-            it.write_text(pages[it], encoding="utf-8")
+            path.write_text(text, encoding="utf-8")
     return int(bool(words and others))
 
 

@@ -498,10 +498,6 @@ def test_programs_end_well(folder, name):
 # ---- names and texts
 
 
-def test_the_header_of_names_is_printed():
-    assert names.main(["--check"]) == 0, "run python3 packaging/names.py"
-
-
 PRINTS = r"""
 #include <exifnorm_names.h>
 #include <stdio.h>

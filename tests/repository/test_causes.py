@@ -1,6 +1,6 @@
 """Each cause of a refusal is named wherever it must be: this test prints the places that lack one.
 
-The compiler asks for the other places in the crates. header.py, names.py and pages.py print the rest.
+The compiler asks for the other places in the crates. packaging/pages.py prints the rest.
 """
 
 from __future__ import annotations

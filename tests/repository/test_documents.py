@@ -18,7 +18,6 @@ from pathlib import Path
 from typing import Iterator, NamedTuple
 
 import exifnorm
-import header
 import pytest
 from made_blocks import BLOCKS, with_exif
 from proved import bounds
@@ -221,10 +220,6 @@ def test_the_example_of_the_manual_page_in_c(folder: Path, environment: dict[str
 
 
 # ---- lists that must agree
-
-
-def test_the_list_of_causes_in_the_header_is_printed() -> None:
-    assert header.main(["--check"]) == 0
 
 
 def help_of(environment: dict[str, str], *words: str) -> str:
