@@ -2,7 +2,6 @@
 
 from __future__ import annotations
 
-import doctest
 
 import outcomes
 import pytest
@@ -16,7 +15,3 @@ SHORTCUTS = {"px_meaning::long_lengths: None", "px_meaning::long_sizes: None", "
 def test_each_status_and_constructor_has_a_clause(crate: str) -> None:
     """Otherwise a body that always returns it would be proved."""
     assert {*outcomes.missing(crate)} <= SHORTCUTS
-
-
-def test_examples() -> None:
-    assert doctest.testmod(outcomes).failed == 0

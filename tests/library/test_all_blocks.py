@@ -16,6 +16,7 @@ from judged import CASES, all_judged, judged, pairs, write_jobs
 from kinds import small_kinds
 from reading import Fault, said
 from small_blocks import normal, outcome
+from test_fields import lines_of_field, lines_of_listing
 
 # ---- from C
 
@@ -83,38 +84,6 @@ def expected_of(call, it):
     return {exifnorm.kind: it.kind.replace("iim", "iptc"), exifnorm.show: it.listing}[call]
 
 
-def words_of(field):
-    """The values of a field as a listing has them, and their number."""
-    if isinstance(field.values, bytes):
-        return field.values.hex(), len(field.values)
-    if field.type in ("RATIONAL", "SRATIONAL"):
-        words = [f"{it.numerator}/{it.denominator}" for it in field.values]
-    elif field.type in ("FLOAT", "DOUBLE"):
-        words = [f"{it:0{8 if field.type == 'FLOAT' else 16}x}" for it in field.values]
-    else:
-        words = [str(it) for it in field.values]
-    return " ".join(words), len(field.values)
-
-
-def lines_of(field):
-    """The lines of a field in a listing."""
-    if field.type == "STRIPS":
-        return [f"strips {len(field.values)}:", *(f"strip {len(it)}: {it.hex()}".rstrip() for it in field.values)]
-    text, count = words_of(field)
-    head = {"DATASET": f"{field.tag // 256}:{field.tag % 256} {count}", "JPEG": f"jpeg {count}"}
-    return [f"{head.get(field.type, f'{field.tag:04x} {field.type} {count}')}: {text}".rstrip()]
-
-
-def listing_of(kind, fields):
-    """The lines of a listing without those that name a directory, since no object is an empty directory."""
-    lines, datasets = [kind], [it for it in fields if it.directory == "iptc"]
-    for field in fields:
-        if kind == "exif" and datasets and field is datasets[0]:
-            lines.append(f"record {len(datasets)}:")
-        lines += lines_of(field)
-    return lines
-
-
 def escaped(data):
     return "".join(chr(it) if 0x20 <= it <= 0x7E and it != 0x5C else f"\\{it:02x}" for it in data)
 
@@ -137,8 +106,8 @@ class TestInPython:
             if it.fault:
                 assert outcome(exifnorm.fields, it.block) == outcome(exifnorm.captions, it.block) == ("Refused", *it.fault, None)
                 continue
-            lines = [line for line in it.listing.splitlines() if not line.startswith("[")]
-            assert listing_of(it.kind, exifnorm.fields(it.block)) == lines, it.block[:200]
+            lines = [line for field in exifnorm.fields(it.block) for line in lines_of_field(field)]
+            assert lines == [*lines_of_listing(it.listing)], it.block[:200]
             texts = [line for line in it.captions.splitlines()[1:] if not line.startswith("charset: ")]
             assert caption_lines(exifnorm.captions(it.block)) == texts, it.block[:200]
 

@@ -98,7 +98,7 @@ def test_fields_are_those_of_the_independent_reader(program, folder, are_large):
 def lines_of_field(field):
     """The lines that fields.c prints for a field of the package; strips are a field each in C."""
     if field.type == "STRIPS":
-        return [f"thumb strip {len(it)}: {it.hex()} ({len(it)})" for it in field.values]
+        return [f"thumb strip {len(it)}:{' ' * bool(it)}{it.hex()} ({len(it)})" for it in field.values]
     if field.type in ("RATIONAL", "SRATIONAL"):
         words = [f"{it.numerator}/{it.denominator}" for it in field.values]
     elif isinstance(field.values, bytes):

@@ -14,7 +14,7 @@ import jpegs
 from commands import TOP
 from compiling import need
 from exifnorm import HeadRefused, XmpNotRead
-from jpeg_made import COMMENT, END, EXTENSION, SCAN, SPACES, VASE, exif, packet, picture, segment
+from jpeg_made import COMMENT, END, EXTENSION, SCAN, VASE, exif, packet, picture, segment
 from jpeg_made import XMP as MARK
 from small_blocks import ONE
 

@@ -2,7 +2,6 @@
 
 import doctest
 import re
-import sys
 from functools import lru_cache
 from pathlib import Path
 from typing import Dict, Iterator, List, Set, Tuple
@@ -114,10 +113,6 @@ def change_rows() -> List[List[str]]:
     table = re.search(r"^\| Change \|.*\n\|[-| ]*\n((?:\|.*\n)+)", text, re.M)
     assert table, "CONTRIBUTING has no table of changes"
     return [[cell.strip() for cell in row.strip("|").split("|")] for row in table[1].splitlines()]
-
-
-def test_examples_of_this_module() -> None:
-    assert not doctest.testmod(sys.modules[__name__]).failed
 
 
 @pytest.mark.parametrize("path", DOCUMENTS, ids=lambda it: str(it.relative_to(TOP)))

@@ -1,8 +1,6 @@
 """Tests that docs/FORMAT.md, the Python package and the blocks of the tests have the types and the roles of tags of the definitions."""
 
-import doctest
 import re
-import sys
 from pathlib import Path
 from typing import Dict, List, Set, Tuple
 
@@ -99,10 +97,6 @@ def widened_listed(text: str) -> Set[Tuple[str, int]]:
         tags, _, directories = part.rpartition(" in the ")
         found |= {(IN[it], int(tag, 16)) for tag in re.findall(r"`0x(\w+)`", tags) for it in directories.split(" and ")}
     return found
-
-
-def test_examples_of_this_module() -> None:
-    assert not doctest.testmod(sys.modules[__name__]).failed
 
 
 class TestRules:

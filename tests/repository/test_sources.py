@@ -6,14 +6,10 @@ hardly a function but those of `Memory` calls what allocates. For both, librarie
 and static libraries by their text.
 """
 
-import doctest
 import re
-import sys
 from pathlib import Path
 
 import lowered
-from crates import below
-import pytest
 
 TOP = Path(__file__).resolve().parent.parent.parent
 
@@ -193,24 +189,10 @@ def with_own_memory(crate, compiled):
     return {it for it in compiled if "::".join(it.split("::")[-2:]) in ends}
 
 
-def test_examples_of_this_module_and_of_lowered():
-    for module in (lowered, sys.modules[__name__]):
-        found = doctest.testmod(module)
-        assert found.attempted and not found.failed
-
-
 def test_calls_over_an_allocator_are_one_line_over_their_variant():
     calls = list(calls_over_an_allocator())
     assert {Path(path).name for path, *_ in calls} == {"global.rt", "lib.rt"}
     assert [f"{it[0]}: {it[1]}" for it in calls if not is_one_line(it[1].removeprefix("exifnorm_"), *it[2:])] == []
-
-
-def test_each_library_is_read_as_it_was_compiled():
-    built = [crate for crate, _ in crates() if lowered.functions(crate)]
-    if not built:
-        pytest.skip("no library was built of these sources: call make first")
-    uses = lowered.Crates.read(TOP).uses
-    assert [it for it in below("px_cli", uses) if it not in built] == []
 
 
 def test_only_listed_functions_make_memory_otherwise():
