@@ -14,8 +14,9 @@ import pytest
 from made_files import app1
 from studio import SMALL_JPEG, needs, put, tool
 
+from exifnorm_pictures.extract import exiftool, programs
 from exifnorm_pictures.files import session
-from exifnorm_pictures.report import shrinking, small_pictures, thumbnails
+from exifnorm_pictures.report import heif, shrinking, small_pictures, thumbnails
 
 Image = pytest.importorskip("PIL.Image")
 LARGEST = 10_000
@@ -365,3 +366,24 @@ def test_a_heic_that_is_damaged_or_slow_costs_its_tile(tmp_path: Path, monkeypat
         with contextlib.closing(small_pictures.SmallPictures([], small_pictures.InPage(), ours)) as pictures:
             assert pictures.of([os.fsencode(whole)]) == {}
         assert os.listdir(ours.folder()) == []
+
+
+STARTED = {
+    "exiftool": lambda ours: exiftool.ask(ours, b"a.heic", ()),
+    "exiv2": lambda _: programs.version.__wrapped__("exiv2", 60.0),
+    "heif-convert": lambda ours: heif.as_jpeg(b"a.heic", ours),
+}
+
+
+@pytest.mark.parametrize("name", STARTED)
+def test_a_program_has_limits(name: str, tmp_path: Path, monkeypatch: pytest.MonkeyPatch) -> None:
+    """At most 1 GiB of addresses, plain words, and a session of its own, in which it is ended with what it has started."""
+    script = f"#!/bin/sh\necho $(ulimit -v) $LC_ALL $(cut -d' ' -f 1,6 /proc/$$/stat) >{tmp_path}/told\n"
+    put(tmp_path, {f"bin/{name}": script.encode(), "a.heic": b"\0\0\0\x18ftypheic"})
+    os.chmod(tmp_path / "bin" / name, 0o755)
+    monkeypatch.setenv("PATH", f"{tmp_path}/bin:{os.environ['PATH']}")
+    monkeypatch.chdir(tmp_path)
+    with session.Session(60.0, room=str(tmp_path)) as ours, contextlib.suppress(programs.Failed):
+        STARTED[name](ours)
+    addresses, locale, process, its_session = (tmp_path / "told").read_text().split()
+    assert int(addresses) <= 1 << 20 and locale == "C" and process == its_session

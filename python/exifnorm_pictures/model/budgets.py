@@ -2,7 +2,7 @@
 
 Pictures come from strangers. Each reader counts what it does, and stops at a limit that is far beyond any real picture: of 12,000
 pictures of the packages of exiv2, ExifTool, Pillow, ImageMagick, PHP, digiKam, libexif and metadata-extractor, the largest need is given
-beside each limit. At the limits a picture takes about 10 seconds of a processor and 256 MB, without other programs. A picture over a
+beside each limit. At the limits a picture takes at most 256 MB, without other programs. A picture over a
 limit has the problem `TooMuch`, a packet of XMP over one is unreadable, and a part over one has no digest; none is ever the same as
 another. With --whole, which asks for every byte, all limits of a picture are `WHOLE` times as high.
 """
