@@ -2,6 +2,7 @@
 
 import json
 import os
+import re
 import sqlite3
 import zlib
 from collections import Counter
@@ -81,14 +82,19 @@ def test_a_mistake_is_no_damage(command, monkeypatch, words, module, name):
         assert "(" in file.read().splitlines()[int(line) - 1]  # the call of what failed
 
 
+def odd(name, _):
+    raise RuntimeError(name)
+
+
 @pytest.mark.parametrize("words, variable, has_it", [([], None, False), (["--debug"], None, True), ([], "1", True), ([], "0", False)])
 def test_the_traceback(command, monkeypatch, words, variable, has_it):
     if variable:
         monkeypatch.setenv("EXIFNORM_DEBUG", variable)
-    monkeypatch.setattr(store, "_check_head", mistake)
-    lines = command("same", "c", *words, status=4).err.splitlines()
-    assert ("Traceback (most recent call last):" in lines) is has_it
-    assert ("    return None + 1" in lines) is has_it
+    monkeypatch.setattr(store, "_check_head", odd)
+    printed = command("same", "c\x1b[31m\u202e", *words, status=4).err
+    assert ("Traceback (most recent call last):" in printed.splitlines()) is has_it
+    assert ("    raise RuntimeError(name)" in printed.splitlines()) is has_it
+    assert not re.search("[\0-\x09\x0b-\x1f\x7f-\x9f\u202e]", printed)
 
 
 @pytest.mark.parametrize(
