@@ -2,7 +2,6 @@
 
 import json
 import os
-import shutil
 import sqlite3
 import subprocess
 import sys
@@ -11,7 +10,7 @@ from unittest import mock
 
 import exifnorm
 from in_process import InFolder
-from made_blocks import BLOCKS, MAKE, MODEL, block, with_exif
+from made_blocks import MAKE, block, with_exif
 from studio import SMALL_JPEG, Studio, WithPictures, needs, put, read, run, tool, write
 
 from exifnorm_pictures.model.problems import TEXTS
@@ -126,30 +125,6 @@ class Archive(InFolder):
         self.assertEqual(self.run_again(), ({"b.jpg": "NotAFile"}, {"unchanged": 3, "NotAFile": 1}))
         self.assertEqual(self.changed_rows(), {"b.jpg": (self.before["b.jpg"], ("NotAFile", self.before["b.jpg"][1]))})
 
-    def test_two_that_are_gone(self):
-        """Of files of the same bytes each went where its name is, and to no place two."""
-        for name in ("a/2.jpg", "b/1.jpg", "b/9.jpg"):
-            os.makedirs(self.path("p", name[0]), exist_ok=True)
-            write(self.path("p", name), with_exif(SMALL_JPEG, block([MODEL])))
-        self.run_again("--pixels")
-        shutil.copy(self.path("c"), self.path("old"))
-        for name in ("c/1.jpg", "d/2.jpg", "e/1.jpg"):
-            os.mkdir(self.path("p", name[0]))
-            shutil.copyfile(self.path("p", "a", "2.jpg"), self.path("p", name))
-        for name in ("a", "b"):
-            shutil.rmtree(self.path("p", name))
-        self.assertEqual(self.run_again("--pixels")[1], {"unchanged": 4, "Moved": 3, "accepted": 3})
-        base = sqlite3.connect(self.path("c"))
-        went = dict(base.execute("SELECT CAST(path AS TEXT), detail FROM pictures WHERE problem = 'Moved'"))
-        base.close()
-        expected = {"a/2.jpg": "d/2.jpg", "b/1.jpg": "c/1.jpg", "b/9.jpg": "e/1.jpg"}
-        self.assertEqual(went, {self.path("p", it): f"to {self.path('p', to)}" for it, to in expected.items()})
-        os.remove(self.path("p", "e", "1.jpg"))
-        self.assertEqual(self.run_again("--pixels")[1], {"unchanged": 6, "Vanished": 1})
-        found = [json.loads(it) for it in self.asked("changed", "old", "c", "--json", status=1)]
-        moves = {it["path"]: (it["moved_to"] or {}).get("path") for it in found[:-1]}
-        self.assertEqual(moves, {"a/2.jpg": "d/2.jpg", "b/1.jpg": "c/1.jpg", "b/9.jpg": None})
-
     def test_a_file_with_two_new_names(self):
         """It moved to the first one, and the other one is new."""
         os.rename(self.path("p", "a.jpg"), self.path("p", "x.jpg"))
@@ -190,56 +165,6 @@ class Archive(InFolder):
         os.symlink("p", self.path("link"))
         self.asked("index", "link", "--catalogue", "link/c", "--quiet")
         self.assertEqual(self.asked("index", "link", "--catalogue", "link/c", "--quiet"), ["4 unchanged"])
-
-    def test_several_processes_find_what_one_finds(self):
-        """Pictures that are new, the same, moved, refused, no longer readable and never readable: the same lines and the same rows."""
-        put(self.folder, {f"p/m{number}.jpg": with_exif(SMALL_JPEG, block([MAKE[:-4] + b"%03d\0" % number])) for number in range(200)})
-        self.asked("index", "p", "--catalogue", "c", "--quiet")
-        for name in ("m7.jpg", "m9.jpg", "m150.jpg"):
-            os.rename(self.path("p", name), self.path("p", "sub", name))
-        for name in ("m3.jpg", "never.jpg"):
-            if os.path.exists(self.path("p", name)):
-                os.remove(self.path("p", name))
-            os.mkfifo(self.path("p", name))
-        put(
-            self.folder,
-            {
-                "p/refused.jpg": with_exif(SMALL_JPEG, BLOCKS["Overlap"]),
-                "p/trailer.jpg": ONE + b"a trailer",
-            },
-        )
-        shutil.copy(self.path("c"), self.path("d"))
-        self.rows_by_path("c")
-        one, several = (
-            [it.replace(f" {name} ", " ") for it in self.asked("index", "p", "--catalogue", name, "--again", "--jobs", jobs)]
-            for name, jobs in (("c", "1"), ("d", "3"))
-        )
-        self.assertEqual(one, several)
-        self.assertEqual(sum(": Moved: " in it for it in one), 1)  # the three have moved together
-        self.assertIn(["1", "trailer"], [it.split() for it in one])
-        rows = self.rows_by_path("d")
-        self.assertEqual(self.rows_by_path("c"), rows)
-        query = "SELECT exif, iptc, xmp, not_read FROM pictures WHERE path = ?"
-        base = sqlite3.connect(self.path("d"))
-        self.assertEqual(base.execute(query, (os.fsencode(self.path("p", "never.jpg")),)).fetchone(), (None,) * 4, "nothing is known")
-        base.close()
-        again, of_several = (
-            self.asked("index", "p", "--catalogue", name, "--quiet", "--json", "--again", "--jobs", jobs)
-            for name, jobs in (("c", "1"), ("d", "3"))
-        )
-        self.assertEqual(again, of_several)
-
-    def rows_by_path(self, name):
-        """All that a catalogue has about each picture, without the numbers of rows."""
-        base = sqlite3.connect(self.path(name))
-        self.assertEqual(base.execute("PRAGMA integrity_check").fetchall() + base.execute("PRAGMA foreign_key_check").fetchall(), [("ok",)])
-        found = {}
-        for number, path, *row in base.execute("SELECT * FROM pictures"):
-            query = "SELECT * FROM {} WHERE picture = ? ORDER BY number"
-            parts = [base.execute(query.format(it), (number,)).fetchall() for it in ("blocks", "not_read")]
-            found[path] = (row[:-1], [[one[1:] for one in it] for it in parts])
-        base.close()
-        return found
 
     def test_a_picture_that_is_named_twice(self):
         words = ["index", "p", "p/a.jpg", "p/../p", "p/sub", "--quiet", "--catalogue"]

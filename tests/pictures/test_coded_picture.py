@@ -17,7 +17,6 @@ import zlib
 import pytest
 from made_blocks import ASCII, LONG, SHORT, segment
 from made_files import A, B, Placed, app1, app1_xmp, app13, chunk, iim, jpeg, mpf, page, png, png_xmp, profile, resource, tiff, title, webp
-from made_more_files import gif
 from made_raw import dng, srw
 from studio import SMALL_JPEG, needs, put, tool, write
 
@@ -356,32 +355,6 @@ def test_beside_exiftool(tmp_path):
 OTHER = SMALL_JPEG[: SCAN + 16] + b"\x11" + SMALL_JPEG[SCAN + 17 :]
 
 
-def test_same(folder, called_lines):
-    """Groups of files with the same coded picture. Each group says which of their metadata are the same. Others may show the same, but a file of
-    XMP doesn't."""
-    put(
-        folder,
-        {
-            "p/a.jpg": jpeg(app1(A), app1_xmp(T)),
-            "p/b.jpg": jpeg(app1(B), app1_xmp(T)),
-            "p/c.jpg": jpeg(app1(A), base=OTHER),
-            "p/d.xmp": T,
-            "p/e.jpg": jpeg(app1(A))[:-9],
-            "p/f.gif": gif(),
-        },
-    )
-    called_lines("index", "p", "--catalogue", "c", "--pixels", "--quiet")
-    status, lines, _ = called_lines("same", "c", "--kind", "pixels")
-    assert status == 2 and lines[0] == "2 pictures: the coded picture is the same; XMP is the same, Exif is different, no IPTC:"
-    assert [os.path.basename(it) for it in lines[1:3]] == ["a.jpg", "b.jpg"] and lines[3] == "1 group of 2 pictures", lines
-    assert [it.partition(" ")[0] for it in lines[4:7]] == ["3", "1", "1"] and lines[6].endswith("damaged"), lines
-    (group, summary) = (json.loads(it) for it in called_lines("same", "c", "--kind", "pixels", "--json")[1])
-    assert (group["basis"], group["digests"], group["wholly_read"]) == ("coded picture", {}, False)
-    assert {it["keep"] for it in group["pictures"]} == {None} and (summary["groups"], summary["undecided"]) == (1, 2)
-    rows = called_lines("same", "c", "--kind", "pixels", "--csv")[1]
-    assert len(rows) == 6 and "coded picture" in rows[1] and [it.split(",")[-1] for it in rows[3:]] == lines[4:7]
-
-
 def test_groups_of_files(folder, called_lines):
     """Those with the same bytes by Python's SHA-256, whatever they are; names of one file are links."""
     rng = random.Random(64)
@@ -460,16 +433,6 @@ def moved(changes):
 
 
 class TestChanged:
-    def test_moved_and_edited(self, folder, called_lines, moved):
-        put(folder, {"b/x.jpg": jpeg(app1(A)), "b/y.jpg": jpeg(app1(A), base=OTHER)})
-        put(folder, {"a/new/x.jpg": jpeg(app1(B)), "a/z.jpg": jpeg(app1(B), base=OTHER)})
-        assert moved() == (1, {"x.jpg": ("moved and edited", "new/x.jpg"), "y.jpg": ("moved and edited", "z.jpg")})
-        lines = called_lines("changed", "b", "a", "--pixels", "--each", "--no-programs")[1]
-        assert lines[0].startswith("x.jpg: moved and edited to new/x.jpg (the coded picture is the same; Exif is different"), lines
-        assert "Abc" in lines[1] and "Xyz" in lines[1], lines
-        without = called_lines("changed", "b", "a", "--each", "--no-programs")[1][-1]
-        assert "moved" not in without and "2 missing after" in without, without
-
     def test_written_again_with_the_same_metadata(self, folder, moved):
         put(folder, {"b/x.jpg": jpeg(app1(A)), "a/y.jpg": jpeg(segment(0xFE, b"comment"), app1(A))})
         assert moved()[1] == {"x.jpg": ("moved and edited", "y.jpg")}, "the comment came"
@@ -489,10 +452,6 @@ class TestChanged:
         """It may have come from that one, as whatever has the same coded picture."""
         put(folder, {"b/x.jpg": jpeg(app1(A)), "b/y.jpg": jpeg(app1(B)), "a/y.jpg": jpeg(app1(B)), "a/z.jpg": jpeg(app1(B))})
         assert moved()[1] == {"x.jpg": ("missing after", None), "z.jpg": ("missing before", None)}
-
-    def test_another_picture_in_its_place(self, folder, moved):
-        put(folder, {"b/x.jpg": jpeg(app1(A)), "a/y.jpg": jpeg(app1(B), base=OTHER)})
-        assert moved()[1] == {"x.jpg": ("missing after", None), "y.jpg": ("missing before", None)}
 
     def test_names_come_first(self, folder, moved):
         """A picture under its own name is compared there, even if its coded picture is elsewhere now."""

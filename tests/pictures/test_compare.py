@@ -78,19 +78,21 @@ def pairs_compared(folder, pairs):
         yield before, after, sides, compare(*sides, None, heads=heads)
 
 
-def test_the_proved_comparison_says_the_same(folder):
-    """Of all pairs of JPEGs whose metadata are in their heads, and of the pairs above."""
-    pairs = [*itertools.product(HEADS, repeat=2), *((pair.before, pair.after) for pair in PAIRS)]
+@pytest.mark.parametrize("with_xmp", [False, True])
+def test_the_proved_comparison_says_the_same(with_xmp, folder):
+    """Of all pairs of JPEGs whose metadata are in their heads, with packets or without, and of the pairs above."""
+    whole = HEADS_WITH_XMP if with_xmp else HEADS
+    pairs = [*itertools.product(whole, repeat=2), *((pair.before, pair.after) for pair in PAIRS)]
     met = Counter()
     for before, after, sides, found in pairs_compared(folder, pairs):
-        results = [it.result for it in found.compared.verdicts if it.kind in (EXIF, IPTC)]
-        answer = found.proved.blocks
+        results = [it.result for it in found.compared.verdicts if with_xmp or it.kind in (EXIF, IPTC)]
+        answer = found.proved.all if with_xmp else found.proved.blocks
         met[answer] += 1
         if answer == "different":
             assert any(map(is_other, results)), (before.hex(), after.hex())
-        elif answer and before in HEADS and after in HEADS:
+        elif answer and before in whole and after in whole:
             assert answer != "same" or not any(map(is_other, results)), (before.hex(), after.hex())
-            assert answer != "not wholly read" or any(it.unread for it in sides), "what isn't read is named"
+            assert with_xmp or answer != "not wholly read" or any(it.unread for it in sides), "what isn't read is named"
     assert min(met[it] for it in ("same", "different", "not wholly read", None)) > 5, met
 
 
@@ -146,20 +148,6 @@ def test_a_picture_that_is_saved_while_it_is_compared(save, when, folder, monkey
     found = compare(first, second, None, heads=(head, other))
     is_same = next(it.result for it in found.compared.verdicts if it.kind == EXIF) == "same"
     assert found.proved.blocks in (None, "same" if is_same else "different")
-
-
-def test_the_proved_comparison_with_xmp_says_the_same(folder):
-    """Of all pairs of such JPEGs with packets, and of the pairs above."""
-    pairs = [*itertools.product(HEADS_WITH_XMP, repeat=2), *((pair.before, pair.after) for pair in PAIRS)]
-    met = Counter()
-    for before, after, _, found in pairs_compared(folder, pairs):
-        results = [it.result for it in found.compared.verdicts]
-        met[found.proved.all] += 1
-        if found.proved.all == "different":
-            assert any(map(is_other, results)), (before.hex(), after.hex())
-        elif found.proved.all == "same" and before in HEADS_WITH_XMP and after in HEADS_WITH_XMP:
-            assert not any(map(is_other, results)), (before.hex(), after.hex())
-    assert min(met[it] for it in ("same", "different", "not wholly read", None)) > 5, met
 
 
 REFUSED = [with_exif(SMALL_JPEG, BLOCKS[cause]) for cause in ("Unsorted", "Doubled", "Overlap", "UnknownType")]

@@ -125,7 +125,6 @@ def test_what_exiftool_writes(number, name, written, run):
 
 
 CONTRADICTION = jpeg(with_texts(artist=b"Anna"), with_record(data_set(80, b"Otto")))
-CUT = jpeg(with_record(data_set(80, LONG_NAME[:32].encode())), CREATOR)
 
 
 def test_an_unreadable_block_makes_the_answer_open(run):
@@ -151,15 +150,6 @@ def test_a_damaged_file_makes_the_answer_open(octets, run):
     assert [it["kind"] for it in csv.DictReader(io.StringIO(run("--csv", "a.jpg")[1]))] == ["not read"]
     first, summary = map(json.loads, run("--json", "a.jpg")[1].splitlines())
     assert (first["path"], len(first["not_read"]), summary["not_wholly_read"]) == ("a.jpg", 1, 1)
-
-
-def test_a_table(run):
-    _, out = run("--csv", a=CONTRADICTION, b=CUT)
-    assert list(csv.DictReader(io.StringIO(out))) == [
-        {"picture": "a.jpg", "label": "creator", "kind": "different", "detail": "", "Exif": "Anna", "IPTC": "Otto", "XMP": ""}
-    ]
-    _, out = run("--csv", "--all", "a.jpg", "b.jpg")
-    assert [it["kind"] for it in csv.DictReader(io.StringIO(out))] == ["different", "cut"]
 
 
 # Forms of XMP part 2, 8.7.5, of 51 degrees 30 minutes 26.68 seconds, which are 30.4447 minutes, in Exif in hundredths of a second

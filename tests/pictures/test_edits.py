@@ -7,7 +7,6 @@ import pytest
 from hypothesis import given
 from hypothesis import strategies as st
 from exact_fields import field
-from made_files import jpeg, with_record
 
 from exifnorm_pictures.cli import summary as page
 from exifnorm_pictures.comparison.changed import edit_groups, summary
@@ -312,45 +311,6 @@ def test_a_picture_that_was_not_edited_in_a_standard_that_it_has_is_named():
 
 
 # An archive's day: each caption gets the same words, and three pictures get something else
-
-
-def record(text, *words):
-    octets = b"".join(
-        b"\x1c\2" + bytes((tag,)) + len(it).to_bytes(2, "big") + it for tag, it in [(120, text), *((25, one) for one in words)] if it
-    )
-    return jpeg(with_record(octets)) if octets else jpeg()
-
-
-@pytest.fixture
-def day(folder):
-    for side in ("before", "after"):
-        (folder / side).mkdir()
-    for number in range(200):
-        text = b"Plate %d: the market, %d, signed on the back" % (number, 1900 + number)
-        later = text + b", recto"
-        later = {7: b"Plate 8: the market, 1908, signed on the back, recto", 12: b"", 16: later.replace(b"1916", b"1196")}.get(
-            number, later
-        )
-        (folder / f"before/{number:03}.jpg").write_bytes(record(text, b"loan"))
-        (folder / f"after/{number:03}.jpg").write_bytes(record(later, b"loan"))
-    return folder
-
-
-def test_the_odd_ones_come_first(day, called):
-    status, out, _ = called("changed", "before", "after")
-    assert status == 1
-    assert out.splitlines()[2:12] == [
-        "197 pictures (edit 1): caption (IPTC): .. {+, recto+}",
-        "  000.jpg, 001.jpg, 002.jpg ..",
-        "",
-        "3 pictures changed like no other:",
-        "  007.jpg",
-        "    caption (IPTC): Plate [-7-]{+8+}: the market, [-1907-]{+1908+}, signed on the back{+, recto+}",
-        "  012.jpg",
-        "    caption (IPTC) removed: [-Plate 12: the market, 1912, signed on the back-]",
-        "  016.jpg",
-        "    caption (IPTC): Plate 16: the market, [-1916-]{+1196+}, signed on the back{+, recto+}",
-    ]
 
 
 def test_words_are_coloured_if_that_is_asked_for():

@@ -252,31 +252,15 @@ def is_made_of(data, sources):
 class Damaged(unittest.TestCase):
     """A result or `Broken`, only bytes that are in the file, and few reads."""
 
-    def test_jpeg(self):
-        self.see_that_each_has_a_result(bases()[0])
+    def test_each_format(self):
+        jpeg_, png_, webp_, tiff_ = bases()
+        raw = dng(b"Anna", (0xC6F5, LONG, Placed(camera_profile()))), arw(private=sony((0x7310, 7, b"levels of A")))
+        others = rw2(b"Anna", (0x0120, 7, b"II*\0CameraIFD")), whole_raf()
+        for base, number in (*((it, 1000) for it in (jpeg_, png_, webp_, tiff_)), *((it, 400) for it in (*raw, *others))):
+            with self.subTest(base[:12]):
+                self.see_that_each_has_a_result(base, number)
 
-    def test_png(self):
-        self.see_that_each_has_a_result(bases()[1])
-
-    def test_webp(self):
-        self.see_that_each_has_a_result(bases()[2])
-
-    def test_tiff(self):
-        self.see_that_each_has_a_result(bases()[3])
-
-    def test_raw(self):
-        self.see_that_each_has_a_result(dng(b"Anna", (0xC6F5, LONG, Placed(camera_profile()))), 400)
-
-    def test_arw(self):
-        self.see_that_each_has_a_result(arw(private=sony((0x7310, 7, b"levels of A"))), 400)
-
-    def test_rw2(self):
-        self.see_that_each_has_a_result(rw2(b"Anna", (0x0120, 7, b"II*\0CameraIFD")), 400)
-
-    def test_raf(self):
-        self.see_that_each_has_a_result(whole_raf(), 400)
-
-    def see_that_each_has_a_result(self, base, number=1000):
+    def see_that_each_has_a_result(self, base, number):
         results = Counter()
 
         @settings(max_examples=number)

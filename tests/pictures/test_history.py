@@ -70,11 +70,6 @@ def test_a_picture_that_came_later(folder, nights, states, called):
     assert [it["picture"] is None for it in found] == [True, False] and found[1]["result"] is None
 
 
-def test_an_unknown_picture(nights, called):
-    status, printed, messages = called("changed", "--picture", "p/nothing.jpg", *nights)
-    assert (status, printed) == (3, "") and len(messages.splitlines()) == 1 and "p/nothing.jpg" in messages
-
-
 @pytest.mark.parametrize("words, is_told", (((), True), (("--pixels",), False)))
 @pytest.mark.parametrize("name", ("p/in/a.jpg", "p/out/a2.jpg"))
 def test_moved_and_edited_in_one_night(words, is_told, name, folder, called, states, monkeypatch):

@@ -104,22 +104,6 @@ def test_what_to_do_next(folder, called):
     assert called("index", "p", "--catalogue", name)[1].splitlines() == ["8 unchanged", *lines[2:]]
 
 
-def test_quiet_prints_the_counts_alone(folder, called):
-    """A folder that is named and isn't there is still told."""
-    put(
-        folder,
-        {
-            f"p/{name}": octets
-            for name, octets in {"a": ONE, "b": ONE, "bad": jpeg(app1(BLOCKS["HeaderCut"])), "open": ONE + b"trailer"}.items()
-        },
-    )
-    (folder / "p" / "nothing").symlink_to("nowhere")
-    status, out, err = called("index", "p", "--catalogue", "c", "--quiet")
-    assert (out, err) == ("3 accepted, 1 a link that leads to no file, 1 refused\n", "")
-    status, out, _ = called("index", "p", "missing", "--catalogue", "c", "--quiet")
-    assert "missing: Unreadable" in out and status == 2
-
-
 def test_how_nightly_looks_at_pictures(folder, called, monkeypatch):
     """As index does, with its options."""
     put(folder / "p", {"a.jpg": ONE, "b.tmp.jpg": OTHER})

@@ -67,20 +67,6 @@ def test_which_one_stays(name, pixels, folder, called):
     assert [note if keep is None else bool(keep) for keep, note in exported] == found
 
 
-def test_the_text_says_what_is_known_of_the_pictures(folder, called):
-    put(folder / "p", {"a.jpg": MASTER, "b.jpg": AGAIN})
-    called("index", "p", "--catalogue", "c", "--quiet")
-    assert called("same", "c")[1].splitlines()[-1].startswith("Only metadata was compared")
-    called("index", "p", "--catalogue", "c", "--quiet", "--pixels")
-    text = called("same", "c")[1]
-    assert "the pictures are the same too" in text and "Only metadata" not in text
-    put(folder / "p", {"c.jpg": CUT})
-    called("index", "p", "--catalogue", "c", "--quiet", "--pixels")
-    lines = called("same", "c")[1].splitlines()
-    notes = {os.path.basename(it.split()[0]): it.partition("(")[2] for it in lines[1:4]}
-    assert notes["c.jpg"] == f"{DAMAGED})" and notes["b.jpg"].startswith("the same picture as") and "any one may stay" not in "".join(lines)
-
-
 XMP = (
     b"<rdf:RDF xmlns:rdf='http://www.w3.org/1999/02/22-rdf-syntax-ns#' xmlns:dc='http://purl.org/dc/elements/1.1/'>"
     b"<rdf:Description dc:source='Riverside Museum'/></rdf:RDF>"

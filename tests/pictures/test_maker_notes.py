@@ -301,14 +301,6 @@ def test_fields_that_do_not_count(put, same):
     assert (same()[2], same("--ignore", "Artist")[2], same("--only", "exif:MakerNote")[2]) == (2, 3, 3)
 
 
-def test_a_report_says_how_many_are_not_known(put, run, called, folder):
-    put(a=noted(), b=noted(moved=64, inside=b"Anna"))
-    called("report", "c", "--html", "page.html")
-    assert "2 pictures may be the same as others but for MakerNotes" in (folder / "page.html").read_text()
-    _, found = run("report", "c")
-    assert [it["maker_notes_unknown"] for it in found if it["record"] == "unknown"] == [2]
-
-
 # Bytes that no field has
 
 

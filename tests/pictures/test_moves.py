@@ -52,14 +52,3 @@ def test_what_became_of_a_picture_that_is_gone(name, pixels, called, folder):
         }
         result, place = results["a.jpg"]
         assert (result, place) == (answers[pixels], "new/b.jpg" if result == MOVED else None), catalogues
-
-
-def test_two_of_the_same_bytes_are_one_each(called, folder):
-    """Two files of the same bytes and two others of their size are renamed: each is found by its bytes."""
-    put(folder / "p", {"a.jpg": FIRST, "b.jpg": FIRST, "c.jpg": OTHER, "d.jpg": THIRD})
-    assert called("index", "p", "--catalogue", "before", "--pixels")[0] == 0
-    put(folder / "q", {"1.jpg": THIRD, "2.jpg": OTHER, "3.jpg": FIRST, "4.jpg": FIRST}, time=1)
-    assert called("index", "q", "--catalogue", "after", "--pixels")[0] == 0
-    _, printed, _ = called("changed", "before", "after", "--json")
-    places = {it["path"]: it["moved_to"]["path"] for it in map(json.loads, printed.splitlines()) if "path" in it}
-    assert places == {"a.jpg": "3.jpg", "b.jpg": "4.jpg", "c.jpg": "2.jpg", "d.jpg": "1.jpg"}

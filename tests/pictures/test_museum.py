@@ -143,6 +143,9 @@ CALLS = {
         compare one/notes/note.jpg one/notes/moved.jpg --no-programs
         compare one/notes/note.jpg one/notes/owner.jpg --debug
         compare one/copies/order.jpg one/copies/other-order.jpg
+        compare one/copies/first.jpg one/copies/other-picture.jpg
+        compare one/work/gets-cut.jpg archive/work/gets-cut.jpg
+        compare archive/work/gets-cut.jpg one/work/gets-cut.jpg
         compare one/refused/Overlap.jpg one/refused/Unsorted.jpg
         compare one/states/trailer.jpg archive/states/trailer.jpg
         compare one/work/retitled.jpg archive/work/retitled.jpg --xlsx compared.xlsx

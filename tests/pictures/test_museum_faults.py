@@ -3,6 +3,7 @@ or many, and what reads a file object."""
 
 import contextlib
 import io
+import shutil
 import sqlite3
 
 import pytest
@@ -99,6 +100,20 @@ def test_processes_and_shards_say_what_one_process_says(museum):
     for line in LISTED:
         found = [run(line.format(name), museum) for name in ("plain", "new", "parts")]
         assert found[0] == found[1] == found[2], line
+
+
+@needs("exiftool")
+def test_processes_say_of_a_second_night_what_one_process_says(museum):
+    """Each picture is read again: those that have moved, have changed, are refused or can't be read have the same lines, and are known alike."""
+    printed = []
+    for jobs in "12":
+        shutil.copy("before", f"by{jobs}")
+        printed.append(
+            [it.replace(f" by{jobs}", " by") for it in run(f"index archive --again --jobs {jobs} --catalogue by{jobs}", museum)[1]]
+        )
+    assert printed[0] == printed[1]
+    for line in (*LISTED, "changed before {} --all"):
+        assert run(line.format("by1"), museum) == run(line.format("by2"), museum), line
 
 
 @needs("exiftool")

@@ -14,10 +14,11 @@ import zlib
 from contextlib import closing
 
 import pytest
+import test_cr3
+from made_boxes import cr3
 from made_files import app1, app1_xmp, app13, exif, jpeg, resource, xmp
 from studio import SMALL_JPEG, TOP, Studio, needs, put, read
 from test_list import record
-from test_nights import CUT, NEVER_WHOLE
 
 from exifnorm_pictures.comparison.nightly import absent as absent_
 from exifnorm_pictures.catalogue import nights
@@ -26,6 +27,9 @@ from exifnorm_pictures.cli import letter
 from exifnorm_pictures.cli.commands import nightly
 from exifnorm_pictures.comparison.nightly.news import Kind, Named, News
 
+# A raw file whose directory is cut, from which exiv2 extracts nothing
+CUT = b"IIRO\x08\0\0\0\xff\xff" + bytes(30)
+NEVER_WHOLE = cr3(*test_cr3.structures(), packet=test_cr3.T, missing=1)  # a track of which not all samples are found
 PLACE = "<exif:GPSLatitude>47,30.0N</exif:GPSLatitude><exif:GPSLongitude>8,15.0E</exif:GPSLongitude>"
 HERE = app1_xmp(xmp(PLACE, "xmlns:exif='http://ns.adobe.com/exif/1.0/'"))
 NAMES = [f"{folder}/{number}.jpg" for folder in ("ceramics", "scans/old", "web") for number in range(4)]

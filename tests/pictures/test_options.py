@@ -1,16 +1,13 @@
 """An option that a command accepts has an effect, or is refused."""
 
 import argparse
-import csv
 import importlib
-import io
 import re
 import shutil
 
-import openpyxl
 import pytest
 from made_blocks import block, entry
-from made_files import A, app1, exif, jpeg
+from made_files import A, app1, jpeg
 from meanings import ASCII, UNDEFINED
 from studio import TOP, put
 
@@ -109,18 +106,6 @@ def test_the_time_limit_of_each_command(command, option, archive, called, monkey
     )
     assert called(*command.split(), *COMMANDS[command], option, "7.5")[0] == 0
     assert limits == [7.5]
-
-
-@pytest.mark.parametrize("command, option", SHEETS)
-def test_a_spreadsheet_of_each_command_has_its_table(command, option, archive, called):
-    (archive / "p" / "b.jpg").write_bytes(jpeg(app1(exif(b"Otto"))))
-    called("index", "p", "--catalogue", "d", "--quiet")
-    words = {**COMMANDS, "same": ("d",), "changed": ("c", "d")}[command]
-    table = list(csv.reader(io.StringIO(called(*command.split(), *words, "--csv")[1].lstrip("\ufeff"), newline="")))
-    status, printed, messages = called(*command.split(), *words, option, "t.xlsx")
-    assert status in (0, 1, 2), messages
-    rows = [[str("" if cell.value is None else cell.value) for cell in row] for row in openpyxl.load_workbook("t.xlsx").active.iter_rows()]
-    assert rows == table and rows
 
 
 @pytest.mark.parametrize("command, option", WHOLE)

@@ -5,7 +5,7 @@ import json
 import pytest
 from made_files import A, B, app1, jpeg, png, segment
 from made_more_files import gif
-from studio import SMALL_JPEG, counts_of_page, counts_of_summary, put
+from studio import SMALL_JPEG, put
 
 OTHER = SMALL_JPEG.replace(b"\xff\xdb\0\x43\0", b"\xff\xdb\0\x43\1", 1)  # another table of quantization
 MASTER, EDITED, REPLACED, BOTH = jpeg(app1(A)), jpeg(app1(B)), jpeg(app1(A), base=OTHER), jpeg(app1(B), base=OTHER)
@@ -88,37 +88,9 @@ def test_a_night_on_which_a_picture_lost_its_profile_or_comment(folder, called, 
     assert called(*night)[:2] == (0, "")
 
 
-def test_what_the_report_says(folder, called):
-    """It counts what the terminal counts, and says whether pictures were compared."""
-    put(folder / "p", {"cut.jpg": MASTER, "other.jpg": MASTER, "same.jpg": MASTER})
-    for words, before, after in (([], "a", "b"), (["--pixels"], "c", "d")):
-        put(folder / "p", {"cut.jpg": MASTER, "other.jpg": MASTER})
-        called("index", "p", "--catalogue", before, "--quiet", *words)
-        put(folder / "p", {"cut.jpg": CUT, "other.jpg": REPLACED})
-        called("index", "p", "--catalogue", after, "--quiet", *words)
-        called("report", after, "--since", before, "--html", f"{after}.html")
-    plain, page = ((folder / it).read_text(encoding="utf-8") for it in ("b.html", "d.html"))
-    for sides, html in ((("a", "b"), plain), (("c", "d"), page)):
-        assert counts_of_page(html) == counts_of_summary(called("changed", *sides)[1])
-    assert "Only metadata was compared: index --pixels" in plain
-    assert "1 the same, 1 other, 1 damaged" in page and all("ends before the end mark" in it for it in (plain, page))
-
-
 def test_only_some_fields(folder, called):
     """Whoever asks for fields alone isn't told of pictures, and the answer says so."""
     put(folder, {"a.jpg": MASTER, "b.jpg": REPLACED})
     status, printed, _ = called("compare", "a.jpg", "b.jpg", "--only", "IFD0:Make")
     assert status == 0 and "Only these fields were compared." in printed
     assert called("compare", "a.jpg", "b.jpg", "--ignore", "IFD0:Make")[0] == 1
-
-
-def test_words_for_two_pictures(folder, called):
-    put(
-        folder,
-        {"a.jpg": MASTER, "b.jpg": REPLACED, "c.jpg": CUT, "d.gif": gif(), "e.gif": gif(b"other"), "f.jpg": SMALL_JPEG, "g.jpg": OTHER},
-    )
-    assert called("compare", "a.jpg", "b.jpg")[1].startswith("The same metadata, and another picture.")
-    assert "c.jpg is damaged: the file ends before the end mark of its picture." in called("compare", "a.jpg", "c.jpg")[1]
-    assert called("compare", "c.jpg", "a.jpg")[1].count("damaged") == 2
-    status, printed, _ = called("compare", "f.jpg", "g.jpg")  # neither has metadata
-    assert status == 1 and "another picture" in printed

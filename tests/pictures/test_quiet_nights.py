@@ -1,12 +1,11 @@
 """A night in which nothing happened ends with 0, whatever an archive has that can't be read or compared wholly."""
 
-import os
 import shutil
 
 import pytest
 from made_blocks import BLOCKS
 from made_files import app1, app1_xmp, exif, jpeg
-from studio import counts_of_page, counts_of_summary, put
+from studio import put
 
 from exifnorm_pictures.extract import programs
 from exifnorm_pictures.scan import looking
@@ -56,27 +55,3 @@ def test_nights(archive, called):
 def test_one_catalogue_with_itself(archive, called):
     called("index", "p", "--catalogue", "c", "--quiet")
     assert called("changed", "c", "c")[0] == 0
-
-
-def test_the_report_counts_what_changed_counts(archive, called):
-    """A copy of the folder is no same file: what can't be compared is in doubt, and isn't counted as changed."""
-    called("index", "p", "--catalogue", "c", "--quiet")
-    shutil.copytree("p", "q")
-    put(archive.parent / "q", {"a.jpg": jpeg(app1(exif(b"xyz")))})
-    called("index", "q", "--catalogue", "d", "--quiet")
-    status, printed, _ = called("changed", "c", "d")
-    assert status == 2 and "9 pictures compared: 1 changed, 6 not wholly compared." in printed
-    assert called("report", "d", "--since", "c", "--html", "page.html")[0] == 0
-    page = (archive.parent / "page.html").read_text(encoding="utf-8")
-    assert counts_of_page(page) == counts_of_summary(printed)
-
-
-def test_an_edit_is_no_same_file(archive, called):
-    """Not even one that keeps size and time, which the ctime shows."""
-    called("index", "p", "--catalogue", "c", "--quiet")
-    before = os.stat(archive / "d.jpg")
-    (archive / "d.jpg").write_bytes(PICTURE + b"TRAILER")
-    os.utime(archive / "d.jpg", ns=(before.st_atime_ns, before.st_mtime_ns))
-    called("index", "p", "--catalogue", "c", "--keep-old", "last", "--quiet")
-    status, printed, _ = called("changed", "last", "c")
-    assert status == 2 and "5 the same file" in printed and "1 not wholly read: d.jpg" in printed

@@ -500,21 +500,6 @@ class Readers(unittest.TestCase):
                 second += bytes(4) + inside
                 self.seen(second, [("exif", "Exif", "directory at 8", second[:30] + second[18:22] + second[34:])])
 
-    def test_limits(self):
-        """Blocks of a million bytes are below those of each reader."""
-        long = b"MM\0*\0\0\0\x08" + bytes(1_000_000)
-        many = T + b" " * 1_000_000
-        self.seen(
-            png(chunk(b"eXIf", long), png_xmp(many, True)),
-            [("exif", "Exif", "eXIf chunk at 33", long), ("xmp", "XMP", f"iTXt chunk at {45 + len(long)}", many)],
-        )
-        self.seen(
-            webp((b"EXIF", long), (b"XMP ", many)),
-            [("exif", "Exif", "EXIF chunk at 12", long), ("xmp", "XMP", f"XMP chunk at {20 + len(long)}", many)],
-        )
-        found = found_in(tiff([(0x02BC, 1, many), (0x83BB, 7, K), (0x010F, ASCII, b"x" * 1_000_000)]))
-        self.assertEqual([(it.kind, len(it.data)) for it in found.blocks], [("xmp", len(many)), ("iptc", len(K)), ("exif", 26 + 1_000_000)])
-
     def test_where_a_tiff_ends(self):
         """After its last directory, value or strip, wherever that is: what follows is a trailer."""
         inside = [(0x9003, ASCII, b"12345678")]

@@ -116,14 +116,3 @@ def test_pictures_that_were_indexed_there_before_are_one(archive, folder, called
     assert json.loads(called("list", "c", "--json")[1].splitlines()[-1])["pictures"] == 8
     assert summary("c", "p", "q")[0] == 0
     assert json.loads(called("list", "c", "--json")[1].splitlines()[-1])["pictures"] == 4
-
-
-@pytest.mark.parametrize(
-    "words",
-    [("c", "p", "nothing"), ("c", "nothing", "q"), ("c", "p", "p/monday"), ("nothing", "p", "q")],
-)
-def test_wrong_names(archive, folder, called, words):
-    (folder / "q").mkdir()
-    before = (folder / "c").read_bytes()
-    status, printed, messages = called("catalogue", "relocate", *words)
-    assert status in (3, 4) and printed == "" and messages and (folder / "c").read_bytes() == before

@@ -77,16 +77,6 @@ def test_a_cell_with_a_separator_is_in_quotes(run, folder):
         assert f'"{text}"' in run("show", "--captions", "a.jpg", "--csv")[1], separator
 
 
-def test_groups(run, folder):
-    put(folder, PICTURE)
-    (folder / "refused.jpg").write_bytes(with_exif(SMALL_JPEG, BLOCKS["Overlap"]))
-    run("index", ".", "--catalogue", "c", "--quiet")
-    status, out = run("same", "c", "--csv")
-    found = rows(out)
-    assert status == 0 and [it["keep"] for it in found] == ["1", *["0"] * 5]
-    assert {it["pictures"] for it in found} == {"6"} and len({it["group"] for it in found}) == 1
-
-
 def test_links_and_files_that_are_gone_are_not_to_be_deleted(run, folder):
     """To delete one of two names of a file, or a file through a linked folder, may delete the last copy."""
     (folder / "p").mkdir()
@@ -99,19 +89,6 @@ def test_links_and_files_that_are_gone_are_not_to_be_deleted(run, folder):
     found = {os.path.relpath(it["picture"], folder): it for it in rows(run("same", "c", "--csv")[1])}
     assert {name: it["keep"] for name, it in found.items() if it["keep"]} == {"p/a.jpg": "1", "p/b.jpg": "0"}
     assert "gone" in found["p/c.jpg"]["note"] and "hard link" in found["p/d.jpg"]["note"]
-
-
-def test_fields(run, folder):
-    (folder / "a.jpg").write_bytes(jpeg(app1(exif(b"abc")), app1_xmp(title("Vase"))))
-    (folder / "bare.jpg").write_bytes(jpeg())
-    (folder / "refused.jpg").write_bytes(jpeg(app1(BLOCKS["UnknownKind"])))
-    status, out = run("show", "--csv", "a.jpg", "bare.jpg", "refused.jpg", "nothing.jpg")
-    found = rows(out)
-    assert status == 2
-    assert {it["field"]: it["value"] for it in found if it["field"]} == {"IFD0:Make": "abc", "XMP-dc:format": "Vase"}
-    assert {it["key"] for it in found if it["picture"] == "a.jpg"} == {"0x010f", "dc:format"}
-    notes = {it["picture"]: it["note"] for it in found if it["note"]}
-    assert list(notes) == ["bare.jpg", "refused.jpg", "nothing.jpg"] and "UnknownKind" in notes["refused.jpg"]
 
 
 def test_a_repaired_block_says_so_in_each_row(run, folder):

@@ -8,7 +8,7 @@ from made_blocks import BLOCKS
 from made_files import A, B, app1, app1_xmp, app13, jpeg, resource, xmp
 from studio import needs, put
 from test_list import record
-from test_nights import CUT
+from test_nightly import CUT
 from test_repairs import REFUSED
 
 from exifnorm_pictures.cli.parser import parsers

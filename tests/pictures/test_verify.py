@@ -15,7 +15,7 @@ from bag_reader import faults_of_bag
 from made_blocks import segment
 from made_files import A, B, app1, jpeg, title
 from made_more_files import gif
-from studio import SMALL_JPEG, Studio, needs, put, run, tool
+from studio import SMALL_JPEG, Studio, needs, put, run
 
 from exifnorm_pictures.catalogue import store
 from exifnorm_pictures.files import opening
@@ -149,13 +149,6 @@ def test_folders_and_catalogues(archive, called, verified):
     assert (status, printed) == (3, "") and "is its file system mounted?" in messages
     called("index", "unmounted", "--catalogue", "plain", "--quiet")
     assert "without a digest" in called("verify", "plain")[1] and called("verify", "plain")[0] == 2
-
-
-@needs("exiftool")
-def test_exiftool_only_captions(archive, verified):
-    words = "-q -P -overwrite_original -Artist=Anna -IPTC:Keywords=clay -XMP-dc:Title=Vase a.jpg b.jpg"
-    tool(archive, "exiftool", *words.split())
-    assert verified()[:2] == (0, {"a.jpg": ("captioned", None), "b.jpg": ("captioned", None)})
 
 
 def test_evidence(archive, called):
