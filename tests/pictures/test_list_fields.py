@@ -2,17 +2,15 @@
 
 import json
 import random
-import shutil
 import struct
 import subprocess
 
 import pytest
 from made_blocks import ASCII, BLOCKS, LONG, MAKE, MODEL, block, entry, table, with_exif
 from made_files import app1, app1_xmp, app13, iim, jpeg, resource, small_tiff, xmp
-from studio import SMALL_JPEG, TOP, needs, put, tool
+from studio import SMALL_JPEG, needs, put, tool
 from test_maker_notes import noted
 
-NAMES = ("FNumber", "ISO", "Orientation", "Rating", "Model", "Software", "ExposureTime", "FocalLength")
 VALUES = {
     "FNumber": ("2.8", "8", "11"),
     "ISO": ("100", "1600"),
@@ -46,25 +44,6 @@ def drawn(folder, called):
     words = ["exiftool", "-config", "", "-j", "-n", "-charset", "UTF8", *(f"-{name}" for name in VALUES), "p"]
     listed = json.loads(subprocess.run(words, cwd=folder, capture_output=True, check=True).stdout)
     return {it.pop("SourceFile").rpartition("/")[2]: it for it in listed}
-
-
-@needs("exiftool")
-def test_values_of_the_samples(folder, called, asked):
-    shutil.copytree(f"{TOP}/samples/before", folder / "p")
-    called("index", "p", "--catalogue", "c", "--quiet")
-    words = ["exiftool", "-config", "", "-j", "-n", "-r", *(f"-{name}" for name in NAMES), "p"]
-    expected = {
-        it.pop("SourceFile").rpartition("/")[2]: it for it in json.loads(subprocess.run(words, capture_output=True, check=True).stdout)
-    }
-    found, _, _ = asked("--columns", ",".join(NAMES))
-    assert set(found) == set(expected)
-    for picture, texts in found.items():
-        for name in NAMES:
-            value = expected[picture].get(name)
-            if isinstance(value, str) or value is None:
-                assert texts[name] == [value] * bool(value), (picture, name)
-            else:
-                assert [float(it) for it in texts[name]] == pytest.approx([value]), (picture, name)
 
 
 GPS = ("GPSLatitude", "GPSLongitude", "GPSDestLatitude", "GPSDestLongitude", "GPSTimeStamp")
@@ -210,27 +189,6 @@ def test_a_position_has_the_signs_of_exiftool(folder, called):
     assert {it["path"].rpartition("/")[2]: it["position"] for it in objects if "position" in it} == expected
     put(folder, {"S.jpg": located((1, 2, 3, 4), b"S"), "x.jpg": located((1, 2, 3, 4), b"x")})
     assert [json.loads(called("show", "--captions", name, "--json")[1])["position"] for name in ("S.jpg", "x.jpg")] == [None, None]
-
-
-@needs("exiftool")
-def test_logarithms(folder, called, asked):
-    """What Exif and XMP have as APEX values is asked for in seconds and as f-numbers."""
-    put(folder / "p", {"bright.jpg": SMALL_JPEG, "dark.jpg": SMALL_JPEG})
-    values = {"bright": ("1/2000", "2.8", "1.8"), "dark": ("30", "16", "4")}
-    names = [f"{group}:{name}" for group in ("ExifIFD", "XMP-exif") for name in ("ShutterSpeedValue", "ApertureValue", "MaxApertureValue")]
-    for name, given in values.items():
-        edits = [f"-{tag}={value}" for tag, value in zip(names, given * 2)]
-        tool(folder / "p", "exiftool", "-q", "-overwrite_original", *edits, f"{name}.jpg")
-    called("index", "p", "--catalogue", "c", "--quiet")
-    words = ["exiftool", "-config", "", "-j", "-n", "-G1", *(f"-{name}" for name in names), "p"]
-    listed = json.loads(subprocess.run(words, cwd=folder, capture_output=True, check=True).stdout)
-    found, _, _ = asked("--columns", ",".join(names))
-    for values in listed:
-        texts = found[values["SourceFile"].rpartition("/")[2]]
-        for name in names:
-            assert [float(it) for it in texts[name]] == pytest.approx([float(values[name])]), name
-    assert set(asked("--where", "ShutterSpeedValue < 0.01 and ApertureValue > 2.7 and ApertureValue < 2.9")[0]) == {"bright.jpg"}
-    assert set(asked("--where", "XMP-exif:ShutterSpeedValue > 20 and XMP-exif:MaxApertureValue >= 3.9")[0]) == {"dark.jpg"}
 
 
 @needs("exiftool")

@@ -93,16 +93,6 @@ class Report(WithPictures):
         )
         self.assertNotIn("--json", self.page)
 
-    def test_long_lists_are_whole(self):
-        for number in range(300):
-            write(self.path("p", f"z{number:03}.jpg"), with_exif(SMALL_JPEG, BLOCKS["Doubled"]))
-        self.asked("index", "p", "--catalogue", "c", "--quiet")
-        self.asked("report", "c", "--html", "r.html")
-        page = Text(read(self.path("r.html")).decode())
-        refused = " ".join(page.sections["refused"])
-        self.assertEqual({it for it in range(300) if f"mended-z{it:03}.jpg" in refused}, set(range(300)))
-        self.assertEqual(sum('"record": "refusal"' in it and '"Doubled"' in it for it in self.asked("report", "c", "--json")), 300)
-
     @needs("chromium")
     def test_on_a_phone(self):
         measure = "<script>document.title = document.documentElement.scrollWidth + ' of ' + document.documentElement.clientWidth</script>"
