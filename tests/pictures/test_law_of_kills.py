@@ -44,7 +44,8 @@ def flock(file, how, call=fcntl.flock):
 fcntl.flock = flock
 """
 WAYS = {"here": SMALL, "on a share": SMALL + SHARE}
-KILLS = {"here": 4, "on a share": 4}  # of each command in the short form, spread over a run, and here the first of each call
+KILLS = {"here": 4, "on a share": 4}  # of each command in the short form, spread over a run, and the first of some calls
+NAMES = ("fsync", "rename", "link")  # by which a whole file gets its name
 READS = 3  # of so many kills one is followed by a command that reads
 
 STAYS = re.compile(r"(^|/)\.exifnorm-[0-9a-f]{12}-[0-9a-f]{8}\.part$|-(wal|shm|journal)$|^state/")  # where there was nothing left to write
@@ -81,8 +82,8 @@ def places(trace):
 
 
 def chosen(known, way):
-    """Some places spread over a run, of which the last is one; and the first of each call."""
-    firsts = {call: (call, number) for call, number in reversed(known)}.values() if way == "here" else ()
+    """Some places spread over a run, of which the last is one; and the first of each call, on a share of those by which a file gets its name."""
+    firsts = {call: (call, number) for call, number in reversed(known) if way == "here" or call in NAMES}.values()
     count = KILLS[way]
     return sorted({*firsts, *(known[len(known) * at // count - 1] for at in range(1, count + 1))}, key=known.index)
 
