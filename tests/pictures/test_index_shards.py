@@ -33,7 +33,7 @@ def archive(folder):
 
 
 def names(folder):
-    return shards.listed(str(folder / "shards"))
+    return list(shards.listed(str(folder / "shards")))
 
 
 def rows(folder, name="shards"):
@@ -217,7 +217,7 @@ def test_runs_that_begin_at_once_list_the_catalogues_of_all(archive):
     begin = [sys.executable, "-m", "exifnorm_pictures", "index", "--shards", "shards", "--quiet", "--jobs", "1"]
     runs = [subprocess.Popen([*begin, f"p/part{number}"], cwd=archive, env=Studio.environment()) for number in range(8)]
     assert [run.wait() for run in runs] == [0] * 8
-    listed = shards.listed(str(archive / "shards"))
+    listed = list(shards.listed(str(archive / "shards")))
     assert len(listed) == 8 == len({name[:5] for name in listed}) and len(rows(archive)) == 8
 
 
@@ -228,14 +228,15 @@ def test_a_file_system_without_locks_is_named(archive, called_lines, monkeypatch
         raise OSError(errno.ENOLCK, os.strerror(errno.ENOLCK))
 
     monkeypatch.setattr(shards.fcntl, "lockf", lockf)
-    status, _, messages = called_lines("index", "p", "--shards", "shards")
-    assert (status, "shards: its file system has no POSIX locks" in messages) == (4, True), messages
-    assert shards.listed(str(archive / "shards")) == []
+    for words, name in (("index p --shards shards", "shards"), ("nightly p --catalogue n", "n")):
+        status, _, messages = called_lines(*words.split())
+        assert (status, f"{name}: its file system has no POSIX locks" in messages) == (4, True), messages
+    assert list(shards.listed(str(archive / "shards"))) == []
 
 
 def test_a_folder_of_an_earlier_version_is_named(archive, called_lines):
     called_lines("index", "p", "--shards", "shards")
-    with open(archive / "shards" / shards.listed(str(archive / "shards"))[0], "r+b") as file:
+    with open(archive / "shards" / list(shards.listed(str(archive / "shards")))[0], "r+b") as file:
         file.seek(63)
         file.write(bytes([VERSION - 1]))
     for words in (("index", "p", "--shards", "shards"), ("same", "shards")):

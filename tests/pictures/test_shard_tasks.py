@@ -158,11 +158,11 @@ def test_a_part_at_which_workers_die_is_tried_again(archive, indexed):
 
 def test_an_error_of_a_worker_is_a_line_of_its_part(archive, indexed):
     indexed(Near())
-    (archive / "shards" / shards.listed(str(archive / "shards"))[1]).write_bytes(b"no catalogue")
+    (archive / "shards" / list(shards.listed(str(archive / "shards")))[1]).write_bytes(b"no catalogue")
     with pytest.raises(programs.Failed, match="is no catalogue"):
         indexed(Near())
     indexed_now = Near([None, ValueError("no package")])
-    (archive / "shards" / shards.listed(str(archive / "shards"))[1]).unlink()
+    (archive / "shards" / list(shards.listed(str(archive / "shards")))[1]).unlink()
     _, outcomes = indexed(indexed_now)
     assert [it.problem.detail for it in outcomes.values() if it.problem] == ["the worker failed: ValueError: no package"]
 

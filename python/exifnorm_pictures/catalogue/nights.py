@@ -13,6 +13,7 @@ A catalogue gets its name when it is whole and closed.
 from __future__ import annotations
 
 import contextlib
+import errno
 import fcntl
 import itertools
 import os
@@ -81,8 +82,10 @@ class Nights:
         file = _opened_lock(self._lock_name)
         try:
             fcntl.lockf(file, fcntl.LOCK_EX | fcntl.LOCK_NB)
-        except OSError:
+        except OSError as error:
             file.close()
+            if error.errno not in (errno.EACCES, errno.EAGAIN):
+                raise Failure(f"{shown_path(self.last)}: its file system has no POSIX locks ({error.strerror})") from None
             raise NotAlone(f"another nightly run works on {shown_path(self.last)}") from None
         self._lock = file
         self.earlier = earlier_release(self.last)
