@@ -120,3 +120,15 @@ def test_what_only_looks_so(name, pixels, folder, called):
     called("index", "in", "--catalogue", "first", "--quiet", *pixels)
     act(folder)
     assert {path: it[0] for path, it in results(called("changed", "first", "in", "--json", *pixels)[1]).items()} == expected
+
+
+def test_a_file_that_was_edited_in_place_has_not_only_moved(folder, called):
+    """Though its size, its time and its inode are as before."""
+    archive(folder, 1)
+    called("index", "in", "--catalogue", "c", "--quiet")
+    move(folder, {"a.jpg": "b.jpg"})
+    (folder / "in" / "b.jpg").write_bytes(scan(0, "new"))
+    os.utime(folder / "in" / "b.jpg", ns=(10**18,) * 2)
+    called("index", "in", "--catalogue", "d", "--quiet")
+    found = [json.loads(it) for it in called("changed", "c", "d", "--json")[1].splitlines()]
+    assert [it["result"] for it in found if it["record"] == "picture"] == ["missing after", "missing before"]

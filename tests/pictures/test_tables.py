@@ -156,9 +156,11 @@ class Tables(WithPictures):
             picture("here", problem="Vanished"),
             picture("bad", problem="Unreadable"),
             picture("part", {EXIF: "8"}, [UNKNOWN], 8),
+            picture("edited", {EXIF: "9"}, number=9),
         ]
         after = [
-            picture("new/file", {EXIF: "other"}, number=1),
+            picture("new/file", {EXIF: "1"}, number=1),
+            picture("new/edited", {EXIF: "other"}, number=9),
             picture("new/meaning", {EXIF: "2"}, number=2).stamped(Stamp(2, 9, 9, 9)),
             picture("new/bare", bare, number=33),
             picture("z/twin2", {EXIF: "4"}, number=4),
@@ -169,10 +171,10 @@ class Tables(WithPictures):
         ]
         found, counts = self.compared(before, after)
         moves = {"file": "new/file", "meaning": "new/meaning", "x/twin": "z/other", "y/twin2": "z/twin2"}
-        gone = {it: "missing after" for it in ("bare", "bad", "part")}
-        came = {it: "missing before" for it in ("new/bare", "new/here", "new/part")}
+        gone = {it: "missing after" for it in ("bare", "bad", "part", "edited")}
+        came = {it: "missing before" for it in ("new/bare", "new/here", "new/part", "new/edited")}
         self.assertEqual(found, {**moves, **gone, **came})
-        self.assertEqual(counts, {"same": 1, "moved": 4, "missing after": 3, "missing before": 3})
+        self.assertEqual(counts, {"same": 1, "moved": 4, "missing after": 4, "missing before": 4})
 
     def test_the_same_file_comes_before_the_same_meaning(self):
         before = [picture("a/p", {EXIF: "1"}, number=1), picture("b/p", {EXIF: "1"}, number=1).stamped(Stamp(1, 2, 2, 2))]

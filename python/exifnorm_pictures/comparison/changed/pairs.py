@@ -54,8 +54,12 @@ _SAME = f"""(typeof(old.path) = 'blob' AND old.problem IS NULL AND new.problem I
 
 # The new names of pictures, the surest first: the same file under the same name, the same file, a file of the same bytes, .., the only one with
 # the same blocks, size and time. Then the only one with the same blocks and size, if no other picture of its catalogue means the same: scans of
-# one machine may all have them. A file by itself doesn't show whether its sidecars are the same, so its XMP counts, too.
-_FILE, _CONTENT = "size, modified, inode, xmp_octets", "content(size, not_read, exif_octets, iptc_octets, xmp_octets)"
+# one machine may all have them. A file by itself doesn't show whether its sidecars are the same, nor an
+# edit in place that keeps its time, so its blocks count, too.
+_FILE, _CONTENT = (
+    "size, modified, inode, exif_octets, iptc_octets, xmp_octets",
+    "content(size, not_read, exif_octets, iptc_octets, xmp_octets)",
+)
 _KEYS = (_FILE, "sha256, xmp_octets", f"{_CONTENT}, modified")
 _LIKELY = (f"{_CONTENT}, last(path)", _CONTENT)
 _ROUNDS = (*(it for key in _KEYS for it in (f"{key}, last(path)", key)), *_LIKELY)
