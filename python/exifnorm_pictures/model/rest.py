@@ -20,14 +20,15 @@ _BY_PROGRAMS = frozenset(
 
 
 def text_of(digests: dict[str, str]) -> str:
-    """The text: a line for each name, with its digest. Of many names the last ones have one line together, and so have long ones.
+    """The text: a line for each name, with its digest, of which 8 digits are enough for a part that doesn't count. Of many names the last ones
+    have one line together, and so have long ones.
 
     >>> text_of({"comment": "0f", "colour profile": "1e"})
     '1e colour profile\\n0f comment'
     """
     names = sorted(digests, key=lambda name: (len(name) > LONGEST, name))
     kept = [name for name in names[:MOST] if len(name) <= LONGEST]
-    lines = [f"{digests[name]} {name}" for name in names]
+    lines = [f"{digests[name][: 8 if is_by_programs(name) else None]} {name}" for name in names]
     if len(kept) < len(lines):
         others = hashlib.blake2b("\n".join(lines[len(kept) :]).encode("utf-8", "surrogateescape"), digest_size=16).hexdigest()
         lines[len(kept) :] = [f"{others} {FURTHER}"]
