@@ -228,21 +228,6 @@ def test_wrong_words(room, words):
     assert ran.returncode == 1 and ("crates.txt names no crate" if words == ["px_none"] else "build/prove.py CRATE") in ran.stderr, ran
 
 
-def test_a_compiler_is_called_as_the_toolchain_calls_it(room):
-    """That is in the toolchain's own command, and in the verdicts that these words lead to."""
-    assert room.prove("px_cli").returncode == room.prove("px_c").returncode == 0
-    asked = (room.folder / "asked").read_text().replace(f"{room.top}/out/proved", "PROVED").replace(f"{room.folder}/kit", "KIT")
-    asked = {line.split()[2]: line for line in asked.splitlines()}
-    rest = "-L dependency=KIT/rlibs -L dependency=PROVED --antt-project KIT/rattle/logic/antt-project.json --logic-built KIT/logic_built"
-    rest += f" --jobs {prove.jobs()} --links px_bytes= --empty-contracts -o PROVED/making/px_bytes.rlib --statements"
-    used = "--extern std=KIT/rlibs/std.rlib --extern byteorder=KIT/rlibs/byteorder.rlib"
-    assert asked["px_bytes"] == f"build --crate-name px_bytes src/lib.rt {used} {rest}"
-    native = "-o PROVED/making/{} --toolchain KIT/toolchain --backend llvm"
-    assert asked["px_cli"].endswith(native.format("px_cli.o"))
-    assert asked["px_c"].endswith(native.format("libpx_c.a") + " --crate-type staticlib")
-    assert "--extern px_bytes=PROVED/px_bytes.rlib" in asked["px_c"]
-
-
 def test_crates_that_need_not_wait_are_proved_side_by_side_and_the_longest_chain_first(room):
     late = Room(room.folder / "late", "px_a: clap\npx_late: px_a\npx_b: px_a\npx_c: px_b\npx_cli: px_c px_late\n")
     late.hold("px_late")

@@ -226,23 +226,6 @@ def help_of(environment: dict[str, str], *words: str) -> str:
     return run(TOP, {**environment, "COLUMNS": "500"}, *words, "--help")
 
 
-def plain(page: str) -> str:
-    """A manual page without macros of fonts and escapes."""
-    return re.sub(r'(?m)^\.(?:BR|BI|IR|RB|B|I) |"|\\f[BIRP]', "", page).replace("\\-", "-")
-
-
-def test_commands_of_the_program_are_those_of_the_page(environment: dict[str, str]) -> None:
-    shown = help_of(environment, "exifnorm").split("Commands:")[1].split("Options:")[0]
-    names = re.findall(r"(?m)^  (\w+)  +\w", shown)
-    assert names
-    synopsis = [
-        " ".join(it.split()) for it in plain(text_of("docs/exifnorm.1")).partition(".SH SYNOPSIS\n")[2].partition(".SH ")[0].split(".br\n")
-    ]
-    for name in names:
-        usage = re.search(r"(?m)^Usage: (.*)$", help_of(environment, "exifnorm", name))[1]
-        assert usage.replace("<", "").replace(">", "") in synopsis
-
-
 def test_statuses_are_those_of_the_format_and_the_page(environment: dict[str, str]) -> None:
     shown = help_of(environment, "exifnorm").partition("Statuses:\n")[2].partition("\n\n")[0]
     statuses = re.findall(r"(?m)^  (\d+) ", shown)
