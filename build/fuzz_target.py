@@ -23,7 +23,7 @@ sys.dont_write_bytecode = True
 
 from compiler import Compiler
 from crates import Crates
-from module import CRATE, kept
+from module import CRATE, as_text, kept
 from prove import status_of
 
 TOP = Path(__file__).resolve().parent.parent
@@ -63,8 +63,7 @@ def run(*words: str | Path, folder: Path) -> None:
 def module_text(module: Path, clang: Path, folder: Path) -> Path:
     """Writes the module as text, as the toolchain gives it to clang."""
     text = folder / "module.ll"
-    unchanged = ["-Xclang", "-disable-llvm-passes"]
-    run(clang, "--no-default-config", *unchanged, "-S", "-emit-llvm", "-x", "ir", module / "module.bc", "-o", text, folder=folder)
+    run(*as_text(clang), module / "module.bc", "-o", text, folder=folder)
     return text
 
 

@@ -38,6 +38,11 @@ def with_clang(script: str, toolchain: Path, folder: Path) -> Path:
     return copy
 
 
+def as_text(clang: Path) -> list[str | Path]:
+    """The words that write a module as text, as the toolchain gives it to clang: the module, -o and the text follow."""
+    return [clang, "--no-default-config", "-Xclang", "-disable-llvm-passes", "-S", "-emit-llvm", "-x", "ir"]
+
+
 def build(crates: Crates, archive: Path, folder: Path) -> None:
     """Builds the library as `make library` does, and leaves its module and the options of clang in a folder."""
     with open(folder / "log", "w", encoding="utf-8") as log:

@@ -101,36 +101,39 @@ def without_table(octets: bytes) -> bytes:
     return octets[:8] + b"".join(section for kind, section in sections(octets) if kind not in (TABLE, ELEMENTS))
 
 
-def proved_source(crates: Crates) -> Path:
-    """The file of the proved library's module."""
-    return module.kept(crates) / "module.bc"
-
-
-def quick_source(crates: Crates) -> Path:
-    """The file with the text of the quick library's module, which is compiled if it is not of the current sources."""
+def source_of(is_proved: bool) -> Path:
+    """The file of the proved library's module, or of the text of the quick one, which is compiled if it is not of the current sources."""
+    crates = Crates.read(TOP)
+    if is_proved:
+        return module.kept(crates) / "module.bc"
     return quick.Quick(crates, version()).compiled(quick.LIBRARY).with_name(quick.MODULE)
 
 
-def build(text: Path, clang: Path, folder: Path) -> None:
+def clang() -> Path:
+    """The toolchain's clang, whose file is the linker, too, under another name."""
+    return Path(Compiler(Crates.read(TOP), TOP, sys.stderr).kit) / "toolchain" / "bin" / "clang"
+
+
+def build(text: Path, folder: Path) -> None:
     """Compiles the module with a text, and leaves exifnorm64.wasm and exifnorm.wasm in a folder."""
     text.write_text(for_wasm(text.read_text(encoding="utf-8")), encoding="utf-8")
     library, heap, linker, linked = folder / "library.o", folder / "heap.o", folder / "wasm-ld", folder / "linked.wasm"
-    run(clang, *FLAGS, *LIBRARY, text, "-o", library)
-    run(clang, *FLAGS, "-std=c99", "-ffreestanding", "-Wall", "-Werror", HEAP, "-o", heap)
-    linker.symlink_to(clang)  # clang's file is the linker, too, under this name
+    run(clang(), *FLAGS, *LIBRARY, text, "-o", library)
+    run(clang(), *FLAGS, "-std=c99", "-ffreestanding", "-Wall", "-Werror", HEAP, "-o", heap)
+    linker.symlink_to(clang())
     run(linker, *LINKED, *(f"--export={name}" for name in exports()), library, heap, "-o", linked)
     (folder / "exifnorm64.wasm").write_bytes(without_table(linked.read_bytes()))
     run("wasm-opt", *LOWER, folder / "exifnorm64.wasm", "-o", folder / "exifnorm.wasm")
 
 
-def make(source: Path, clang: Path, is_proved: bool, folder: Path) -> None:
+def make(source: Path, is_proved: bool, folder: Path) -> None:
     """Writes exifnorm.wasm and exifnorm64.wasm, made of the module in a file, into a new folder."""
     with tempfile.TemporaryDirectory(dir=folder.parent) as name:
         making = Path(name)
         finished, text = making / "made", making / "module.ll"
         finished.mkdir()
-        run(clang, "--no-default-config", "-Xclang", "-disable-llvm-passes", "-S", "-emit-llvm", "-x", "ir", source, "-o", text)
-        build(text, clang, making)
+        run(*module.as_text(clang()), source, "-o", text)
+        build(text, making)
         for file in NAMES:
             if (guard.MARK.encode() in (making / file).read_bytes()) == is_proved:
                 raise NotBuilt(f"the version in {file} {'ends' if is_proved else 'does not end'} with {guard.MARK}")
@@ -142,15 +145,13 @@ def kept(is_proved: bool = True) -> Path:
     """The folder with exifnorm.wasm and exifnorm64.wasm of the built library. They are made once, and kept beside the module."""
     if not shutil.which("wasm-opt"):
         raise NotBuilt("WebAssembly needs wasm-opt: `apt-get install binaryen`")
-    crates = Crates.read(TOP)
-    source = proved_source(crates) if is_proved else quick_source(crates)
-    clang = Path(Compiler(crates, TOP, sys.stderr).kit) / "toolchain" / "bin" / "clang"
+    source = source_of(is_proved)
     made_from = [*(file.read_bytes() for file in (source, Path(__file__), HEAP)), *(name.encode() for name in exports())]
     key = hashlib.sha256(b"".join(made_from)).hexdigest()[:16]
     folder = source.parent / f"wasm-{key}"
     with locked(source.parent / "wasm-lock", "another call makes exifnorm.wasm: waiting for it"):
         if not folder.exists():
-            make(source, clang, is_proved, folder)
+            make(source, is_proved, folder)
     return folder
 
 

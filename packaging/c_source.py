@@ -31,11 +31,8 @@ sys.dont_write_bytecode = True
 sys.path.insert(0, str(TOP / "build"))
 
 import guard
-import module
-import quick
 import wasm
-from compiler import Compiler, version
-from crates import Crates
+from module import as_text
 from prove import NotBuilt, listen
 
 SOURCES = TOP / "packaging" / "c"
@@ -57,25 +54,16 @@ class Failed(Exception):
 # ---- the module as WebAssembly, and as C of wasm2c
 
 
-def module_of(is_proved: bool) -> Path:
-    """The file with the module of the proved library, or with that of the quick one."""
-    crates = Crates.read(TOP)
-    if is_proved:
-        return module.kept(crates) / "module.bc"
-    return quick.Quick(crates, version()).compiled(quick.LIBRARY).with_name(quick.MODULE)
-
-
 def compile_module(source: Path, folder: Path) -> Path:
     """Compiles the library's module for WebAssembly of 64 bits. It must have no variable outside its functions, only constants."""
-    clang = Path(Compiler(Crates.read(TOP), TOP, sys.stderr).kit) / "toolchain" / "bin" / "clang"
     text, object_file = folder / "module.ll", folder / "module.o"
-    wasm.run(clang, "--no-default-config", "-Xclang", "-disable-llvm-passes", "-S", "-emit-llvm", "-x", "ir", source, "-o", text)
+    wasm.run(*as_text(wasm.clang()), source, "-o", text)
     lines = text.read_text(encoding="utf-8")
     if variable := re.search(r"(?m)^@\S+ = (?:[a-z_]+ )*global .*", lines):
         raise Failed(f"the module has a variable: {variable[0][:200]}")
     text.write_text(wasm.for_wasm(lines), encoding="utf-8")
-    wasm.run(clang, *wasm.FLAGS, *wasm.LIBRARY, text, "-o", object_file)
-    (folder / "wasm-ld").symlink_to(clang)  # clang's file is the linker, too, under this name
+    wasm.run(wasm.clang(), *wasm.FLAGS, *wasm.LIBRARY, text, "-o", object_file)
+    (folder / "wasm-ld").symlink_to(wasm.clang())
     return object_file
 
 
@@ -350,7 +338,7 @@ def make(release: str, seconds: int, target: Path, is_proved: bool) -> Path:
     """Makes the sources of a release and their archive in a folder, both or none."""
     if lacking := [package for tool, package in TOOLS.items() if not shutil.which(tool)]:
         raise Failed(f"install {' and '.join(lacking)}")
-    text = module_in_c(module_of(is_proved))
+    text = module_in_c(wasm.source_of(is_proved))
     if (guard.MARK in text) == is_proved:
         raise Failed(f"the version in the module {'ends' if is_proved else 'does not end'} with {guard.MARK}")
     target.mkdir(parents=True, exist_ok=True)

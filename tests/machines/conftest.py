@@ -30,7 +30,7 @@ def c_archive(library: Path) -> Path:
         if not shutil.which(tool):
             pytest.skip(f"{tool} is not installed: `apt-get install {package}`")
     is_proved = not guard.refused(library / "libexifnorm.so.1")
-    module = c_source.module_of(is_proved)
+    module = wasm.source_of(is_proved)
     files = [module, Path(c_source.__file__), Path(wasm.__file__), *TOP.glob("LICENSE-*")]
     files += sorted([*c_source.SOURCES.iterdir(), *c_source.HEADER.parent.iterdir()])
     made_from = [file.read_bytes() for file in files] + [line.encode() for line in lines()]

@@ -111,7 +111,7 @@ def test_the_archive(c_archive: Path, c_folder: Path) -> None:
 
 def test_what_was_compiled_without_proofs_is_refused(folder: Path, monkeypatch: pytest.MonkeyPatch) -> None:
     """A module of another kind than asked for leaves nothing."""
-    monkeypatch.setattr(c_source, "module_of", lambda _: folder / "module")
+    monkeypatch.setattr(c_source.wasm, "source_of", lambda _: folder / "module")
     monkeypatch.setattr(c_source, "module_in_c", lambda _: '"1.0.0-unproved"')
     with pytest.raises(c_source.Failed, match="ends with -unproved"):
         c_source.make(VERSION, 0, folder / "c", True)

@@ -2,18 +2,15 @@
 
 from __future__ import annotations
 
-import os
 import re
-import shutil
 import subprocess
 from pathlib import Path
 from typing import List
 
-import cross
 import pytest
 from cases import Case, read_all
 from judging import problems_of_case
-from machines import GCC, HERE, QEMU, ROOT, VERSION, make
+from machines import GCC, HERE, QEMU, ROOT, make
 from made_cases import cases_of_causes
 
 from commands import TOP, run
@@ -85,28 +82,8 @@ def test_samples(other_program: Path, program: Path, files: Path) -> None:
             assert (ours.returncode, ours.stdout) == (theirs.returncode, theirs.stdout), (command, name)
 
 
-@pytest.mark.parametrize("machine", cross.MACHINES)
-def test_no_library_is_in_it(machine: str) -> None:
-    make("static")
-    said = run("aarch64-linux-gnu-readelf", "-dlW", TOP / "out/static" / f"exifnorm-{machine}")
-    assert "INTERP" not in said and "NEEDED" not in said
-
-
 def test_the_program_for_aarch64_is_hardened() -> None:
     make("aarch64")
     said = run("aarch64-linux-gnu-readelf", "-hdlW", TOP / "out/aarch64/bin/exifnorm")
     assert "DYN (Position-Independent" in said and "BIND_NOW" in said and "GNU_RELRO" in said
     assert re.findall(r"\(NEEDED\).*\[(.*)\]", said) == ["libc.so.6"]
-
-
-def test_it_runs_in_an_empty_root(folder: Path) -> None:
-    make("static")
-    shutil.copyfile(TOP / "out/static/exifnorm-x86_64", folder / "exifnorm")
-    (folder / "exifnorm").chmod(0o755)
-    (folder / "block").write_bytes(b"\x1c\x02\x78\x00\x04Vase")
-    enter = ["chroot"] if os.geteuid() == 0 else ["unshare", "--user", "--map-root-user", "chroot"]
-    assert run(*enter, folder, "/exifnorm", "--version") == f"exifnorm {VERSION}\n"
-    assert run(*enter, folder, "/exifnorm", "captions", "/block") == "iim\ncharset: not declared\ncaption: Vase\n"
-    assert run(*enter, folder, "/exifnorm", "normalise", "/block", "/form") == ""
-    assert (folder / "form").read_bytes() == b"\x1c\x02\x78\x00\x04Vase"
-    assert sorted(it.name for it in folder.iterdir()) == ["block", "exifnorm", "form"]

@@ -20,9 +20,9 @@ def test_the_target_of_a_module_is_changed_and_nothing_else():
 def test_a_module_of_the_other_kind_is_refused(monkeypatch, folder, version, is_proved):
     """The version in the module decides, whatever was asked for; nothing is left."""
     monkeypatch.setattr(wasm, "run", lambda *words: None)
-    monkeypatch.setattr(wasm, "build", lambda text, clang, making: [(making / name).write_bytes(version) for name in wasm.NAMES])
+    monkeypatch.setattr(wasm, "build", lambda text, making: [(making / name).write_bytes(version) for name in wasm.NAMES])
     with pytest.raises(NotBuilt, match=guard.MARK):
-        wasm.make(folder / "module.bc", folder / "clang", is_proved, folder / "made")
+        wasm.make(folder / "module.bc", is_proved, folder / "made")
     assert not [*folder.iterdir()]
-    wasm.make(folder / "module.bc", folder / "clang", not is_proved, folder / "made")
+    wasm.make(folder / "module.bc", not is_proved, folder / "made")
     assert sorted(path.name for path in (folder / "made").iterdir()) == sorted(wasm.NAMES)
