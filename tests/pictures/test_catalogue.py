@@ -89,26 +89,6 @@ class Archive(InFolder):
         self.assertEqual(self.run_again(PATH=bare), ({}, {"unchanged": 5}))
         self.assertEqual(self.run_again(), ({"g.exv": "looked at"}, {"unchanged": 4, "no block": 1}))
 
-    def test_an_edit_that_keeps_size_and_time(self):
-        for edit in ("in place", "replaced", "by exiftool -P"):
-            with self.subTest(edit):
-                path = self.path("p", "a.jpg")
-                then = os.stat(path)
-                octets = read(path).replace(b"One\0", b"New\0") if b"One\0" in read(path) else read(path).replace(b"New\0", b"One\0")
-                if edit == "in place":
-                    with open(path, "r+b") as file:
-                        file.write(octets)
-                elif edit == "replaced":
-                    write(path + ".new", octets)
-                    os.replace(path + ".new", path)
-                else:
-                    tool(self.folder, "exiftool", "-q", "-P", "-overwrite_original", "-Make=Alt", path)
-                os.utime(path, ns=(then.st_atime_ns, then.st_mtime_ns))
-                self.assertEqual(os.stat(path).st_size, then.st_size)
-                before = self.rows()["a.jpg"]
-                self.assertEqual(self.run_again(), ({"a.jpg": "looked at"}, {"unchanged": 3, "accepted": 1}))
-                self.assertNotEqual(self.rows()["a.jpg"], before)
-
     def test_deleted_and_back(self):
         octets = read(self.path("p", "a.jpg"))
         os.remove(self.path("p", "a.jpg"))

@@ -289,29 +289,6 @@ def with_note(owner, moved=0, wrong=False):
 
 
 @needs("exiftool")
-@pytest.mark.parametrize(
-    "other, result, status, groups",
-    [
-        (with_note(b"Annette"), "same", 0, 1),
-        (with_note(b"Annette", 64), "the same but for a MakerNote that moved", 2, 0),
-        (with_note(b"Ottilie"), "only MakerNote differs", 1, 0),
-        (with_note(b"Ottilie", 64), "different", 1, 0),
-    ],
-    ids=["itself", "moved", "of another owner", "moved, and of another owner"],
-)
-def test_maker_notes(asked, folder, other, result, status, groups):
-    one = with_note(b"Annette")
-    for side, octets in (("before", one), ("after", other)):
-        put(folder, {f"{side}/a.jpg": octets})
-    (found, *_) = asked("changed", "before", "after", "--all", status=status)
-    assert found["result"] == result or (status == 1 and found["result"] in ("different", "only MakerNote differs"))
-    values = [(it["before"], it["after"]) for it in (found["maker_note"] or {"values": []})["values"]]
-    assert (("Annette", "Ottilie") in values) is (b"Ottilie" in other)
-    indexed(asked, "before", "after")
-    assert len(asked("same", "c", status=0 if groups else 2)[:-1]) == groups
-
-
-@needs("exiftool")
 def test_a_maker_note_that_only_moved(asked, folder):
     """ExifTool reads the same; without it nothing is known, and so nothing is the same."""
     for number, moved in enumerate((0, 64, 64)):

@@ -222,13 +222,6 @@ def test_texts_that_are_not_kept(folder, called, asked):
     assert asked("--without", "source")[0] == ["short.jpg"]
 
 
-def test_cameras_texts_are_none(folder, called, asked):
-    put(folder / "p", {"a.jpg": picture([("caption", "OLYMPUS DIGITAL CAMERA")]), "b.jpg": picture([("caption", "Vase")])})
-    called("index", "p", "--catalogue", "c", "--quiet")
-    assert asked("--without", "caption")[0] == ["a.jpg"]
-    assert asked("--where", "caption has digital")[0] == []
-
-
 @needs("exiftool")
 def test_fields_of_each_standard(folder, called, asked):
     """A label is the field of Exif, of IPTC and of XMP; serial, owner and position are found as ExifTool has written them."""
