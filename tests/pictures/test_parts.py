@@ -310,3 +310,11 @@ def test_content_credentials_are_named(name, folder, called):
     for words in (("a", "b"), ("b", "a")):
         status, printed, _ = called("compare", *words, "--no-programs")
         assert status in (1, 2) and "content credentials (not validated)" in printed, printed
+
+
+def test_a_refused_block_with_the_same_bytes_is_no_other_caption(folder, called):
+    put(folder / "n", {"x": jpeg(app1(b"no header"), segment(0xFE, b"one"))})
+    called("index", "n", "--catalogue", "c", "--quiet", "--pixels")
+    put(folder / "n", {"x": jpeg(app1(b"no header"))})
+    (verified, _) = map(json.loads, called("verify", "c", "--json")[1].splitlines())
+    assert (verified["state"], verified["note"]) == ("other parts", "comment removed")

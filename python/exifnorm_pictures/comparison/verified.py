@@ -13,7 +13,6 @@ from ..model.columns import Damaged
 from ..model.problems import NOT_THERE, TEXTS
 from ..model.records import BlockRecord, PictureRecord, Stamp, has
 from ..model.rest import changes, counting
-from ..model.results import Result
 from ..model.verdicts import result_of, verdicts
 from ..model.words import Word
 
@@ -75,7 +74,7 @@ def _written(before: PictureRecord, now: PictureRecord) -> tuple[State, str]:
 
 def _written_anew(before: PictureRecord, now: PictureRecord) -> tuple[State, str]:
     """The state of a file with the same coded picture."""
-    same = result_of(verdicts(before.sides(), now.sides())) == Result.SAME and before.not_read == now.not_read is not None
+    same = result_of(verdicts(before.sides(), now.sides())).is_equal and before.not_read == now.not_read is not None
     parts = changes(before.beside, now.beside)
     note = "; ".join(filter(None, [_before(now), ", ".join(parts)]))
     return (State.CAPTIONED if not same else State.PARTS if counting(parts) else State.AGAIN), note
