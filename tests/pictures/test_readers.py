@@ -14,7 +14,7 @@ from made_files import A, B, EXTENSION_HEAD, K, L, T, U
 from made_files import app1, app13, app1_xmp, chunk, extension, jpeg, mpf, page, png, png_xmp, profile, resource, tiff, webp
 from studio import SMALL_JPEG
 
-from exifnorm_pictures.extract.formats import jpeg as jpeg_, mpf as mpf_, tiff as tiff_
+from exifnorm_pictures.extract.formats import jpeg as jpeg_, mpf as mpf_, tiff as tiff_, tiff_block
 from exifnorm_pictures.model import budgets
 from exifnorm_pictures.model.found import Blocks, Broken, ordinal
 
@@ -408,7 +408,9 @@ class Readers(unittest.TestCase):
         )
         octets = tiff(first, page((0x02BC, 1, U)), behind=b"\0behind")
         with mock.patch.object(
-            tiff_, "Layout", lambda _, table: mock.Mock(length=8, note=None, has_ifd=False, block=lambda: [it.tag for it in table.entries])
+            tiff_,
+            "Layout",
+            lambda _, table: mock.Mock(length=8, note=None, has_ifd=False, block=lambda _: [it.tag for it in table.entries]),
         ):
             found = found_in(octets)
         kept = [0x100, 0x101, 0x102, 0x103, 0x106, 0x10F, 0x115, 0x116, 0x8606]
@@ -554,9 +556,9 @@ class Readers(unittest.TestCase):
                 self.assertEqual(len(found_in(three).blocks), 3)
         with mock.patch.dict(budgets.LIMITS, {budgets.DIRECTORIES: 7}):  # SubIFDs count before any of them is read
             self.too_much(named, "more than 7 directories")
-        with mock.patch.object(tiff_, "LIMIT", 33):
+        with mock.patch.object(tiff_block, "LIMIT", 33):
             self.broken(tiff([], [(0x010F, ASCII, b"12345678")]), "page 2 has more than 33 bytes of values")
-        with mock.patch.object(tiff_, "LIMIT", 34):
+        with mock.patch.object(tiff_block, "LIMIT", 34):
             self.assertEqual(len(found_in(tiff([(0x010F, ASCII, b"12345678")])).blocks), 1)
 
     def test_ordinals(self):

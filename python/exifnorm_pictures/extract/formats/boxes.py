@@ -9,11 +9,11 @@ from __future__ import annotations
 from typing import Callable, Iterator, NamedTuple
 
 from ...model.budgets import BOXES, BOX_BYTES, budget_of
-from ...model.found import CUT, REST, SIX, XMP, Blocks, Broken, NotRead, damage
+from ...model.found import CUT, REST, SIX, XMP, Blocks, Broken, damage
 from ...model.tiff_types import HEADS
 from .packet_start import begins_packet
 from .parts import CREDENTIALS
-from .streams import Stream, digest_of_rest, leave, leave_rest, read_at, size_of
+from .streams import Stream, leave, leave_rest, leave_whole, read_at, size_of
 
 _LONGEST_HEAD = 32
 XMP_UUID = bytes.fromhex("be7acfcb97a942e89c71999491e3afac")  # XMP part 3, 1.1.4
@@ -56,10 +56,10 @@ def boxes(stream: Stream, start: int, end: int, is_file: bool = False) -> Iterat
             length, begin = int.from_bytes(head[8:16], "big"), 16
         elif length == 0 and is_file and any(kind):  # zeros are no box
             length = end - at
-        uuid = head[begin : begin + 16] if kind == b"uuid" else b""
-        begin += 16 if kind == b"uuid" else 0
-        if not begin <= length <= end - at:
-            is_cut = is_file and length > end - at and kind.strip().isalnum()
+        wide = 16 * (kind == b"uuid")
+        uuid, begin = head[begin : begin + wide], begin + wide
+        is_cut = is_file and length > end - at and kind.strip().isalnum()
+        if is_cut or not begin <= length <= end - at:
             raise Broken(f"{CUT}inside the box at {at}" if is_cut else f"the box at {at} has a wrong length")
         yield Box(at, kind, at + begin, at + length, uuid)
         at += length
@@ -67,7 +67,7 @@ def boxes(stream: Stream, start: int, end: int, is_file: bool = False) -> Iterat
 
 def boxes_to_fault(stream: Stream) -> tuple[list[Box], str]:
     """The boxes of a file up to the first fault, and the text of that. Raises `TooMuch`."""
-    every: list[Box] = []
+    every = []
     try:
         for box in boxes(stream, 0, size_of(stream), is_file=True):
             every.append(box)
@@ -104,7 +104,7 @@ _OFTEN_LAST = _PIXELS | frozenset((b"uuid", b"xml ", b"Exif", b"brob", b"meta", 
 def _leave_rest(blocks: Blocks, stream: Stream, at: int, why: str) -> None:
     """Names what follows the last whole box. Raises `TooMuch`."""
     if why.startswith(CUT) and size_of(stream) - at >= 8 and read_at(stream, at + 4, 4) in _OFTEN_LAST:
-        blocks.name(NotRead(f"{REST} ({why})", digest_of_rest(stream, at, size_of(stream)) or ""))
+        leave_whole(blocks, f"{REST} ({why})", stream, at, size_of(stream))
     else:
         leave_rest(blocks, stream, at)
 

@@ -7,8 +7,6 @@ from __future__ import annotations
 import io
 import struct
 
-from exifnorm import LIMIT
-
 from ...model.budgets import Budget
 from ...model.found import Broken
 from ...model.tiff_types import HEADS, LONG
@@ -73,10 +71,7 @@ class _Joined(Directories):
             if table.entries:
                 _insert(main.entries, Entry(_TAGS[kind], LONG, 1, bytes(4), 4))
                 main.below[_TAGS[kind]] = table
-        layout = Layout(self, main)
-        if layout.length > LIMIT:
-            raise Broken("too long for a block")
-        block = layout.block()
+        block = Layout(self, main).block("CMT1")
         self.check()
         return block
 
@@ -93,7 +88,7 @@ class _Joined(Directories):
         """The entries of a directory, whose values are in its own structure or nowhere."""
         start, end = self._ranges[kind]
         directory: Directory = self.read(start + offset)
-        if directory.following or directory.at + 6 + 12 * len(directory.entries) > end:
+        if directory.following or directory.end > end:
             raise Broken("a further directory, or one that isn't in its box")
         return [it if it.size <= IN_ENTRY else it._replace(last=self._moved(it, start, end)) for it in directory.entries]
 
@@ -113,11 +108,11 @@ def _laid_out(note: bytes, budget: Budget) -> bytes:
     except Broken:
         return note
     places = [directories.place_of(it) for it in first.entries if it.size > IN_ENTRY]
-    reached = [it for it in places if it is not None]
-    rest = [octets for _, octets in gaps(note, [(0, 8), (first.at, first.at + 6 + 12 * len(first.entries)), *reached])]
+    reached = list(filter(None, places))
+    rest = [octets for _, octets in gaps(note, [(0, 8), (first.at, first.end), *reached])]
     if note[:4] not in HEADS or first.following or len(reached) < len(places) or rest not in _NOTHING:
         return note
-    return Layout(directories, Table(first.entries, {})).block()
+    return Layout(directories, Table(first.entries, {})).block("the MakerNote")
 
 
 _NOTHING: tuple[list[bytes], ...] = ([], [b"II*"], [b"MM\0*"])  # Canon writes a second header at the end, with an offset of 0

@@ -5,8 +5,6 @@ Not compared, because they contain no Exif, IPTC or XMP: comments, plain texts, 
 
 from __future__ import annotations
 
-from typing import Callable
-
 from ...model.budgets import BLOCK_BYTES, EXTENSIONS, budget_of
 from ...model.found import IPTC, XMP, Blocks, Broken
 from . import photoshop
@@ -19,6 +17,7 @@ _APPLICATION = 0xFF
 _OTHERS = (0xFE, 0xF9, 0x01)  # extensions without metadata: comments, controls of the next image, plain texts
 # After a packet of XMP. Whatever byte of it a reader of blocks takes as a length leads to the zero at its end.
 _MAGIC = b"\x01" + bytes(range(255, -1, -1)) + b"\0"
+_XMP, _IPTC, _RESOURCES = b"XMP DataXMP", b"MGKIPTC0000", b"MGK8BIM0000"
 _CREDENTIALS = {b"C2PA_GIF\1\0\0": CREDENTIALS}  # Content Credentials, A.4
 _WITHOUT = frozenset((b"NETSCAPE2.0", b"ANIMEXTS1.0", b"ICCRGBG1012"))
 
@@ -94,37 +93,27 @@ class _Reader:
         label = self.take(1)[0]
         start = self.at
         name = self.take(self.take(1)[0]) if label == _APPLICATION else b""
-        read = _READERS.get(name)
-        where = f"application extension at {at}"
-        if read is not None:
-            self.budget.spend(EXTENSIONS)
-            read(self, where)
+        if name in (_XMP, _IPTC, _RESOURCES):
+            self._add(name, f"application extension at {at}")
             return
         self.skip()
         if label not in _OTHERS and name not in _WITHOUT:
             word = _CREDENTIALS.get(name) or f"application extension {_word(name)}"
             leave(self.blocks, word if name else f"extension {label:02x}", self.stream, start, self.at)
 
-    def _xmp(self, where: str) -> None:
-        start = self.at
-        data = self.data()
-        self.stream.seek(start)
-        octets = self.stream.read(self.at - start)  # with the lengths, which are letters of the packet
-        # Some writers divide the packet into blocks as any other data
-        self.blocks.add(XMP, octets[: -len(_MAGIC)] if octets.endswith(_MAGIC) else data, where)
-
-    def _iptc(self, where: str) -> None:
-        self.blocks.add(IPTC, self.data(), where)
-
-    def _resources(self, where: str) -> None:
-        photoshop.add_resources(self.blocks, [(where, self.data())])
-
-
-_READERS: dict[bytes, Callable[[_Reader, str], None]] = {
-    b"XMP DataXMP": _Reader._xmp,
-    b"MGKIPTC0000": _Reader._iptc,
-    b"MGK8BIM0000": _Reader._resources,
-}
+    def _add(self, name: bytes, where: str) -> None:
+        """Adds the blocks of an application extension."""
+        self.budget.spend(EXTENSIONS)
+        start, data = self.at, self.data()
+        if name == _IPTC:
+            self.blocks.add(IPTC, data, where)
+        elif name == _RESOURCES:
+            photoshop.add_resources(self.blocks, [(where, data)])
+        else:
+            self.stream.seek(start)
+            octets = self.stream.read(self.at - start)  # with the lengths, which are letters of the packet
+            # Some writers divide the packet into blocks as any other data
+            self.blocks.add(XMP, octets[: -len(_MAGIC)] if octets.endswith(_MAGIC) else data, where)
 
 
 def _word(name: bytes) -> str:

@@ -7,6 +7,7 @@ that no item has.
 from __future__ import annotations
 
 import zlib
+from operator import itemgetter
 
 from ...model.budgets import BOX_BYTES, budget_of
 from ...model.found import EXIF, IN_PICTURE, XMP, Blocks, Broken, NotRead
@@ -67,10 +68,9 @@ class Reader:
         """Adds the blocks of all items."""
         known: set[bytes] = set()
         for box in boxes(self.stream, meta.start + 4, meta.end):
-            if box.kind in READERS or box.kind == b"iprp":
-                if box.kind in known:
-                    raise Broken(f"a second {box.name} at {box.at}")
-                known.add(box.kind)
+            if box.kind in known:
+                raise Broken(f"a second {box.name} at {box.at}")
+            known |= {box.kind} & {*READERS, b"iprp"}
             if box.kind in READERS:
                 self.items.read(box)
             elif box.kind == b"iprp":
@@ -92,11 +92,10 @@ class Reader:
 
     def _properties(self, iprp: Box) -> None:
         for box in boxes(self.stream, iprp.start, iprp.end):
-            if box.kind == b"ipco":
-                for inner in boxes(self.stream, box.start, box.end):
-                    if inner.kind not in PROPERTIES:
-                        self._leave(inner.name.replace(" box", " property"), inner)
-            elif box.kind != b"ipma":
+            for inner in boxes(self.stream, box.start, box.end) if box.kind == b"ipco" else ():
+                if inner.kind not in PROPERTIES:
+                    self._leave(inner.name.replace(" box", " property"), inner)
+            if box.kind not in (b"ipco", b"ipma"):
                 self._leave(f"{box.name} in iprp", box)
 
     def _take(self, item: Item, names: dict[int, str]) -> None:
@@ -140,15 +139,17 @@ class Reader:
     def ranges(self, item: Item) -> list[tuple[int, int]] | None:
         """The parts of the file that an item has; None if it is elsewhere, or consists of other items."""
         place = self.items.places.get(item.number)
-        idat = self.items.idat
-        if place is None or place.is_elsewhere or place.method > 1 or (place.method == 1 and idat is None):
-            return None
-        start, end = (idat.start, idat.end) if place.method == 1 and idat is not None else (0, size_of(self.stream))
-        if not place.has_lengths or (place.method == 1 and any(not length for _, length in place.extents)):
-            return None  # all of the file or of idat
+        if place is None or place.is_elsewhere or not place.has_lengths or place.method > 1:
+            return None  # without lengths it is all of the file or of idat
+        start, end, fault = 0, size_of(self.stream), f"the file ends inside item {item.number}"
+        if place.method:
+            idat = self.items.idat
+            if idat is None or not all(map(itemgetter(1), place.extents)):
+                return None
+            start, end, fault = idat.start, idat.end, f"item {item.number} isn't in the file"
         ranges = [(start + offset, start + offset + length) for offset, length in place.extents]
-        if any(stop > end for _, stop in ranges):
-            raise Broken(f"the file ends inside item {item.number}" if place.method == 0 else f"item {item.number} isn't in the file")
+        if max(ranges, key=itemgetter(1), default=(0, 0))[1] > end:
+            raise Broken(fault)
         return ranges
 
     def _data(self, ranges: list[tuple[int, int]]) -> bytes:

@@ -113,9 +113,10 @@ class Items:
         offset, length, base, index = sizes >> 12, sizes >> 8 & 15, sizes >> 4 & 15, sizes & 15 if version else 0
         if version > 2 or not {offset, length, base, index} <= {0, 4, 8}:
             raise Broken("the iloc box has another form")
-        for _ in range(fields.number(4 if version == 2 else 2)):
+        wide = 4 if version == 2 else 2
+        for _ in range(fields.number(wide)):
             self.budget.spend(EXTENTS)
-            number = fields.number(4 if version == 2 else 2)
+            number = fields.number(wide)
             method = fields.number(2) & 15 if version else 0
             is_elsewhere = fields.number(2) != 0
             start = fields.number(base)

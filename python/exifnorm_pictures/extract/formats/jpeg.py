@@ -13,7 +13,6 @@ from exifnorm._library import library
 
 from ...model.budgets import RESOURCES, Budget, budget_of
 from ...model.found import CUT, EXIF, IPTC, REST, SIX, XMP, XMP_HEAD, Blocks, Broken, NotRead
-from ...model.texts import in_words
 from . import mpf, photoshop
 from .extended_xmp import HEAD as EXTENDED, Pieces
 from .jpeg_segments import APP0, APP1, APP13, APP14, APP15, APP2, APP3, COM, SOI
@@ -21,8 +20,8 @@ from .jpeg_segments import EXIF_PIECE, NOT_COMPARED, PHOTOSHOP_PIECE, XMP_PACKET
 from .jpeg_segments import Head, blocks_of, not_compared, read_head, read_up_to
 from .jpeg_tail import ALONE, WINDOW, Markers, Tail, segments, tail
 from .parts import CREDENTIALS, METADATA, PICTURE, REST as THE_REST, STRUCTURE, Part, Range, word
-from .streams import HEAD, Stream, digest_of, digest_of_rest, read_at, size_of
-from .trailers import add_blocks, known_trailer
+from .streams import HEAD, Stream, digest_of, read_at, size_of
+from .trailers import known_trailer, leave_trailer
 
 START = b"\xff\xd8\xff"
 NO_END_MARK = f"{CUT}before the end mark of its picture"  # which a decoder may still read wholly
@@ -149,16 +148,22 @@ _RESOURCES, _INDEX = "Photoshop resources", "MPF index"
 _WHERE = ("APP1 segment at %d", "APP1 segment at %d", "Photoshop resource 0404 in the APP13 segment at %d")
 
 
+# Marks that the library doesn't know, in their segments, and what these have. All but that of an
+# index are lenient forms.
+_MARKS = (
+    (APP1, _EXIF_LIKE, EXIF),
+    (APP1, _XMP_LIKE, XMP),
+    (APP13, re.compile(rb"Adobe_Photoshop2\.5:.{0,8}", re.S), _RESOURCES),  # of an older Photoshop
+    (APP2, re.compile(re.escape(mpf.HEAD)), _INDEX),
+)
+
+
 def _kind_of(marker: int, data: bytes) -> tuple[str, int]:
     """What a segment has whose mark the library doesn't know, and the length of the mark; or its name."""
-    if marker == APP1 and (like := _EXIF_LIKE.match(data)):  # a lenient form: a mark that is written in another way
-        return EXIF, like.end()
-    if marker == APP1 and (like := _XMP_LIKE.match(data)):
-        return XMP, like.end()
-    if marker == APP13 and data.startswith(photoshop.OLD_HEAD):  # a lenient form: the mark of an older Photoshop
-        return _RESOURCES, photoshop.OLD_HEAD_LENGTH
-    if marker == APP2 and data.startswith(mpf.HEAD):
-        return _INDEX, len(mpf.HEAD)
+    for of, mark, kind in _MARKS:
+        found = mark.match(data) if of == marker else None
+        if found:
+            return kind, found.end()
     if marker == APP3 and data.startswith(_META):
         return "APP3 segment Meta", 0
     name = f"APP{marker - APP0} segment"
@@ -200,25 +205,20 @@ def _read_after(stream: Stream, head: _Head, end: int, whole: bool) -> None:
     if not rest.is_read:
         head.blocks.not_read.append(NotRead(f"what follows the first scan{head.of}, {end - head.end:,} bytes", ""))
         return
-    if rest.has_mark and rest.end >= end:
-        return
-    trailer = known_trailer(stream, end)
-    if not rest.has_mark and trailer is None and end == size_of(stream):
+    if not (rest.has_mark and rest.end >= end):
+        _leave_rest(stream, head, rest, end)
+
+
+def _leave_rest(stream: Stream, head: _Head, rest: Tail, end: int) -> None:
+    """Names what follows a picture, which may have no end mark."""
+    is_last, start = end == size_of(stream), rest.end
+    if not rest.has_mark and known_trailer(stream, end):
+        start = max(head.end, end - WINDOW)
+    elif not rest.has_mark and is_last:
         head.blocks.damage = NO_END_MARK
-    start = rest.end if rest.has_mark or trailer is None else max(head.end, end - WINDOW)
-    digest = digest_of_rest(stream, start, end) if start < end else None
-    if digest is None:
-        return
-    is_read = rest.has_mark and end == size_of(stream) and add_blocks(head.blocks, stream, start, end)
-    head.blocks.has_more = head.blocks.has_more or (trailer is not None and trailer.may_hold_blocks and not is_read)
-    what = f"{trailer.name} trailer" if trailer else _kind_of_rest(stream, start, end)
-    head.blocks.not_read.append(NotRead(f"{what} of {in_words(end - start, 'byte')}{head.of}", digest))
-
-
-def _kind_of_rest(stream: Stream, at: int, end: int) -> str:
-    stream.seek(at)
-    first = stream.read(min(64, end - at)).lstrip(b"\0")
-    return "second picture" if first.startswith(START) else "trailer"
+    first = read_up_to(stream, start, min(64, max(end - start, 0))).lstrip(b"\0")
+    word = "second picture" if first.startswith(START) else "trailer"
+    leave_trailer(head.blocks, stream, start, end, head.of, word, rest.has_mark and is_last)
 
 
 _BESIDE = frozenset((*range(APP0, APP14), APP15, COM))  # markers of segments that say nothing of how to decode the picture
@@ -240,24 +240,24 @@ def parts(stream: Stream, head: Head, budget: Budget) -> Iterator[Part]:
         if following.fault or not following.has_scan:
             yield Part(THE_REST, start, end, f"MPF picture {number}")
         else:
-            yield from _of_picture(stream, following, start, end, budget, f"MPF picture {number}")
+            yield from _of_rest(_of_picture(stream, following, start, end, budget), f"MPF picture {number}")
 
 
-def _of_picture(stream: Stream, head: Head, start: int, end: int, budget: Budget, name: str = "") -> Iterator[Part]:
-    """The same of one picture up to `end`. One with a name is a rest itself."""
+def _of_picture(stream: Stream, head: Head, start: int, end: int, budget: Budget) -> Iterator[Part]:
+    """The same of one picture up to `end`. Raises `Broken` if the first one has no end mark."""
     if head.fault or not head.has_scan:
         raise Broken(head.fault or f"no scan before {head.end}")
-    yield from _of_rest(_of_head(head, start, budget), name) if name else _of_head(head, start, budget)
-    kind, begin = THE_REST if name else PICTURE, start + head.parts[-1][3] - 4
+    yield from _of_head(head, start, budget)
+    begin = start + head.parts[-1][3] - 4
     markers = Markers(stream, begin, end)
     for marker, here in segments(markers):
         if marker in _BESIDE:
-            yield Part(kind, begin, here, name or SCAN)
-            yield Part(THE_REST, here, markers.at, f"segment behind the first scan{f' of {name}' if name else ''}")
+            yield Part(PICTURE, begin, here, SCAN)
+            yield Part(THE_REST, here, markers.at, "segment behind the first scan")
             begin = markers.at
-    if marker == 0 and not name:
+    if marker == 0 and not start:
         raise Broken(NO_END_MARK)
-    yield Part(kind, begin, markers.at, name or SCAN)
+    yield Part(PICTURE, begin, markers.at, SCAN)
 
 
 def _of_rest(parts: Iterator[Part], name: str) -> Iterator[Part]:
@@ -266,7 +266,7 @@ def _of_rest(parts: Iterator[Part], name: str) -> Iterator[Part]:
         if part.kind == PICTURE:
             yield part._replace(kind=THE_REST, name=name)
         else:
-            yield part._replace(name=part.name + f" of {name}" * (part.kind == THE_REST))
+            yield part._replace(name=f"{part.name} of {name}") if part.kind == THE_REST else part
 
 
 def _of_head(head: Head, start: int, budget: Budget) -> Iterator[Part]:

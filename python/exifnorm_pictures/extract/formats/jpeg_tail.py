@@ -113,7 +113,7 @@ def segments(markers: Markers) -> Iterator[tuple[int, int]]:
 
 def _scanned(markers: Markers) -> Tail:
     """Reads all bytes after the first scan's header."""
-    places: "list[tuple[int, int]]" = []
+    places = []
     last = 0
     for last, at in segments(markers):
         if last in (APP1, APP13):

@@ -12,6 +12,7 @@ HEAD = b"MPF\0"
 _MP_ENTRIES = 0xB002
 _ENTRY = "4xII4x"  # of `struct`: its length and its offset
 _ENTRY_LENGTH = 16
+_NO_ENTRIES = (_MP_ENTRIES, 0, 1, 0)  # which are no list
 
 
 def further_pictures(data: bytes, base: int) -> list[tuple[int, int]]:
@@ -24,8 +25,8 @@ def further_pictures(data: bytes, base: int) -> list[tuple[int, int]]:
     index = next(directories(data), None)
     if index is None or not index.is_whole:
         raise Broken("the MPF index is cut")
-    place = next(((last, last + elements) for tag, _, elements, last in index.rows if tag == _MP_ENTRIES), None)
-    if place is None or (place[1] - place[0]) % _ENTRY_LENGTH or place[1] > len(data):
+    start, length = next((it[3], it[2]) for it in (*index.rows, _NO_ENTRIES) if it[0] == _MP_ENTRIES)
+    if length % _ENTRY_LENGTH or start + length > len(data):
         raise Broken("the MPF index has no list of pictures")
-    entries = struct.iter_unpack(order_of(data) + _ENTRY, data[slice(*place)])
+    entries = struct.iter_unpack(order_of(data) + _ENTRY, data[start : start + length])
     return [(base + offset, length) for length, offset in entries if offset]

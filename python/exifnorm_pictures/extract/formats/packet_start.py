@@ -22,7 +22,9 @@ def begins_packet(data: bytes) -> bool | None:
     >>> begins_packet(b"<!-- a --><r:RDF xmlns:r="), begins_packet(b"<svg>"), begins_packet(b"<?xml version=")
     (True, False, None)
     """
-    data = _in_utf8(data)
+    encoding = encoding_of(data)
+    if encoding != "utf-8":  # of which a character may be cut at the end
+        data = codecs.getincrementaldecoder(encoding)("replace").decode(data).encode("utf-8")
     at = 0
     while part := _BEFORE.match(data, at):
         at = part.end()
@@ -32,9 +34,3 @@ def begins_packet(data: bytes) -> bool | None:
     if element:
         return element[1] in _ROOTS
     return None if _UNFINISHED.match(data, at) else False
-
-
-def _in_utf8(data: bytes) -> bytes:
-    """The same text in UTF-8, without a character that is cut at the end."""
-    encoding = encoding_of(data)
-    return data if encoding == "utf-8" else codecs.getincrementaldecoder(encoding)("replace").decode(data).encode("utf-8")

@@ -9,6 +9,7 @@ from __future__ import annotations
 
 import hashlib
 from bisect import bisect_right
+from collections import deque
 from heapq import heappop, heappush
 from itertools import accumulate
 from operator import itemgetter, le
@@ -46,7 +47,7 @@ def whole(stream: Stream, claims: Iterable[Part]) -> list[Part]:
     [('picture', 0, 2, ''), ('metadata', 2, 3, ''), ('rest', 3, 6, 'trailer')]
     """
     at, size = 0, size_of(stream)
-    parts: list[Part] = []
+    parts = []
     for part in [*_disjoint(claims, size), Part(STRUCTURE, size, size)]:
         if at < part.start:
             is_filling = budget_of(stream).may_digest(part.start - at) and is_blank(stream, at, part.start)
@@ -63,24 +64,30 @@ def _disjoint(claims: Iterable[Part], size: int) -> list[Part]:
     ordered = sorted(every, key=itemgetter(1))
     if all(map(le, [it[2] for it in ordered], [*(it[1] for it in ordered[1:]), size])):
         return ordered  # as of nearly all files
-    waiting = sorted((it.start, number, min(it.end, size), it) for number, it in enumerate(every))
-    bounds = sorted({bound for start, _, end, _ in waiting for bound in (start, end)})
-    open_: list[tuple[int, int, Part]] = []  # the claims to the bytes at a bound, the first one in front
     taken: list[Part] = []
-    place, last = 0, -1
-    for at, end in zip(bounds, bounds[1:]):
-        while place < len(waiting) and waiting[place][0] == at:
-            heappush(open_, waiting[place][1:])
-            place += 1
-        while open_ and open_[0][1] <= at:
-            heappop(open_)
-        number, _, claim = open_[0] if open_ else (-1, 0, None)
-        if claim and taken and last == number and taken[-1].end == at:
+    last = -1
+    for number, start, end in _by_bounds(every, size):
+        if last == number and taken[-1].end == start:
             taken[-1] = taken[-1]._replace(end=end)
-        elif claim:
-            taken.append(claim._replace(start=at, end=end))
+        else:
+            taken.append(every[number]._replace(start=start, end=end))
         last = number
     return taken
+
+
+def _by_bounds(every: list[Part], size: int) -> Iterator[tuple[int, int, int]]:
+    """The ranges between the bounds of some claims that one of them gets: the number of the first
+    that has it."""
+    waiting = deque(sorted((it.start, number, min(it.end, size)) for number, it in enumerate(every)))
+    bounds = sorted({bound for start, _, end in waiting for bound in (start, end)})
+    open_: list[tuple[int, int]] = []  # the claims to the bytes at a bound, the first one in front
+    for at, end in zip(bounds, bounds[1:]):
+        while waiting and waiting[0][0] == at:
+            heappush(open_, waiting.popleft()[1:])
+        while open_ and open_[0][1] <= at:
+            heappop(open_)
+        if open_:
+            yield open_[0][0], at, end
 
 
 Chunk = tuple[int, bytes, int]  # its offset, its kind and its length; its content begins after eight bytes

@@ -6,6 +6,7 @@ an even length (Adobe Photoshop File Formats Specification, "Image Resource Bloc
 
 from __future__ import annotations
 
+from itertools import chain
 from typing import Iterator, Sequence
 
 import exifnorm
@@ -15,14 +16,13 @@ from ...model.found import EXIF, FEW, IPTC, SIX, XMP, Blocks
 from .parts import METADATA, REST, STRUCTURE, Joined, Part, Range
 
 HEAD = b"Photoshop 3.0\0"
-OLD_HEAD = b"Adobe_Photoshop2.5:"
-OLD_HEAD_LENGTH = 27  # with the eight bytes after the text
 SIGNATURES = (b"8BIM", b"PHUT", b"AgHg", b"DCSR", b"MeSa")  # Photoshop, PhotoDeluxe, Lightroom, and two that are not documented
 
 _KINDS = {0x0404: IPTC, 0x0422: EXIF, 0x0424: XMP}
 _MORE_EXIF = 0x0423
 _SUM = 0x0425  # MD5 of the record for which Photoshop wrote the packet of XMP
 KEPT = (*_KINDS, _MORE_EXIF, _SUM)  # the resources that are looked at: nothing but its number says that another one has no metadata
+_CLASSES = {**dict.fromkeys(_KINDS, METADATA), _SUM: STRUCTURE}
 _HEAD = 12  # bytes of a resource without a name before its data
 _NAMES = {
     0x03ED: "resolution",
@@ -100,20 +100,26 @@ def add_one(blocks: Blocks, number: int, data: bytes, where: str, part: str = ""
 def parts(runs: Sequence[Sequence[Range]], data: Sequence[bytes], most: int = LIMITS[RESOURCES]) -> Iterator[Part]:
     """The parts of some runs of resources, each run with its ranges in the file and its bytes. Raises `TooMuch`."""
     if len(runs) > 1 and any(resources(it, most)[1] for it in data[:-1]):
-        runs, data = [[it for run in runs for it in run]], [b"".join(data)]
+        runs, data = [list(chain.from_iterable(runs))], [b"".join(data)]
     for ranges, octets in zip(runs, data):
-        rows, rest = resources(octets, most)
-        joined, at = Joined(ranges), 0
-        for number, start, size in rows:
-            kind = METADATA if number in _KINDS else STRUCTURE if number == _SUM else REST
-            name = name_of(number)
-            head = REST if kind == REST or start - at > _HEAD else STRUCTURE
-            end = start + size
-            for what, first, last in ((head, at, start), (kind, start, end), (STRUCTURE, end, min(end + size % 2, len(octets)))):
-                yield from (Part(what, *it, name if what == REST else "") for it in joined.placed(first, last))
-            at = end + size % 2
-        behind = (REST, "bytes behind the Photoshop resources") if rest else (STRUCTURE, "")
-        yield from (Part(behind[0], *it, behind[1]) for it in joined.placed(at, joined.length))
+        joined = Joined(ranges)
+        for kind, first, last, name in _parts(octets, most):
+            yield from (Part(kind, *it, name) for it in joined.placed(first, last))
+
+
+def _parts(octets: bytes, most: int) -> Iterator[Part]:
+    """The parts of one run, whose places count from its start."""
+    rows, rest = resources(octets, most)
+    at = 0
+    for number, start, size in rows:
+        kind, name = _CLASSES.get(number, REST), name_of(number)
+        has_name = kind == REST or start - at > _HEAD  # of its own, which is no structure
+        end = start + size
+        yield Part(REST, at, start, name) if has_name else Part(STRUCTURE, at, start)
+        yield Part(kind, start, end, name * (kind == REST))
+        yield Part(STRUCTURE, end, min(end + size % 2, len(octets)))
+        at = end + size % 2
+    yield Part(REST, at, len(octets), "bytes behind the Photoshop resources") if rest else Part(STRUCTURE, at, len(octets))
 
 
 def has_rest(data: bytes) -> bool:

@@ -7,14 +7,13 @@ ExifTool alone (its modules Sony, PanasonicRaw, SamsungRaw), and that of DNG fro
 from __future__ import annotations
 
 import hashlib
-
-from exifnorm import LIMIT
+from operator import itemgetter
 
 from ...model.budgets import DIRECTORIES
 from ...model.found import EXIF, IN_PICTURE, Blocks, Broken, NotRead
 from ...model.tiff_types import HEADS, IFD, LONG
 from .embedded import add_jpeg
-from .streams import Window, digest_of_rest, read_at
+from .streams import Window, leave_whole, read_at
 from .tiff_block import Layout, Table, is_pointer
 from .tiff_directories import Directories, Directory, Reached
 from .tiff_entries import IN_ENTRY, Entry
@@ -28,6 +27,12 @@ _IDC = (0x7240, 0x7241)  # the offsets of directories that Sony's program Image 
 _JPEGS = (0x002E, 0x0127)
 _PANASONIC_PIXELS, _PANASONIC_CAMERA = 0x0118, 0x0120
 _BYTES = (1, 7)  # BYTE and UNDEFINED
+_FILES = {  # by the tags of values that are files by themselves
+    _JPEGS[0]: "embedded JPEG",
+    _JPEGS[1]: "second embedded JPEG",
+    _ORIGINAL: "the original raw file in",
+    _PANASONIC_CAMERA: "Panasonic's CameraIFD of",
+}
 TAGS = frozenset((_SONY, _ORIGINAL, _PROFILES, _SAMSUNG))
 PANASONIC_TAGS = TAGS | {*_JPEGS, _PANASONIC_PIXELS, _PANASONIC_CAMERA}
 _PROFILE_HEADS = (b"IIRC", b"MMCR", *HEADS)
@@ -47,48 +52,37 @@ class Private:
 
         Where an offset has a type that is none for offsets, ExifTool gives up the whole directory, so such a file isn't read here.
         """
+        if entry.tag in _FILES:
+            return self._file(entry, of)
+        if entry.tag == _SONY and entry.size != 4:  # as in a DNG, where it is a value
+            return False
+        has_offset = {_SONY: entry.type in (*_BYTES, LONG), _PANASONIC_PIXELS: is_pointer(entry)}
+        if not has_offset.get(entry.tag, True):
+            raise Broken(f"the entry {entry.tag:04x} of {of} has no offset")
         if entry.tag == _SONY:
-            if entry.size != 4:  # as in a DNG, where it is a value
-                return False
-            if entry.type not in (*_BYTES, LONG):
-                raise Broken(f"the entry {entry.tag:04x} of {of} has no offset")
             self._sony(entry, f"Sony's private directory of {of}")
-        elif entry.tag == _ORIGINAL:
-            return self._compare(entry, f"the original raw file in {of}")
         elif entry.tag == _PROFILES:
             self._profiles(entry)
         elif entry.tag == _SAMSUNG:
             self.blocks.name(NotRead(f"what Samsung's offsets of {of} lead to", ""))
-        elif entry.tag in _JPEGS:
-            return self._jpeg(entry)
-        elif entry.tag == _PANASONIC_CAMERA:
-            return self._compare(entry, f"Panasonic's CameraIFD of {of}")
-        elif entry.tag == _PANASONIC_PIXELS:
-            if not is_pointer(entry):
-                raise Broken(f"the entry {entry.tag:04x} of {of} has no offset")
+        else:
             if self.directories.number(entry.last) >= self.directories.size:
                 self.blocks.damage = IN_PICTURE
-            self._reached.add(self.directories.size, self.directories.size)  # they have no length, and no trailer is known
+            # the pixels have no length, and no trailer is known
+            self._reached.add(self.directories.size, self.directories.size)
         return True
 
-    def _place_of(self, entry: Entry) -> tuple[int, int] | None:
-        """The range of a value of bytes that is a file by itself."""
-        return self.directories.place_of(entry) if entry.type in _BYTES else None
-
-    def _compare(self, entry: Entry, what: str) -> bool:
-        """A value that is compared by its bytes. Returns whether there is one."""
-        place = self._place_of(entry)
+    def _file(self, entry: Entry, of: str) -> bool:
+        """A value of bytes that is a file by itself: a JPEG, or one that is compared by its bytes.
+        Returns whether there is one."""
+        place = self.directories.place_of(entry) if entry.type in _BYTES else None
         if place is None:
             return False
-        self.blocks.name(NotRead(what, digest_of_rest(self.directories.stream, *place) or ""))
-        return True
-
-    def _jpeg(self, entry: Entry) -> bool:
-        place = self._place_of(entry)
-        if place is None:
-            return False
-        part = "embedded JPEG" if entry.tag == _JPEGS[0] else "second embedded JPEG"
-        add_jpeg(self.blocks, self.directories.stream, place[0], entry.size, part, self._whole)
+        what, stream = _FILES[entry.tag], self.directories.stream
+        if entry.tag in _JPEGS:
+            add_jpeg(self.blocks, stream, place[0], entry.size, what, self._whole)
+        else:
+            leave_whole(self.blocks, f"{what} {of}", stream, *place)
         return True
 
     def _sony(self, entry: Entry, what: str) -> None:
@@ -107,17 +101,16 @@ class Private:
         for entry in directory.entries:
             if entry.tag != _SR2[0]:
                 digest.update(b"%d %d %d " % (entry.tag, entry.type, entry.elements) + self._value(entry))
-        inner = [one for tag in _SR2 for one in directory.entries if one.tag == tag]
-        if any(one.tag in _IDC for one in directory.entries) or [one.tag for one in inner] not in ([], list(_SR2)):
+        inner = sorted((it for it in directory.entries if it.tag in (*_SR2, *_IDC)), key=itemgetter(0))
+        if not inner:
+            return digest.hexdigest()
+        if tuple(map(itemgetter(0), inner)) != _SR2 or not all(map(is_pointer, inner)):
             return ""
-        if inner:
-            if not all(map(is_pointer, inner)):
-                return ""
-            start, length = (self.directories.number(one.last) for one in inner)
-            if start + length > self.directories.size:
-                return ""
-            digest.update(self.directories.part(start, start + length))
-            self._reached.add(start + length, start)
+        start, length = (self.directories.number(it.last) for it in inner)
+        if start + length > self.directories.size:
+            return ""
+        digest.update(self.directories.part(start, start + length))
+        self._reached.add(start + length, start)
         return digest.hexdigest()
 
     def _value(self, entry: Entry) -> bytes:
@@ -145,20 +138,9 @@ class Private:
             raise Broken(f"{part} has no header")
         directories = Directories(inside)
         directory = directories.read(directories.first)
-        for place in _parts(directories, directory):
-            self._reached.add(start + place[1], start + place[0])
-        add_directory(self.blocks, directories, directory, directory.entries, f"camera profile at {start}", part)
+        values = filter(None, map(directories.place_of, directory.entries))
+        for begin, end in ((0, 8), (directory.at, directory.end), *values):
+            self._reached.add(start + end, start + begin)
+        block = Layout(directories, Table(directory.entries, {})).block(part)
+        self.blocks.add(EXIF, block, f"camera profile at {start}", part)
         directories.check()
-
-
-def _parts(directories: Directories, directory: Directory) -> list[tuple[int, int]]:
-    """The parts of a file that a directory with its header and its values takes."""
-    return [(0, 8), (directory.at, directory.end), *filter(None, map(directories.place_of, directory.entries))]
-
-
-def add_directory(blocks: Blocks, directories: Directories, directory: Directory, kept: list[Entry], where: str, part: str) -> None:
-    """Adds some entries of a directory without pointers as a block. Raises `Broken`."""
-    layout = Layout(directories, Table(kept, {}))
-    if layout.length > LIMIT:
-        raise Broken(f"{part} has more than {LIMIT:,} bytes of values")
-    blocks.add(EXIF, layout.block(), where, part)

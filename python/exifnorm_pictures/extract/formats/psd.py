@@ -11,10 +11,9 @@ from typing import NamedTuple
 
 from ...model.budgets import RESOURCES, RESOURCE_BYTES, STRIPS, budget_of
 from ...model.found import IN_PICTURE, Blocks, Broken, NotRead
-from ...model.texts import in_words
 from . import photoshop
-from .streams import Stream, digest_of_rest, leave, pieces, read_at, size_of
-from .trailers import add_blocks, known_trailer
+from .streams import Stream, leave, pieces, read_at, size_of
+from .trailers import known_trailer, leave_trailer
 
 START = b"8BPS"
 _BIG = 2  # the version of a PSB, some of whose numbers are wider
@@ -102,14 +101,8 @@ def _end_of_picture(header: _Header, stream: Stream, at: int) -> int | None:
 
 def _leave_trailer(blocks: Blocks, stream: Stream, start: int | None, end: int) -> None:
     """Names what programs append to a picture, in which ExifTool may find blocks."""
-    trailer = known_trailer(stream, end)
-    if start is None:
-        if trailer is not None:
-            blocks.name(NotRead(f"{trailer.name} trailer", ""))
-            blocks.has_more = trailer.may_hold_blocks
-        return
-    digest = digest_of_rest(stream, start, end) if start < end else None
-    if digest is not None:
-        is_read = add_blocks(blocks, stream, start, end)
-        blocks.has_more = trailer is not None and trailer.may_hold_blocks and not is_read
-        blocks.name(NotRead(f"{trailer.name if trailer else ''} trailer of {in_words(end - start, 'byte')}".lstrip(), digest))
+    if start is not None:
+        leave_trailer(blocks, stream, start, end)
+    elif trailer := known_trailer(stream, end):
+        blocks.name(NotRead(f"{trailer.name} trailer", ""))
+        blocks.has_more = trailer.may_hold_blocks

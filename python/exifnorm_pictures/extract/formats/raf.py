@@ -8,12 +8,11 @@ from __future__ import annotations
 
 
 from ...model.budgets import budget_of
-from ...model.found import Blocks, Broken, NotRead
+from ...model.found import EXIF, Blocks, Broken, NotRead
 from ...model.tiff_types import HEADS
 from .embedded import add_jpeg
-from .private import add_directory
-from .streams import Stream, Window, digest_of_rest, leave_rest, read_at, size_of
-from .tiff_block import is_pointer
+from .streams import Stream, Window, leave_rest, leave_whole, read_at, size_of
+from .tiff_block import Layout, Table, is_pointer
 from .tiff_directories import Directories
 
 START = b"FUJIFILMCCD-RAW "
@@ -32,26 +31,31 @@ def read(stream: Stream, whole: bool = False) -> Blocks:
     size = size_of(stream)
     head = read_at(stream, 0, _HEADER)
     jpeg, length = _place(head, _JPEG)
-    if jpeg < _JPEG + 8 or not length or jpeg + length > size:
-        raise Broken("the file ends inside the JPEG of the RAF" if jpeg + length > size else "the JPEG of the RAF isn't in the file")
+    if jpeg + length > size:
+        raise Broken("the file ends inside the JPEG of the RAF")
+    if jpeg < _JPEG + 8 or not length:
+        raise Broken("the JPEG of the RAF isn't in the file")
     add_jpeg(blocks, stream, jpeg, length, "", whole)
     end = jpeg + length
-    for at in (_SEVERAL, *_DIRECTORIES, *_TIFFS):
+    if all(_place(head, _SEVERAL)) and _SEVERAL + 8 <= jpeg:
+        blocks.name(NotRead("Fujifilm's header of several pictures", ""))
+    for at in (*_DIRECTORIES, *_TIFFS):
         start, length = _place(head, at)
-        if at + 8 > jpeg or not start or not length:
-            continue
-        if at == _SEVERAL:
-            blocks.name(NotRead("Fujifilm's header of several pictures", ""))
-            continue
-        end = max(end, start + length)
-        if start + length > size:
-            raise Broken(f"the file ends inside the part at {start}")
-        elif at in _DIRECTORIES:
-            blocks.name(NotRead("Fujifilm's directory of the raw data", digest_of_rest(stream, start, start + length) or ""))
-        elif read_at(stream, start, 4) in HEADS:
-            _add_own(blocks, Window(stream, start, length), start)
+        if at + 8 <= jpeg and 0 not in (start, length):
+            end = max(end, start + length)
+            if end > size:
+                raise Broken(f"the file ends inside the part at {start}")
+            _add_part(blocks, stream, start, length, at)
     leave_rest(blocks, stream, end)
     return blocks
+
+
+def _add_part(blocks: Blocks, stream: Stream, start: int, length: int, at: int) -> None:
+    """Adds or names a part whose place is at an offset of the header."""
+    if at in _DIRECTORIES:
+        leave_whole(blocks, "Fujifilm's directory of the raw data", stream, start, start + length)
+    elif read_at(stream, start, 4) in HEADS:
+        _add_own(blocks, Window(stream, start, length), start)
 
 
 def _place(head: bytes, at: int) -> tuple[int, int]:
@@ -64,14 +68,14 @@ def _add_own(blocks: Blocks, stream: Window, start: int) -> None:
     directories = Directories(stream)
     first = directories.read(directories.first)
     pointers = [it for it in first.entries if it.tag == _FUJI]
-    own = [(first, "Fujifilm's TIFF")]
     if first.following or len(pointers) > 1 or not all(map(is_pointer, pointers)):
         raise Broken(f"Fujifilm's directory at {start} has another form than is known")
-    own += [(directories.read(directories.number(it.last)), "Fujifilm's directory of pixels") for it in pointers]
-    if not all(is_pointer(it) for one, _ in own for it in one.entries if it.tag in _PIXELS):
-        raise Broken(f"Fujifilm's directory at {start} has pixels without an offset")
-    for directory, part in own:
-        kept = [it for it in directory.entries if it.tag not in _PIXELS and it not in pointers]
-        if kept:
-            add_directory(blocks, directories, directory, kept, f"directory at {start + directory.at}", part)
+    further = [directories.read(directories.number(it.last)) for it in pointers]
+    for directory, part in zip((first, *further), ("Fujifilm's TIFF", "Fujifilm's directory of pixels")):
+        pixels = [it for it in directory.entries if it.tag in _PIXELS]
+        if not all(map(is_pointer, pixels)):
+            raise Broken(f"Fujifilm's directory at {start} has pixels without an offset")
+        if kept := [it for it in directory.entries if it not in (*pixels, *pointers)]:
+            block = Layout(directories, Table(kept, {})).block(part)
+            blocks.add(EXIF, block, f"directory at {start + directory.at}", part)
     directories.check()

@@ -219,6 +219,11 @@ def leave(blocks: Blocks, what: str, stream: Stream, start: int, end: int) -> No
         blocks.name(NotRead(what, digest))
 
 
+def leave_whole(blocks: Blocks, what: str, stream: Stream, start: int, end: int) -> None:
+    """The same of a part that is named whatever it has."""
+    blocks.name(NotRead(what, digest_of_rest(stream, start, end) or ""))
+
+
 def leave_rest(blocks: Blocks, stream: Stream, end: int) -> None:
     """Names the bytes after the end of a picture, if there are any."""
     size = size_of(stream)

@@ -11,9 +11,8 @@ import contextlib
 import hashlib
 import itertools
 from collections import deque
+from operator import itemgetter
 from typing import Iterable, Iterator, NamedTuple
-
-from exifnorm import LIMIT
 
 from ...model.budgets import DIRECTORIES, STRIPS
 from ...model.found import CUT, EXIF, IN_PICTURE, IPTC, REST, XMP, Blocks, Broken, NotRead
@@ -23,7 +22,7 @@ from ..structure import counted, placed
 from . import photoshop
 from .parts import METADATA, PICTURE, PROFILE, REST as THE_REST, STRUCTURE, Part
 from .private import RW2_HEAD, Private
-from .streams import Stream, digest_of_rest, leave_rest, pieces
+from .streams import Stream, leave_rest, leave_whole, pieces
 from .tiff_block import Layout, Table, is_directory
 from .tiff_directories import Directories, Directory, Reached
 from .tiff_entries import BIG as BIG_TIFF, IN_ENTRY, PIXELS, SUB_IFDS, Entry
@@ -36,8 +35,10 @@ BIG, BIG_HEADS = "BigTIFF", (b"II+\0", b"MM\0+")  # with offsets and counts of e
 DEEPEST = 10  # SubIFDs below one another
 
 _FREE = (0x0120, 0x0121)  # which Panasonic uses for other things
+_LISTS = {**PIXELS, SUB_IFDS: "SubIFDs"}  # of offsets and lengths, which no block has
 _PAIRS = ((0x0111, 0x0117), (0x0144, 0x0145), (0x0201, 0x0202))
 _XMP, _IPTC, _PHOTOSHOP, _PROFILE, _LAYERS = 0x02BC, 0x83BB, 0x8649, 0x8773, 0x935C
+_KINDS = {_XMP: XMP, _IPTC: IPTC}
 _NAMES = {_PROFILE: PROFILE, _LAYERS: "Photoshop's layers"}  # of values that are rest
 _OWN = frozenset((_XMP, _IPTC, _PHOTOSHOP, _LAYERS))  # which aren't in the block of their directory
 _Pointers = dict[int, "_Pointers"]
@@ -60,6 +61,11 @@ class Page(NamedTuple):
 
     directory: Directory
     part: str
+
+    @property
+    def words(self) -> str:
+        """Its name for people."""
+        return self.part or "page 1"
 
 
 def read(stream: Stream, whole: bool = False) -> Blocks:
@@ -94,6 +100,14 @@ def _type_of(head: bytes) -> str:
     return "RW2" if head[:4] == RW2_HEAD else "CR2" if head[8:] == b"CR" else "TIFF"
 
 
+def _record(entry: Entry, data: bytes) -> bytes:
+    """The IPTC record of a value, which some programs write as numbers of four bytes; empty if it
+    is something else."""
+    if entry.type == LONG and data[3:4] == b"\x1c" != data[:1]:
+        return b"".join(data[at : at + 4][::-1] for at in range(0, len(data), 4))
+    return data if data.startswith(b"\x1c") else b""
+
+
 class Reader:
     """The pages of one file."""
 
@@ -107,7 +121,8 @@ class Reader:
         self._cut = ""  # where the file ends, if a value isn't wholly in it
         self._notes: set[int] = set()  # where the MakerNotes begin whose places are compared
         self._private = Private(directories, self.blocks, self._reached, whole)
-        self._pixels = {tag: name for tag, name in PIXELS.items() if not (self._private.is_panasonic and tag in _FREE)}
+        used = _FREE if self._private.is_panasonic else ()
+        self._lists = {tag: name for tag, name in _LISTS.items() if tag not in used}
 
     def pages(self) -> Iterator[Page]:
         """Each page, followed by its SubIFDs."""
@@ -161,18 +176,15 @@ class Reader:
 
     def _pixels_reach(self, directory: Directory) -> None:
         by_tag = {entry.tag: entry for entry in directory.entries}
-        for offsets, lengths in _PAIRS:
-            if offsets not in by_tag:
-                continue
-            pair = [by_tag[tag] for tag in (offsets, lengths) if tag in by_tag]
-            if len(pair) < 2 or pair[0].elements != pair[1].elements or pair[0].elements > STRIPS:
+        for offsets, lengths in ((by_tag[tag], by_tag.get(other)) for tag, other in _PAIRS if tag in by_tag):
+            if lengths is None or not offsets.elements == lengths.elements <= STRIPS:
                 self._reached.end = None  # old files have no lengths of strips
                 continue
-            starts, sizes = (self.directories.numbers(entry) for entry in pair)
-            pixels = [(start, start + size) for start, size in zip(starts, sizes)]
+            both = zip(self.directories.numbers(offsets), self.directories.numbers(lengths))
+            pixels = [(start, start + size) for start, size in both]
             self._reached.parts += pixels
             self._reached.pixels += pixels
-            end = max((start + size for start, size in zip(starts, sizes)), default=0)
+            end = max(map(itemgetter(1), pixels), default=0)
             self._reached.add(end)
             if end > self.directories.size and not self._private.is_panasonic:  # whose strips are elsewhere
                 self.blocks.damage = IN_PICTURE
@@ -180,51 +192,46 @@ class Reader:
     def take(self, page: Page) -> None:
         """Adds the blocks of a page."""
         left_out: set[str] = set()
-        kept: list[Entry] = []
+        kept = []
         for entry in page.directory.entries:
-            if entry.tag in self._private.tags and self._private.takes(entry, page.part or "page 1"):
+            if entry.tag in self._private.tags and self._private.takes(entry, page.words):
                 continue
-            if (entry.tag in self._pixels or entry.tag == SUB_IFDS) and not self.directories.is_list(entry):
-                of = f"the list of tag {entry.tag:04x} of {page.part or 'page 1'}"
-                raise Broken(f"{CUT}inside {of}" if self.directories.is_cut(entry) else f"{of} isn't whole")
-            if entry.tag in self._pixels:
-                left_out.add(self._pixels[entry.tag])
-            elif entry.tag == SUB_IFDS:
-                left_out.add("SubIFDs")
-            elif not self._is_block(entry, page.part):
+            if entry.tag in self._lists:
+                self._check_list(entry, page)
+                left_out.add(self._lists[entry.tag])
+            elif not self._is_block(entry, page):
                 kept.append(entry)
         if not kept:
             return
         layout = Layout(self.directories, self._table(kept, _POINTERS))
         if layout.note is not None:
             self._notes.add(layout.note)
-        of = page.part or "page 1"
-        if layout.length > LIMIT:
-            raise Broken(f"{of} has more than {LIMIT:,} bytes of values")
-        where = f"directory at {page.directory.at}" + (f", without {', '.join(sorted(left_out))}" if left_out else "")
+        where = f"directory at {page.directory.at}"
+        where += f", without {', '.join(sorted(left_out))}" if left_out else ""
         where += ", with pointers of type IFD as LONG" if layout.has_ifd else ""
-        self.blocks.add(EXIF, layout.block(), where, page.part, note=layout.note)
+        self.blocks.add(EXIF, layout.block(page.words), where, page.part, note=layout.note)
 
-    def _is_block(self, entry: Entry, part: str) -> bool:
+    def _check_list(self, entry: Entry, page: Page) -> None:
+        """Raises `Broken` if an entry isn't a list of offsets or lengths."""
+        if not self.directories.is_list(entry):
+            of = f"the list of tag {entry.tag:04x} of {page.words}"
+            raise Broken(f"{CUT}inside {of}" if self.directories.is_cut(entry) else f"{of} isn't whole")
+
+    def _is_block(self, entry: Entry, page: Page) -> bool:
         """Adds the block of an entry, if it has one. Returns whether the entry is taken out of its directory."""
-        of = part or "page 1"
-        where = f"tag {entry.tag:04x} of {of}"
-        data = self.directories.shared(entry) if entry.tag in (_XMP, _IPTC, _PHOTOSHOP) else b""
-        if entry.tag == _XMP and data:
-            self.blocks.add(XMP, data, where, part)
-        elif entry.tag == _IPTC and entry.type == LONG and data[3:4] == b"\x1c" and data[:1] != b"\x1c":
-            self.blocks.add(IPTC, b"".join(data[at : at + 4][::-1] for at in range(0, len(data), 4)), where, part)
-        elif entry.tag == _IPTC and data[:1] == b"\x1c":
-            self.blocks.add(IPTC, data, where, part)
-        elif entry.tag == _PHOTOSHOP and data:
-            photoshop.add_resources(self.blocks, [(where, data)], part)
-        elif entry.tag == _LAYERS and (place := self.directories.place_of(entry)):
-            self.blocks.name(NotRead(f"Photoshop's layers of {of}", digest_of_rest(self.directories.stream, *place) or ""))
-        else:
-            if entry.tag in OTHER_POINTERS and entry.type in (LONG, IFD):
-                self.blocks.name(NotRead(f"{OTHER_POINTERS[entry.tag]} of {of}", ""))
-            return False
-        return True
+        if entry.tag == _LAYERS and (place := self.directories.place_of(entry)):
+            leave_whole(self.blocks, f"Photoshop's layers of {page.words}", self.directories.stream, *place)
+            return True
+        if entry.tag in OTHER_POINTERS and entry.type in (LONG, IFD):
+            self.blocks.name(NotRead(f"{OTHER_POINTERS[entry.tag]} of {page.words}", ""))
+        data = self.directories.shared(entry) if entry.tag in (*_KINDS, _PHOTOSHOP) else b""
+        data = _record(entry, data) if entry.tag == _IPTC else data
+        where = f"tag {entry.tag:04x} of {page.words}"
+        if data and entry.tag == _PHOTOSHOP:
+            photoshop.add_resources(self.blocks, [(where, data)], page.part)
+        elif data:
+            self.blocks.add(_KINDS[entry.tag], data, where, page.part)
+        return bool(data)
 
     def _table(self, entries: list[Entry], pointers: _Pointers) -> Table:
         below: dict[int, Table] = {}
@@ -240,26 +247,30 @@ class Reader:
     def parts(self, pages: Iterable[Page]) -> Iterator[Part]:
         """Claims to the parts of the file, of which these are the pages. Raises `TooMuch`."""
         for page in pages:
-            kept: list[Entry] = []
-            variant = self.directories.variant
-            length = 4 + 2 * variant.offset  # of an entry: its tag, its type, and two numbers
-            for at, entry in zip(itertools.count(page.directory.at + variant.number, length), page.directory.entries):
-                place = self.directories.place_of(entry)
-                if entry.tag in self._private.tags:
-                    with contextlib.suppress(Broken):
-                        self._private.takes(entry, page.part or "page 1")
-                if place and entry.tag in _OWN:
-                    yield Part(STRUCTURE, at, at + length)
-                if place and entry.tag == _PHOTOSHOP:
-                    yield from photoshop.parts([[place]], [self.directories.shared(entry)])
-                elif place and entry.tag in _NAMES:
-                    yield Part(THE_REST, *place, _NAMES[entry.tag])
-                else:
-                    kept.append(entry)
-            with contextlib.suppress(Broken):  # what it leads to is rest then
-                self._table(kept, _POINTERS)
+            yield from self._parts_of(page)
         yield from (Part(PICTURE, *it) for it in self._reached.pixels)
         yield from (Part(METADATA, *it) for it in self._reached.parts)
+
+    def _parts_of(self, page: Page) -> Iterator[Part]:
+        kept = []
+        variant = self.directories.variant
+        length = 4 + 2 * variant.offset  # of an entry: its tag, its type, and two numbers
+        places = itertools.count(page.directory.at + variant.number, length)
+        for at, entry in zip(places, page.directory.entries):
+            place = self.directories.place_of(entry)
+            if entry.tag in self._private.tags:
+                with contextlib.suppress(Broken):
+                    self._private.takes(entry, page.words)
+            if place and entry.tag in _OWN:
+                yield Part(STRUCTURE, at, at + length)
+            if place and entry.tag == _PHOTOSHOP:
+                yield from photoshop.parts([[place]], [self.directories.shared(entry)])
+            elif place and entry.tag in _NAMES:
+                yield Part(THE_REST, *place, _NAMES[entry.tag])
+            else:
+                kept.append(entry)
+        with contextlib.suppress(Broken):  # what it leads to is rest then
+            self._table(kept, _POINTERS)
 
     def rest(self) -> None:
         """The bytes after all parts that the directories point to; and with a MakerNote, which may lead to them, the bytes between."""

@@ -10,6 +10,9 @@ import struct
 from bisect import bisect_right
 from typing import NamedTuple
 
+from exifnorm import LIMIT
+
+from ...model.found import Broken
 from ...model.tiff_types import IFD, LONG
 from .tiff_directories import Directories
 from .tiff_entries import IN_ENTRY, Entry
@@ -61,8 +64,11 @@ class Layout:
             self._offsets.append(self.length)
             self.length += end - start
 
-    def block(self) -> bytes:
-        """The bytes of the block."""
+    def block(self, of: str) -> bytes:
+        """The bytes of the block, which is one of a part of this name. Raises `Broken` if it is
+        too long."""
+        if self.length > LIMIT:
+            raise Broken(f"{of} has more than {LIMIT:,} bytes of values")
         order = self._directories.order
         written = [b"II*\0" if order == "<" else b"MM\0*", struct.pack(order + "I", 8)]
         for table in self._tables:

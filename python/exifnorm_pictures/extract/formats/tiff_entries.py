@@ -73,9 +73,7 @@ def narrowed(order: str, place: int, tag: int, kind: int, count: int, last: byte
         raise Broken(f"the entry {tag:04x} has too many values")
     size = BIG.sizes.get(kind, 0) * count
     if kind in _NARROW and tag not in _LISTS:
-        if count != 1:
-            raise Broken(f"the entry {tag:04x} has several numbers of eight bytes")
-        return _narrowed_number(order, tag, kind, last)
+        return _narrowed_number(order, tag, kind, count, last)
     if kind == IFD and tag in _POINTERS and count <= 1:
         kind = LONG
     if IN_ENTRY < size <= BIG.offset:
@@ -83,7 +81,9 @@ def narrowed(order: str, place: int, tag: int, kind: int, count: int, last: byte
     return Entry(tag, LONG8 if kind in _NARROW else kind, count, last[:IN_ENTRY] if size <= IN_ENTRY else last, size)
 
 
-def _narrowed_number(order: str, tag: int, kind: int, last: bytes) -> Entry:
+def _narrowed_number(order: str, tag: int, kind: int, count: int, last: bytes) -> Entry:
+    if count != 1:
+        raise Broken(f"the entry {tag:04x} has several numbers of eight bytes")
     narrow = _NARROW[kind]
     if tag in _POINTERS and kind != SLONG8:
         return Entry(tag, LONG, 1, last, IN_ENTRY)

@@ -12,8 +12,9 @@ import struct
 from typing import Callable, NamedTuple
 
 from ...model.budgets import RESOURCE_BYTES, RESOURCES, budget_of
-from ...model.found import IPTC, XMP, Blocks, Broken
-from .streams import Stream, is_blank, read_at
+from ...model.found import IPTC, XMP, Blocks, Broken, NotRead
+from ...model.texts import in_words
+from .streams import Stream, digest_of_rest, is_blank, read_at
 
 
 class Trailer(NamedTuple):
@@ -64,9 +65,30 @@ def add_blocks(blocks: Blocks, stream: Stream, start: int, end: int) -> bool:
     return True
 
 
+def leave_trailer(
+    blocks: Blocks,
+    stream: Stream,
+    start: int,
+    end: int,
+    of: str = "",
+    word: str = "trailer",
+    may_read: bool = True,
+) -> None:
+    """Adds the blocks of what follows a picture up to `end`, if they may be read here, and names
+    it: by its kind, or by the word, and by the picture. Raises `TooMuch`."""
+    digest = digest_of_rest(stream, start, end) if start < end else None
+    if digest is None:
+        return
+    trailer = known_trailer(stream, end)
+    is_read = may_read and add_blocks(blocks, stream, start, end)
+    blocks.has_more |= trailer is not None and trailer.may_hold_blocks and not is_read
+    what = f"{trailer.name} trailer" if trailer else word
+    blocks.name(NotRead(f"{what} of {in_words(end - start, 'byte')}{of}", digest))
+
+
 def _all(stream: Stream, start: int, end: int) -> list[Block]:
     """The blocks of the trailers from `start` to `end`. Raises `Broken` if they don't fill it, or one isn't read here."""
-    read: list[Block] = []
+    read = []
     last = end
     while end > start:
         budget_of(stream).spend(RESOURCES)
@@ -135,7 +157,7 @@ def _canon(stream: Stream, end: int) -> tuple[int, list[Block]]:
     start = foot - length - _HEAD
     if start < 0 or read_at(stream, start, len(_CANON)) != _CANON:
         raise Broken("Canon's trailer doesn't begin where its end says")
-    read: list[Block] = []
+    read = []
     at = start + _HEAD
     while at < foot:
         budget_of(stream).spend(RESOURCES)
@@ -161,8 +183,8 @@ def _samsung(stream: Stream, end: int) -> tuple[int, list[Block]]:
         if mark != b"QDIO" or not part:
             raise Broken("an unknown part of Samsung's trailer")
         foot = start
-    count = struct.unpack("<I", part[8:12])[0] if part[:4] == b"SEFH" and length >= 12 else 0
-    if not 0 < count <= (length - 12) // 12:
+    count = int.from_bytes(part[8:12], "little")
+    if part[:4] != b"SEFH" or not 0 < count <= (length - 12) // 12:
         raise Broken("no directory of Samsung's trailer")
     before = max(entry[2] for entry in struct.iter_unpack("<HHII", part[12 : 12 + 12 * count]))
     return start - before, []
