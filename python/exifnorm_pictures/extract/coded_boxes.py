@@ -12,7 +12,7 @@ from typing import Iterable, Iterator
 
 from ..model.budgets import Budget
 from ..model.found import CUT, IN_PICTURE, Blocks, Broken
-from .coded_tiff import NotFollowed
+from .coded_tiff import NotFollowed, refuse_if
 from .formats import heif, jxl
 from .formats.boxes import XMP_UUID, Box, Fields, boxes, boxes_to_fault, content, credentials_in
 from .formats.heif_items import PICTURES
@@ -29,8 +29,7 @@ def add_heif(stream: Stream, coded: "hashlib.blake2b", budget: Budget) -> Iterab
     meta = [it for it in every if it.kind == b"meta"]
     file = _Heif(stream, heif.Reader(stream, Blocks(budget=Budget())))  # all this was counted when it was read
     try:
-        if len(meta) != 1:
-            raise NotFollowed("no single box meta")
+        refuse_if(len(meta) != 1, "no single box meta")
         file.reader.read(meta[0])
         file.read_properties(meta[0])
     except Broken as why:
@@ -57,6 +56,15 @@ def _of_box(stream: Stream, box: Box) -> Iterator[Part]:
         yield Part(METADATA, box.start, box.end)
     else:
         yield Part(REST, box.start, box.end, credentials_in(stream, box) or box.name)
+
+
+def _with_block(ranges: list[Range], before: int) -> Iterator[Part]:
+    """Claims to an item or a box with a block, before which some bytes are: those of its format,
+    or others."""
+    kind, name = (STRUCTURE, "") if before <= _EXIF_HEAD else (REST, "bytes before Exif")
+    joined = Joined(ranges)
+    yield from (Part(kind, *it, name) for it in joined.placed(0, before))
+    yield from (Part(METADATA, *it) for it in joined.placed(before, joined.length))
 
 
 class _Heif:
@@ -92,13 +100,7 @@ class _Heif:
         for item in pictures:
             main = item.number == self.reader.items.primary
             coded.update(b"%b%d" % (item.kind, main))
-            for place in self.associated.get(item.number, ()):
-                if not 0 < place <= len(self.properties):
-                    raise NotFollowed("a property that isn't there")
-                box = self.properties[place - 1]
-                self.used.add(place)
-                if self._kind_of(box)[0] == PICTURE:
-                    self._add(coded, box.kind, [(box.start, box.end)])
+            self._add_properties(coded, item.number)
             ranges = self.reader.ranges(item)
             if ranges is None:
                 raise NotFollowed("a picture whose data are elsewhere")
@@ -107,11 +109,19 @@ class _Heif:
             if kind != b"cdsc" and {item_number, *others} <= set(numbers):
                 coded.update(b"%b%d:%b" % (kind, numbers[item_number], b",".join(b"%d" % numbers[it] for it in others)))
 
+    def _add_properties(self, coded: "hashlib.blake2b", number: int) -> None:
+        """Adds the properties of an item that say how to decode it."""
+        for place in self.associated.get(number, ()):
+            refuse_if(not 0 < place <= len(self.properties), "a property that isn't there")
+            box = self.properties[place - 1]
+            self.used.add(place)
+            if self._kind_of(box)[0] == PICTURE:
+                self._add(coded, box.kind, [(box.start, box.end)])
+
     def _add(self, coded: "hashlib.blake2b", kind: bytes, ranges: list[Range]) -> None:
         length = sum(end - start for start, end in ranges)
         self.left -= length
-        if self.left < 0:
-            raise NotFollowed("pictures that share bytes")
+        refuse_if(self.left < 0, "pictures that share bytes")
         coded.update(b"%b%d" % (kind, length))
         for start, end in ranges:
             add_to(coded, self.stream, start, end)
@@ -135,11 +145,7 @@ class _Heif:
             elif item.number not in self.reader.taken:
                 yield from (Part(REST, *it, CREDENTIALS if b"c2pa" in item.type else item.words) for it in ranges)
             else:
-                start = self.reader.taken[item.number]  # of the block in the item
-                head = (STRUCTURE, "") if start <= _EXIF_HEAD else (REST, "bytes before Exif")
-                joined = Joined(ranges)
-                yield from (Part(head[0], *it, head[1]) for it in joined.placed(0, start))
-                yield from (Part(METADATA, *it) for it in joined.placed(start, joined.length))
+                yield from _with_block(ranges, self.reader.taken[item.number])
 
     def of_meta(self, meta: Box) -> Iterator[Part]:
         """Claims to the box meta and the boxes in it. Raises `Broken` and `TooMuch`."""
@@ -178,8 +184,7 @@ def add_jxl(stream: Stream, coded: "hashlib.blake2b", budget: Budget) -> Iterabl
         every, _ = boxes_to_fault(stream)
         codestream = [(it.start + 4 * (it.kind == b"jxlp"), it.end) for it in every if it.kind in (b"jxlc", b"jxlp")]
         claims = [it for box in every for it in _of_jxl(stream, box)]
-    if not codestream:
-        raise NotFollowed("no codestream")
+    refuse_if(not codestream, "no codestream")
     for start, end in codestream:
         add_to(coded, stream, start, end)
     return [*(Part(PICTURE, *it) for it in codestream if it[1] > it[0]), *claims]
@@ -196,8 +201,7 @@ def _of_jxl(stream: Stream, box: Box) -> Iterator[Part]:
     elif box.kind == b"brob" and first in jxl.IN_BROB:
         yield from (Part(STRUCTURE, box.at, box.start), Part(METADATA, box.start, box.end))
     elif box.kind == b"Exif" and (block := jxl.block_in(stream, box)) is not None:
-        start = box.end - len(block)
-        head = (STRUCTURE, "") if start - box.start <= _EXIF_HEAD else (REST, "bytes before Exif")
-        yield from (Part(STRUCTURE, box.at, box.start), Part(head[0], box.start, start, head[1]), Part(METADATA, start, box.end))
+        yield Part(STRUCTURE, box.at, box.start)
+        yield from _with_block([(box.start, box.end)], box.end - box.start - len(block))
     else:
         yield from _of_box(stream, box)

@@ -72,7 +72,8 @@ def followed(stream: Stream, budget: Budget) -> tuple[str, list[parts.Part]]:
 # JPEG
 
 _JFIF, _ADOBE = 0xE0, 0xEE
-_NO_FRAMES = (0xC4, 0xC8, 0xCC)  # tables, and what is reserved
+_BY_LETTERS = {b"RGB": b"\0"}  # the transform of components with these letters
+_FRAMES = frozenset(range(0xC0, 0xD0)) - {0xC4, 0xC8, 0xCC}  # which are tables, and reserved
 
 
 def _jpeg(stream: Stream, coded: "hashlib.blake2b", budget: Budget) -> Iterable[parts.Part]:
@@ -93,18 +94,17 @@ def _jpeg(stream: Stream, coded: "hashlib.blake2b", budget: Budget) -> Iterable[
 def _jfif_decides(head: Head) -> bool:
     """Whether the colours of three components are those of JFIF, as there is a segment of it, and would be RGB without it: readers take a
     picture so by Adobe's transform 0, or by the letters of its components."""
-    frame = transform = b""
+    names = transform = b""
     is_jfif = False
     for marker, _, _, start, size in head.parts:
         data = head.octets[start : start + min(size, 32)]
-        if marker == _JFIF and data.startswith(b"JFIF\0"):
-            is_jfif = True
-        elif marker == _ADOBE and data.startswith(b"Adobe") and size >= 12:
-            transform = data[11:12]
-        elif 0xC0 <= marker <= 0xCF and marker not in _NO_FRAMES:
-            frame = data
-    names = frame[6:15:3] if frame[5:6] == b"\3" else b""
-    return is_jfif and bool(names) and (transform == b"\0" or (not transform and names == b"RGB"))
+        if marker == _JFIF:
+            is_jfif |= data.startswith(b"JFIF\0")
+        elif marker == _ADOBE:
+            transform = data[11:12] if data.startswith(b"Adobe") and size >= 12 else transform
+        elif marker in _FRAMES:
+            names = data[6:15:3] * (data[5:6] == b"\3")
+    return is_jfif and bool(names) and (transform or _BY_LETTERS.get(names)) == b"\0"
 
 
 # PNG and WebP

@@ -9,6 +9,7 @@ from __future__ import annotations
 
 import functools
 import hashlib
+from operator import lt
 from typing import Iterable, Iterator, Sequence
 
 from ..model.budgets import STRIPS, Budget
@@ -43,6 +44,12 @@ class NotFollowed(Broken):
     """A coded picture in a form that isn't followed here, which is no damage."""
 
 
+def refuse_if(is_other: object, why: str) -> None:
+    """Raises `NotFollowed` for this reason."""
+    if is_other:
+        raise NotFollowed(why)
+
+
 def add(stream: Stream, coded: "hashlib.blake2b", budget: Budget) -> Iterable[Part]:
     """Adds the coded picture to a digest. Returns claims to the parts of the file. Raises `Broken` and `TooMuch`."""
     directories = Directories(stream, BIG if read_at(stream, 0, 4) in tiff.BIG_HEADS else CLASSIC)
@@ -70,12 +77,11 @@ def _counted(directory: Directory) -> Entries:
     """The entries that count, by their tags. Raises `NotFollowed`."""
     entries: Entries = {}
     for entry in directory.entries:
-        if entry.tag in _OLD_TABLES:
-            raise NotFollowed("old tables of JPEG")
-        if entry.tag in tiff.OTHER_POINTERS and entry.type in (LONG, IFD):
-            raise NotFollowed("a private directory, which may lead to pixels")
-        if entry.tag in _COUNTED and entries.setdefault(entry.tag, entry) is not entry:
-            raise NotFollowed(f"two entries of tag {entry.tag:04x}")
+        refuse_if(entry.tag in _OLD_TABLES, "old tables of JPEG")
+        is_pointer = entry.tag in tiff.OTHER_POINTERS and entry.type in (LONG, IFD)
+        refuse_if(is_pointer, "a private directory, which may lead to pixels")
+        is_second = entry.tag in _COUNTED and entries.setdefault(entry.tag, entry) is not entry
+        refuse_if(is_second, "two entries of a tag")
     return entries
 
 
@@ -85,8 +91,7 @@ def _value(directories: Directories, entry: Entry) -> bytes:
         raise Broken(f"the value of tag {entry.tag:04x} isn't in the file")
     if entry.type in (SHORT, LONG, LONG8):
         return b"%d:%s " % (entry.tag, b",".join(b"%d" % number for number in directories.numbers(entry)))
-    if entry.tag in _NUMBERS or not entry.size:
-        raise NotFollowed(f"tag {entry.tag:04x} has another type or no value")
+    refuse_if(entry.tag in _NUMBERS or not entry.size, f"tag {entry.tag:04x} has another type or no value")
     return b"%d:%d:%d:" % (entry.tag, entry.type, entry.size) + directories.value(entry)
 
 
@@ -104,14 +109,12 @@ def _order(directories: Directories, entries: Entries) -> bytes:
 
 def _strips(directories: Directories, page: Directory, entries: Entries, coded: "hashlib.blake2b") -> Iterator[tuple[int, int]]:
     """The ranges of the strips, tiles and JPEGs of a page, after their lengths, which are added. Raises `Broken`."""
-    if sum(any(tag in entries for tag in pair) for pair in ((_STRIPS, 0x0117), (_TILES, 0x0145))) > 1:
-        raise NotFollowed("strips and tiles in one directory")
-    for tag, of_lengths in _OFFSETS.items():
-        if tag not in entries and of_lengths not in entries:
-            continue
-        if of_lengths not in entries:
-            raise NotFollowed("strips without lengths, as old programs write them")
-        starts, lengths = (directories.numbers(entries[it]) if it in entries else [] for it in (tag, of_lengths))
+    there = {tag: other for tag, other in _OFFSETS.items() if tag in entries or other in entries}
+    refuse_if({_STRIPS, _TILES} <= there.keys(), "strips and tiles in one directory")
+    for tag, of_lengths in there.items():
+        refuse_if(of_lengths not in entries, "strips without lengths, as old programs write them")
+        starts = directories.numbers(entries[tag]) if tag in entries else []
+        lengths = directories.numbers(entries[of_lengths])
         if len(starts) != len(lengths) or not starts:
             raise Broken(f"the strips of the directory at {page.at} have no lengths")
         coded.update(b"%d:%s " % (of_lengths, b",".join(b"%d" % it for it in lengths)))
@@ -125,11 +128,11 @@ def _strips(directories: Directories, page: Directory, entries: Entries, coded: 
 
 def _check_lengths(directories: Directories, entries: Entries, lengths: Sequence[int]) -> None:
     """Raises `NotFollowed` for strips and tiles whose lengths readers guess."""
-    if not all(lengths):
-        raise NotFollowed("a strip without a length")
+    refuse_if(not all(lengths), "a strip without a length")
     count, size, last = _uncompressed(directories, entries)
-    if any(length < (size if number % count else last) for number, length in enumerate(lengths, 1)) or len(lengths) < count:
-        raise NotFollowed("strips that are shorter than their pixels")
+    least = (size if number % count else last for number in range(1, len(lengths) + 1))
+    is_short = len(lengths) < count or any(map(lt, lengths, least))
+    refuse_if(is_short, "strips that are shorter than their pixels")
 
 
 def _uncompressed(directories: Directories, entries: Entries) -> tuple[int, int, int]:

@@ -57,7 +57,7 @@ class FileObject(Parts):
     def _part(self, at: int, length: int) -> bytes:
         self.budget.check_clock()
         _seek(self._source, self._start + at)
-        parts: list[bytes] = []
+        parts = []
         while length > 0 and (data := _some(self._source, length)):  # some return less than they are asked for
             parts.append(data)
             length -= len(data)

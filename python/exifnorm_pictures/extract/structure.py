@@ -6,6 +6,8 @@
 from __future__ import annotations
 
 import struct
+from dataclasses import dataclass
+from functools import cached_property
 from itertools import count
 from typing import Iterator, NamedTuple, Optional
 
@@ -14,6 +16,7 @@ from ..model.texts import in_words
 from ..model.tiff_types import IFD, LONG, SHORT, SLONG, SSHORT, TIFF
 
 MAKER_NOTE = 0x927C
+_NOTE = ("exif", MAKER_NOTE)  # the directory and the tag
 PRIVATE = {
     MAKER_NOTE: "the MakerNote",
     0x0190: "GlobalParametersIFD",
@@ -26,8 +29,7 @@ HEADER = 8  # bytes of the header
 _LINKS = {"main": {0x8769: "exif", 0x8825: "gps"}, "exif": {0xA005: "interop"}}
 LINKS = {(where, tag): to for where, links in _LINKS.items() for tag, to in links.items()}
 _OFFSETS = frozenset((LONG, SHORT, SSHORT, SLONG, IFD))  # the type of a pointer, and types that are written in its place
-_UNKNOWN = max(TIFF) + 1  # no type from here on is known
-_SIZES = tuple(TIFF[number].size if number in TIFF else 0 for number in range(_UNKNOWN))
+_SIZES = {number: kind.size for number, kind in TIFF.items()}  # of an element
 _READ = {order: [struct.Struct(order + form) for form in ("HHII", "H", "I")] for order in "<>"}
 _PICTURES = (0x0201, 0x0202, 0x0111, 0x0117)  # a thumbnail's JPEG, its length, its strips, their lengths
 
@@ -46,28 +48,25 @@ class Entry(NamedTuple):
     @property
     def size(self) -> int:
         """The bytes of its value; 0 of a type that is not known."""
-        return _SIZES[self.type] * self.elements if self.type < _UNKNOWN else 0
+        return _SIZES.get(self.type, 0) * self.elements
 
 
+@dataclass
 class Directory:
     """A directory: the rows of its entries that are in the block, and how many it counts."""
 
-    __slots__ = ("name", "at", "rows", "next", "size", "named_at", "_entries")
+    name: str
+    at: int
+    rows: list[Row]
+    next: int  # the place of the next directory's offset
+    size: int  # the number of entries by its first two bytes
+    named_at: int  # the place of the offset that leads here
 
-    def __init__(self, name: str, at: int, rows: list[Row], next_at: int, size: int, named_at: int) -> None:
-        self.name, self.at, self.rows = name, at, rows
-        self.next = next_at  # the place of the next directory's offset
-        self.size = size  # the number of entries by its first two bytes
-        self.named_at = named_at  # the place of the offset that leads here
-        self._entries: list[Entry] | None = None
-
-    @property
+    @cached_property
     def entries(self) -> list[Entry]:
         """The entries. A refused block can have thousands, and is walked after each step of its repair."""
-        if self._entries is None:
-            new = tuple.__new__
-            self._entries = [new(Entry, (place, *row)) for place, row in zip(count(self.at + 2, 12), self.rows)]
-        return self._entries
+        new = tuple.__new__
+        return [new(Entry, (place, *row)) for place, row in zip(count(self.at + 2, 12), self.rows)]
 
     @property
     def is_whole(self) -> bool:
@@ -102,13 +101,12 @@ def directories(block: bytes) -> Iterator[Directory]:
         if at >= HEADER:
             if name == "main" and following + 4 <= end and (thumb := four.unpack_from(block, following)[0]):
                 waiting.append(("thumb", thumb, following))
-            if name in _LINKS:
-                waiting += _linked(block, order, name, at, rows)
+            waiting += _linked(block, order, name, at, rows)
 
 
 def _linked(block: bytes, order: str, name: str, at: int, rows: list[Row]) -> Iterator[tuple[str, int, int]]:
     """The directories that the entries of one lead to, the last one first: the name of each, its offset, and where this is."""
-    links = _LINKS[name]
+    links = _LINKS.get(name, {})
     for number, row in [(number, row) for number, row in enumerate(rows) if row[0] in links][::-1]:
         if row[2] == 1 and row[1] in _OFFSETS:
             place = at + 10 + 12 * number
@@ -151,10 +149,6 @@ class Walk:
         """The bytes of a value, as far as they are in the block."""
         start = entry.last if entry.size > 4 else entry.place + 8
         return self.block[start : start + entry.size]
-
-    def is_outside(self, entry: Entry) -> bool:
-        """Whether a value isn't all in the block."""
-        return entry.size > 4 and entry.last + entry.size > len(self.block)
 
     def pictures(self) -> list[bytes]:
         """The thumbnail's JPEG and its strips, as far as they are in the block."""
@@ -213,18 +207,15 @@ def notes(block: bytes) -> Notes:
         covered.append((directory.at, directory.next + 4))
         links = _LINKS.get(directory.name, {})
         for tag, kind, elements, last in directory.rows:
-            size = _SIZES[kind] * elements if kind < _UNKNOWN else 0
+            size = _SIZES.get(kind, 0) * elements
             if size > 4 and tag not in links:
                 covered.append((last, last + size))
+                place = last if (directory.name, tag) == _NOTE else place
             if tag in PRIVATE:
                 leads[PRIVATE[tag]] = None
-                if tag == MAKER_NOTE and directory.name == "exif" and size > 4:
-                    place = last
         if directory.name == "thumb":
             covered += _pictures(block, order_of(block), directory)
-    if not leads:
-        return Notes(None, [], ())
-    return Notes(place, gaps(block, covered), tuple(leads))
+    return Notes(place, gaps(block, covered), tuple(leads)) if leads else Notes(None, [], ())
 
 
 def _pictures(block: bytes, order: str, thumb: Directory) -> list[tuple[int, int]]:
@@ -232,7 +223,7 @@ def _pictures(block: bytes, order: str, thumb: Directory) -> list[tuple[int, int
     numbers: dict[int, list[int]] = {}
     for number, (tag, kind, elements, last) in enumerate(thumb.rows):
         if tag in _PICTURES:
-            size = _SIZES[kind] * elements if kind < _UNKNOWN else 0
+            size = _SIZES.get(kind, 0) * elements
             numbers[tag] = _numbers(block, order, kind, size, last if size > 4 else thumb.at + 10 + 12 * number)
     pairs = zip(_PICTURES[::2], _PICTURES[1::2])
     return [(start, start + size) for one, other in pairs for start, size in zip(numbers.get(one, ()), numbers.get(other, ()))]
@@ -251,7 +242,7 @@ def gaps(block: bytes, covered: list[tuple[int, int]]) -> list[Gap]:
     >>> gaps(b"ab\\0cd\\0\\0", [(0, 2)])
     [(3, b'cd')]
     """
-    between: list[Gap] = []
+    between = []
     reached = 0
     for start, after in [*sorted(covered), (len(block), len(block))]:
         if start > reached and (gap := block[reached:start].lstrip(b"\0")):

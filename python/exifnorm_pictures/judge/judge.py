@@ -100,23 +100,22 @@ def judge_all(blocks: Blocks, packs: bool = False) -> list[BlockRecord]:
     blocks.blocks = [it for it in blocks.blocks if it.kind == XMP or not _says_nothing(it)]
     extended = _Extended(blocks) if any(it.extends for it in blocks.blocks) else None
     known: dict[tuple[str, bytes], BlockRecord] = {}
-    many = len(blocks.blocks) > FEW
-    judged: list[BlockRecord] = []
+    judged = []
     kept = 0
     for at in blocks.blocks:
         if at.extends:
             continue
-        block = known.get((at.kind, at.data)) if many else None
+        block = known.get((at.kind, at.data))
         if block is None:
             block = _judged(at, blocks, extended, packs)
-            if many:  # pages of a TIFF can share a value
+            if len(blocks.blocks) > FEW:  # pages of a TIFF can share a value
                 blocks.budget.check_time()
                 known[at.kind, at.data] = block
         else:
             note = block.note if at.note is None else at.note
             block = block._replace(name=at.name, source=at.where, extractor=at.extractor, note=note)
         kept += len(block.fields or b"")
-        judged.append(block if kept <= KEPT_BYTES else _within(block, kept))
+        judged.append(_within(block, kept))
     return judged + extended.not_named() if extended else judged
 
 

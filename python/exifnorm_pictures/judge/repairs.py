@@ -129,8 +129,8 @@ def _changed_value(old: _Walk, walk: _Walk, budget: Budget) -> _Done:
     pictures = old.pictures()
     if all(any(one.startswith(it) for one in pictures) for it in walk.pictures()):
         return None
-    tags = (0x0111, 0x0201)
-    directory, entry = next(it for it in walk.entries() if it[0].name == "thumb" and it[1].tag in tags)
+    places = (("thumb", 0x0111), ("thumb", 0x0201))
+    directory, entry = next(it for it in walk.entries() if (it[0].name, it[1].tag) in places)
     what = "a thumbnail that other steps would change left out"
     return walk.without(directory, entry), what, "the thumbnail", "thumb"
 
@@ -329,7 +329,7 @@ def _misplaced(walk: _Walk) -> _Done:
 
 
 def _value_outside(walk: _Walk) -> _Done:
-    outside = [(it, one) for it, one in walk.entries() if walk.is_outside(one)]
+    outside = [(it, one) for it, one in walk.entries() if one.size > max(4, len(walk.block) - one.last)]
     if not outside or len(outside) > MOST:  # one is left out in a step
         return None
     directory, entry = outside[0]

@@ -145,7 +145,9 @@ def _ranges(layout: Layout, cause: str, place: int) -> list[str]:
 
 def _directory(layout: Layout, cause: str, place: int) -> list[str]:
     lines = _entry_line(layout, place) if cause != "EmptyDirectory" else []
-    at = place if cause == "EmptyDirectory" else _named(layout, place)
+    pointer = layout.entries.get(place)
+    named = pointer.last if pointer else layout.number(place, 4)
+    at = place if cause == "EmptyDirectory" else named
     if at is None:
         return lines
     count = layout.number(at, 2)
@@ -160,12 +162,6 @@ def _directory(layout: Layout, cause: str, place: int) -> list[str]:
 
 def _next(layout: Layout, cause: str, place: int) -> list[str]:
     return [f"The thumbnail directory names a further one at {layout.number(place, 4)}."]
-
-
-def _named(layout: Layout, place: int) -> int | None:
-    """The offset in the pointer to a directory."""
-    entry = layout.entries.get(place)
-    return entry.last if entry else layout.number(place, 4)
 
 
 def _entry_line(layout: Layout, place: int) -> list[str]:

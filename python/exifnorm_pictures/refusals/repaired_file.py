@@ -35,10 +35,12 @@ def changes(picture: BinaryIO, kind: str, blocks: Sequence[FoundBlock]) -> tuple
     replaced, steps = [], ()  # type: list[Change], tuple[Step, ...]
     for block in dict.fromkeys(it.data for it in blocks if it.kind == EXIF):
         repair = repairs.repaired(block)
-        change = _change(picture, wrap, block, repair.block) if repair and repair.steps else None
-        if repair is None or (repair.steps and change is None):
+        if repair is None:
             return None
-        if change:
+        if repair.steps:
+            change = _change(picture, wrap, block, repair.block)
+            if change is None:
+                return None
             replaced.append(change)
             steps += repair.steps
     if kind == "WEBP" and replaced:
@@ -100,17 +102,10 @@ def _length(picture: BinaryIO, replaced: Sequence[Change]) -> Change:
     return Change(4, old, struct.pack("<I", os.fstat(picture.fileno()).st_size + longer - 8))
 
 
-def _segment(data: bytes) -> bytes:
-    return b"\xff\xe1" + struct.pack(">H", len(data) + 2) + data
-
-
-def _png_chunk(data: bytes) -> bytes:
-    return struct.pack(">I", len(data)) + b"eXIf" + data + struct.pack(">I", zlib.crc32(b"eXIf" + data))
-
-
-def _webp_chunk(data: bytes) -> bytes:
-    return b"EXIF" + struct.pack("<I", len(data)) + data + b"\0" * (len(data) % 2)
-
-
-_WRAPPERS: dict[str, Callable[[bytes], bytes]] = {"JPEG": _segment, "PNG": _png_chunk, "WEBP": _webp_chunk}
+# How a block is in a file: in a segment or a chunk of its own
+_WRAPPERS: dict[str, Callable[[bytes], bytes]] = {
+    "JPEG": lambda data: b"\xff\xe1" + struct.pack(">H", len(data) + 2) + data,
+    "PNG": lambda data: struct.pack(">I4s", len(data), b"eXIf") + data + struct.pack(">I", zlib.crc32(b"eXIf" + data)),
+    "WEBP": lambda data: struct.pack("<4sI", b"EXIF", len(data)) + data + bytes(len(data) % 2),
+}
 REPAIRED_TYPES = tuple(_WRAPPERS)  # the types of files in which blocks are replaced
