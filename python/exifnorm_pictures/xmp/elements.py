@@ -7,7 +7,7 @@ from xml.etree import ElementTree
 
 from ..model.budgets import NAMESPACE, NESTED
 from ..model.xmp_encodings import encoding_of
-from .packets import Unreadable
+from .packets import Unreadable, refuse_if
 from .tree import RDF
 
 _OUTER = ("{adobe:ns:meta/}xmpmeta", "{adobe:ns:meta/}xapmeta")
@@ -20,8 +20,7 @@ class _Builder(ElementTree.TreeBuilder):
     """Elements, whose names have their namespaces. Raises `Unreadable` before many names have a long one."""
 
     def start_ns(self, prefix: str, uri: str) -> None:
-        if len(uri) > NAMESPACE:
-            raise Unreadable("LongNamespace")
+        refuse_if(len(uri) > NAMESPACE, "LongNamespace")
 
 
 def rdf_of(packet: bytes) -> ElementTree.Element:
@@ -32,8 +31,7 @@ def rdf_of(packet: bytes) -> ElementTree.Element:
     exifnorm_pictures.xmp.packets.Unreadable: NoRDF: The packet is not x:xmpmeta around one rdf:RDF, nor rdf:RDF by itself.
     """
     text = _text(packet)
-    if "<!DOCTYPE" in text:
-        raise Unreadable("DocumentType")
+    refuse_if("<!DOCTYPE" in text, "DocumentType")
     try:
         root = ElementTree.fromstring(text, ElementTree.XMLParser(target=_Builder()))
     except Unreadable:
@@ -46,8 +44,7 @@ def rdf_of(packet: bytes) -> ElementTree.Element:
         inner = list(root)
         if len(inner) == 1 and not (root.text or "").strip() and not (inner[0].tail or "").strip():
             root = inner[0]
-    if root.tag != _RDF:
-        raise Unreadable("NoRDF")
+    refuse_if(root.tag != _RDF, "NoRDF")
     root.tail = None
     return root
 
@@ -60,8 +57,7 @@ def _text(packet: bytes) -> str:
         raise Unreadable("NotText") from None
     declared = _DECLARATION.match(text) if text.startswith("<?xml") else None
     if declared:
-        if "encoding" in declared[0] and not _ENCODING.search(declared[0]):
-            raise Unreadable("NotText")
+        refuse_if("encoding" in declared[0] and not _ENCODING.search(declared[0]), "NotText")
         text = text[declared.end() :]
     return text
 

@@ -33,10 +33,15 @@ class Unreadable(ValueError):
         self.cause = cause
 
 
+def refuse_if(is_so: object, cause: str = "RareForm") -> None:
+    """Raises `Unreadable` for this cause."""
+    if is_so:
+        raise Unreadable(cause)
+
+
 def spend(packet: bytes, budget: Budget) -> None:
     """Counts a packet before it is parsed: each tag has `<`, and each attribute `=`. Raises `Unreadable`, and `TooLong` for the file."""
-    if len(packet) > PACKET_BYTES:
-        raise Unreadable("TooLong")
+    refuse_if(len(packet) > PACKET_BYTES, "TooLong")
     budget.check_time()
     try:
         budget.spend(budgets.XMP_BYTES, len(packet))

@@ -11,7 +11,7 @@ from xml.etree.ElementTree import Element
 
 from ..model.budgets import CACHED, LANGUAGE
 from .elements import rdf_of
-from .packets import Unreadable
+from .packets import refuse_if
 from .tree import MEMBER, PICTURE, RDF, TYPE, Literal, Node, Statement, Statements, Uri, Value, key_of
 
 _R = f"{{{RDF}}}"
@@ -40,18 +40,15 @@ def statements(packet: bytes) -> Statements:
 
 def of_root(root: Element) -> Statements:
     """The statements of an rdf:RDF element. Raises `Unreadable`."""
-    if set(root.attrib) - {_LANG} or _says(root.text):
-        raise Unreadable("RareForm")
-    every: list[Statement] = []
+    refuse_if(set(root.attrib) - {_LANG} or _says(root.text))
+    every = []
     inner: list[Statements] = []
     subjects = set()
     for node in root:
-        if node.tag != _DESCRIPTION or _says(node.tail):
-            raise Unreadable("RareForm")
+        refuse_if(node.tag != _DESCRIPTION or _says(node.tail))
         subjects.add(node.get(_ABOUT, node.get("about", "")))
         every += _node(node, _language(root, ""), inner)
-    if len(subjects - {""}) > 1:
-        raise Unreadable("SeveralSubjects")
+    refuse_if(len(subjects - {""}) > 1, "SeveralSubjects")
     if inner:
         every += [it for some in inner for it in some]
         check_repeated(tuple(every))  # in RDF the statements about one subject have no order, wherever they stand
@@ -67,10 +64,8 @@ def _language(element: Element, outer: str) -> str:
     language = element.get(_LANG)
     if language is None:
         return outer
-    if len(language) > LANGUAGE:
-        raise Unreadable("LongLanguage")
-    if not _LANGUAGE.match(language):
-        raise Unreadable("RareForm")
+    refuse_if(len(language) > LANGUAGE, "LongLanguage")
+    refuse_if(not _LANGUAGE.match(language))
     return language.lower()
 
 
@@ -81,8 +76,8 @@ def _uri(name: str) -> str:
 
 def _made_uri(name: str) -> str:
     space, _, local = name[1:].partition("}")
-    if name[:1] != "{" or name.startswith(_XML) or (name.startswith(_R) and not _PLAIN.match(name)) or _NOT_IN_URI.search(name[1:]):
-        raise Unreadable("RareForm")
+    is_of_rdf = name.startswith(_R) and not _PLAIN.match(name)
+    refuse_if(name[:1] != "{" or name.startswith(_XML) or is_of_rdf or _NOT_IN_URI.search(name[1:]))
     return space + local
 
 
@@ -91,10 +86,9 @@ _cached_uri = functools.lru_cache(maxsize=4096)(_made_uri)
 
 def _node(node: Element, language: str, inner: list[Statements]) -> list[Statement]:
     """The statements of a node element: its type, its attributes, and its property elements. Those about the picture in a value go to `inner`."""
-    if node.tag not in _NODES or _says(node.text):
-        raise Unreadable("RareForm")
+    refuse_if(node.tag not in _NODES or _says(node.text))
     language = _language(node, language)
-    statements: list[Statement] = []
+    statements = []
     if node.tag != _DESCRIPTION:
         statements.append(Statement(TYPE, Uri(RDF + node.tag[len(_R) :])))
     for name, text in node.attrib.items():
@@ -106,25 +100,22 @@ def _node(node: Element, language: str, inner: list[Statements]) -> list[Stateme
 
 
 def _properties(node: Element, language: str, inner: list[Statements]) -> list[Statement]:
-    statements: list[Statement] = []
+    statements = []
     number = 0
     for element in node:
-        if _says(element.tail):
-            raise Unreadable("RareForm")
+        refuse_if(_says(element.tail))
         if element.tag == _LI:
             number += 1
             predicate = f"{RDF}_{number}"
         else:
             predicate = _uri(element.tag)
-        if MEMBER.match(predicate) and element.tag != _LI:
-            raise Unreadable("RareForm")
+        refuse_if(MEMBER.match(predicate) and element.tag != _LI)
         statements.append(Statement(predicate, _value(element, _language(element, language), inner)))
     return statements
 
 
 def _resource(uri: str) -> Uri:
-    if not _ABSOLUTE.match(uri):
-        raise Unreadable("RareForm")
+    refuse_if(not _ABSOLUTE.match(uri))
     return Uri(uri)
 
 
@@ -134,11 +125,9 @@ def _value(element: Element, language: str, inner: list[Statements]) -> Value:
     if not own:
         return _content(element, language, inner)
     if own == {_PARSE_TYPE: "Resource"}:
-        if _says(element.text):
-            raise Unreadable("RareForm")
+        refuse_if(_says(element.text))
         return Node(tuple(_properties(element, language, inner)))
-    if len(element) or _says(element.text):
-        raise Unreadable("RareForm")
+    refuse_if(len(element) or _says(element.text))
     if list(own) == [_RESOURCE]:
         return _resource(own[_RESOURCE])
     return _by_attributes(own, language)
@@ -148,12 +137,10 @@ def _content(element: Element, language: str, inner: list[Statements]) -> Value:
     if not len(element):
         return Literal(element.text or "", language)
     node = element[0]
-    if len(element) > 1 or _says(element.text) or _says(node.tail) or "about" in node.attrib:
-        raise Unreadable("RareForm")
+    refuse_if(len(element) > 1 or _says(element.text) or _says(node.tail) or "about" in node.attrib)
     if _ABOUT not in node.attrib:
         return Node(tuple(_node(node, language, inner)))
-    if node.tag != _DESCRIPTION or node.attrib[_ABOUT]:
-        raise Unreadable("RareForm")
+    refuse_if(node.tag != _DESCRIPTION or node.attrib[_ABOUT])
     # IDimager writes this, and RDF/XML (2.2) makes statements about the picture of it.
     inner.append(tuple(_node(node, language, inner)))
     return Uri(PICTURE)
@@ -161,8 +148,7 @@ def _content(element: Element, language: str, inner: list[Statements]) -> Value:
 
 def _by_attributes(own: dict[str, str], language: str) -> Node:
     """The attributes of a property element without content are a node of their own."""
-    if any(name.startswith(_R) and name != _VALUE for name in own):
-        raise Unreadable("RareForm")
+    refuse_if(any(name.startswith(_R) and name != _VALUE for name in own))
     return Node(tuple(Statement(_uri(name), Literal(text, language)) for name, text in own.items()))
 
 
@@ -171,7 +157,6 @@ def check_repeated(statements: Statements) -> None:
     seen: dict[str, Value] = {}
     for predicate, value in statements:
         other = seen.setdefault(predicate, value)
-        if other is not value and predicate != TYPE and other != value and key_of(other) != key_of(value):
-            raise Unreadable("Repeated")
+        refuse_if(other is not value and predicate != TYPE and other != value and key_of(other) != key_of(value), "Repeated")
         if isinstance(value, Node):
             check_repeated(value.statements)

@@ -3,6 +3,7 @@
 from __future__ import annotations
 
 import hashlib
+from itertools import chain
 from typing import Mapping
 
 from exifnorm import XmpRefused
@@ -10,7 +11,7 @@ from exifnorm._properties import Makers, made_of_form
 from exifnorm._xmp import form_of
 
 from ..model.budgets import Budget
-from .packets import Unreadable, spend
+from .packets import refuse_if, spend
 from .tree import CONTAINERS, RDF, TYPE, Literal, Node, Statement, Statements, Uri, Value
 
 NOTE = "http://ns.adobe.com/xmp/note/HasExtendedXMP"
@@ -30,12 +31,11 @@ class Extensions:
 
     def statements(self, name: str) -> Statements:
         """The statements of one. Raises `Unreadable`."""
-        if name not in self.data:
-            raise Unreadable("ExtensionMissing")
+        refuse_if(name not in self.data, "ExtensionMissing")
         spend(self.data[name], self.budget)
         if name not in self._parsed:
-            if hashlib.md5(self.data[name], usedforsecurity=False).hexdigest().upper() != name:
-                raise Unreadable("ExtensionDamaged")
+            digest = hashlib.md5(self.data[name], usedforsecurity=False).hexdigest()
+            refuse_if(digest.upper() != name, "ExtensionDamaged")
             self._parsed[name] = _parsed(self.data[name])
         return self._parsed[name]
 
@@ -54,14 +54,14 @@ def statements(packet: bytes, extensions: Extensions, used: set[str]) -> Stateme
     else:
         spend(packet, extensions.budget)
     parsed = _parsed(packet)
-    wanted = _named(parsed)
+    notes = [it.value for it in parsed if it.predicate == NOTE]
+    # the digests of the extended XMP that the packet refers to
+    wanted = dict.fromkeys(it.text.upper() for it in notes if isinstance(it, Literal))
     if not wanted:
         return parsed
     used.update(wanted)
-    added: Statements = ()
-    for name in wanted:
-        added += extensions.statements(name)
-    return tuple(it for it in parsed if it.predicate != NOTE) + added
+    added = chain.from_iterable(map(extensions.statements, wanted))
+    return (*(it for it in parsed if it.predicate != NOTE), *added)
 
 
 def _parsed(packet: bytes) -> Statements:
@@ -71,11 +71,6 @@ def _parsed(packet: bytes) -> Statements:
         from . import reader  # which imports a parser of XML, and few packets are rare
 
         return reader.statements(packet)
-
-
-def _named(statements: Statements) -> tuple[str, ...]:
-    """The digests of the extended XMP that some statements refer to."""
-    return tuple(dict.fromkeys(it.value.text.upper() for it in statements if it.predicate == NOTE and isinstance(it.value, Literal)))
 
 
 _TYPES = {word: Statement(TYPE, Uri(uri)) for uri, word in CONTAINERS.items()}

@@ -91,7 +91,7 @@ def digest_of_statements(statements: Statements, is_bag: bool = False) -> str:
     >>> digest_of_statements((first, second)) == digest_of_statements((second, first)), digest_of_statements((first,)) == digest_of_statements((second,))
     (True, False)
     """
-    lines: list[str] = []
+    lines = []
     distinct = unique(statements)
     many = len({predicate for predicate, _ in distinct}) < len(distinct)
     counts: dict[str, int] = {}
