@@ -3,7 +3,7 @@
 from __future__ import annotations
 
 from functools import partial
-from typing import Callable, Iterable, Optional, Sequence
+from typing import Callable, Generic, Iterable, Optional, Sequence, TypeVar
 
 from ..model.records import BlockRecord
 from .field import Field
@@ -11,59 +11,49 @@ from .lines import parted
 from .listing import rest_of
 from .packing import unpacked
 
-Make = Callable[[], Optional[list[Field]]]
+Made = TypeVar("Made")
 
 
-class Fields:
-    """The fields of a normal form, of the statements of a packet, or of a block of a catalogue: made once, when somebody asks for them."""
+class Once(Generic[Made]):
+    """What is made once, when somebody asks for it."""
 
-    __slots__ = ("_make", "_fields")
+    __slots__ = ("_make", "_made")
 
-    def __init__(self, make: Make) -> None:
-        self._make: Make | None = make
-        self._fields: list[Field] | None = None
+    def __init__(self, make: Callable[[], Made]) -> None:
+        self._make: Callable[[], Made] | None = make
 
-    def all(self) -> list[Field] | None:
-        """The fields, in the order of a listing; None if a catalogue doesn't have them."""
-        make = self._make
-        if make is not None:
-            self._fields = make()
-            self._make = None  # with what they are made of, which is as long as they are
-        return self._fields
+    def all(self) -> Made:
+        """All of it."""
+        if self._make is not None:
+            self._made = self._make()
+            self._make = None  # with what it is made of, which is as long as it is
+        return self._made
 
 
-class _KeptTexts:
-    """The packed fields of a picture's blocks as a catalogue keeps them together. They are unpacked when those of a block are asked for."""
+class Fields(Once[Optional[list[Field]]]):
+    """The fields of a normal form, of the statements of a packet, or of a block of a catalogue, in
+    the order of a listing; None if a catalogue doesn't have them."""
 
-    __slots__ = ("_cells", "_texts")
-
-    def __init__(self, cells: Sequence[bytes | None]) -> None:
-        self._cells = cells
-        self._texts: list[bytes | None] | None = None
-
-    def of(self, number: int) -> bytes | None:
-        """Those of one block."""
-        if self._texts is None:
-            self._texts = parted(self._cells)
-        return self._texts[number]
+    __slots__ = ()
 
 
 class _KeptFields(Fields):
-    """The fields of a block of a catalogue, by its number in the picture."""
+    """The fields of a block of a catalogue, by its number in the picture, whose packed fields it
+    keeps together."""
 
     __slots__ = ("_texts", "_number")
 
-    def __init__(self, texts: _KeptTexts, number: int) -> None:
+    def __init__(self, texts: Once[list[bytes | None]], number: int) -> None:
         super().__init__(partial(_unpacked, texts, number))
         self._texts, self._number = texts, number
 
     def packed(self) -> bytes | None:
         """The packed fields."""
-        return self._texts.of(self._number)
+        return self._texts.all()[self._number]
 
 
-def _unpacked(texts: _KeptTexts, number: int) -> list[Field] | None:
-    text = texts.of(number)
+def _unpacked(texts: Once[list[bytes | None]], number: int) -> list[Field] | None:
+    text = texts.all()[number]
     return unpacked(text) if text else None
 
 
@@ -72,7 +62,7 @@ _FIELDS = BlockRecord._fields.index("fields")  # after which only what a catalog
 
 def with_kept_fields(blocks: Sequence[BlockRecord]) -> list[BlockRecord]:
     """The blocks of a picture of a catalogue, of all its rows in their order, each with its own fields."""
-    texts = _KeptTexts([block.fields for block in blocks])
+    texts = Once(partial(parted, [block.fields for block in blocks]))
     return [BlockRecord._make((*block[:_FIELDS], None, block.but_note, _KeptFields(texts, at))) for at, block in enumerate(blocks)]
 
 

@@ -4,6 +4,7 @@ from __future__ import annotations
 
 import fnmatch
 import re
+from dataclasses import dataclass, field
 from typing import Callable, Iterable, Iterator, Mapping, Sequence
 
 from ..model.errors import WrongUse
@@ -113,18 +114,24 @@ def is_known(pattern: str) -> bool:
 
 def hint(pattern: str) -> str:
     """The name that may be meant, in parentheses."""
-    names, printed = dictionary()
-    group, colon, _ = pattern.partition(":")
-    of_group = (f"{group}:{it}" for it in printed if ":" not in it) if colon else ()
     import difflib  # which takes long to import, and few runs need it
 
     from .labels import fields_by_label
 
-    known = {it.casefold(): it for it in (*(it for it in of_group if it.casefold() in names), *printed, *SETS, *fields_by_label())}
+    known = {it.casefold(): it for it in (*_in_group(pattern), *dictionary()[1], *SETS, *fields_by_label())}
     typed = pattern.casefold().replace(" ", "")  # in words, a field may be meant that begins so
     begun = [it for it in known if it.startswith(typed)] if " " in pattern.strip() else []
     near = begun or difflib.get_close_matches(typed, known, 1, 0.75)
     return f" (perhaps {known[near[0]]} is meant)" if near and near[0] != pattern.casefold() else ""
+
+
+def _in_group(pattern: str) -> Iterator[str]:
+    """The names that are printed, with the group of a pattern that has one, where these are names
+    too."""
+    names, printed = dictionary()
+    group, colon, _ = pattern.partition(":")
+    each = (f"{group}:{it}" for it in printed if colon and ":" not in it)
+    return (it for it in each if it.casefold() in names)
 
 
 def meant(name: str, names: Sequence[str]) -> str:
@@ -148,15 +155,15 @@ def meant(name: str, names: Sequence[str]) -> str:
     return f" (perhaps {own[near[0]]} is meant)" if near else hint(name)
 
 
+@dataclass
 class Pattern:
     """A pattern, the set that it is of, whether a field fits it, and the names of those that do."""
 
-    def __init__(self, text: str, test: Test, of_set: str = "") -> None:
-        self.text = text
-        self.test = test
-        self.of_set = of_set
-        self.is_seen = False
-        self.names: set[str] = set()
+    text: str
+    test: Test
+    of_set: str = ""
+    is_seen: bool = False
+    names: set[str] = field(default_factory=set)
 
 
 def _patterns(words: Sequence[str]) -> list[Pattern]:
@@ -166,7 +173,7 @@ def _patterns(words: Sequence[str]) -> list[Pattern]:
         return []
     from .labels import fields_by_label, label_of  # which loads the library
 
-    patterns: list[Pattern] = []
+    patterns = []
     for word in dict.fromkeys(words):
         label = label_of(word)
         if word in SETS or label:

@@ -123,14 +123,16 @@ def number_of(text: str) -> Number | None:
     """
     match = _NUMBER.fullmatch(text.strip())
     if match:
-        value = float(Fraction(match[1]) / int(match[2] or 1)) if len(text) < 100 else float(match[1]) / float(match[2] or 1)
+        above, below = match[1], match[2] or "1"
+        value = float(Fraction(above) / int(below)) if len(text) < 100 else float(above) / float(below)
         return Number(value, abs(value) * 1e-9)
     angle = _COORDINATE.fullmatch(text.strip()) or _ANGLE.fullmatch(text.strip())
     if angle is None:
         return None
-    degrees = abs(float(angle[1])) + float(angle[2] or 0) / 60 + float(angle[3] or 0) / 3600
-    is_negative = angle[1].startswith("-") or angle[4].upper() in ("S", "W")
-    return Number(-degrees if is_negative else degrees, 0.5e-6 if not angle[2] else 2e-6)
+    degrees, minutes, seconds, letter = angle.groups("0")
+    value = abs(float(degrees)) + float(minutes) / 60 + float(seconds) / 3600
+    is_negative = degrees.startswith("-") or letter.upper() in ("S", "W")
+    return Number(-value if is_negative else value, 0.5e-6 if not angle[2] else 2e-6)
 
 
 def clock_of(text: str) -> str:

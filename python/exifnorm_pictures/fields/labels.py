@@ -244,25 +244,25 @@ def _of_octets_fields(fields: Sequence[Field]) -> Iterator[Caption]:
     for field in fields:
         if isinstance(field.content, bytes) and field.directory == "iptc":
             record.setdefault(field.tag, []).append(field.content)
-        elif isinstance(field.content, bytes) and (field.tag not in exif or _is_at_home(field)):
-            exif[field.tag] = field
+        elif isinstance(field.content, bytes):
+            # Some programs write a field into another directory than that of its tag
+            is_at_home = (field.directory == "exif") == (field.tag in _IN_EXIF)
+            exif[field.tag] = field if is_at_home else exif.get(field.tag, field)
     for number in sorted({_NUMBERS[tag] for tag in (*exif, *record) if tag in _NUMBERS}):
         label = LABELS[number]
-        if label.word == DATE:
-            yield from _dates(exif, record)
-            continue
-        if label.exif in exif:
-            field = exif[label.exif]
-            yield _of_octets(label.word, NAMES[EXIF], _NAMES[field.directory, field.tag], [_octets(field)], field.type == "UTF8")
-        if label.iptc in record:
-            is_utf8 = record.get("1:90") == [b"\x1b%G"]
-            yield _of_octets(label.word, NAMES[IPTC], _NAMES["iptc", label.iptc], record[label.iptc], is_utf8)
+        yield from _dates(exif, record) if label.word == DATE else _of_label(label, exif, record)
     yield from _extra(exif)
 
 
-def _is_at_home(field: Field) -> bool:
-    """Whether a field is in the directory of its tag. Some programs write it into another one."""
-    return (field.directory == "exif") == (field.tag in _IN_EXIF)
+def _of_label(label: Label, exif: dict[str, Field], record: dict[str, list[bytes]]) -> Iterator[Caption]:
+    """The texts of a label that is no date."""
+    if label.exif in exif:
+        field = exif[label.exif]
+        name = _NAMES[field.directory, field.tag]
+        yield _of_octets(label.word, NAMES[EXIF], name, [_octets(field)], field.type == "UTF8")
+    if label.iptc in record:
+        is_utf8 = record.get("1:90") == [b"\x1b%G"]
+        yield _of_octets(label.word, NAMES[IPTC], _NAMES["iptc", label.iptc], record[label.iptc], is_utf8)
 
 
 def with_own(texts: Sequence[Caption], make: str = "", model: str = "") -> list[Caption]:

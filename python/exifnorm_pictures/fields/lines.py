@@ -48,7 +48,7 @@ def parted(cells: Iterable[bytes | None]) -> list[bytes | None]:
     >>> parted(joined([None, b"[7]", None, b"[8]", None])), parted(joined([b"[7]" * 999, b"[8]"])) == [b"[7]" * 999, b"[8]"]
     ([None, b'[7]', None, b'[8]', None], True)
     """
-    texts: list[bytes | None] = []
+    texts = []
     following: Iterator[bytes] = iter(())
     left = KEPT_BYTES
     for cell in cells:

@@ -170,18 +170,16 @@ _RANGES = {
 def _value(where: str, kind: str, count: int, value: Any) -> Content:
     """A value. Raises `ValueError` and `TypeError` for anything else."""
     if kind in OCTETS:
-        if isinstance(value, str):
-            text = value.encode("utf-8")
-            return text if len(text) >= count else text + b"\0"
-        if len(value) == 1:
-            return bytes.fromhex(value[0])
-        digest, begins = value
-        return Long(_text(digest), bytes.fromhex(begins))
+        return _octets(count, value)
     if where == "xmp":
         return tuple([_property(it) for it in _list(value)])
-    if not isinstance(value, int) and len(_list(value)) == 2 and isinstance(value[0], str):
-        return Long(value[0], _text(value[1]))
-    numbers = [value] if isinstance(value, int) else value
+    numbers = [value] if isinstance(value, int) else _list(value)
+    if len(numbers) == 2 and isinstance(numbers[0], str):
+        return Long(*map(_text, numbers))
+    return _numbers(kind, numbers)
+
+
+def _numbers(kind: str, numbers: list[Any]) -> Content:
     if kind not in _RANGES or not all(type(it) is int and it in _RANGES[kind] for it in numbers):
         raise ValueError("something else than the numbers of a type")
     if kind not in ("RATIONAL", "SRATIONAL"):
@@ -191,13 +189,19 @@ def _value(where: str, kind: str, count: int, value: Any) -> Content:
     return tuple(zip(numbers[0::2], numbers[1::2]))
 
 
-def _property(value: Any, depth: int = 0) -> XmpValue:
+def _octets(count: int, value: Any) -> Content:
     if isinstance(value, str):
-        return Literal(value)
-    if isinstance(value, list):
-        return Literal(*map(_text, value))
+        text = value.encode("utf-8")
+        return text if len(text) >= count else text + b"\0"
+    if len(value) == 1:
+        return bytes.fromhex(value[0])
+    digest, begins = value
+    return Long(_text(digest), bytes.fromhex(begins))
+
+
+def _property(value: Any, depth: int = 0) -> XmpValue:
     if not isinstance(value, dict):
-        raise ValueError("a value of another type")
+        return Literal(*map(_text, [value] if isinstance(value, str) else _list(value)))
     if depth > NESTED:
         raise ValueError("a value that is nested too deep")
     (word, *more), (first, *others) = value, value.values()

@@ -138,8 +138,8 @@ def further_places(fields: Iterable[Field]) -> tuple[list[Place], bool]:
     """
     properties = [it for it in fields if it.directory == "xmp" and isinstance(it.content, tuple)]
     places = [place for it in properties for structure in _structures(it.content) for place in _place_in(structure)]
-    is_unclear = None in places or any(it.tag in _PLACES and any(map(_is_long_text, it.content)) for it in properties)
-    return [it for it in places if it is not None], is_unclear
+    left_out = (one for it in properties if it.tag in _PLACES for one in it.content)
+    return list(filter(None, places)), None in places or any(map(_is_long_text, left_out))
 
 
 def _place_in(structure: Structure) -> list[Place | None]:

@@ -129,12 +129,17 @@ def guess_of(field: Field) -> str:
     octets = field.content
     if not isinstance(octets, bytes) or not is_text(field) or is_wide_text(field) or field.tag in _NO_TEXTS:
         return ""
-    name = _character_set(octets) if is_comment(field) else ""
+    if is_comment(field) and (known := _guess_of_comment(field, octets)) is not None:
+        return known
+    return "" if octets.isascii() else decoded(octets, field.type == "UTF8" or field.declares_utf8)[1]
+
+
+def _guess_of_comment(field: Field, octets: bytes) -> str | None:
+    """The same of a comment; None if it was found as that of another text is."""
+    name = _character_set(octets)
     if name is None and field.type not in ("ASCII", "UTF8") and wide_comment(octets) == comment(octets) is not None:
         return "character set guessed: UTF-16"
-    if name in ("UNICODE", "JIS") or octets.isascii() or (is_comment(field) and text_of_comment(field) is None):
-        return ""
-    return decoded(octets, field.type == "UTF8" or field.declares_utf8)[1]
+    return "" if name in ("UNICODE", "JIS") or text_of_comment(field) is None else None
 
 
 _NO_TEXTS = (*DATASET_NUMBERS, "1:90")

@@ -81,10 +81,6 @@ def _table(words: dict[str, str]) -> Rule:
     return lambda it: words.get(str(numbers.integer(it)))
 
 
-def _letter(words: dict[str, str]) -> Rule:
-    return lambda it: words.get(text_of(it) or "")
-
-
 def _byte(*words: str) -> Rule:
     known = {bytes([number]): word for number, word in enumerate(words)}
     return lambda it: known.get(it.content) if isinstance(it.content, bytes) else None
@@ -113,7 +109,7 @@ _GPS: dict[str, Rule] = {
     **dict.fromkeys(("000f", "0011", "0018"), with_unit("°", 2)),
     **dict.fromkeys(("001b", "001c"), plain_comment),
     **dict.fromkeys(("0001", "0013", "0003", "0015"), lambda it: DIRECTIONS.get(direction(it))),
-    **dict.fromkeys(("000c", "0019"), _letter(UNITS)),
+    **dict.fromkeys(("000c", "0019"), lambda it: UNITS.get(text_of(it) or "")),
     "0000": numbers.dotted,
     "0005": _byte(*ALTITUDES),
     "0006": with_unit(" m", 1),

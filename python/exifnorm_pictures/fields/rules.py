@@ -112,8 +112,8 @@ def rules_of(text: str, words_of: Callable[[str], list[str]]) -> list[Rule]:
     >>> [rule.kind for rule in rules_of("every picture needs credit\\ncredit is 'Museum'", lambda name: [])]
     ['needs', 'values']
     """
-    rules: list[Rule] = []
-    mistakes: list[str] = []
+    rules = []
+    mistakes = []
     words = 0
     for number, line in enumerate(text.splitlines(), 1):
         try:
@@ -279,11 +279,7 @@ class _Reader(Reader):
     def _folder(self) -> str:
         """A folder, whose name has spaces only in quotes."""
         end = self._next.end
-        folder = self._up_to(lambda: self._next.word == "," or self._next.end > end and self._next.start > self._end_before)
+        folder = self._up_to(lambda: self._next.word == "," or self._next.end > end and self._next.start > self._tokens[self._at - 1].end)
         if not folder.text.strip("/"):
             self._fail("expected: a folder, such as scans/", folder)
         return os.path.normpath(folder.text) + "/"
-
-    @property
-    def _end_before(self) -> int:
-        return self._tokens[self._at - 1].end

@@ -12,8 +12,8 @@ _SHOWN = 100  # characters that are shown before and after the start of a mistak
 _TOKEN = re.compile(
     r'\s*(?:"((?:[^"]|"")*)"'  # a quote inside is doubled
     r"|(?<![^\s(=<>,])'([^']*)'(?![^\s),])"
-    r"|(!=|<=|>=|[=<>(),])"
-    r'|((?:[^\s()=<>!",]|!(?!=)|(?<=\d)")+))'  # as 46°12'7.8"
+    r"|(!=|<=|>=|[=<>(),]"
+    r'|(?:[^\s()=<>!",]|!(?!=)|(?<=\d)")+))'  # as 46°12'7.8"
 )
 
 
@@ -56,24 +56,24 @@ def tokens_of(text: str, has_comments: bool = False) -> list[Token]:
     >>> tokens_of('"the ""big"" vase"')[0].text
     'the "big" vase'
     """
-    tokens: list[Token] = []
+    tokens = []
     at, end = 0, len(text.rstrip())
     while at < end:
         match = _TOKEN.match(text, at)
         if match is None:
             start = end - len(text[at:end].lstrip())
-            is_quote = text[start] == '"'
-            why = "the quotes have no end" if is_quote else "this can't be understood"
-            raise Mistake(why, start, end if is_quote else start + 1)
-        word = match[3] or match[4]
-        if has_comments and word and word.startswith("#"):
+            if text[start] == '"':
+                raise Mistake("the quotes have no end", start, end)
+            raise Mistake("this can't be understood", start, start + 1)
+        word = match[3] or ""
+        if has_comments and word.startswith("#"):
             break
-        quoted = match[2] if match[1] is None else match[1].replace('""', '"')
         start = match.end() - len(match[0].lstrip())
-        if word and word.startswith("'"):  # it would be taken for a part of the text
+        if word.startswith("'"):  # it would be taken for a part of the text
             why = "the quotes have no end; put a text that begins with an apostrophe, or has one,"
             raise Mistake(f"{why} in double quotes", start, match.end())
-        tokens.append(Token(word or quoted, start, match.end(), quoted is not None))
+        quoted = match[2] if match[1] is None else match[1].replace('""', '"')
+        tokens.append(Token(word or quoted, start, match.end(), not word))
         at = match.end()
     return tokens
 

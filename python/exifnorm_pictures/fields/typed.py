@@ -6,7 +6,8 @@ import math
 import struct
 from datetime import date, datetime, time
 from fractions import Fraction
-from typing import Any, Iterator, Sequence, Union
+from functools import partial
+from typing import Any, Callable, Iterator, Sequence, Union
 
 from ..model.xmp_values import Array, Literal, Long, LongStructure, Structure, Uri, XmpValue, exact
 from .field import Field
@@ -36,16 +37,8 @@ def value_of(field: Field) -> Value:
     if not isinstance(field.content, bytes):
         return _one_or_all(_numbers(field))
     value = _of_octets(field, field.content)
-    text = value.strip("\0 ") if isinstance(value, str) else ""
-    if (field.directory, field.tag) in _DATES:
-        return _moment(text, "%Y:%m:%d %H:%M:%S") or value
-    if field.directory == "iptc" and field.tag in DATASET_DATES:
-        day = _moment(text, "%Y%m%d")
-        return day.date() if day else value
-    if field.directory == "iptc" and field.tag in DATASET_TIMES:
-        moment = _moment(text, "%H%M%S%z") or _moment(text, "%H%M%S")
-        return moment.timetz() if moment else value
-    return value
+    made = _DATED.get((field.directory, field.tag))
+    return (made(value.strip("\0 ")) or value) if made and isinstance(value, str) else value
 
 
 def typed(field: Field) -> Any:
@@ -137,6 +130,25 @@ def _moment(text: str, form: str) -> datetime | None:
         return None
 
 
+def _day(text: str) -> date | None:
+    moment = _moment(text, "%Y%m%d")
+    return moment.date() if moment else None
+
+
+def _clock(text: str) -> time | None:
+    moment = _moment(text, "%H%M%S%z") or _moment(text, "%H%M%S")
+    return moment.timetz() if moment else None
+
+
+_MOMENT: Callable[[str], Value] = partial(_moment, form="%Y:%m:%d %H:%M:%S")
+# Dates and times in the form of their standard, by the directory and the tag of a field
+_DATED: dict[tuple[str, str], Callable[[str], Value]] = {
+    **dict.fromkeys(_DATES, _MOMENT),
+    **{("iptc", it): _day for it in DATASET_DATES},
+    **{("iptc", it): _clock for it in DATASET_TIMES},
+}
+
+
 def raw(field: Field) -> bytes | None:
     """The bytes of a value, most significant byte first; None for XMP, and for a value that isn't kept whole."""
     if isinstance(field.content, bytes):
@@ -177,16 +189,18 @@ def _one_of_xmp(name: str, value: XmpValue) -> Value:
     if isinstance(value, Uri):
         return value.uri
     if isinstance(value, LongStructure):
-        return _one_of_xmp(name, value.value)
+        value = value.value
     if isinstance(value, Structure):
         return dict(_members_of(value))
-    if not isinstance(value, Array):
-        return None
-    members = value.members
-    if value.kind != "Alt":
-        return tuple([_one_of_xmp(name, it) for it in members])
-    default = [it for it in members if isinstance(it, Literal) and it.language.lower() == "x-default"] or members
-    return _one_of_xmp(name, default[0]) if default else ()
+    return _of_array(name, value) if isinstance(value, Array) else None
+
+
+def _of_array(name: str, array: Array) -> Value:
+    if array.kind != "Alt":
+        return tuple([_one_of_xmp(name, it) for it in array.members])
+    of_default = [it for it in array.members if isinstance(it, Literal) and it.language.lower() == "x-default"]
+    default = next(iter(of_default or array.members), None)
+    return _one_of_xmp(name, default) if default else ()
 
 
 def _members_of(structure: Structure) -> Iterator[tuple[str, Value]]:
@@ -246,7 +260,7 @@ def _json_of_values(name: str, values: Sequence[XmpValue]) -> Any:
 def _json_of_value(name: str, value: XmpValue, has_language: bool) -> Any:
     """A text by its type, but dates are texts, and as an object if its list has a language; a list; or a structure's fields by their names."""
     if isinstance(value, (Literal, Uri)):
-        text, language = (value.text, value.language) if isinstance(value, Literal) else (value.uri, "")
+        text, language = (*value, "")[:2]  # a URI has no language
         return {"text": text, "language": language or None} if has_language else _json_of_text(name, text)
     if isinstance(value, Array):
         with_language = any(isinstance(it, Literal) and it.language for it in value.members)

@@ -88,10 +88,6 @@ def _rational(text: str) -> XmpObject:
     return Fraction(int(match[1]), below) if below else None
 
 
-def _number(text: str) -> XmpObject:
-    return _integer(text) if _INTEGER.fullmatch(text) else _rational(text)
-
-
 def _coordinate(text: str) -> XmpObject:
     """Degrees, those of south and west below zero (part 2, 1.2.7.4, GPSCoordinate: "DDD,MM,SSk" or "DDD,MM.mmk")."""
     match = _COORDINATE.fullmatch(text)
@@ -105,14 +101,14 @@ def _date(text: str) -> XmpObject:
     match = _DATE.fullmatch(text)
     if match is None:
         return text
-    year, month, day, hour, minute, second, part, utc, sign, hours, minutes = match.groups()
+    *moment, part, _, sign, hours, minutes = match.groups("0")
     try:
-        if hour is None:
-            return date(int(year), int(month), int(day))
-        ahead = timedelta(hours=int(hours or 0), minutes=int(minutes or 0)) * (-1 if sign == "-" else 1)
-        zone: timezone | None = timezone(ahead) if utc or sign else None
-        microseconds = int((part or "0")[:6].ljust(6, "0"))
-        return datetime(int(year), int(month), int(day), int(hour), int(minute), int(second or 0), microseconds, zone)
+        year, month, day, hour, minute, second = map(int, moment)
+        if match[4] is None:
+            return date(year, month, day)
+        ahead = timedelta(hours=int(hours), minutes=int(minutes)) * (-1 if sign == "-" else 1)
+        zone = timezone(ahead) if match[8] or match[9] else None
+        return datetime(year, month, day, hour, minute, second, int(part[:6].ljust(6, "0")), zone)
     except ValueError:
         return text
 
@@ -121,7 +117,7 @@ _MADE: dict[str, Callable[[str], XmpObject]] = {
     "Integer": _integer,
     "Real": lambda text: float(text) if _REAL.fullmatch(text) else text,
     "Rational": _rational,
-    "Number": _number,
+    "Number": lambda text: _integer(text) if _INTEGER.fullmatch(text) else _rational(text),
     "Coordinate": _coordinate,
     # writers also have other letters than the standard, and the text "false" would be true in a program
     "Boolean": lambda text: {"true": True, "false": False}.get(text.casefold(), text),

@@ -13,7 +13,7 @@ from .columns import LONGEST, Columns, Damaged, Is, check
 from .found import EXIF, EXIFTOOL, KINDS, PROGRAMS, XMP, Blocks, NotRead, cut, not_known
 from .steps import Step, loses, unpacked
 from .texts import Members
-from .sides import REACHED, Side, Status, joined, side_of
+from .sides import REACHED, Side, Status, of_all, side_of
 
 _PATH = 5000  # bytes: Linux opens paths of 4,095, and lists a name of 255 in such a folder
 _STEPS, _EACH = 1 << 20, 1 << 20  # characters of the steps of a repair, and of what each of a picture's blocks or sidecars adds
@@ -294,35 +294,29 @@ _PLACES = {name: number for number, name in enumerate(PictureRecord._fields)}
 _NO_STAMP = (None,) * len(Stamp._fields)
 
 
-_OCTETS = {kind: f"{kind}_octets" for kind in KINDS}
-
-
 def _compared(blocks: Sequence[BlockRecord], unread: Sequence[NotRead]) -> dict[str, Any]:
     """What is compared of a picture: columns by their names."""
-    by_kind: dict[str, list[BlockRecord]] = {kind: [] for kind in KINDS}
-    for block in blocks:
-        by_kind[block.kind].append(block)
-    known: dict[str, Any] = {"not_read": "", "other_not_read": ""}
-    for word, ours in by_kind.items():
-        side = side_of(ours)
-        known[word] = side.digest if side.status == Status.ACCEPTED else "" if side.status == Status.ABSENT else None
-        known[_OCTETS[word]] = side.octets
-        if side.repaired and word == EXIF:
-            known["exif_repaired"] = side.repaired
-    if unread:
-        known["not_read"] = known["other_not_read"] = _parts_digest(unread)
-        if known["not_read"]:
-            known["other_not_read"] = _parts_digest([part for part in unread if not part.what.endswith(REACHED)])
-    if notes := [f"{block.name}:{block.note}" for block in by_kind[EXIF] if block.note is not None]:
-        known["maker_notes"], known["other_exif"] = ",".join(notes), _exif_but_notes(by_kind[EXIF])
-    return known
+    known: dict[str, Any] = {}
+    for kind in KINDS:
+        side = side_of([it for it in blocks if it.kind == kind])
+        known[kind] = side.digest if side.status in (Status.ACCEPTED, Status.ABSENT) else None
+        known[f"{kind}_octets"] = side.octets
+        if kind == EXIF:
+            known["exif_repaired"] = side.repaired or None
+    not_read = known["not_read"] = _parts_digest(unread)
+    others = [part for part in unread if not part.what.endswith(REACHED)]
+    known["other_not_read"] = not_read and _parts_digest(others)
+    return {**known, **_maker_notes([it for it in blocks if it.kind == EXIF])}
 
 
-def _exif_but_notes(blocks: Sequence[BlockRecord]) -> str:
-    """A digest of what some Exif blocks mean without their MakerNotes, after repairs too; empty if that of one isn't known."""
-    if any(it.meaning is None for it in blocks):
-        return ""
-    return joined([(it.name, it.but_note or it.meaning or "") for it in blocks])
+def _maker_notes(exif: Sequence[BlockRecord]) -> dict[str, str]:
+    """Where the MakerNotes begin, and a digest of what the blocks mean without them, if there are
+    any."""
+    notes = [f"{it.name}:{it.note}" for it in exif if it.note is not None]
+    if not notes:
+        return {}
+    others = of_all(exif, [it.meaning and (it.but_note or it.meaning) for it in exif])
+    return {"maker_notes": ",".join(notes), "other_exif": others}
 
 
 def _parts_digest(parts: Sequence[NotRead]) -> Optional[str]:

@@ -33,6 +33,12 @@ class Side(NamedTuple):
     octets: str = ""  # of their bytes
     repaired: str = ""  # of their meaning after repairs that lose nothing, if one of them is refused
 
+    @property
+    def meaning(self) -> str | None:
+        """The digest of their meaning, be it after repairs; empty without a block, None if it
+        isn't known."""
+        return "" if self.status == Status.ABSENT else self.digest or self.repaired or None
+
 
 NO_BLOCK = Side(Status.ABSENT)
 
@@ -41,13 +47,16 @@ def side_of(ours: Sequence[BlockRecord]) -> Side:
     """The side of a picture for the kind that these blocks have. Several are compared in their order and under their names."""
     if not ours:
         return NO_BLOCK
-    if len(ours) == 1 and ours[0].status == Status.ACCEPTED and ours[0].name == NAMES[ours[0].kind]:  # as of most pictures
-        return Side(Status.ACCEPTED, ours[0].digest or "", ours[0].octets)
-    octets = joined([(it.name, it.octets) for it in ours])
-    if any(it.status != Status.ACCEPTED for it in ours):
-        repaired = joined([(it.name, it.meaning or "") for it in ours]) if all(it.meaning for it in ours) else ""
-        return Side(Status.UNREADABLE if ours[0].kind == XMP else Status.REFUSED, "", octets, repaired)
-    return Side(Status.ACCEPTED, joined([(it.name, it.digest or "") for it in ours]), octets)
+    octets = of_all(ours, [it.octets for it in ours])
+    if all([it.status == Status.ACCEPTED for it in ours]):
+        return Side(Status.ACCEPTED, of_all(ours, [it.digest for it in ours]), octets)
+    status = Status.UNREADABLE if ours[0].kind == XMP else Status.REFUSED
+    return Side(status, "", octets, of_all(ours, [it.meaning for it in ours]))
+
+
+def of_all(blocks: Sequence[BlockRecord], digests: Sequence[str | None]) -> str:
+    """One digest for several blocks by theirs; empty if that of one isn't known."""
+    return joined([(it.name, str(digest)) for it, digest in zip(blocks, digests)]) if all(digests) else ""
 
 
 def joined(named: Sequence[tuple[str, str]]) -> str:

@@ -5,19 +5,19 @@ The package exifnorm, which is installed without this one too, has a table of it
 
 from __future__ import annotations
 
+from typing import NamedTuple
 
 HEADS = (b"II*\0", b"MM\0*")  # how a file begins that isn't a BigTIFF, and a block
 SHORT, LONG, SSHORT, SLONG, IFD = 3, 4, 8, 9, 13
 LONG8, SLONG8, IFD8 = 16, 17, 18
 
 
-class Type:
+class Type(NamedTuple):
     """A type: its name, the bytes of an element, and the code of `struct` for a number of it; none of those that no structure has."""
 
-    __slots__ = ("name", "size", "code")
-
-    def __init__(self, name: str, size: int, code: str = "") -> None:
-        self.name, self.size, self.code = name, size, code
+    name: str
+    size: int
+    code: str = ""
 
 
 EXIF: dict[int, Type] = {  # those of a block

@@ -42,19 +42,13 @@ def verdict(kind: str, side: Side, other: Side) -> Verdict:
     statuses, same_bytes = {side.status, other.status}, side.octets == other.octets
     if statuses == {Status.ABSENT}:
         return Verdict(kind, Result.ABSENT)
-    if Status.REFUSED in statuses and not same_bytes and _is_read(side) and _is_read(other):
-        is_same = (side.digest or side.repaired) == (other.digest or other.repaired)
+    is_same = side.meaning == other.meaning
+    if Status.REFUSED in statuses and not same_bytes and None not in (side.meaning, other.meaning):
         return Verdict(kind, Result.SAME_REPAIRED if is_same else Result.DIFFERENT_REPAIRED)
     unread = [result for status, result in _OF_STATUS.items() if status in statuses]
     if unread:
         return Verdict(kind, unread[0], same_bytes)
-    is_same = Status.ABSENT not in statuses and side.digest == other.digest
     return Verdict(kind, Result.SAME, same_bytes) if is_same else Verdict(kind, Result.DIFFERENT)
-
-
-def _is_read(side: Side) -> bool:
-    """Whether it is known what a block means, if there is one, be it after a repair."""
-    return bool(side.digest or side.repaired or side.status == Status.ABSENT)
 
 
 def verdicts(before: dict[str, Side], after: dict[str, Side], kinds: Iterable[str] = tuple(NAMES)) -> list[Verdict]:

@@ -4,7 +4,7 @@ from __future__ import annotations
 
 import re
 from operator import itemgetter
-from typing import Any, Iterator, NamedTuple, Union
+from typing import Any, Iterator, NamedTuple, Sequence, Union
 
 from .texts import escaped, quoted
 
@@ -122,24 +122,30 @@ def texts_in(value: XmpValue) -> tuple[str, ...]:
     >>> texts_in(Array("Alt", (Literal("Krug", "de"), Literal("Vase", "x-default")))), texts_in(Structure((("stEvt:action", Literal("saved")),)))
     (('Vase',), ())
     """
-    if isinstance(value, Literal):
-        return (value.text,)
-    if isinstance(value, Uri):
-        return (value.uri,)
-    if isinstance(value, Array):
-        return _chosen(value.members) if value.kind == "Alt" else tuple(text for it in value.members for text in texts_in(it))
+    if isinstance(value, (Literal, Uri)):
+        return (value[0],)
     if isinstance(value, Long):
         return ()
-    numbered = [(int(match[1]), it) for name, it in value.members for match in [_MEMBER.match(name)] if match]
-    if numbered:  # a list with qualifiers
-        numbered.sort(key=itemgetter(0))
-        return tuple(text for _, it in numbered for text in texts_in(it))
-    return tuple(it.text for name, it in value.members if name == VALUE and isinstance(it, Literal))
+    members = _chosen(value) if isinstance(value, Array) else _qualified(value)
+    return tuple(text for it in members for text in texts_in(it))
 
 
-def _chosen(members: tuple[XmpValue, ...]) -> tuple[str, ...]:
-    every = [it for it in members if isinstance(it, Literal)]
-    return tuple(it.text for it in ([it for it in every if it.language.lower() == "x-default"] or every)[:1])
+def _chosen(array: Array) -> Sequence[XmpValue]:
+    """The members of a list; of alternatives the default one."""
+    if array.kind != "Alt":
+        return array.members
+    every = [it for it in array.members if isinstance(it, Literal)]
+    return ([it for it in every if it.language.lower() == "x-default"] or every)[:1]
+
+
+def _qualified(structure: Structure) -> Sequence[XmpValue]:
+    """The members of a list that has qualifiers, or the text that has some; none of another
+    structure."""
+    matches = [(_MEMBER.match(name), it) for name, it in structure.members]
+    numbered = [(int(match[1]), it) for match, it in matches if match]
+    if numbered:
+        return [it for _, it in sorted(numbered, key=itemgetter(0))]
+    return [it for name, it in structure.members if name == VALUE and isinstance(it, Literal)]
 
 
 def simple_texts(value: XmpValue) -> Iterator[tuple[str, str]]:
