@@ -104,7 +104,7 @@ def end_by(number: int) -> None:
 
 def ready_streams() -> None:
     """Opens /dev/null for a closed standard stream, so that no file gets its number. Raises `ClosedOutput`."""
-    closed: list[int] = []
+    closed = []
     for number in (0, 1, 2):
         try:
             os.fstat(number)

@@ -62,8 +62,8 @@ def batch(file: str, entries: Sequence[PictureRecord], left: Sequence[FoundFile]
     with contextlib.closing(sqlite3.connect(file, isolation_level=None)) as base:
         make_rows(base)
         base.execute("BEGIN")
-        put_rows(base, 0, 1, [it for it in entries if it.problem not in NO_BYTES] if unread else entries)
+        put_rows(base, 0, 1, [it for it in entries if it.problem not in NO_BYTES])
         base.execute("COMMIT")
     printed = [line for it in entries for line in lines(it)] if lines else []
-    used = {program for it in entries for program in it.programs}
+    used: set[str] = set().union(*(it.programs for it in entries))
     return Batch(file, Counter(it.state for it in entries), printed, used, unread, left, programs.told())

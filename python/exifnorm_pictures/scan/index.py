@@ -102,7 +102,7 @@ def index(options: IndexOptions, catalogue: Catalogue) -> "Counter[str]":
 
 
 def _settle(options: IndexOptions, at_work: "_Looking", departed: Departed) -> None:
-    """Keeps and reports what became of pictures that are gone: those that moved with their folder in one line together."""
+    """Keeps and reports what became of pictures that are gone."""
     work, catalogue, run = at_work.work, at_work.catalogue, at_work.run
     if work.taken:
         catalogue.forget_pictures(work.taken)
@@ -111,18 +111,23 @@ def _settle(options: IndexOptions, at_work: "_Looking", departed: Departed) -> N
         catalogue.put(run, batch)
     if work.new:
         departed.settle(catalogue, run, lambda path: path not in work.reread)
-    folders: "Counter[tuple[bytes, bytes]]" = Counter()
+    _report(options, at_work, departed)
+
+
+def _report(options: IndexOptions, at_work: "_Looking", departed: Departed) -> None:
+    """Reports pictures that are gone: those that moved with their folder in one line together."""
+    folders: "Counter[tuple[bytes, bytes] | None]" = Counter()
     shared: dict[tuple[bytes, bytes], bytes] = {}
     for path, to in departed.moves() if options.moved_line else ():
-        both = moved_folders(path, to)
-        if both:
+        if both := moved_folders(path, to):
             folders[both] += 1
             shared[both] = shared_folder(shared.get(both), path)
     for (path, place), picture in zip(departed.each(), departed.reports()):
         both = None if place is None else moved_folders(path, place)
-        at_work.count(picture, None if both and folders[both] > 1 else options.how.lines)
+        at_work.count(picture, None if folders[both] > 1 else options.how.lines)
     if options.moved_line:
-        at_work.print_lines(options.moved_line(*deepest(key, shared[key]), count) for key, count in folders.items() if count > 1)
+        together = ((key, folders[key]) for key in shared if folders[key] > 1)
+        at_work.print_lines(options.moved_line(*deepest(key, shared[key]), count) for key, count in together)
 
 
 def _now() -> str:
@@ -175,26 +180,24 @@ class _Finding:
 
     def _to_read(self, file: FoundFile) -> FoundFile | None:
         """A file with what is known of it, if it has to be looked at."""
-        work, options = self.work, self.options
+        work, again = self.work, self.options.again
         if self.named is not None and not self.named.add(file.path):
             return None
         known = None if self.first else self.catalogue.known(file.path)
-        if known:
-            work.seen.add(known.id)
-        if options.again or not _is_unchanged(file, known, options.how) or (known and known.id in work.unfinished):
-            if known:
-                work.reread.add(file.path)
-            elif not self.first:
-                work.new = True
-            return file._replace(problem=known.problem) if known and known.problem and not options.again else file
+        if known is None:
+            work.new |= not self.first
+            return file
+        work.seen.add(known.id)
+        if again or not _is_unchanged(file, known, self.options.how) or known.id in work.unfinished:
+            work.reread.add(file.path)
+            return file if again else file._replace(problem=known.problem)
         work.counts["unchanged"] += 1
-        if known and known.stamp and file.stamp and known.stamp.device != file.stamp.device:  # mounted again
+        if known.stamp and file.stamp and known.stamp.device != file.stamp.device:  # mounted again
             self._remounted.append((file.stamp.device, known.id))
         return None
 
     def _note_sidecar(self, path: bytes) -> None:
-        known = None if self.first else self.catalogue.known(path)
-        if known:
+        if not self.first and (known := self.catalogue.known(path)):
             self.work.sidecars.add(known.id)
 
 
@@ -206,8 +209,8 @@ def _unfinished(catalogue: Catalogue) -> Iterator[int]:
         yield from catalogue.rows(f"SELECT id FROM {joined}", (UNREAD_TRAILER,), itemgetter(0))
 
 
-def _is_unchanged(file: FoundFile, known: Known | None, how: How = How()) -> bool:
-    if known is None or known.stamp is None or file.stamp is None or (how.pixels and known.coded_picture is None):
+def _is_unchanged(file: FoundFile, known: Known, how: How) -> bool:
+    if known.stamp is None or file.stamp is None or (how.pixels and known.coded_picture is None):
         return False
     if known.sidecars != (marks(file.path, file.sidecars) if file.sidecars else ""):
         return False
@@ -323,12 +326,15 @@ class _Looking:
     def _look(self, files: Iterable[FoundFile]) -> None:
         """Looks at pictures, and commits each result."""
         for result in self.options.look(files, self.options.how):
-            if isinstance(result, Batch) and self.ready and not isinstance(self.ready[-1], Batch):
-                self.commit()  # a catalogue takes the pictures of files first, and their order is that of the names
+            if isinstance(result, Batch):
+                if len(self.ready) > self.files:
+                    self.commit()  # a catalogue takes the pictures of files first, and their order is that of the names
+                self.files += 1
+                self.pictures += sum(result.states.values())
+            else:
+                self.pictures += 1
+                self.size += result.kept_bytes
             self.ready.append(result)
-            self.files += isinstance(result, Batch)
-            self.pictures += sum(result.states.values()) if isinstance(result, Batch) else 1
-            self.size += 0 if isinstance(result, Batch) else result.kept_bytes
             is_much = self.pictures >= BATCH or self.files >= FILES or self.size >= budgets.READY_BYTES
             if is_much or time.monotonic() - self.last > LONGEST_WAIT:
                 self.commit()

@@ -8,6 +8,7 @@ import hashlib
 import os
 import re
 from collections import Counter
+from operator import attrgetter
 from typing import Iterator, NamedTuple, Sequence
 
 from ..catalogue import shards
@@ -73,27 +74,29 @@ def plan(where: str, names: Sequence[bytes], patterns: Sequence[str]) -> Plan:
     tops = list(outermost(names))
     listed = _check(where, tops)
     known = {_key_of(name): name for name in listed}
-    kept = {key: _kept(os.path.join(where, name)) for key, name in known.items() if shards.is_made(os.path.join(where, name))}
+    kept = {_key_of(name): _kept(file) for name in listed if shards.is_made(file := os.path.join(where, name))}
     there = {key: one.part for key, one in kept.items() if one.part}
     roots = {part.top for part in there.values()}
     excluded = Excluded(patterns)
     now = {_key(part): part for top in tops for part in _parts(top, excluded, known, roots)}
-    others = [(known[key], part) for key, part in there.items() if key not in now]
-    gone = [Shard(name, part, False) for name, part in others if _is_gone(part, tops, excluded)]
-    _refuse_missing(tops, gone)
+    others = {key: part for key, part in there.items() if key not in now}
+    gone = _gone({known[key]: part for key, part in others.items()}, tops, excluded)
     os.makedirs(where, exist_ok=True)
     if not now.keys() <= known.keys():
         listed = _listed_with(where, now)
-    present_shards = [Shard(name, now[_key_of(name)]) for name in listed if _key_of(name) in now]
-    has = any(one.has_sidecars for one in kept.values()), any(one.has_digests for one in kept.values())
-    return Plan([*present_shards, *gone], *has, not roots, excluded.count, frozenset(excluded.unused()))
+    found = [Shard(name, now[_key_of(name)]) for name in listed if _key_of(name) in now]
+    sidecars, digests = (any(map(attrgetter(it), kept.values())) for it in ("has_sidecars", "has_digests"))
+    return Plan([*found, *gone], sidecars, digests, not roots, excluded.count, frozenset(excluded.unused()))
 
 
-def _refuse_missing(tops: Sequence[bytes], gone: Sequence[Shard]) -> None:
-    """Raises `WrongFolder` for a folder that isn't there, and that no part is of."""
+def _gone(others: dict[str, Part], tops: Sequence[bytes], excluded: Excluded) -> list[Shard]:
+    """The parts that aren't found now and were to be indexed. Raises `WrongFolder` for a folder
+    that isn't there, and that no part is of."""
+    gone = [Shard(name, part, False) for name, part in others.items() if _is_gone(part, tops, excluded)]
     for top in tops:
         if not os.path.isdir(top) and not any(top in shard.part for shard in gone):
             raise WrongFolder(f"there is no folder {shown_path(top)}")
+    return gone
 
 
 def _listed_with(where: str, parts: dict[str, Part]) -> list[str]:
@@ -108,13 +111,8 @@ def _listed_with(where: str, parts: dict[str, Part]) -> list[str]:
 
 def _check(where: str, tops: Sequence[bytes]) -> list[str]:
     """The catalogues that are listed. Raises `WrongFolder`."""
-    inside = os.path.join(os.path.realpath(os.fsencode(where)), b"")
     shown = shown_path(os.fsencode(where))
-    for top in tops:
-        if os.path.lexists(top) and not os.path.isdir(top):
-            raise WrongFolder(f"{shown_path(top)} is no folder: --shards makes a catalogue of each folder")
-        if inside.startswith(os.path.join(os.path.realpath(top), b"")):
-            raise WrongFolder(f"{shown} lies below {shown_path(top)}, which is indexed: give another folder to --shards")
+    _check_tops(where, shown, tops)
     if not os.path.lexists(where):
         return []
     if not os.path.isdir(where) or (not shards.is_folder(where) and any(not name.startswith(".") for name in os.listdir(where))):
@@ -125,6 +123,15 @@ def _check(where: str, tops: Sequence[bytes]) -> list[str]:
         if not re.fullmatch(r"[0-9]{5,}-.*-[0-9a-f]{16}\.catalogue", name):
             raise WrongFolder(f"{shown} lists {shown_path(os.fsencode(name))}, which isn't of index --shards: give a new folder")
     return list(shards.listed(where))
+
+
+def _check_tops(where: str, shown: str, tops: Sequence[bytes]) -> None:
+    inside = os.path.join(os.path.realpath(os.fsencode(where)), b"")
+    for top in tops:
+        if os.path.lexists(top) and not os.path.isdir(top):
+            raise WrongFolder(f"{shown_path(top)} is no folder: --shards makes a catalogue of each folder")
+        if inside.startswith(os.path.join(os.path.realpath(top), b"")):
+            raise WrongFolder(f"{shown} lies below {shown_path(top)}, which is indexed: give another folder to --shards")
 
 
 def _parts(top: bytes, excluded: Excluded, known: dict[str, str], roots: set[bytes]) -> Iterator[Part]:

@@ -53,17 +53,14 @@ class Progress:
         self._reports.append((now, count))
         while len(self._reports) > 2 and now - self._reports[1][0] > WINDOW:
             self._reports.popleft()
+        is_last = self.is_whole and count >= self.total
         if self.quiet or not self.total or self._is_over:
             return
-        on_terminal = self.stream.isatty()
-        is_last = self.is_whole and count >= self.total
-        is_due = is_last or now - self.last >= (0.2 if on_terminal else 1.0)
-        if not is_due:
-            return
-        self.last, self._is_over = now, is_last
-        end = "\n" if not on_terminal or is_last else ""
-        self._write((_CLEAR if on_terminal else "") + self.text(count, now - self.began) + end)
-        self.is_shown = on_terminal and not end
+        begin, end, pause = (_CLEAR, "\n" * is_last, 0.2) if self.stream.isatty() else ("", "\n", 1.0)
+        if is_last or now - self.last >= pause:
+            self.last, self._is_over = now, is_last
+            self._write(begin + self.text(count, now - self.began) + end)
+            self.is_shown = not end
 
     def clear(self) -> None:
         """Takes the line that changes off the terminal, before another one is printed there."""

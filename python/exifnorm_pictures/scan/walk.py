@@ -110,9 +110,9 @@ def _below(
             unlisted(Unlisted(folder, reason(error)))
             continue
         inside = os.path.join(folder, b"")
+        folders, files = ([it for it in some if inside + it not in leave_out] for some in (folders, files))
         if not (part and part.is_flat):
-            waiting += [inside + it for it in reversed(folders) if inside + it not in leave_out]
-        files = [it for it in files if inside + it not in leave_out] if leave_out else files
+            waiting += [inside + it for it in reversed(folders)]
         known = Folder([] if on_sidecar is None else files)
         for name in files:
             path = inside + name
@@ -124,8 +124,8 @@ def _below(
 
 def _listed(folder: bytes, head: int, excluded: Excluded) -> tuple[list[bytes], list[bytes]]:
     """The names of the folders and of the files of a folder, without what is excluded; a link to a folder is neither."""
-    folders: list[bytes] = []
-    files: list[bytes] = []
+    folders = []
+    files = []
     excludes = bool(excluded)
     with os.scandir(folder) as entries:
         for entry in entries:

@@ -105,7 +105,7 @@ def chunks_of(work: Iterator[FoundFile], processes: int) -> Iterator[list[FoundF
 def look_at_some(task: Task, how: How) -> Batch | Few:
     """A process's results for the first pictures of a task: for all of them, unless that takes too long or too much memory."""
     ends_at = time.monotonic() + LONGEST_WAIT
-    entries: list[PictureRecord] = []
+    entries = []
     size = 0
     for file in task.chunk:
         entries.append(_look(file, how))
