@@ -210,7 +210,7 @@ def _octets(name: str) -> bytes:
 
 def _picture(opened: Callable[[], Parts], path: bytes, whole: bool, origin: Origin, session: Session | None) -> Picture:
     name = os.fsdecode(path)
-    cause: Exception | None = None
+    cause = None
     try:
         file = opened()
         blocks = extraction.blocks_in(file, path, whole, session)

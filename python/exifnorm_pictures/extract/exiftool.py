@@ -14,7 +14,7 @@ import json
 import os
 import re
 import shutil
-from typing import Optional, Sequence, cast
+from typing import Sequence, cast
 
 from ..files.session import Session
 from ..model.budgets import OUTPUT, WHOLE_FILE, budget_of
@@ -113,7 +113,7 @@ def _process(session: Session) -> Process:
     """The session's ExifTool, which starts at the first call."""
     if not session.programs:
         raise programs.Missing("exiftool", may_start=False)
-    tool = cast(Optional[Process], session.tool)
+    tool = cast("Process | None", session.tool)
     if tool is not None and tool.process.poll() is not None:
         session.close_tool()  # it ended between two questions
     if session.tool is None:

@@ -3,7 +3,7 @@
 from __future__ import annotations
 
 from functools import partial
-from typing import Callable, Generic, Iterable, Optional, Sequence, TypeVar
+from typing import Callable, Generic, Iterable, Sequence, TypeVar
 
 from ..model.records import BlockRecord
 from .field import Field
@@ -30,7 +30,7 @@ class Once(Generic[Made]):
         return self._made
 
 
-class Fields(Once[Optional[list[Field]]]):
+class Fields(Once["list[Field] | None"]):
     """The fields of a normal form, of the statements of a packet, or of a block of a catalogue, in
     the order of a listing; None if a catalogue doesn't have them."""
 

@@ -7,14 +7,14 @@ from __future__ import annotations
 
 import re
 from fractions import Fraction
-from typing import Any, Callable, Optional
+from typing import Any, Callable
 
 from ..model.xmp_values import Long
 from .field import Field
 from .listing import kept_value
 from .plain_texts import text_of
 
-Rule = Callable[[Field], Optional[str]]
+Rule = Callable[[Field], "str | None"]
 
 UNKNOWN = "unknown"
 INTEGERS = ("SHORT", "LONG", "WHOLE", "SSHORT", "SLONG")

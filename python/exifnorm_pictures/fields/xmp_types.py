@@ -42,7 +42,7 @@ exifEX Integer PhotographicSensitivity SensitivityType StandardOutputSensitivity
 
 
 def _types() -> dict[str, str]:
-    types: dict[str, str] = {}
+    types = {}
     for line in _TABLE.strip().replace("\n ", " ").splitlines():
         prefix, _, rest = line.partition(" ")
         for part in rest.split("; "):

@@ -119,7 +119,7 @@ class ComparedNotes(NamedTuple):
 
 def compared_notes(session: Session, sides: Sides, picture: PictureRecord, other: PictureRecord) -> ComparedNotes | None:
     """Two pictures compared; None if a reading isn't known: a file has changed since, or there is no ExifTool."""
-    known: dict[int, NotesReading] = {}
+    known = {}
     for number, side in enumerate((picture, other)):
         kept = sides.maker_notes(number, side, unpacked_reading)
         if kept is not None:

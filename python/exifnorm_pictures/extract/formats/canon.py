@@ -14,7 +14,7 @@ _WITHOUT = frozenset((b"CCTP", b"CTBO", b"THMB", b"free"))  # kinds and places o
 
 def parts(blocks: Blocks, stream: Stream, box: Box) -> dict[bytes, Box]:
     """The version and the structures of the box. Other boxes in it are named. Raises `Broken`."""
-    structures: dict[bytes, Box] = {}
+    structures = {}
     for structure in boxes(stream, box.start, box.end):
         if structure.kind in (CNCV, CMT1, CMT2, CMT3, CMT4):
             if structure.kind in structures:

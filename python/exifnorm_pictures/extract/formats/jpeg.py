@@ -172,7 +172,7 @@ def _kind_of(marker: int, data: bytes) -> tuple[str, int]:
 
 def _further(stream: Stream, head: _Head, end: int) -> list[int]:
     """The offsets of the further pictures of the MPF index. An index that does not fit the file is noted, and not followed."""
-    starts: set[int] = set()
+    starts = set()
     for at, data in head.indexes:
         try:
             starts.update(_pictures(head.blocks, stream, (at, data), head.end, end))

@@ -101,7 +101,7 @@ class Window:
         self._stream = stream
         self.start = min(start, end)
         self.size = max(min(length, end - self.start), 0)
-        self.budget: Budget = budget_of(stream)
+        self.budget = budget_of(stream)
         self._at = 0
 
     def seek(self, at: int, whence: int = os.SEEK_SET, /) -> int:

@@ -137,7 +137,7 @@ class Reader:
 
     def _below(self, page: Directory, part: str) -> Iterator[Page]:
         """The SubIFDs of a page, each with those that follow it and those below it."""
-        waiting: deque[_Place] = deque(self._named(page, part))
+        waiting = deque(self._named(page, part))
         while waiting:
             at, name, number = waiting.popleft()
             directory = self._read(at)
@@ -191,7 +191,7 @@ class Reader:
 
     def take(self, page: Page) -> None:
         """Adds the blocks of a page."""
-        left_out: set[str] = set()
+        left_out = set()
         kept = []
         for entry in page.directory.entries:
             if entry.tag in self._private.tags and self._private.takes(entry, page.words):
@@ -234,7 +234,7 @@ class Reader:
         return bool(data)
 
     def _table(self, entries: list[Entry], pointers: _Pointers) -> Table:
-        below: dict[int, Table] = {}
+        below = {}
         for entry in entries:
             if entry.tag in pointers and is_directory(entry) and entry.tag not in below:
                 directory = self.directories.read(self.directories.number(entry.last))
