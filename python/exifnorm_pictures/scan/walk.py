@@ -202,9 +202,8 @@ def _pieces(name: str, end: bytes, before_read: Callable[[], object]) -> Iterato
     read = names = 0
     with contextlib.ExitStack() as opened:
         file = None if name == "-" else opened.enter_context(open(name, "rb"))
-        stream = file or cast(io.BufferedIOBase, sys.stdin.buffer)
         before_read()
-        while piece := stream.read1(_CHUNK):
+        while piece := (file or cast(io.BufferedIOBase, sys.stdin.buffer)).read1(_CHUNK):
             read, names = read + len(piece), names + piece.count(end)
             if file and (max(read, os.fstat(file.fileno()).st_size) > LONGEST_LIST or names > MOST_NAMES):
                 most = f"{LONGEST_LIST >> 20} MB or {MOST_NAMES:,} names"
