@@ -344,6 +344,12 @@ def test_maker_notes(compared):
 # changed
 
 
+def test_changed_has_what_was_left_out(run, folder):
+    put(folder, {"before/a": jpeg(app1(exif(b"abc"))), "after/a": jpeg(app1(exif(b"xyz")))})
+    found = json.loads(run("changed", "before", "after", "--ignore", "Make", "--all", "--json")[1][0])
+    assert (found["result"], found["left_out"], found["fields"]) == (BUT, ["IFD0:Make"], [])
+
+
 # same
 
 
