@@ -25,7 +25,7 @@ import refusals_page
 TOP = Path(__file__).resolve().parent.parent
 sys.path.insert(0, str(TOP / "python"))
 
-from exifnorm_pictures.cli import parser, statuses, topics  # noqa: E402
+from exifnorm_pictures.cli import parser, topics  # noqa: E402
 from exifnorm_pictures.export.tables import SCHEMA as TABLES  # noqa: E402
 from exifnorm_pictures.fields import rules  # noqa: E402
 
@@ -82,13 +82,12 @@ def of_objects() -> Dict[str, str]:
     """The tables of the objects of --json, by the names that the schema has for them."""
     schemas = json.loads(OBJECTS.read_text(encoding="utf-8"))["$defs"]
     commands = [name.partition("-")[0] for name in schemas]
-    found, of_report = {}, []
+    found = {}
     for name, schema in schemas.items():
         command, _, record = name.partition("-")
         title = f"Key of `{record}`" if commands.count(command) > 1 else "Key"
         found[name] = table(title, keys(schema))
-        of_report += [(f"{record}.{key}", words) for key, words in keys(schema) if command == "report"]
-    return {**found, "report": table("Record and key", iter(of_report))}
+    return found
 
 
 def columns(lines: str) -> Rows:
@@ -117,10 +116,10 @@ def of_statuses() -> str:
     """What the statuses mean, for the manual page."""
     lines = []
     for status in range(3):
-        texts = [(command, of_command[status]) for command, of_command in statuses.STATUSES.items() if status in of_command]
+        texts = [(command, of_command[status]) for command, of_command in topics.STATUSES.items() if status in of_command]
         lines.append(f".TP\n.B {status}\n" + "\n".join(f'.BR "{command}" :\n{_roff(text)};' for command, text in texts)[:-1])
-    lines += [f".TP\n.B {status}\n{_roff(text)}" for status, text in statuses.COMMON.items()]
-    return "\n".join([*lines, ".PP", _roff(statuses.END), ""])
+    lines += [f".TP\n.B {status}\n{_roff(text)}" for status, text in topics.COMMON.items()]
+    return "\n".join([*lines, ".PP", _roff(topics.END), ""])
 
 
 def _entry(head: str, words: str) -> str:

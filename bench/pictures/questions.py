@@ -25,7 +25,7 @@ TOP = Path(__file__).resolve().parent.parent.parent
 sys.path.insert(0, str(TOP / "python"))
 sys.dont_write_bytecode = True
 
-from exifnorm_pictures.catalogue.label_texts import kept_text
+from exifnorm_pictures.catalogue.kept_texts import kept_text
 from exifnorm_pictures.catalogue.store import Catalogue, put_rows, put_text
 from exifnorm_pictures.cli.main import main as command
 from exifnorm_pictures.model.records import PictureRecord

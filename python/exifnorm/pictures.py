@@ -15,7 +15,7 @@ A refused block raises nothing: see `Picture.refusals`.
 TYPE_CHECKING = False  # that of `typing`, which takes long to import
 if TYPE_CHECKING:
     from exifnorm_pictures.api import Comparison, Difference, NoPicture, NotReadable, Reader, compare, read, read_bytes
-    from exifnorm_pictures.comparison.conflicts import Conflict
+    from exifnorm_pictures.catalogue.conflicts import Conflict
     from exifnorm_pictures.fields.field import Field
     from exifnorm_pictures.fields.labels import Caption
     from exifnorm_pictures.many import read_all
@@ -43,7 +43,7 @@ __all__ = [
 _MODULES = {  # where a name is, if not in api
     "Block": "picture",
     "Caption": "fields.labels",
-    "Conflict": "comparison.conflicts",
+    "Conflict": "catalogue.conflicts",
     "Field": "fields.field",
     "Picture": "picture",
     "Position": "picture",

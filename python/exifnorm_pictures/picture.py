@@ -26,7 +26,7 @@ if TYPE_CHECKING:
     from datetime import datetime
 
     from .catalogue.texts import PictureTexts
-    from .comparison.conflicts import Conflict
+    from .catalogue.conflicts import Conflict
     from .fields.field import Field
     from .fields.labels import Caption
     from .fields.typed import Value
@@ -436,7 +436,7 @@ class Picture(Mapping[str, "Value"]):
         """The texts of a label. Of several fields those that are whole, on which two standards agree, and that no camera wrote; of such the first in
         the order Exif, XMP, IPTC, by the guidelines of the Metadata Working Group. IPTC comes before XMP if it was changed after Photoshop noted
         its digest (resource 0425). `conflicts` has the others. Raises `ValueError` for a word that is no label."""
-        from .comparison.conflicts import chosen, conflicts
+        from .catalogue.conflicts import chosen, conflicts
         from .fields.labels import LABEL_WORDS, label_of
 
         word = label_of(_text(label))
@@ -454,7 +454,7 @@ class Picture(Mapping[str, "Value"]):
     @property
     def conflicts(self) -> tuple[Conflict, ...]:
         """The labels for which Exif, IPTC and XMP have different texts, and the position if it differs: how, and all texts with their fields."""
-        from .comparison.conflicts import conflicts
+        from .catalogue.conflicts import conflicts
 
         return tuple(it for it in conflicts(self.labelled.texts, self.labelled.located) if not it.is_alike)
 

@@ -1,17 +1,13 @@
 """What commands say besides their answers: each note, each folder that can't be read, each kind that is refused; and the forms of answers."""
 
-import json
 import os
 import re
 
 import pytest
 from made_files import A, app1, app1_xmp, app13, exif, jpeg, resource, title
 from made_more_files import gif, gif_xmp, psd
-from studio import TOP, put
-from test_list import picture
+from studio import put
 
-with open(os.path.join(TOP, "python/exifnorm_pictures/output.schema.json"), encoding="utf-8") as schema:
-    OBJECTS = json.load(schema)["$defs"]
 REFUSED = {
     "Exif": jpeg(app1(b"II*\0\xff\xff\0\0")),
     "IPTC": jpeg(app13(resource(0x0404, b"\x1c\x02\x05\x00\x09a"))),
@@ -24,8 +20,8 @@ REFUSED = {
 def test_a_refused_block_of_each_kind_is_counted(where, kind, folder, called):
     put(folder, {"p/1/a.jpg": REFUSED[kind], "p/1/b.jpg": jpeg(app1(A))})
     assert re.search(r"^1 refused or unreadable: exifnorm-pictures report c ", called("index", "p", where, "c")[1], re.M)
-    (refusal,) = [it for it in map(json.loads, called("report", "c", "--json")[1].splitlines()) if it["record"] == "refusal"]
-    assert refusal["name"] == kind
+    called("report", "c", "--html", "page")
+    assert f'class="note">{kind}, ' in (folder / "page").read_text()
 
 
 @pytest.mark.parametrize("count", range(4))
@@ -36,22 +32,6 @@ def test_groups_are_apart_by_one_blank_line(count, folder, called):
     *groups, totals = re.split("\n\n", called("same", "c")[1]) if count > 1 else ["", called("same", "c")[1]]
     assert totals.splitlines()[-2 if count else -1].startswith(f"{count} group") and "\n\n" not in totals
     assert [it[:11] for it in groups] == (["2 pictures:"] * count if count > 1 else [""])
-
-
-def test_the_records_of_the_report(folder, called):
-    """Each object of --json has the word of its record, and the key by which the page of documents describes it."""
-    names = {"a": picture([("title", "Bowl")]), "b": picture([("title", "Bowl")]), "c": REFUSED["XMP"], "d": jpeg(app1(A))[:-9]}
-    contradicts = picture([("title", "Bowl")], app1_xmp(title("x").replace(b"dc:format", b"dc:title")))
-    put(folder, {f"p/{name}.jpg": octets for name, octets in names.items()})
-    put(folder, {"p/e.jpg": contradicts, "p/f.jpg": jpeg(behind=b"a trailer"), "p/g.jpg": b""})
-    called("index", "p", "--catalogue", "old", "--quiet")
-    put(folder, {"p/a.jpg": picture([("title", "Vase")]), "p/h.jpg": names["b"]})
-    called("index", "p", "--catalogue", "c", "--quiet")
-    (folder / "rules").write_text("every picture needs credit\n")
-    found = [json.loads(it) for it in called("report", "c", "--since", "old", "--rules", "rules", "--json")[1].splitlines()]
-    keys = {it.partition("-")[2]: list(OBJECTS[it]["properties"])[2] for it in OBJECTS if it.startswith("report-")}
-    assert {it["record"] for it in found} == keys.keys() - {"unknown"}
-    assert not [it for it in found if keys[it["record"]] not in it]
 
 
 NOTED = {

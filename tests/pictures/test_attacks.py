@@ -258,7 +258,6 @@ COMMANDS = (
     ["changed", "c", "c"],
     ["changed", "good", "c"],
     ["report", "c", "--html", "page"],
-    ["report", "c", "--json"],
     ["catalogue", "export", "c", "tables"],
     ["catalogue", "merge", "c", "--catalogue", "into"],
     ["index", "p", "--catalogue", "c", "--quiet"],

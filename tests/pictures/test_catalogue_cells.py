@@ -32,7 +32,7 @@ COMMANDS = (
     ["same", "c"],
     ["same", "c", "--ignore", "Make"],
     ["changed", "c", "good"],
-    ["report", "c", "--json"],
+    ["report", "c", "--html", "page"],
     ["show", "--captions", "c", "--csv"],
     ["catalogue", "export", "c", "tables"],
     ["catalogue", "merge", "c", "--catalogue", "into"],
@@ -133,7 +133,7 @@ def catalogue(archive, tmp_path, monkeypatch):
 LONG = packing.packed([Field("main", "010e", "ASCII", 5, b"abcd\0")] * 20_000).octets  # 0.7 MB as JSON
 
 
-@pytest.mark.parametrize("words", [["catalogue", "export", "c", "tables"], ["show", "--captions", "c"], ["report", "c", "--json"]])
+@pytest.mark.parametrize("words", [["catalogue", "export", "c", "tables"], ["show", "--captions", "c"], ["report", "c", "--html", "page"]])
 def test_fields_of_many_blocks(words, catalogue, capsys, monkeypatch):
     """Together they are bounded, before any is unpacked."""
     with sqlite3.connect(catalogue, isolation_level=None) as base:

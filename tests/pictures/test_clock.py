@@ -22,7 +22,7 @@ from exifnorm_pictures.extract import exiftool, programs
 from exifnorm_pictures.files import session
 from exifnorm_pictures.model import budgets
 from exifnorm_pictures.model.found import UNREAD_NOTES, UNREAD_TRAILER
-from exifnorm_pictures.report import thumbnails
+from exifnorm_pictures.report import small_pictures
 
 
 # What reads a picture, and work for it. The readers of formats need the blocks alone, the others their meaning.
@@ -84,7 +84,7 @@ def ended(folder, monkeypatch):
             raise
 
     monkeypatch.setenv("PATH", "/nowhere")
-    monkeypatch.setattr(thumbnails.Shrinker, "_answer", lambda *_: b"")
+    monkeypatch.setattr(small_pictures.Shrinker, "_answer", lambda *_: b"")
     monkeypatch.setattr(budgets.time, "thread_time", lambda: next(seconds))
     monkeypatch.setattr(budgets.Budget, "check_time", check)
     return budgets_ended

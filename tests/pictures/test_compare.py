@@ -19,7 +19,7 @@ from test_jpeg_heads import COMPARED
 from test_list import record
 from test_never_the_same import damages, parts, reached, segments, texts
 
-from exifnorm_pictures.comparison import proved
+from exifnorm_pictures.comparison import origin
 from exifnorm_pictures.comparison.two_pictures import compare, read
 from exifnorm_pictures.comparison.wording import told_apart
 from exifnorm_pictures.files import opening
@@ -142,7 +142,7 @@ def test_a_picture_that_is_saved_while_it_is_compared(save, when, folder, monkey
         return opened(place)
 
     first, head = read(os.fsencode(folder / "a.jpg"), How(1, pixels=True), Session())
-    for module in (opening, proved):
+    for module in (opening, origin):
         monkeypatch.setattr(module, "opened", saved_before)
     second, other = read(os.fsencode(folder / "b.jpg"), How(1, pixels=True), Session())
     found = compare(first, second, None, heads=(head, other))

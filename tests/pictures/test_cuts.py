@@ -266,7 +266,7 @@ def test_index_list_and_report(archives, asked, checks, folder):
     (folder / "rules").write_text("every picture needs credit\n")
     broken = [json.loads(it) for it in asked("check", "after.catalogue", "--rules", str(folder / "rules"), "--json")[1]]
     in_check = asked("check", "after.catalogue", "--rules", str(folder / "rules"))[1]
-    report = [json.loads(it) for it in asked("report", "after.catalogue", "--json", "--no-look", "--html", str(folder / "page.html"))[1]]
+    asked("report", "after.catalogue", "--no-look", "--html", str(folder / "page.html"))
     page = (folder / "page.html").read_text()
     for case in CASES:
         checks.equal(f"{case}: index", sum(it.count("the file ends ") for it in texts.splitlines() if f"/{case}: " in it), 1)
@@ -276,8 +276,7 @@ def test_index_list_and_report(archives, asked, checks, folder):
             f"{case}: check", [it["damage"] for it in broken if it.get("path", "").endswith(f"/{case}")] in ([], [objects[case]]), True
         )
         checks.equal(f"{case}: check, text", {it.count("the file ends ") for it in in_check if f"/{case}: " in it} <= {1}, True)
-        named = [it["damaged"] for it in report if "damaged" in it and it["path"].endswith(f"/{case}")]
-        checks.equal(f"{case}: report", named, [objects[case]])
+        checks.equal(f"{case}: report", f"{case}</a>" in page.partition('id="damaged"')[2].partition("</section>")[0], True)
     assert f"; {len(CASES):,} cut off or damaged\n" in texts
     assert len(in_check) > 5 and f"{len(CASES):,} cut off or damaged: " in texts and f"<b>{len(CASES)}</b> cut off or damaged" in page
     without = re.search(r"([\d,]+) cut off without a block", texts)[1]  # in what is left

@@ -11,7 +11,7 @@ import shutil
 import subprocess
 
 import exifnorm_pictures
-from exifnorm_pictures.cli import parser, statuses
+from exifnorm_pictures.cli import parser, topics
 from made_files import app1, exif, jpeg, turned
 from studio import SMALL_JPEG, Studio, TOP, WithPictures, needs, put, read, run, tool, write
 
@@ -93,4 +93,4 @@ class Documents(WithPictures):
         self.assertEqual(re.findall(r'(?m)^\.TP\n\.BI "([a-z ]+) ', page), [*commands])
 
     def test_each_command_has_statuses(self):
-        self.assertEqual({*statuses.STATUSES}, {*parser.parsers()[1]})
+        self.assertEqual({*topics.STATUSES}, {*parser.parsers()[1]})

@@ -16,7 +16,7 @@ from exifnorm_pictures.comparison.changed.edit_groups import Kinds
 from exifnorm_pictures.comparison.changed.edit_words import line_of
 from exifnorm_pictures.comparison.changed.edits import edits_of
 from exifnorm_pictures.comparison.changed.marking import Marker
-from exifnorm_pictures.comparison.changed.summary_lines import lacking_of
+from exifnorm_pictures.comparison.changed.summary import lacking_of
 from exifnorm_pictures.comparison.wording import look
 from exifnorm_pictures.model.results import Result
 from exifnorm_pictures.model.texts import safe

@@ -33,7 +33,7 @@ COMMANDS = {
     "history": ["changed", "--picture", "p/0.jpg", "other", "c"],
     "verify": ["verify", "c", "p/0.jpg", "--quiet", "--jobs", "1"],
     "catalogue export": ["catalogue", "export", "c", "tables", "--quiet"],
-    "report": ["report", "c", "--json"],
+    "report": ["report", "c", "--html", "page"],
 }
 
 pytestmark = pytest.mark.skipif(not shutil.which("strace"), reason="not installed: strace")

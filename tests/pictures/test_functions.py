@@ -1,6 +1,5 @@
 """Single functions at their limits, which no picture of the other tests reaches: what is called, and what it returns."""
 
-import argparse
 import contextlib
 import hashlib
 import io
@@ -15,7 +14,7 @@ from made_files import xmp as packet_of
 from studio import name_of
 
 from exifnorm_pictures import xmp
-from exifnorm_pictures.cli import names, output, page_file, parser
+from exifnorm_pictures.cli import names, output, parser
 from exifnorm_pictures.cli.commands import report
 from exifnorm_pictures.cli.options import Files
 from exifnorm_pictures.comparison import differing
@@ -279,8 +278,8 @@ RESULTS = [
     (output.closed_folder, (CLOSED,), ["the folder /a\\n/b can't be read: permission denied"]),
     (output.closed_folder, (CLOSED._replace(root=b"/a"),), []),  # a file that can't be read has its own row
     # a page begins with its type, in letters of either kind (HTML, 13.1.1)
-    *((page_file._is_page, (it,), True) for it in (b"<!DOCTYPE html>", b"<!doctype HTML>")),
-    *((page_file._is_page, (it,), False) for it in (b"<!DOCTYPE htm", b" <!DOCTYPE html>", b"")),
+    *((report._is_page, (it,), True) for it in (b"<!DOCTYPE html>", b"<!doctype HTML>")),
+    *((report._is_page, (it,), False) for it in (b"<!DOCTYPE htm", b" <!DOCTYPE html>", b"")),
 ]
 
 
@@ -363,13 +362,6 @@ ARGUMENTS = [
     (names_given, ("mend a --json b",), ["a", "b"]),
     (names_given, ("index a --catalogue c b",), ["a", "b"]),
     (lambda: refused(lambda: names.named(Files("show"))).splitlines()[-1], (), "exifnorm-pictures show: give at least one name"),
-    (
-        lambda: refused(
-            lambda: report.run(argparse.Namespace(command="report", html=None, json=False, session=None, least=None))
-        ).splitlines()[-1],
-        (),
-        "exifnorm-pictures report: give --html PAGE, --json, or both",
-    ),
     (failed, (names.named, Files("show", names=["a\0b"])), ("BadList", "a name contains a NUL")),
 ]
 

@@ -66,7 +66,7 @@ def of_pictures(name, *paths):
         (["changed", "c", "c"], pairs.Pairs, "_pair_of_row"),
         (["changed", "c", "c"], pairs.Pairs, "_pair"),
         (["changed", "c", "c", "--all"], pairs, "picture_of_row"),
-        (["report", "c", "--json"], store, "picture_of_row"),
+        (["report", "c", "--html", "page"], store, "picture_of_row"),
         (["report", "c", "--since", "c", "--html", "page"], pairs.Pairs, "_pair_of_row"),
     ],
 )

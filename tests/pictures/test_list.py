@@ -476,7 +476,7 @@ def test_the_place_of_a_mistake_is_marked(folder, called):
 def steps_of(name, question, count):
     """SQLite's steps for a question about so many pictures, each with a creator of its own and one of 50 keywords. It fits one of them."""
     from exifnorm_pictures.catalogue.asking import Answer
-    from exifnorm_pictures.catalogue.label_texts import kept_text
+    from exifnorm_pictures.catalogue.kept_texts import kept_text
     from exifnorm_pictures.catalogue.store import Catalogue, put_rows, put_text
     from exifnorm_pictures.fields.questions import question_of
     from exifnorm_pictures.model.records import PictureRecord

@@ -224,13 +224,11 @@ CALLS = {
     """,
     "report": """
         report plain
-        report few --json
-        report full --since full.before --json --only title
         report full --since full.before --rules rules --html page.html --title 'The museum' --no-look --limit 50 --debug
         report full --since full.before --rules rules --html pages/ --link-to 'https://dam.example/{path}'
-        report full --json --ignore IFD0:Artist --ignore @fields
-        report full --only @fields --equal-numbers --since full.before --json --files-from some
-        report full --files-from some0 -0 --json --rules rules
+        report full --html page.html --ignore IFD0:Artist --ignore @fields
+        report full --only @fields --equal-numbers --since full.before --html page.html --files-from some
+        report full --files-from some0 -0 --html page.html --rules rules
     """,
     "catalogue export": """
         catalogue export full tables.sqlite --quiet

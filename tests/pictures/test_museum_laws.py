@@ -152,8 +152,6 @@ def test_all_counts_of_two_nights_agree(before, after, museum):
     *pictures, summary = objects(f"changed {before} {after}", museum)
     assert summary["counts"] == results and len(pictures) == not_the_same(first)
     assert [it["pictures"] for it in summary["edits"]].count(1) == odd > 4
-    (changes,) = [it for it in objects(f"report {after} --since {before}", museum) if it["record"] == "changes"]
-    assert changes["results"] == results
     shutil.copy(museum / before, museum / "counted")
     letter = run("nightly archive --catalogue counted --jobs 1", museum)[1][0]
     partners = first.partition("Without a partner: ")[2]
@@ -170,7 +168,7 @@ def test_the_order_of_names_says_nothing(museum):
         (museum / f"names{number}").write_bytes(b"".join(it + b"\0" for it in part))
         run(f"index --files-from names{number} -0 --jobs 1 --catalogue other --quiet", museum)
     done("index archive --jobs 1 --catalogue once --quiet", museum)
-    for line in ("same", "list", "check", "report --json"):
+    for line in ("same", "list", "check"):
         command, *more = line.split()
         found = [run(f"{command} {name} {' '.join(more)}", museum) for name in ("once", "other")]
         assert found[0] == found[1], command
@@ -184,7 +182,7 @@ def test_two_merged_are_one(museum):
         done(f"index {' '.join(f'archive/{it}' for it in folders.split())} --jobs 1 --catalogue {name} --quiet", museum)
     done(f"index {' '.join(f'archive/{it}' for it in ' '.join(halves).split())} --jobs 1 --catalogue whole --quiet", museum)
     done("catalogue merge first second --catalogue merged", museum)
-    for line in ("same", "list", "check", "report --json", "list --count creator"):
+    for line in ("same", "list", "check", "list --count creator"):
         command, *more = line.split()
         found = [run(f"{command} {name} {' '.join(more)}", museum) for name in ("whole", "merged")]
         assert found[0] == found[1], command

@@ -233,7 +233,7 @@ def test_mutated_files(archive):
         calls += [["same", name, "--json"], ["changed", "good", name]]
         if number % 10 == 0:
             calls += [
-                ["report", name, "--json"],
+                ["report", name, "--html", "page"],
                 ["catalogue", "merge", name, "--catalogue", f"m{number}"],
                 ["index", "p", "--catalogue", name, "--quiet", "--jobs", "1"],
             ]
@@ -261,7 +261,7 @@ def test_mutated_rows(archive):
                         if table in ("runs", "pictures")
                         else f"UPDATE {table} SET {column} = {value}"
                     )
-            calls += [["same", name, "--json"], ["changed", "good", name], ["report", name, "--json"]]
+            calls += [["same", name, "--json"], ["changed", "good", name], ["report", name, "--html", "page"]]
     found = outcomes(archive, calls)
     for words, status, out, err in found:
         assert status in (0, 1, 2, 4) and "internal error" not in out + err and "Traceback" not in err, (words, err)
@@ -281,7 +281,7 @@ def test_an_index_of_another_state(archive):
         base.executemany("UPDATE pictures SET exif = ? WHERE id = ?", [(exif, number) for number, exif in true])
         base.execute("PRAGMA writable_schema = ON")
         base.execute("INSERT INTO sqlite_master VALUES (?, ?, ?, ?, ?)", row)
-    see_no_false_group(outcomes(archive, [["same", "c", "--json"], ["report", "c", "--json"]]))
+    see_no_false_group(outcomes(archive, [["same", "c", "--json"]]))
 
 
 def test_settings_of_sqlite(archive):

@@ -20,7 +20,7 @@ from made_files import app1, app1_xmp, app13, exif, jpeg, resource, xmp
 from studio import SMALL_JPEG, TOP, Studio, needs, put, read
 from test_list import record
 
-from exifnorm_pictures.comparison.nightly import absent as absent_
+from exifnorm_pictures.comparison.nightly import news as news_
 from exifnorm_pictures.catalogue import nights
 from exifnorm_pictures.catalogue.store import Catalogue
 from exifnorm_pictures.cli import letter
@@ -233,7 +233,7 @@ def test_a_disk_that_is_not_mounted(name, is_empty, archive, night, folder, monk
         os.remove(archive / place / "gone.jpg")
     assert night()[:2] == (1, {("gone", None): 2})
     os.rename(archive / name, folder / "disk")
-    monkeypatch.setattr(absent_, "_device_of", lambda folder: 0)  # the folder is on another device than the disk
+    monkeypatch.setattr(news_, "_device_of", lambda folder: 0)  # the folder is on another device than the disk
     if is_empty:
         (archive / name).mkdir()
     known = sum(it.startswith(name) for it in NAMES)

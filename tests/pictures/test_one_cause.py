@@ -48,9 +48,6 @@ def by_commands(called, picture):
             yield command, (member["cause"], member["offset"])
     explained = json.loads(called("explain", "a.jpg", "--json")[1])
     yield "explain", (explained.get("cause"), explained.get("offset"))
-    for member in map(json.loads, called("report", "c", "--json")[1].splitlines()):
-        if "refused" in member:
-            yield "report", (member["cause"], int(member["refusal"].rpartition(" at ")[2]))
 
 
 @pytest.mark.parametrize("place", PLACES)

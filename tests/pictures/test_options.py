@@ -200,7 +200,7 @@ def test_a_first_name_that_is_no_catalogue(words, proposed, archive, called):
     "words",
     [
         ("same",),
-        ("report", "--json"),
+        ("report", "--html", "page"),
         ("catalogue export", "tables"),
         ("catalogue relocate", "p", "q"),
         ("list",),

@@ -41,7 +41,7 @@ LINES = {
     "nightly": ("nightly p --catalogue old --jobs 1",),
     "show": ("show p/work/retitled.jpg p/refused/Unsorted.jpg", "show p c --captions", "show c --captions"),
     "explain": ("explain p/refused/Unsorted.jpg",),
-    "report": ("report c --json",),
+    "report": ("report c --html page",),
     "catalogue export": ("catalogue export c tables",),
     "mend": ("mend c copies", "mend p/refused/Unsorted.jpg copies/a.jpg"),
 }

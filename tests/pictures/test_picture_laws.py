@@ -160,7 +160,7 @@ def test_two_merged_are_one_and_twice_is_once(pictures, in_archive):
     archive.lines("catalogue merge 0.c 1.c --catalogue merged")
     asked = (
         *("same {}", "same --kind pixels {}", "list {} --columns title,creator", "check {}"),
-        *("show --captions --csv {}", "report --json {}"),
+        "show --captions --csv {}",
     )
     found = {line: archive.lines(line.format("whole")) for line in asked}
     assert {line: archive.lines(line.format("merged")) for line in asked} == found

@@ -91,7 +91,6 @@ class Report(WithPictures):
             [],
             "they lead nowhere",
         )
-        self.assertNotIn("--json", self.page)
 
     @needs("chromium")
     def test_on_a_phone(self):

@@ -235,7 +235,7 @@ class Scale(WithPictures):
         reading = [f"exifnorm_pictures.{it}" for it in ("extract.extraction", "scan.looking")]
         fields = {"dataclasses", "difflib", "inspect", "textwrap"}
         names = (
-            "catalogue.label_texts",
+            "catalogue.kept_texts",
             "comparison.changed.states",
             "comparison.same.groups",
             "extract.readers",

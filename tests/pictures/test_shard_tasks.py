@@ -52,7 +52,7 @@ class Cluster(WithCluster):
         self.assertIn(f"{3 * FOLDERS} unchanged", self.asked("index", "p", "--shards", "shards", "--scheduler", scheduler, *PATIENT))
         self.asked("index", "p", "--catalogue", "all", "--quiet")
         # the blocks of the JPEGs are refused, so that these may be the same
-        for words, status in (("same --json", 2), ("list --json", 0), ("report --json --no-look", 0)):
+        for words, status in (("same --json", 2), ("list --json", 0)):
             self.assertEqual(*(self.asked(*words.split(), name, status=status) for name in ("shards", "all")))
         self.assertEqual(self.asked("changed", "shards", "all", "--no-programs")[0], f"{3 * FOLDERS} pictures compared: none changed.")
 

@@ -209,7 +209,7 @@ class TestCatalogue:
             (("index", "p", "--catalogue", "plain", "--sidecars"), 3),
             (("changed", "plain", "c"), 4),
             (("changed", "c", "plain"), 4),
-            (("report", "c", "--since", "plain", "--json"), 4),
+            (("report", "c", "--since", "plain", "--html", "page"), 4),
             (("catalogue", "merge", "plain", "--catalogue", "c"), 4),
             (("catalogue", "merge", "c", "--catalogue", "plain"), 4),
             (("catalogue", "merge", "plain", "c", "--catalogue", "both"), 4),

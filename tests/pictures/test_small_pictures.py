@@ -16,7 +16,7 @@ from studio import SMALL_JPEG, needs, put, tool
 
 from exifnorm_pictures.extract import exiftool, programs
 from exifnorm_pictures.files import session
-from exifnorm_pictures.report import heif, shrinking, small_pictures, thumbnails
+from exifnorm_pictures.report import shrinking, small_pictures
 
 Image = pytest.importorskip("PIL.Image")
 LARGEST = 10_000
@@ -25,12 +25,12 @@ Called = Callable[..., Any]
 
 
 @pytest.fixture
-def shrinker() -> Iterator[thumbnails.Shrinker]:
-    with contextlib.closing(thumbnails.Shrinker()) as process:
+def shrinker() -> Iterator[small_pictures.Shrinker]:
+    with contextlib.closing(small_pictures.Shrinker()) as process:
         yield process
 
 
-def small(paths: Sequence[bytes], shrinker: thumbnails.Shrinker) -> Dict[bytes, str]:
+def small(paths: Sequence[bytes], shrinker: small_pictures.Shrinker) -> Dict[bytes, str]:
     """The addresses of the small pictures of some files, on one page."""
     kept = small_pictures.InPage()
     pictures = small_pictures.SmallPictures([], kept)
@@ -69,7 +69,7 @@ def is_red(colour: Any) -> bool:
     "name, mode",
     [("a.jpg", "RGB"), ("a.png", "RGBA"), ("a.png", "P"), ("a.tif", "CMYK"), ("a.tif", "L"), ("a.webp", "RGB"), ("a.gif", "P")],
 )
-def test_each_format_has_one(name: str, mode: str, tmp_path: Path, shrinker: thumbnails.Shrinker) -> None:
+def test_each_format_has_one(name: str, mode: str, tmp_path: Path, shrinker: small_pictures.Shrinker) -> None:
     path = saved(half_red(mode=mode), tmp_path / name)
     picture = shown(small([path], shrinker), path)
     assert max(picture.size) <= 300 and abs(picture.size[0] / picture.size[1] - 2) < 0.05
@@ -77,14 +77,14 @@ def test_each_format_has_one(name: str, mode: str, tmp_path: Path, shrinker: thu
         assert is_red(picture.getpixel((picture.width // 2, 5))) and not is_red(picture.getpixel((picture.width // 2, picture.height - 5)))
 
 
-def test_of_a_file_that_is_cut_off_there_is_what_is_left(tmp_path: Path, shrinker: thumbnails.Shrinker) -> None:
+def test_of_a_file_that_is_cut_off_there_is_what_is_left(tmp_path: Path, shrinker: small_pictures.Shrinker) -> None:
     path = saved(half_red((1600, 1600)), tmp_path / "a.jpg")
     (tmp_path / "a.jpg").write_bytes((tmp_path / "a.jpg").read_bytes()[: os.path.getsize(path) * 6 // 10])
     picture = shown(small([path], shrinker), path)
     assert is_red(picture.getpixel((100, 20))) and not is_red(picture.getpixel((100, 280)))
 
 
-def test_noise_is_small_too(tmp_path: Path, shrinker: thumbnails.Shrinker) -> None:
+def test_noise_is_small_too(tmp_path: Path, shrinker: small_pictures.Shrinker) -> None:
     path = saved(Image.frombytes("RGB", (900, 600), os.urandom(900 * 600 * 3)), tmp_path / "noise.png")
     shown(small([path], shrinker), path)
 
@@ -95,7 +95,9 @@ ORIENTATIONS = {1: "top", 2: "top", 3: "bottom", 4: "bottom", 5: "left", 6: "rig
 
 @pytest.mark.parametrize("orientation, side", ORIENTATIONS.items())
 @pytest.mark.parametrize("with_thumbnail", [False, True])
-def test_it_is_the_right_way_up(orientation: int, side: str, with_thumbnail: bool, tmp_path: Path, shrinker: thumbnails.Shrinker) -> None:
+def test_it_is_the_right_way_up(
+    orientation: int, side: str, with_thumbnail: bool, tmp_path: Path, shrinker: small_pictures.Shrinker
+) -> None:
     exif = Image.Exif()
     exif[0x0112] = orientation
     path = saved(half_red(), tmp_path / "a.jpg", exif=exif)
@@ -111,7 +113,7 @@ def test_it_is_the_right_way_up(orientation: int, side: str, with_thumbnail: boo
     assert (width > height) == (orientation < 5)
 
 
-def test_hostile_pictures_cost_their_tile(tmp_path: Path, shrinker: thumbnails.Shrinker) -> None:
+def test_hostile_pictures_cost_their_tile(tmp_path: Path, shrinker: small_pictures.Shrinker) -> None:
     """A picture of 400 megapixels in 400 kB, one that is cut, and texts; those before and after them have their tiles."""
     files = {
         "1.jpg": saved(half_red(), tmp_path / "1.jpg"),
@@ -132,7 +134,7 @@ WMF = b"\xd7\xcd\xc6\x9a\0\0" + struct.pack("<4hHI", 0, 0, 9, 9, 72, 0) + b"\0\0
 
 
 @pytest.mark.parametrize("octets", [EPS, WMF, b"\xc5\xd0\xd3\xc6" + struct.pack("<2I", 30, len(EPS)) + bytes(18) + EPS])
-def test_no_program_is_run(octets: bytes, tmp_path: Path, shrinker: thumbnails.Shrinker, monkeypatch: pytest.MonkeyPatch) -> None:
+def test_no_program_is_run(octets: bytes, tmp_path: Path, shrinker: small_pictures.Shrinker, monkeypatch: pytest.MonkeyPatch) -> None:
     """For EPS Pillow runs Ghostscript, which runs what the file says."""
     (tmp_path / "gs").write_text(f"#!/bin/sh\n: > {tmp_path}/taken\nhead -c 2000000000 /dev/zero\n")
     (tmp_path / "gs").chmod(0o755)
@@ -148,7 +150,7 @@ def test_no_program_is_run(octets: bytes, tmp_path: Path, shrinker: thumbnails.S
     ["os.write(1, bytes([255] * 999))", "os.system('echo abcdefgh')", "os.abort()", "bytearray(400 << 20)", "[0 for _ in iter(int, 1)]"],
 )
 def test_what_ends_the_process_costs_a_tile(
-    what: str, tmp_path: Path, shrinker: thumbnails.Shrinker, monkeypatch: pytest.MonkeyPatch
+    what: str, tmp_path: Path, shrinker: small_pictures.Shrinker, monkeypatch: pytest.MonkeyPatch
 ) -> None:
     """As a fault of Pillow may: it prints something, ends, asks for more memory than it may have, or doesn't end."""
     source = Path(shrinking.__file__).read_text(encoding="utf-8")
@@ -164,7 +166,7 @@ def test_what_ends_the_process_costs_a_tile(
 
 
 def test_without_pillow_there_are_thumbnails(tmp_path: Path) -> None:
-    shrinker = thumbnails.Shrinker()
+    shrinker = small_pictures.Shrinker()
     shrinker.is_there = False
     exif = Image.Exif()
     path = saved(half_red(), tmp_path / "a.jpg", exif=exif)
@@ -180,13 +182,13 @@ def test_without_pillow_there_are_thumbnails(tmp_path: Path) -> None:
 def made(monkeypatch: pytest.MonkeyPatch) -> List[str]:
     """The names of the files that are decoded."""
     names: List[str] = []
-    small = thumbnails.Shrinker.small
+    small = small_pictures.Shrinker.small
 
-    def counted(shrinker: thumbnails.Shrinker, path: bytes, *words: Any) -> bytes:
+    def counted(shrinker: small_pictures.Shrinker, path: bytes, *words: Any) -> bytes:
         names.append(os.path.basename(os.fsdecode(path)))
         return small(shrinker, path, *words)
 
-    monkeypatch.setattr(thumbnails.Shrinker, "small", counted)
+    monkeypatch.setattr(small_pictures.Shrinker, "small", counted)
     return names
 
 
@@ -253,7 +255,7 @@ def test_the_earlier_picture_of_a_file_that_was_replaced(folder: Path, called: C
         plain = io.BytesIO()
         picture.save(plain, "JPEG")
         path.write_bytes(plain.getvalue()[:2] + app1(with_thumbnail(thumbnail.getvalue())) + plain.getvalue()[2:])
-        assert thumbnails.thumbnail_of(os.fsencode(path)) == thumbnail.getvalue()
+        assert small_pictures.thumbnail_of(os.fsencode(path)) == thumbnail.getvalue()
         called("index", "p", "--catalogue", name, "--quiet", "--pixels")
         words = ["--since", "old"] if name == "c" else []
         assert called("report", name, *words, "--html", "report/")[0] == 0
@@ -277,7 +279,7 @@ def test_a_file_that_changed_since_it_was_indexed_is_shown_as_it_is(folder: Path
     assert not is_red(Image.open(folder / "report" / name).getpixel((100, 20)))
 
 
-def test_long_files_that_begin_alike_are_two(tmp_path: Path, shrinker: thumbnails.Shrinker, monkeypatch: pytest.MonkeyPatch) -> None:
+def test_long_files_that_begin_alike_are_two(tmp_path: Path, shrinker: small_pictures.Shrinker, monkeypatch: pytest.MonkeyPatch) -> None:
     """Of a format without a digest of the coded picture. Only the beginning of a very long file is read for one."""
     monkeypatch.setattr(small_pictures, "_PIECE", 100)
     monkeypatch.setattr(small_pictures, "_MOST_PIECES", 2)
@@ -371,7 +373,7 @@ def test_a_heic_that_is_damaged_or_slow_costs_its_tile(tmp_path: Path, monkeypat
 STARTED = {
     "exiftool": lambda ours: exiftool.ask(ours, b"a.heic", ()),
     "exiv2": lambda _: programs.version.__wrapped__("exiv2", 60.0),
-    "heif-convert": lambda ours: heif.as_jpeg(b"a.heic", ours),
+    "heif-convert": lambda ours: small_pictures.as_jpeg(b"a.heic", ours),
 }
 
 

@@ -12,7 +12,7 @@ from test_nightly import CUT
 from test_repairs import REFUSED
 
 from exifnorm_pictures.cli.parser import parsers
-from exifnorm_pictures.cli.statuses import STATUSES
+from exifnorm_pictures.cli.topics import STATUSES
 
 CELLS = {(command, status) for command, texts in STATUSES.items() for status in texts}
 

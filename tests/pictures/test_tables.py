@@ -2,7 +2,6 @@
 
 import contextlib
 import hashlib
-import json
 import os
 import re
 import sqlite3
@@ -412,14 +411,10 @@ class Reported(WithPictures):
         made.end_run(1, "2000-01-01T00:00:09Z")
         self.about = contents.About(made, self.catalogue("old", *old), look=False)
 
-    def test_objects(self):
-        """The objects of --json, in golden/report-objects.txt."""
-        self.golden("report-objects.txt", "".join(json.dumps(it) + "\n" for _, it in contents.objects(self.about)))
-
     def test_results_of_a_library_without_proofs(self):
-        self.assertNotIn("unproved", next(contents.objects(self.about))[1])
+        self.assertEqual(contents.unproved(self.about.catalogue.runs()), [])
         self.about.catalogue.set_versions(1, "1.0.0-unproved", None, None)
-        self.assertEqual(next(contents.objects(self.about))[1]["unproved"], ["1.0.0-unproved"])
+        self.assertEqual(contents.unproved(self.about.catalogue.runs()), ["1.0.0-unproved"])
 
     def test_the_order_of_lists(self):
         """Files that can't be read come before those that are no pictures, what is in many pictures before what is in few."""

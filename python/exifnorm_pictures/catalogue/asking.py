@@ -11,7 +11,7 @@ import functools
 from dataclasses import replace
 from itertools import groupby, repeat
 from operator import and_, itemgetter, or_
-from typing import Callable, Iterable, Iterator, NamedTuple, Optional, Sequence, Union
+from typing import Callable, Iterable, Iterator, NamedTuple, Optional, Sequence
 
 from ..fields.folding import bare, compose, folded
 from ..fields.forms import clock_of, number_of, words_of
@@ -238,11 +238,7 @@ _WANTED = """CREATE TEMP TABLE IF NOT EXISTS wanted
 def parts_of(question: Condition, label: str, known: int = 0) -> list[Part]:
     """The texts of a comparison, as conditions that the index can answer; one of them has to hold. `known` is the number of the texts of `is`."""
     if question.comparison == "is":
-        if label.startswith((NUMBER, FIELD_DATE)) and is_field(question.label):
-            return []
-        heads = "head IN (SELECT w.head FROM temp.wanted w WHERE w.number = ?)"
-        same = "composed(text) IN (SELECT w.text FROM temp.wanted w WHERE w.number = ?)"
-        return [Part(f"long = {long} AND {heads} AND {same}", (known, known)) for long in (0, 1)]
+        return [] if label.startswith((NUMBER, FIELD_DATE)) and is_field(question.label) else _wanted(known)
     value = folded(question.value)
     if question.label in DATED and is_asked_impossible(value):
         return [_NEVER]
@@ -256,6 +252,13 @@ def parts_of(question: Condition, label: str, known: int = 0) -> list[Part]:
     return [Part(f"long = 0 AND {number} AND head GLOB '[-+0-9]*' AND head NOT GLOB '?*[^0-9.]*'", (float(value),))]
 
 
+def _wanted(number: int) -> list[Part]:
+    """The very texts with this number."""
+    heads = "head IN (SELECT w.head FROM temp.wanted w WHERE w.number = ?)"
+    same = "composed(text) IN (SELECT w.text FROM temp.wanted w WHERE w.number = ?)"
+    return [Part(f"long = {long} AND {heads} AND {same}", (number, number)) for long in (0, 1)]
+
+
 _YEAR, _CLOCK = "head GLOB '[0-9][0-9][0-9][0-9]*'", "head GLOB '[0-9][0-9]:*'"
 
 
@@ -263,18 +266,24 @@ def _compared_field(question: Condition, label: str) -> list[Part]:
     """The same of a field: numbers with numbers, dates with dates, times with times, and if they are to be equal also texts with texts."""
     value = question.value
     if label.startswith(FIELD_DATE):
-        if is_asked_impossible(value):
-            return [_NEVER] if question.comparison == "=" else []
-        compare = _DATES[question.comparison]
-        day, clock = asked_date(value), clock_of(value)
-        dates = [part._replace(sql=f"{part.sql} AND {_YEAR}") for part in (compare(folded(day)) if day else ())]
-        return dates + [part._replace(sql=f"{part.sql} AND {_CLOCK}") for part in (compare(folded(clock)) if clock else ())]
+        return _compared_date(question.comparison, value)
     number = number_of(value) if label.startswith(NUMBER) else None
     if number is not None:
         if question.comparison == "=":
             return [Part("CAST(head AS REAL) BETWEEN ? AND ?", (number.value - number.last, number.value + number.last))]
         return [Part(f"CAST(head AS REAL) {question.comparison} ?", (number.value,))]
     return _equal(folded(value)) if question.comparison == "=" else []
+
+
+def _compared_date(comparison: str, value: str) -> list[Part]:
+    """The same of the dates and the times of a field."""
+    if is_asked_impossible(value):
+        return [_NEVER] if comparison == "=" else []
+    parts = []
+    for asked, like in ((asked_date(value), _YEAR), (clock_of(value), _CLOCK)):
+        for part in _DATES[comparison](folded(asked)) if asked else ():
+            parts.append(part._replace(sql=f"{part.sql} AND {like}"))
+    return parts
 
 
 _NEVER = Part("long = 0 AND is_impossible(text)")  # dates that no calendar has
@@ -287,7 +296,7 @@ def add_functions(catalogue: Catalogue) -> None:
         catalogue.base.create_function(name, 1, given, deterministic=True)
 
 
-def _of_text(function: Callable[[str], Union[str, bool]], text: object) -> Union[str, bool, None]:
+def _of_text(function: Callable[[str], str | bool], text: object) -> str | bool | None:
     return function(text) if isinstance(text, str) else None
 
 
@@ -393,7 +402,7 @@ Texts = Sequence[Optional[tuple[str, ...]]]  # of a picture, for each of some la
 _SHOWN = "SELECT place, number, text FROM temp.shown LEFT JOIN {} t ON t.label = ?1 AND long IN (0, 1) AND t.picture = shown.picture"
 
 
-def _numbered_text(row: tuple[int, Optional[int], str]) -> tuple[int, Optional[int], str]:
+def _numbered_text(row: tuple[int, int | None, str]) -> tuple[int, int | None, str]:
     if row[1] is not None:
         has_text(row[2])
     return row
@@ -405,8 +414,8 @@ class Answer:
     def __init__(
         self,
         catalogue: Catalogue,
-        question: Optional[Question],
-        since: Optional[str] = None,
+        question: Question | None,
+        since: str | None = None,
         report: Report = say_nothing,
         shown: Sequence[str] = (),
         in_words: bool = False,
@@ -460,7 +469,7 @@ class Answer:
         """Of how many pictures it isn't known whether they fit, because they were not wholly read."""
         return self._not_known().count(self._total)
 
-    def paths_not_known(self, label: Optional[str] = None) -> Iterator[bytes]:
+    def paths_not_known(self, label: str | None = None) -> Iterator[bytes]:
         """These pictures by path; or of those that fit, the ones of which it isn't known whether they have a text of a label."""
         self._put("not_known", self._not_known() if label is None else self._lacking_of(label))
         query = "SELECT path FROM temp.not_known n JOIN pictures p ON p.id = n.picture ORDER BY path"
@@ -469,7 +478,7 @@ class Answer:
     def _not_known(self) -> Numbers:
         return self._finder.unread(self.labels) & self._may & ~self._sure if self.labels else Numbers()
 
-    def why_not_known(self, label: Optional[str] = None) -> list[Unread]:
+    def why_not_known(self, label: str | None = None) -> list[Unread]:
         """Why it isn't known of some pictures whether they fit; or of those that fit, whether they have a text of a label."""
         if label is None:
             numbers, labels = self._not_known(), self.labels
@@ -548,7 +557,7 @@ class Answer:
             self._catalogue.base.executemany("INSERT INTO temp.shown (picture) VALUES (?)", ((number,) for number, _ in rows))
         return zip(*(self._shown_texts(label, rows) for label in labels))
 
-    def _shown_texts(self, label: str, pictures: Sequence[tuple[int, bytes]]) -> Iterator[Optional[tuple[str, ...]]]:
+    def _shown_texts(self, label: str, pictures: Sequence[tuple[int, bytes]]) -> Iterator[tuple[str, ...] | None]:
         """The texts of a label of each picture in the table of those that are shown next."""
         query = " UNION ALL ".join(_SHOWN.format(table) for table in self._catalogue.all_texts)
         rows = self._catalogue.rows(f"{query} ORDER BY place, number", (self._printed(label),), _numbered_text)
@@ -559,7 +568,7 @@ class Answer:
         """The label of the texts that are printed for a label or a field."""
         return SHOWN + label if self._in_words and is_field(label) else label
 
-    def _or_not_known(self, number: int, label: str, texts: Sequence[str]) -> Optional[tuple[str, ...]]:
+    def _or_not_known(self, number: int, label: str, texts: Sequence[str]) -> tuple[str, ...] | None:
         return None if not texts and number in self._lacking_of(label) else tuple(texts)
 
     def paths(self) -> Iterator[list[bytes]]:

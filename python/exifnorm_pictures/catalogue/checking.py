@@ -7,7 +7,7 @@ import os
 import re
 from dataclasses import replace
 from itertools import groupby
-from typing import Callable, Iterator, NamedTuple, Optional, Sequence
+from typing import Iterator, NamedTuple, Sequence
 
 from ..fields.choosing import stands_for
 from ..fields.folding import compose
@@ -18,9 +18,11 @@ from ..fields.rules import AFTER, AGREE, BEFORE, EQUAL, LENGTH, LIKE, NEEDS, NEV
 from ..model.records import has, has_short
 from ..model.texts import Members, escaped, pictures_in_words, whole_path
 from .asking import IN_SCOPE, add_functions, forms_of_word, has_text, parts_of, pattern_of, put_wanted, unread
+from .conflicts import conflicts
 from .field_texts import DATE as FIELD_DATE, EACH, SHOWN, add_fields, ambiguous_in
 from .kept_texts import Report, make_ready, say_nothing
 from .store import Catalogue, root_of_row
+from .texts import texts_of
 
 _TEXTS = f"""SELECT p.path, p.root, t.text FROM texts t JOIN pictures p ON p.id = t.picture
     WHERE t.label = ? AND {{}} AND {IN_SCOPE}"""
@@ -37,7 +39,7 @@ class Broken(NamedTuple):
     path: bytes
     number: int  # of the rule
     label: str
-    text: Optional[str]  # the one that the rule doesn't allow; None: there is none, and it needs one
+    text: str | None  # the one that the rule doesn't allow; None: there is none, and it needs one
     damage: str = ""  # where the file is cut off or damaged
 
 
@@ -50,20 +52,10 @@ class Unused(NamedTuple):
     near: str = ""  # the one that pictures have and that most looks like it; empty if none does
 
 
-Contradictions = Callable[[Catalogue], Iterator[tuple[bytes, bytes, str, str]]]  # path, root, label, and its texts
-
-
 class Checked:
     """The result of checking a catalogue's pictures by some rules. It is kept in a temporary table, however many pictures break a rule."""
 
-    def __init__(
-        self,
-        catalogue: Catalogue,
-        rules: Sequence[Rule],
-        contradictions: Contradictions,
-        report: Report = say_nothing,
-        only: Optional[str] = None,
-    ) -> None:
+    def __init__(self, catalogue: Catalogue, rules: Sequence[Rule], report: Report = say_nothing, only: str | None = None) -> None:
         """`only`: a table of the paths of the pictures that are checked."""
         make_ready(catalogue, report)
         fields = fields_in(label for rule in rules for label in rule.labels)
@@ -81,25 +73,30 @@ class Checked:
                 self._allowed[rule] = put_wanted(catalogue, rule.values)
             for label in rule.labels if rule.kind != AGREE else ():
                 self._put((*row, number, label) for row in self._rows(rule, label))
-        self._put(self._disagreeing(contradictions))
+        self._put(self._disagreeing())
         if only:
             with catalogue.guarded():
                 base.execute(f"DELETE FROM temp.broken WHERE path NOT IN {only}")
         self._put_not_known()
 
-    def _put(self, rows: Iterator[tuple[bytes, Optional[str], int, str]]) -> None:
+    def _put(self, rows: Iterator[tuple[bytes, str | None, int, str]]) -> None:
         with self._catalogue.guarded():
             self._catalogue.base.executemany("INSERT INTO temp.broken (path, text, number, label) VALUES (?, ?, ?, ?)", rows)
 
-    def _disagreeing(self, contradictions: Contradictions) -> Iterator[tuple[bytes, Optional[str], int, str]]:
+    def _disagreeing(self) -> Iterator[tuple[bytes, str | None, int, str]]:
         """The pictures that break a rule by texts that differ between Exif, IPTC and XMP."""
         rules = [(number, rule) for number, rule in enumerate(self.rules) if rule.kind == AGREE]
-        for path, root, label, texts in contradictions(self._catalogue) if rules else ():
-            yield from (
-                (path, texts, number, label) for number, rule in rules if label in rule.labels and rule.is_about(_below(path, root))
-            )
+        for picture in self._catalogue.pictures() if rules else ():
+            if picture.problem:
+                continue
+            below = _below(picture.path, picture.root)
+            about = [(number, rule.labels) for number, rule in rules if rule.is_about(below)]
+            texts = texts_of(self._catalogue.blocks_with_fields(picture))
+            for one in conflicts(texts.texts, texts.located):
+                if one.is_real and one.label not in texts.missing:
+                    yield from ((picture.path, one.line, number, one.label) for number, labels in about if one.label in labels)
 
-    def _rows(self, rule: Rule, label: str) -> Iterator[tuple[bytes, Optional[str]]]:
+    def _rows(self, rule: Rule, label: str) -> Iterator[tuple[bytes, str | None]]:
         """The pictures that break a rule by one label, each with the text that does."""
         for query, values in self._queries(rule, label):
             for path, root, text in self._catalogue.rows(query, values):
@@ -177,7 +174,7 @@ class Checked:
         """How many rules are broken."""
         return self._catalogue.number_of("SELECT count(DISTINCT number) FROM temp.broken")
 
-    def pictures_broken(self, number: Optional[int] = None) -> int:
+    def pictures_broken(self, number: int | None = None) -> int:
         """How many pictures break a rule, or the one with this number."""
         query = "SELECT count(DISTINCT path) FROM temp.broken WHERE ?1 IS NULL OR number = ?1"
         return self._catalogue.number_of(query, (number,))
@@ -303,7 +300,7 @@ def _below(path: bytes, root: bytes) -> str:
     return os.fsdecode(path[len(root) :].lstrip(b"/") if path.startswith(root.rstrip(b"/") + b"/") else os.path.basename(path))
 
 
-def _broken(row: tuple[bytes, int, str, Optional[str], str]) -> Broken:
+def _broken(row: tuple[bytes, int, str, str | None, str]) -> Broken:
     has(bytes, row[0])
     has_short(str, row[4])
     return Broken(*row)

@@ -25,7 +25,7 @@ from ..fields.typed import typed
 from ..model.found import NAMES
 from ..model.records import PictureRecord
 from .kept_texts import Report, fill, make_table, say_nothing, show_as_texts
-from .label_texts import kept_text
+from .kept_texts import kept_text
 from .store import Catalogue, put_text
 
 _FIELDS = "temp.field_texts"

@@ -21,7 +21,7 @@ import re
 import shutil
 import stat
 import time
-from typing import IO, Optional
+from typing import IO
 
 from ..files import atomic
 from ..model.errors import Failure
@@ -46,13 +46,13 @@ class Nights:
         stem, ending = os.path.splitext(self.last)
         self.before, self.tonight = f"{stem}.before{ending}", f"{stem}.tonight{ending}"
         self.is_first = False  # whether there was no night before to compare with
-        self.earlier: Optional[Earlier] = None  # the last catalogue, if it is of an earlier release ..
+        self.earlier: Earlier | None = None  # the last catalogue, if it is of an earlier release ..
         self.kept = ""  # .. and the name under which it is kept
         self.is_as_last = False  # whether the last run was whole and looked at the same
         self._days = days
         self.of_today = f"{self.last}.{time.strftime('%Y-%m-%d')}" if days > 1 else ""
         self._about = f"{about}\n{VERSION}"
-        self._lock: Optional[IO[str]] = None
+        self._lock: IO[str] | None = None
         self._mark = ""
 
     @property
@@ -129,7 +129,12 @@ class Nights:
         if self.of_today:
             _replace(self.tonight, self.of_today)
         os.replace(self.tonight, self.last)
-        for name in [it for it in self._of_days() if it != self.of_today][self._days - 1 :] if self.of_today else ():
+        if self.of_today:
+            self._remove_old()
+
+    def _remove_old(self) -> None:
+        """Removes the catalogues of days before the last ones."""
+        for name in [it for it in self._of_days() if it != self.of_today][self._days - 1 :]:
             if _is_ours(name):
                 os.unlink(name)
 
@@ -192,7 +197,7 @@ def _opened_lock(name: str) -> IO[str]:
     return file
 
 
-def _mark(name: str) -> Optional[list[int]]:
+def _mark(name: str) -> list[int] | None:
     """What shows that a file was written or replaced; None if there is none."""
     now = Stamp.at(os.fsencode(name))
     return now and [now.inode, now.size, now.modified]

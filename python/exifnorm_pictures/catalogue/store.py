@@ -158,9 +158,9 @@ class Known(NamedTuple):
     """The known facts about a picture before it is looked at."""
 
     id: int
-    stamp: Optional[Stamp]
-    problem: Optional[str]
-    coded_picture: Optional[str] = None
+    stamp: Stamp | None
+    problem: str | None
+    coded_picture: str | None = None
     sidecars: str = ""
 
 
@@ -174,13 +174,13 @@ _OPEN = b"\2\2"  # of one that has a log
 _CLOSED = b"\1\1"  # at offset 18 of a SQLite file that has no log: a catalogue is closed like this, and a log is removed before
 
 
-def _mark(name: str) -> Optional[tuple[int, int]]:
+def _mark(name: str) -> tuple[int, int] | None:
     """What identifies a file that isn't empty, and its last change."""
     now = Stamp.at(os.fsencode(name))
     return (now.inode, now.changed) if now and now.size else None
 
 
-def identity(name: str) -> Optional[tuple[int, int]]:
+def identity(name: str) -> tuple[int, int] | None:
     """What identifies the file of a name; None if there is none."""
     now = Stamp.at(os.fsencode(name))
     return now and (now.device, now.inode)
@@ -212,13 +212,7 @@ def _check_head(name: str, make: bool) -> None:
             return
         raise NoCatalogue(f"there is no catalogue {name}{of_day(name)}") from None
     if stat.S_ISDIR(kind):
-        folder = shlex.quote(name)
-        if list_of(name) is not None:
-            raise NoCatalogue(
-                f"{name} is a folder of catalogues, and this command takes one catalogue, such as all of them merged:"
-                f" exifnorm-pictures catalogue merge {folder} --catalogue NEW"
-            )
-        raise NoCatalogue(f"{name} is a folder and not a catalogue. To make one: exifnorm-pictures index {folder} --catalogue NEW")
+        raise _of_folder(name)
     if not stat.S_ISREG(kind):
         raise NoCatalogue(f"{name} is no catalogue: it is no regular file")
     log = _mark(f"{name}-wal")
@@ -232,7 +226,22 @@ def _check_head(name: str, make: bool) -> None:
             f"{name} is a whole catalogue, but beside it is the log {name}-wal of another state, as after a backup was restored over a"
             f" catalogue that a run had open. Remove {name}-wal and {name}-shm, unless you want that other state"
         )
-    version = int.from_bytes(head[60:64], "big")
+    _check_version(name, int.from_bytes(head[60:64], "big"))
+
+
+def _of_folder(name: str) -> NoCatalogue:
+    """What is said of a folder in place of a catalogue."""
+    folder = shlex.quote(name)
+    if list_of(name) is None:
+        return NoCatalogue(f"{name} is a folder and not a catalogue. To make one: exifnorm-pictures index {folder} --catalogue NEW")
+    return NoCatalogue(
+        f"{name} is a folder of catalogues, and this command takes one catalogue, such as all of them merged:"
+        f" exifnorm-pictures catalogue merge {folder} --catalogue NEW"
+    )
+
+
+def _check_version(name: str, version: int) -> None:
+    """Raises `NoCatalogue` for a catalogue of another release."""
     if version < VERSION:
         option = "--catalogue" if list_of(os.path.dirname(name) or ".") is None else "--shards"
         raise NoCatalogue(
@@ -290,12 +299,12 @@ class Earlier(NamedTuple):
     """What is known of a catalogue of an earlier release, which can't be compared."""
 
     version: int
-    pictures: Optional[int] = None  # None: its tables are others
+    pictures: int | None = None  # None: its tables are others
     pixels: bool = False  # whether it was made with --pixels
     sidecars: bool = False
 
 
-def earlier_release(name: str) -> Optional[Earlier]:
+def earlier_release(name: str) -> Earlier | None:
     """What is known of a catalogue of an earlier release; None of any other file, and of none. Raises `OSError`."""
     if not os.path.isfile(name):
         return None
@@ -318,7 +327,7 @@ _OF_EARLIER = (
 )
 
 
-def list_of(folder: str) -> Optional[bytes]:
+def list_of(folder: str) -> bytes | None:
     """What follows the first line of the list of a folder of catalogues; None if the folder has no such list. Raises `OSError`, and
     `NoCatalogue` if the list is too long."""
     name = os.path.join(folder, LIST)
@@ -420,8 +429,8 @@ class _Guard:
 
     def __exit__(
         self,
-        kind: Optional[Type[BaseException]],
-        error: Optional[BaseException],
+        kind: Type[BaseException] | None,
+        error: BaseException | None,
         *_: object,
         # bound here, because a query can be open until Python has removed the names of this module
         damaged: tuple[Type[Exception], ...] = (sqlite3.DatabaseError, Damaged, UnicodeDecodeError),
@@ -437,7 +446,7 @@ class Catalogue:
     _schemas: Sequence[str] = ("main",)  # the names of its files on the connection
     texts: tuple[str, ...] = ("main.texts",)  # the tables of texts by label
     all_texts: tuple[str, ...] = ()  # the same with those that are made for a question, once they are
-    _roots: Optional[tuple[list[int], list[bytes]]] = None  # what `roots` returned last, with the state that it was of
+    _roots: tuple[list[int], list[bytes]] | None = None  # what `roots` returned last, with the state that it was of
 
     def __init__(self, name: str, make: bool = False, there: bool = False, adds: bool = False) -> None:
         """Opens a catalogue to read it, or to write to it: with `make` a missing one is made, with `there` it isn't, and `adds` is as `there` if
@@ -512,7 +521,7 @@ class Catalogue:
     def __enter__(self) -> "Catalogue":
         return self
 
-    def __exit__(self, kind: Optional[Type[BaseException]], *_: object) -> None:
+    def __exit__(self, kind: Type[BaseException] | None, *_: object) -> None:
         self.close()
         if self._is_written and kind is None:
             self._check_place()
@@ -563,7 +572,7 @@ class Catalogue:
         """Whether it has digests of coded pictures, as of `index --pixels`."""
         return bool(self.number_of("SELECT EXISTS (SELECT 1 FROM pictures WHERE coded_picture != '')"))
 
-    def set_versions(self, run: int, exifnorm: str, exiftool: Optional[str], exiv2: Optional[str]) -> None:
+    def set_versions(self, run: int, exifnorm: str, exiftool: str | None, exiv2: str | None) -> None:
         """Keeps which library makes the digests of a run, and which programs have read a picture."""
         with self.guarded():
             self.base.execute("UPDATE runs SET exifnorm = ?, exiftool = ?, exiv2 = ? WHERE id = ?", (exifnorm, exiftool, exiv2, run))
@@ -718,12 +727,12 @@ class Catalogue:
         """Each run, the first one first."""
         return list(self.rows("SELECT started, ended, exifnorm, exiftool, exiv2 FROM runs ORDER BY id", (), _run_of_row))
 
-    def known(self, path: bytes) -> Optional[Known]:
+    def known(self, path: bytes) -> Known | None:
         """The record of one picture."""
         query = "SELECT id, size, modified, changed, inode, device, problem, coded_picture, sidecars FROM pictures WHERE path = ?"
         return next(self.rows(query, (path,), _known), None)
 
-    def picture(self, path: bytes) -> Optional[PictureRecord]:
+    def picture(self, path: bytes) -> PictureRecord | None:
         """The picture with this path."""
         return next(self.rows(f"SELECT {PICTURE_COLUMNS} FROM pictures WHERE path = ?", (path,), picture_of_row), None)
 
@@ -739,7 +748,7 @@ class Catalogue:
         """Whether no picture is known, as in a first run."""
         return not self.number_of("SELECT EXISTS (SELECT 1 FROM pictures)")
 
-    def below(self, folder: bytes, run: int = 0) -> Iterator[tuple[int, bytes, Optional[str]]]:
+    def below(self, folder: bytes, run: int = 0) -> Iterator[tuple[int, bytes, str | None]]:
         """The number, path and problem of each picture below a folder, by path, without those that a run has looked at."""
         start = folder.rstrip(b"/") + b"/"
         query = "SELECT id, path, problem FROM pictures WHERE path > ? AND path < ? AND run != ? ORDER BY path"
@@ -753,7 +762,7 @@ class Catalogue:
         """How many pictures are below a folder, without those that are gone."""
         return sum(problem not in GONE for _, _, problem in self.below(folder))
 
-    def pictures(self, only: Optional[str] = None) -> Iterator[PictureRecord]:
+    def pictures(self, only: str | None = None) -> Iterator[PictureRecord]:
         """Each picture, by path; `only` is a table of paths, as `choose` makes it."""
         where = f"WHERE path IN {only}" if only else ""
         yield from self.rows(f"SELECT {PICTURE_COLUMNS} FROM pictures {where} ORDER BY path", (), picture_of_row)
@@ -801,7 +810,7 @@ class Catalogue:
             self.base.executemany("INSERT OR IGNORE INTO chosen VALUES (?)", ((it,) for it in paths))
         return "temp.chosen"
 
-    def not_there(self, chosen: Optional[str]) -> Iterator[bytes]:
+    def not_there(self, chosen: str | None) -> Iterator[bytes]:
         """The paths of such a table, if there is one, that no picture has, in their order."""
         if chosen:
             query = f"SELECT path FROM {chosen} AS one WHERE NOT EXISTS (SELECT 1 FROM pictures WHERE path = one.path) ORDER BY path"
@@ -838,7 +847,7 @@ class Catalogue:
         with self.transaction():
             self.base.executemany("UPDATE pictures SET device = ? WHERE id = ?", devices)
 
-    def maker_notes(self, picture: PictureRecord, unpack: Callable[[bytes], Made]) -> Optional[Made]:
+    def maker_notes(self, picture: PictureRecord, unpack: Callable[[bytes], Made]) -> Made | None:
         """The result of `unpack` for what ExifTool read of a picture's MakerNotes, if it was asked."""
         return next(self.rows("SELECT readings FROM maker_notes WHERE picture = ?", (picture.id,), lambda row: unpack(row[0])), None)
 
@@ -907,6 +916,6 @@ def _run_of_row(row: Run) -> Run:
     return row
 
 
-def _known(row: tuple[int, Optional[int], int, int, int, int, Optional[str], Optional[str], str]) -> Known:
+def _known(row: tuple[int, int | None, int, int, int, int, str | None, str | None, str]) -> Known:
     number, size, modified, changed, inode, device, problem, coded, sidecars = row
     return Known(number, None if size is None else Stamp(size, modified, changed, inode, device), problem, coded, sidecars)

@@ -2,7 +2,7 @@
 
 from __future__ import annotations
 
-from typing import NamedTuple, Optional, Sequence
+from typing import NamedTuple, Sequence
 
 from ..fields.labels import LABEL_WORDS, LABELLED, Caption, camera_of, not_kept, of_labelled, with_own
 from ..fields.block_fields import rests_of
@@ -20,7 +20,7 @@ class PictureTexts(NamedTuple):
     long: set[str]  # labels of which a text is too long
     behind: set[str]  # labels of which a text may be among fields that are too many
     rests: list[str]  # which fields these are
-    located: tuple[Optional[Located], Optional[Located]] = (None, None)  # where Exif and XMP have that it was taken
+    located: tuple[Located | None, Located | None] = (None, None)  # where Exif and XMP have that it was taken
 
     @property
     def missing(self) -> set[str]:

@@ -2,30 +2,37 @@
 
 from __future__ import annotations
 
+import contextlib
 from collections import Counter
-from typing import TYPE_CHECKING, Iterable, Optional, Sequence
+from typing import Iterable, Iterator, Sequence, TYPE_CHECKING
 
-from ..comparison.changed.states import Compared
-from ..comparison.coded import Coded
-from ..comparison.differing import FieldDifference, exact_side
 from ..comparison.changed.edit_groups import Counted, Group
 from ..comparison.changed.edit_words import line_of
 from ..comparison.changed.edits import edit_of
+from ..comparison.changed.history import State, history
+from ..comparison.changed.states import Compared
 from ..comparison.changed.summary import Summary
-from ..comparison.wording import plain_sides
+from ..comparison.coded import Coded
+from ..comparison.differing import FieldDifference, exact_side
+from ..comparison.wording import line_of as line_of_field, plain_sides
 from ..fields.choosing import Choice
-from ..fields.left_out import lines, members_of
 from ..fields.field import Field
+from ..fields.left_out import lines, members_of
 from ..fields.listing import MAKER_NOTE
 from ..fields.plain_names import exact_key, group_name
 from ..fields.typed import together
 from ..judge.maker_notes import NoteDifference
 from ..model.results import Result
-from ..model.texts import Members, path_members, path_or_none
+from ..model.texts import Members, escaped, path_members, path_or_none, shown_path
+from .exit_codes import SUCCESS, UNKNOWN, status_of_results
+from .looking import opened
 from .objects import print_object
+from .options import Output, Run
+from .output import local_time, print_lines
 
 if TYPE_CHECKING:
     from .tables import Table
+
 
 Comparisons = Iterable[Compared]
 
@@ -116,7 +123,7 @@ def _members(comparison: Compared) -> Members:
     }
 
 
-def _note_members(differences: Optional[Sequence[NoteDifference]]) -> Optional[Members]:
+def _note_members(differences: Sequence[NoteDifference] | None) -> Members | None:
     """What ExifTool reads of a MakerNote; None if it wasn't asked."""
     if differences is None:
         return None
@@ -133,5 +140,57 @@ def field_members(difference: FieldDifference) -> Members:
     return {**name, **sides, "equal_number": difference.is_equal_number, "note": difference.note or None}
 
 
-def _side_members(plain: Optional[str], fields: tuple[Field, ...]) -> Optional[Members]:
+def _side_members(plain: str | None, fields: tuple[Field, ...]) -> Members | None:
     return {"plain": plain, "exact": exact_side(fields), "value": together(fields)} if fields else None
+
+
+def history_of(path: bytes, names: Sequence[str], run: Run, output: Output) -> int:
+    """Prints the history of the picture with this path in some catalogues."""
+    status = SUCCESS
+    with contextlib.ExitStack() as open_:
+        catalogues = [open_.enter_context(opened(name, run, in_one_file=True)) for name in names]
+        for state in history(path, catalogues):
+            status = max(status, _status(state))
+            if output.json:
+                print_object("history", "state", _state_members(state))
+            else:
+                print_lines(_lines(state))
+    return status
+
+
+def _status(state: State) -> int:
+    if state.may_be_elsewhere:
+        return UNKNOWN
+    return status_of_results([state.comparison.result] if state.comparison else [])
+
+
+def _lines(state: State) -> Iterator[str]:
+    head = f"{local_time(state.when)}  {escaped(state.catalogue)}: "
+    if state.comparison is None:
+        seen = "there again" if state.is_back else "first seen"
+        yield head + (f"{seen} as {shown_path(state.path)}" if state.path is not None else _absent(state, "not there"))
+        return
+    yield head + (_result(state.comparison, state.path) if state.path is not None else _absent(state, "gone"))
+    for change in state.comparison.changes:
+        yield f"  {line_of_field(change)}"
+
+
+def _absent(state: State, word: str) -> str:
+    return _ELSEWHERE if state.may_be_elsewhere else word
+
+
+_ELSEWHERE = "its name isn't there. Whether it has another name, and was edited too, only catalogues of index --pixels can tell"
+
+
+def _result(comparison: Compared, path: bytes) -> str:
+    to = f" to {shown_path(path)}" if comparison.moved_to is not None else ""
+    note = f" ({comparison.note})" if comparison.note else ""
+    return comparison.result + to + note
+
+
+def _state_members(state: State) -> Members:
+    comparison = state.comparison
+    members: Members = {"catalogue": state.catalogue, "when": state.when or None, "picture": path_or_none(state.path)}
+    members["result"] = None if comparison is None else comparison.result
+    members["note"] = _ELSEWHERE if state.may_be_elsewhere else (comparison.note or None) if comparison else None
+    return {**members, "fields": [field_members(change) for change in comparison.changes] if comparison else []}

@@ -21,7 +21,11 @@ def width(text: str) -> int:
 
 @functools.lru_cache(maxsize=4096)
 def _width_of(character: str) -> int:
-    return 0 if unicodedata.combining(character) else 2 if unicodedata.east_asian_width(character) in "WF" else 1
+    if unicodedata.combining(character):
+        return 0
+    if unicodedata.east_asian_width(character) in "WF":
+        return 2
+    return 1
 
 
 def columns(rows: Sequence[Sequence[str]], screen: int) -> Iterator[str]:

@@ -308,7 +308,7 @@ pictures until the folder is back, or catalogue forget removes them.""",
 source CATALOGUE   the catalogue
 --since OLD        an older catalogue: also list the changes
 --rules RULES      also list the pictures that break these rules, as check does
---html NAME        the page to write; with a slash at the end, NAME/ is a folder of pages, for an
+--html NAME !      the page to write; with a slash at the end, NAME/ is a folder of pages, for an
                    archive of any size
 --link-to ADDRESS  link the names of pictures to this address in place of the files, such as
                    https://dam.example/{path}; {name} has no folders
@@ -473,8 +473,6 @@ OPTIONS_WENT = {
 
 # Options that have no effect without another one
 ONLY_WITH = {
-    "--title": ("--html",),
-    "--link-to": ("--html",),
     "--form": ("--evidence",),
     "--null": ("--files-from", "--edit"),
     "--by-picture": ("--rules",),

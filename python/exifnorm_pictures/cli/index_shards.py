@@ -3,7 +3,7 @@
 from __future__ import annotations
 
 import shlex
-from typing import Iterator, Optional, Sequence
+from typing import Iterator, Sequence
 
 from ..model.errors import WrongUse
 from ..model.problems import NOT_READABLE
@@ -17,7 +17,7 @@ from .options import Output, Run
 from .output import counted, print_line, print_lines, record_lines, say_notes
 
 
-def indexed_shards(where: str, names: Sequence[bytes], run: Run, output: Output, keep_old: Optional[str]) -> int:
+def indexed_shards(where: str, names: Sequence[bytes], run: Run, output: Output, keep_old: str | None) -> int:
     """Looks at the pictures of each part, and keeps the results in its catalogue in the folder `where`. Returns the status."""
     if keep_old:
         raise WrongUse(f"--keep-old copies one catalogue, and {escaped(where)} is a folder of them: copy it before the run")

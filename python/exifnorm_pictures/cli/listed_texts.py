@@ -2,7 +2,7 @@
 
 from __future__ import annotations
 
-from typing import TYPE_CHECKING, Iterator, Optional, Sequence
+from typing import TYPE_CHECKING, Iterator, Sequence
 
 from ..fields.labels import LABEL_WORDS, POSITION
 from ..fields.places import place_of
@@ -48,6 +48,6 @@ def lines(labels: Sequence[str], texts: Texts, indent: str) -> Iterator[str]:
 _NOT_KNOWN = "not known"
 
 
-def member(labels: Sequence[str], texts: Texts) -> dict[str, Optional[list[str]]]:
+def member(labels: Sequence[str], texts: Texts) -> dict[str, list[str] | None]:
     """The texts for a JSON object: a list for each label, or null if it isn't known whether there is one."""
     return {label: None if of_label is None else list(of_label) for label, of_label in zip(labels, texts)}

@@ -6,7 +6,7 @@ import contextlib
 import os
 import sys
 import tempfile
-from typing import ContextManager, Iterator, Optional, Sequence
+from typing import ContextManager, Iterator, Sequence
 
 from ..catalogue import shards
 from ..catalogue.store import Catalogue, NoCatalogue
@@ -27,7 +27,7 @@ from .parser import refuse
 _DEBIAN = f"Debian: {programs.PACKAGES['exiftool']}"
 
 
-def how_of(run: Run, room: str, lines: Optional[Lines] = None) -> How:
+def how_of(run: Run, room: str, lines: Lines | None = None) -> How:
     """How a command looks at pictures."""
     if run.maker_notes and not run.scheduler and not programs.is_there("exiftool"):
         say_notes(f"no MakerNote is read, because ExifTool isn't installed ({_DEBIAN}); later runs ask again")
@@ -114,7 +114,7 @@ class Preparing:
 
     def __init__(self, run: Run) -> None:
         self._is_quiet = is_quiet(run)
-        self._progress: Optional[Progress] = None
+        self._progress: Progress | None = None
 
     def report(self, done: int, due: int) -> None:
         """Shows how many are done; the line goes away with the last one."""

@@ -13,7 +13,7 @@ import importlib
 import os
 import sys
 from types import ModuleType
-from typing import Optional, Sequence
+from typing import Sequence
 
 from ..files import signals
 from ..files.session import Session
@@ -31,7 +31,7 @@ _OF_POSIX = ("fcntl", "resource")  # modules of Python that Windows hasn't
 _OTHERS = (("exifnorm", "LibraryMissing"), ("sqlite3", "OperationalError"))  # errors of other packages whose texts are for people
 
 
-def main(words: Optional[Sequence[str]] = None) -> int:
+def main(words: Sequence[str] | None = None) -> int:
     """Runs the command; its status."""
     try:
         try:
@@ -47,7 +47,7 @@ def main(words: Optional[Sequence[str]] = None) -> int:
         return 128 + stopped.number
 
 
-def _heeding(words: Optional[Sequence[str]]) -> int:
+def _heeding(words: Sequence[str] | None) -> int:
     """Runs the command, which heeds signals, with all that it prints; its status."""
     try:
         signals.ready_streams()
@@ -71,7 +71,7 @@ def _give_memory_back() -> None:
         mallopt(_TRIM_THRESHOLD, 2 * OWN_PAGES)
 
 
-def _run(words: Optional[Sequence[str]]) -> int:
+def _run(words: Sequence[str] | None) -> int:
     """Runs a command in a session: its temporary files and programs end with it."""
     command, session, goes_on = "", Session(), False
     try:

@@ -2,7 +2,7 @@
 
 from __future__ import annotations
 
-from typing import Optional, Sequence
+from typing import Sequence
 
 from ..model.found import CUT, NAMES, cut, damage, each_kind
 from ..model.texts import Members
@@ -59,6 +59,6 @@ def damage_lines(picture: Picture) -> list[str]:
     return [f"The file is {what}. What is missing may have {kinds}.", f"  Remedy: {REMEDY}"]
 
 
-def damage_remedy(picture: Picture) -> Optional[str]:
+def damage_remedy(picture: Picture) -> str | None:
     """The remedy; none for a whole file."""
     return REMEDY if picture.damage or damage(picture.not_read) else None

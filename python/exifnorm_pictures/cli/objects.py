@@ -4,7 +4,7 @@ from __future__ import annotations
 
 import json
 import sys
-from typing import Any, Iterator, Optional
+from typing import Any, Iterator
 
 from ..model.budgets import ENCODED_CHARACTERS
 from ..model.records import PictureRecord
@@ -73,7 +73,7 @@ def _parts(value: Any) -> Iterator[str]:
         yield _ENCODER.encode(value)
 
 
-def picture_object(path: bytes, problem: Optional[str], detail: str) -> Members:
+def picture_object(path: bytes, problem: str | None, detail: str) -> Members:
     """The members that each picture has."""
     return {**path_members(path), "problem": problem or None, "detail": detail or None}
 

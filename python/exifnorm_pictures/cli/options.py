@@ -3,7 +3,7 @@
 from __future__ import annotations
 
 import argparse
-from typing import TYPE_CHECKING, NamedTuple, Optional, Sequence, TypeVar
+from typing import TYPE_CHECKING, NamedTuple, Sequence, TypeVar
 
 from ..files.session import Session
 from ..model.budgets import PROGRAM_SECONDS
@@ -23,10 +23,10 @@ class Files(NamedTuple):
     """The catalogue and the names that a command gets."""
 
     command: str
-    source: Optional[str] = None  # the first name, which may be a catalogue
-    catalogue: Optional[str] = None  # of --catalogue, which index and nightly have
+    source: str | None = None  # the first name, which may be a catalogue
+    catalogue: str | None = None  # of --catalogue, which index and nightly have
     names: Sequence[str] = ()
-    files_from: Optional[str] = None
+    files_from: str | None = None
     null: bool = False  # the names of that list end with NUL
 
 
@@ -43,10 +43,10 @@ class Output(NamedTuple):
 
     json: bool = False
     csv: bool = False  # also of --xlsx, with a sheet
-    sheet: Optional[Sheet] = None
+    sheet: Sheet | None = None
     geojson: bool = False
     exact: bool = False
-    html: Optional[str] = None
+    html: str | None = None
 
 
 class Run(NamedTuple):
@@ -58,7 +58,7 @@ class Run(NamedTuple):
     quiet: bool = False
     again: bool = False
     exclude: Sequence[str] = ()
-    scheduler: Optional[str] = None
+    scheduler: str | None = None
     whole: bool = False
     pixels: bool = False
     sidecars: bool = False

@@ -9,7 +9,7 @@ import sys
 from collections import Counter
 from datetime import datetime, timezone
 from itertools import islice
-from typing import TYPE_CHECKING, Iterable, Iterator, Optional, Sequence
+from typing import TYPE_CHECKING, Iterable, Iterator, Sequence
 
 from ..files import signals
 from ..model.found import cut, damage
@@ -85,7 +85,7 @@ def note_sidecar(picture: bytes) -> None:
         say_notes(f"{shown_path(sidecar)} isn't read: index --sidecars takes it as metadata of its picture")
 
 
-def table_of(output: Output, heads: str, more: Sequence[str] = ()) -> Optional[Table]:
+def table_of(output: Output, heads: str, more: Sequence[str] = ()) -> Table | None:
     """The table that --csv or --xlsx asks for, if one of them was given. Its heads have commas between them."""
     if not output.csv:
         return None
@@ -113,9 +113,15 @@ def _problems(picture: PictureRecord) -> Iterator[str]:
     if picture.problem == Problem.NO_PICTURE and picture.detail in DAMAGED:
         yield f"NoPicture: {DAMAGED[picture.detail]}"
     if not picture.problem:
-        parts = [one.what for one in picture.unread]
-        yield from (f"not wholly read: {what}" for what in damage(parts))
-        yield from [f"damaged: {picture.damage}"] * bool(picture.damage and not cut(parts))
+        yield from _damages(picture)
+
+
+def _damages(picture: PictureRecord) -> Iterator[str]:
+    """What is left of a damaged file."""
+    parts = [one.what for one in picture.unread]
+    yield from (f"not wholly read: {what}" for what in damage(parts))
+    if picture.damage and not cut(parts):
+        yield f"damaged: {picture.damage}"
 
 
 def closed_folder(picture: PictureRecord) -> list[str]:

@@ -7,7 +7,7 @@ import itertools
 import re
 import shlex
 import sys
-from typing import IO, Any, Callable, Iterable, Iterator, NoReturn, Optional, Sequence
+from typing import IO, Any, Callable, Iterable, Iterator, NoReturn, Sequence
 
 from ..model.budgets import PROGRAM_SECONDS
 from ..model.texts import safe
@@ -29,13 +29,13 @@ class _Parser(argparse.ArgumentParser):
         self.print_usage(sys.stderr)
         self.exit(USAGE, f"{self.prog}: {safe(message)}\n")
 
-    def exit(self, status: int = 0, message: Optional[str] = None) -> NoReturn:
+    def exit(self, status: int = 0, message: str | None = None) -> NoReturn:
         """Ends with this status. It flushes the output of --help before, so that a failed write is reported."""
         sys.stdout.flush()
         super().exit(status, message)
         raise SystemExit(status)
 
-    def _print_message(self, message: str, file: Optional[IO[str]] = None) -> None:
+    def _print_message(self, message: str, file: IO[str] | None = None) -> None:
         """Writes a message. argparse ignores a failed write: on standard output it must be reported."""
         if file is sys.stdout:
             file.write(message)
@@ -53,7 +53,7 @@ class _Version(argparse.Action):
         whole.exit()
 
 
-def parsed(words: Optional[Sequence[str]] = None) -> argparse.Namespace:
+def parsed(words: Sequence[str] | None = None) -> argparse.Namespace:
     """The arguments of a command line; `help COMMAND` is `COMMAND --help`. Wrong ones end the process, after the usage of their command.
 
     >>> parsed(["show", "a.jpg", "--json", "b.jpg"]).names
@@ -116,7 +116,7 @@ def _refuse_question(whole: _Parser, arguments: argparse.Namespace, others: Sequ
 
 
 def _refuse_apart(parser: _Parser, arguments: argparse.Namespace) -> None:
-    """Refuses two options that can't stand together, and one that has no effect without another."""
+    """Refuses two options that can't stand together."""
     known = parser._option_string_actions
     names = [name for name, action in known.items() if getattr(arguments, action.dest, action.default) != action.default]
     shown = {name: "/".join(action.option_strings) for name, action in known.items()}  # as argparse names them
@@ -124,8 +124,13 @@ def _refuse_apart(parser: _Parser, arguments: argparse.Namespace) -> None:
         given = [name for name in others if name in names and first in names]
         if given:
             parser.error(f"argument {shown[given[0]]}: not allowed with argument {shown[first]}{why}")
+    _refuse_alone(parser, names, shown)
+
+
+def _refuse_alone(parser: _Parser, names: Sequence[str], shown: "dict[str, str]") -> None:
+    """Refuses an option that has no effect without another."""
     for name, needed in ONLY_WITH.items():
-        there = [it for it in needed if it in known]
+        there = [it for it in needed if it in shown]
         if name in names and there and not set(there) & set(names):
             parser.error(f"argument {shown[name]}: not allowed without argument {' or '.join(there)}")
 
@@ -176,7 +181,7 @@ def refuse(command: str, message: str) -> NoReturn:
     parsers(command)[1][command].error(message)
 
 
-def parsers(only: Optional[str] = None) -> "tuple[_Parser, dict[str, _Parser]]":
+def parsers(only: str | None = None) -> "tuple[_Parser, dict[str, _Parser]]":
     """The parser of the arguments, and those of each command, or of one alone: to make all of them takes longer than to read a picture."""
     whole = _Parser(
         prog=_PROGRAM,
@@ -216,7 +221,8 @@ def _parser_of(command: Command, commands: argparse._SubParsersAction[_Parser]) 
     if command.row:
         _add(forms, f"--csv  a table for spreadsheets: {command.row}")
         _add(forms, "--xlsx FILE  the same table as a new spreadsheet file (needs python3-xlsxwriter)")
-    _add(forms, "--json  print JSON Lines: one object on each line")
+    if command.name != "report":
+        _add(forms, "--json  print JSON Lines: one object on each line")
     _add(parser, "--debug")
     if command.name not in ("catalogue merge", "compare", "list", "nightly", "catalogue relocate"):
         _add(parser, "--files-from LIST  read names from the file LIST, one on each line; - is standard input")
@@ -261,7 +267,7 @@ def _add(group: argparse._ActionsContainer, line: str) -> None:
     group.add_argument(*names.split(", "), **known)
 
 
-def _of_value(name: str, choices: Optional[str], default: Optional[str], count: Optional[str]) -> dict[str, Any]:
+def _of_value(name: str, choices: str | None, default: str | None, count: str | None) -> dict[str, Any]:
     """How a value is read, and what it is if it isn't given."""
     if choices:
         return {"choices": choices.split(","), "metavar": name or None, "default": default}
@@ -315,7 +321,7 @@ def _first_name(text: str) -> str:
 
 
 # The values that aren't names of files, and what they are if they aren't given
-_VALUES: dict[str, tuple[Optional[Callable[[str], Any]], Any]] = {
+_VALUES: dict[str, tuple[Callable[[str], Any] | None, Any]] = {
     "N": (_positive, 0),
     "SECONDS": (_seconds, PROGRAM_SECONDS),
     **dict.fromkeys(("FIELD", "LABEL", "LABELS", "QUESTION", "DAY", "ADDRESS", "TITLE", "LIST", "tcp://HOST:PORT"), (None, None)),

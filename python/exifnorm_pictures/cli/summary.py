@@ -5,14 +5,14 @@ from __future__ import annotations
 
 from collections import Counter
 from itertools import chain, islice
-from typing import Iterator, NamedTuple, Optional, Sequence
+from typing import Iterator, NamedTuple, Sequence
 
 from ..comparison.changed.edit_groups import KINDS, Group
 from ..comparison.changed.edit_words import BRACKETS, head_of, steps_of
 from ..comparison.changed.edits import Edit
 from ..comparison.changed.marking import IN, KEPT, OUT, Step
 from ..comparison.changed.summary import MOST_NAMES, Summary
-from ..comparison.changed.summary_lines import LONGEST_NAMES, fitting, lacking_of, results_of, sentence, shown_name
+from ..comparison.changed.summary import LONGEST_NAMES, fitting, lacking_of, results_of, sentence, shown_name
 from ..model.results import Result
 from ..model.texts import pictures_in_words, safe
 from .columns import width
@@ -27,7 +27,7 @@ COLOURS = {OUT: "\x1b[31;9m", IN: "\x1b[32;4m"}  # red and struck through, green
 class Style(NamedTuple):
     """How words are marked, and how many columns a terminal has."""
 
-    screen: Optional[int] = None
+    screen: int | None = None
     colours: bool = False
 
 

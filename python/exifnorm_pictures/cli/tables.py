@@ -10,7 +10,7 @@ from __future__ import annotations
 import re
 import sys
 from decimal import Decimal
-from typing import TYPE_CHECKING, Optional, Sequence, Union
+from typing import TYPE_CHECKING, Sequence, Union
 
 from ..model.texts import safe_lines, shown_path
 
@@ -37,7 +37,7 @@ def cell(text: str) -> str:
 class Table:
     """The table that --csv or --xlsx asks for: on standard output, or in a spreadsheet file."""
 
-    def __init__(self, sheet: Optional[Sheet], heads: Sequence[str]) -> None:
+    def __init__(self, sheet: Sheet | None, heads: Sequence[str]) -> None:
         self._width = len(heads)
         self._sheet = sheet
         if self._sheet:

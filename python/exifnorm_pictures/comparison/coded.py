@@ -3,7 +3,7 @@
 from __future__ import annotations
 
 from collections import Counter
-from typing import Optional, Sequence
+from typing import Sequence
 
 from ..model import rest
 from ..model.found import CUT, XMP_FILE
@@ -67,7 +67,11 @@ def _by_digests(picture: PictureRecord, other: PictureRecord) -> Coded:
     is_same = bool(picture.sha256) and picture.sha256 == other.sha256
     if not picture.coded_picture or not other.coded_picture:
         is_known = all((picture.sha256, other.sha256, picture.type != XMP_FILE))  # which has no picture
-        return Coded.SAME if is_same else Coded.UNREAD if is_known else Coded.UNKNOWN
+        if is_same:
+            return Coded.SAME
+        if is_known:
+            return Coded.UNREAD
+        return Coded.UNKNOWN
     if picture.coded_picture != other.coded_picture:
         return Coded.OTHER
     return Coded.SAME if is_same or not rest.changes(picture.beside, other.beside) else Coded.BESIDE
@@ -106,7 +110,7 @@ def result_with(coded: Coded, result: Result, parts: Sequence[str]) -> tuple[Res
     return together or result, ", ".join(parts) + by_lengths
 
 
-def _of_parts(counting: Sequence[str]) -> Optional[Result]:
+def _of_parts(counting: Sequence[str]) -> Result | None:
     """The result of other parts that count. Whether those differ that are too large to compare isn't known."""
     if not counting:
         return None

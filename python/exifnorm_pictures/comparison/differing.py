@@ -3,7 +3,7 @@
 from __future__ import annotations
 
 from fractions import Fraction
-from typing import Any, NamedTuple, Optional, Sequence
+from typing import Any, NamedTuple, Sequence
 
 from ..fields.field import Field
 from ..fields.listing import LONGEST_BYTES, OCTETS, counted_type, digest_of, order_of, shortened
@@ -32,7 +32,11 @@ class FieldDifference(NamedTuple):
     @property
     def sign(self) -> str:
         """`+` for a field that came, `-` for one that went, and `~` for one that changed."""
-        return "~" if self.note or (self.before and self.after) else "+" if self.after else "-"
+        if self.note or (self.before and self.after):
+            return "~"
+        if self.after:
+            return "+"
+        return "-"
 
     @property
     def is_equal_number(self) -> bool:
@@ -41,7 +45,7 @@ class FieldDifference(NamedTuple):
         return bool(pairs) and all(one.count == other.count and equal_form(one) == equal_form(other) for one, other in pairs)
 
 
-def exact_side(fields: Sequence[Field]) -> Optional[str]:
+def exact_side(fields: Sequence[Field]) -> str | None:
     """The exact values of a field with their types; None without any.
 
     >>> exact_side([Field("main", "013b", "ASCII", 5, b"Otto\\0")])
@@ -50,7 +54,7 @@ def exact_side(fields: Sequence[Field]) -> Optional[str]:
     return ", ".join(f"{counted_type(it)} {shortened(it.exact)}" for it in fields) if fields else None
 
 
-def bare(fields: Sequence[Field]) -> Optional[str]:
+def bare(fields: Sequence[Field]) -> str | None:
     """The exact values of a field, with their types unless they are texts; None without any."""
     texts = ("ASCII", "octets", "text", "URI")
     return ", ".join(shortened(it.exact) if it.type in texts else exact_side([it]) or "" for it in fields) if fields else None
@@ -73,7 +77,11 @@ def equal_form(field: Field) -> tuple[object, ...]:
 
 def _octets_form(value: Any) -> object:
     """Bytes or their digest, the same whether they are kept whole or not."""
-    return value.digest if isinstance(value, Long) else value if len(value) <= LONGEST_BYTES else digest_of(value)
+    if isinstance(value, Long):
+        return value.digest
+    if len(value) <= LONGEST_BYTES:
+        return value
+    return digest_of(value)
 
 
 def _number(value: Any) -> object:

@@ -23,11 +23,11 @@ from ..model.results import Result
 from ..scan.batches import How
 from ..scan.looking import look
 from ..scan.walk import FoundFile
-from . import proved
+from . import origin
 from .changed.states import Compared, compared
 from .differing import FieldDifference, exact_side
 from .changed.pairs import Pair
-from .proved import Answers, head_of_file
+from .origin import Answers, head_of_file
 from .wording import plain_sides
 
 
@@ -39,8 +39,8 @@ class FieldRow(NamedTuple):
     """A field that differs; a side is None if the field isn't there."""
 
     name: str
-    plain: tuple[Optional[str], Optional[str]]
-    exact: tuple[Optional[str], Optional[str]]
+    plain: tuple[str | None, str | None]
+    exact: tuple[str | None, str | None]
     differences: tuple[FieldDifference, ...] = ()
     note: str = ""  # in place of the values
     is_equal_number: bool = False  # whether the field differs only in the form of its number
@@ -75,7 +75,7 @@ class ComparedPair(NamedTuple):
         )
 
 
-def read(path: bytes, how: How, session: Session) -> tuple[PictureRecord, Optional[bytes]]:
+def read(path: bytes, how: How, session: Session) -> tuple[PictureRecord, bytes | None]:
     """Reads a picture as `index --pixels` does, always with the digest of its file, if it can be read; and the head of a JPEG, which is that of
     the same file. A file that is written to meanwhile has no head."""
     stamp = Stamp.at(path)
@@ -92,7 +92,7 @@ def read(path: bytes, how: How, session: Session) -> tuple[PictureRecord, Option
 
 
 def compare(
-    picture: PictureRecord, other: PictureRecord, session: Optional[Session], choice: Choice = EVERYTHING, heads: Heads = (None, None)
+    picture: PictureRecord, other: PictureRecord, session: Session | None, choice: Choice = EVERYTHING, heads: Heads = (None, None)
 ) -> ComparedPair:
     """Compares two pictures that were read with the digests of their files, by the fields that count. In a session ExifTool is asked for the
     values of MakerNotes. `heads` are the heads of two JPEGs, for the proved comparisons."""
@@ -104,7 +104,7 @@ def compare(
 
 def _proved(comparison: Compared, heads: Heads) -> Answers:
     """The answers of the library's proved comparisons, of which the result must not say otherwise."""
-    answers = proved.answers(*heads)
+    answers = origin.answers(*heads)
     for answer, kinds in ((answers.blocks, (EXIF, IPTC)), (answers.all, KINDS)):
         results = {it.result for it in comparison.verdicts if it.kind in kinds}
         are_same = bool(results) and results <= {Result.SAME, Result.ABSENT}
@@ -166,7 +166,7 @@ def with_position(rows: list[FieldRow], picture: PictureRecord, other: PictureRe
     return [*rows[:at], row, *(it for it in rows[at:] if it not in ours)]
 
 
-def _position(picture: PictureRecord) -> tuple[Optional[str], bool]:
+def _position(picture: PictureRecord) -> tuple[str | None, bool]:
     """The position of a picture, and whether that is known: fields that make none may be a part of one."""
     exif = (block for block in picture.blocks if block.name == NAMES[EXIF])
     fields = {it.tag: it for block in exif for it in fields_of(block) if it.directory == "gps"}
@@ -178,5 +178,5 @@ def _is_of_position(row: FieldRow) -> bool:
     return any(it.directory == "gps" and it.tag in POSITION_TAGS and not it.block for it in row.differences[:1])
 
 
-def _exact(place: Optional[str], rows: Sequence[FieldRow], side: int) -> Optional[str]:
+def _exact(place: str | None, rows: Sequence[FieldRow], side: int) -> str | None:
     return "; ".join(f"{it.name} {it.exact[side]}" for it in rows) if place else None

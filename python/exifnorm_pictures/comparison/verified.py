@@ -6,7 +6,7 @@ An XMP sidecar, which is a block of its picture in the catalogue, is a file here
 from __future__ import annotations
 
 import os
-from typing import Iterator, NamedTuple, Optional, Sequence
+from typing import Iterator, NamedTuple, Sequence
 
 from ..catalogue.store import Catalogue
 from ..model.columns import Damaged
@@ -21,7 +21,7 @@ class State(Word):
     """What a file is now."""
 
     text: str  # of how many it is true
-    is_good: Optional[bool]  # whether its picture is as it was; None: nobody knows
+    is_good: bool | None  # whether its picture is as it was; None: nobody knows
 
     AS_IT_WAS = ("as they were", "unchanged: the same bytes", True)
     CAPTIONED = ("captioned", "captioned: other metadata, the same picture", True)
@@ -45,7 +45,7 @@ class Verified(NamedTuple):
     path: bytes
     state: State
     note: str = ""
-    place: Optional[bytes] = None  # where it is now, or where the same picture is
+    place: bytes | None = None  # where it is now, or where the same picture is
     damage: str = ""  # of the file as it is now, also if it was damaged before
 
 
@@ -134,7 +134,7 @@ def _make_tables(before: Catalogue, now: Catalogue) -> None:
             now.base.executemany(f"INSERT OR IGNORE INTO {_SIDECARS} VALUES (?, 0)", ((path,) for path, _ in of_picture))
 
 
-def _renumbered(before: Catalogue, now: Catalogue, picture: PictureRecord, there: PictureRecord) -> Optional[Verified]:
+def _renumbered(before: Catalogue, now: Catalogue, picture: PictureRecord, there: PictureRecord) -> Verified | None:
     """A picture whose name another one of the catalogue has now, and that is under another name itself."""
     if not picture.sha256 or not there.sha256 or picture.sha256 == there.sha256 or _is_of_manifest(picture):
         return None

@@ -4,7 +4,7 @@ from __future__ import annotations
 
 import re
 import unicodedata
-from typing import Optional, Sequence
+from typing import Sequence
 
 from ..fields.field import Field
 from ..fields.plain_texts import without_nul
@@ -14,7 +14,7 @@ from .differing import FieldDifference, exact_side
 NONE = "(none)"  # in place of a value that isn't there
 
 
-def sides(difference: FieldDifference, exactly: bool = False) -> tuple[Optional[str], Optional[str]]:
+def sides(difference: FieldDifference, exactly: bool = False) -> tuple[str | None, str | None]:
     """Both values of a field in one line: plain, or exact if that is asked for or if both look alike. None where there is no such field.
 
     >>> sides(FieldDifference("main", "0112", (), (Field("main", "0112", "SHORT", 1, (6,)),)))
@@ -26,7 +26,7 @@ def sides(difference: FieldDifference, exactly: bool = False) -> tuple[Optional[
     return told_apart(texts[0], texts[1])
 
 
-def told_apart(before: Optional[str], after: Optional[str]) -> tuple[Optional[str], Optional[str]]:
+def told_apart(before: str | None, after: str | None) -> tuple[str | None, str | None]:
     """Two texts that differ. Of those that look alike, as letters with accents of their own do, the numbers of the characters that don't show.
 
     >>> told_apart("Z\u00fcrich", "Zu\u0308rich"), told_apart("a b", "a\u00a0b"), told_apart("Otto", "Otto ")
@@ -88,7 +88,7 @@ def _number(character: "re.Match[str]") -> str:
     return f"<U+{ord(character[0]):04X}>"
 
 
-def plain_sides(difference: FieldDifference) -> tuple[Optional[str], Optional[str]]:
+def plain_sides(difference: FieldDifference) -> tuple[str | None, str | None]:
     """Both values as they are, without quotes and escapes, for tables and programs; exact if both look alike.
 
     >>> plain_sides(FieldDifference("main", "013b", (), (Field("main", "013b", "ASCII", 5, b"Otto\\0"),)))

@@ -4,11 +4,11 @@ from __future__ import annotations
 
 import time
 from datetime import MAXYEAR, MINYEAR
-from typing import Iterator, NamedTuple, Optional, Sequence
+from typing import Iterator, NamedTuple, Sequence
 
 from ..catalogue.store import Catalogue
 from ..catalogue.texts import texts_of
-from ..comparison.conflicts import conflicts
+from ..catalogue.conflicts import conflicts
 from ..comparison.same.group_sentence import sentence_of
 from ..comparison.same.groups import Groups
 from ..comparison.same.keeping import Keep, keeping
@@ -36,7 +36,7 @@ KEPT_ROWS, SHORT = 2048, 300  # rows of fields that are kept, of each kind, and 
 class Export:
     """Fills the tables of an export."""
 
-    def __init__(self, catalogue: Catalogue, tables: Tables, only: Optional[str], session: Optional[Session]) -> None:
+    def __init__(self, catalogue: Catalogue, tables: Tables, only: str | None, session: Session | None) -> None:
         self.catalogue, self.tables, self.only, self.session = catalogue, tables, only, session
         self.missing = 0  # pictures with a text that is too long to be kept
         self.maker_notes = 0  # pictures with a MakerNote that ExifTool wasn't asked about
@@ -110,10 +110,14 @@ def _path(path: bytes) -> tuple[str, bool]:
 
 
 def _state(picture: PictureRecord) -> str:
-    return "not read" if picture.problem else "no metadata" if picture.state == "no block" else picture.state
+    if picture.problem:
+        return "not read"
+    if picture.state == "no block":
+        return "no metadata"
+    return picture.state
 
 
-def _time(nanoseconds: Optional[int]) -> Optional[str]:
+def _time(nanoseconds: int | None) -> str | None:
     """A time of the file system as UTC, without parts of a second; None for one that no calendar has."""
     if nanoseconds is None:
         return None
@@ -134,8 +138,8 @@ class FieldRow(NamedTuple):
 
     cells: Row  # without NUL
     size: int  # of its texts, in characters
-    text: Optional[Field]  # the field, if the texts of a picture are made of such fields
-    angle: Optional[Field]  # the same of its position
+    text: Field | None  # the field, if the texts of a picture are made of such fields
+    angle: Field | None  # the same of its position
 
 
 # What the row of a field has by its directory and its tag: its name, its key, whether the texts of a picture are made of such fields, and its position
@@ -150,7 +154,7 @@ class FieldRows:
         self._kept: dict[str, dict[str, FieldRow]] = {}  # by how a field begins, and its rest
         self._about: dict[tuple[str, str], _About] = {}  # by directory and tag
 
-    def of_block(self, octets: Optional[bytes]) -> list[FieldRow]:
+    def of_block(self, octets: bytes | None) -> list[FieldRow]:
         """The row of each field of a block. Raises `Damaged`."""
         if not octets:
             return []

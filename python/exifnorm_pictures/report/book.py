@@ -3,7 +3,7 @@
 from __future__ import annotations
 
 from dataclasses import dataclass, field
-from typing import Any, Callable, Iterator, NamedTuple, Optional
+from typing import Any, Callable, Iterator, NamedTuple
 
 from ..catalogue.checking import Checked
 from ..model.errors import WrongUse
@@ -12,7 +12,7 @@ from . import lists
 from .changes import Changes
 from .contents import About
 from .entries import Entry, pages_of
-from .marks import Marks
+from .rendering import Marks
 from .rendering import WITH_PICTURES, Renderer
 from .searching import SearchIndex
 from .small_pictures import InPage, Kept
@@ -63,7 +63,7 @@ class Written:
 class Book:
     """Writes the lists of a report, and then its first page."""
 
-    def __init__(self, about: About, put: Optional[Put] = None, kept: Optional[Kept] = None) -> None:
+    def __init__(self, about: About, put: Put | None = None, kept: Kept | None = None) -> None:
         """`put` writes the further pages of a folder, and small pictures are `kept` there; without these there is one page. Raises `TooLarge`."""
         self.about, self._put = about, put
         self.done: Callable[[int], None] = lambda count: None  # gets the number of pictures that are shown
@@ -102,7 +102,7 @@ class Book:
             return self.counts.contradictions.pictures > 0
         return key in ("changed", "broken", "same", "refused") or (key == "unread" and self.counts.maker_notes > 0)
 
-    def _sections(self, changes: Optional[Changes], rules: Optional[Checked]) -> Iterator[Section]:
+    def _sections(self, changes: Changes | None, rules: Checked | None) -> Iterator[Section]:
         about, counts = self.about, self.counts
         if changes:
             yield Section("changed", "Changed or in doubt", "file", changes.entries())

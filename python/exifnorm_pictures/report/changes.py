@@ -4,20 +4,20 @@ from __future__ import annotations
 
 import json
 from collections import Counter
-from typing import Iterable, Iterator, NamedTuple, Optional, Sequence, Union
+from typing import Iterable, Iterator, NamedTuple, Sequence, Union
 
 from ..catalogue.store import Known
 from ..comparison.changed import states as changed
 from ..comparison.coded import Coded, sentence_of_coded
 from ..comparison.differing import FieldDifference
 from ..comparison.changed.marking import Marker, Piece, Pieces
-from ..comparison.changed.moved_folders import MovedFolders
+from ..comparison.changed.summary import MovedFolders
 from ..comparison.changed.pairs import AFTER, BEFORE, heads_of
 from ..comparison.changed.edit_groups import KINDS, Group
 from ..comparison.changed.edit_words import head_of
 from ..comparison.changed.edits import Edit, lists_of, place_of
 from ..comparison.changed.summary import NOW, Summary, name_of
-from ..comparison.changed.summary_lines import lacking_of, sentence
+from ..comparison.changed.summary import lacking_of, sentence
 from ..comparison.wording import sides, tell_apart
 from ..fields.left_out import lines
 from ..model.records import Stamp, is_as_before
@@ -36,8 +36,8 @@ class Row(NamedTuple):
     """A field that differs, with its two values in pieces, or what is printed in their place."""
 
     names: list[str]  # of fields of one label with equal values
-    before: Optional[Pieces]
-    after: Optional[Pieces]
+    before: Pieces | None
+    after: Pieces | None
     note: str
 
 
@@ -45,9 +45,9 @@ class ChangedPicture(NamedTuple):
     """A picture that changed: its name, and its paths then and now, as far as there is such a file."""
 
     name: bytes
-    before: Optional[bytes]
-    after: Optional[bytes]
-    earlier: Optional[bytes] = None  # the earlier file, if it is there as it was, and the picture is another one
+    before: bytes | None
+    after: bytes | None
+    earlier: bytes | None = None  # the earlier file, if it is there as it was, and the picture is another one
     digest: str = ""  # of the earlier coded picture, if its file isn't there as it was, and the picture is another one
 
 
@@ -210,20 +210,20 @@ def _values(change: FieldDifference) -> tuple[_Side, _Side]:
     return shown[: len(less)] or None, shown[len(less) :] or None
 
 
-def _marked(marker: Marker, before: _Side, after: _Side) -> tuple[Optional[Pieces], Optional[Pieces]]:
+def _marked(marker: Marker, before: _Side, after: _Side) -> tuple[Pieces | None, Pieces | None]:
     """Both values in pieces: words, or whole members of a list."""
     if isinstance(before, str) or isinstance(after, str):
         return marker.marked(before, after)  # type: ignore[arg-type]  # neither is a list then
     return _members(before or (), after), _members(after or (), before)
 
 
-def _members(members: Sequence[str], others: Optional[Sequence[str]]) -> Optional[Pieces]:
+def _members(members: Sequence[str], others: Sequence[str] | None) -> Pieces | None:
     known = set(members if others is None else others)
     pieces = [piece for it in members for piece in (Piece("; ", False), Piece(it, it not in known))]
     return tuple(pieces[1:]) or None
 
 
-def _is_as_it_was(path: Optional[bytes], known: Known) -> bool:
+def _is_as_it_was(path: bytes | None, known: Known) -> bool:
     """Whether a file is there, as a catalogue knows it."""
     now = Stamp.at(path) if path else None
     return bool(now and known.stamp and is_as_before(now, known.stamp))

@@ -11,7 +11,7 @@ from typing import Iterator, NamedTuple
 
 from ..catalogue.store import Catalogue
 from ..catalogue.texts import PictureTexts, texts_of
-from ..comparison.conflicts import Conflict, conflicts
+from ..catalogue.conflicts import Conflict, conflicts
 from ..fields.labels import COMMENT, LABEL_WORDS
 from ..model.found import STANDARDS
 from ..model.records import BlockRecord, PictureRecord

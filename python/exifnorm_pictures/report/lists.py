@@ -16,7 +16,7 @@ from ..catalogue.store import PICTURE_COLUMNS
 from ..catalogue.texts import texts_of
 from ..comparison.same import groups
 from ..comparison.changed.states import Equal
-from ..comparison.conflicts import Conflict
+from ..catalogue.conflicts import Conflict
 from ..comparison.changed.edits import digest
 from ..comparison.same.group import Group
 from ..comparison.same.group_sentence import sentence_of

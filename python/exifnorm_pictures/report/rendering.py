@@ -5,24 +5,145 @@ from __future__ import annotations
 import base64
 import hashlib
 import os
+import sqlite3
+from collections import Counter
 from datetime import datetime
-from typing import TYPE_CHECKING, Any, Optional, Sequence
+from pathlib import Path
+from typing import Any, Callable, Iterable, Sequence, TYPE_CHECKING
 
 from ..catalogue.checking import Checked
+from ..comparison.changed.edit_words import head_of, steps_of
+from ..comparison.same.groups import of_notes
+from ..fields.left_out import of_maker_notes
+from ..model.errors import Failure
 from ..model.found import STANDARDS
-from ..model.problems import NOT_THERE
+from ..model.problems import COUNTED, NOT_THERE, TEXTS
+from ..model.results import Result
+from ..model.texts import escaped, in_words, safe, whole_path
+from ..refusals.causes import CAUSES, words_of
 from .changes import ChangedPicture, Changes
 from .contents import About, unproved
+from .contradictions import texts_by_standard
 from .entries import Entry
 from .links import Links, below
 from .lists import Counts, mending_all
-from .marks import Marks
-from .searching import kinds_of
-from .templating import TEMPLATES, environment
+from .searching import kinds_of, labels_of
 from .small_pictures import Kept, SmallPictures
 
 if TYPE_CHECKING:
+    import jinja2
     from .book import Section, Written
+
+
+TEMPLATES = Path(__file__).with_name("templates")
+
+STATE_WORDS = {
+    **COUNTED,
+    "accepted": "accepted: all blocks were read",
+    "refused": "with a block that is refused or unreadable",
+    "no block": "without an Exif, IPTC or XMP block",
+    "damaged": "cut off, and without a block in what is left",
+}
+_TONES = {"accepted": "good", "refused": "bad", "no block": "plain", "damaged": "bad", "NoPicture": "plain"}
+_RESULT_TONES: dict[str, str] = {
+    Result.SAME: "good",
+    **dict.fromkeys((Result.ONLY_MAKER_NOTE, Result.SAME_FILE, Result.REFUSED_SAME), "plain"),
+    **dict.fromkeys((Result.DAMAGED, Result.DAMAGED_BEFORE, Result.DAMAGED_DIFFERENT), "bad"),
+    **dict.fromkeys((Result.REFUSED, Result.NOT_READ, Result.NOT_KNOWN), "bad"),
+}
+
+
+class NoTemplates(Failure):
+    """No page can be made. The text is the reason."""
+
+
+def check() -> None:
+    """Raises `NoTemplates` if Jinja2 isn't installed."""
+    try:
+        import jinja2  # noqa: F401  # which is needed later
+    except ImportError:
+        why = "it needs the Python package Jinja2 (Debian: apt-get install python3-jinja2)"
+        raise NoTemplates(f"--html: {why}") from None
+
+
+def environment(filters: dict[str, Callable[..., Any]]) -> "jinja2.Environment":
+    """What knows the templates, with some filters more."""
+    import jinja2
+
+    def finalize(value: object) -> object:
+        """A value as it is printed: what is no HTML of a template has no control characters."""
+        return safe(str(value)) if isinstance(value, str) and not hasattr(value, "__html__") else value
+
+    templates = jinja2.Environment(
+        loader=jinja2.FileSystemLoader(TEMPLATES, encoding="utf-8"),
+        autoescape=True,
+        finalize=finalize,
+        undefined=jinja2.StrictUndefined,
+        trim_blocks=True,
+        lstrip_blocks=True,
+    )
+    templates.filters.update({**_FILTERS, **filters})
+    return templates
+
+
+_FILTERS: dict[str, Callable[..., Any]] = {
+    "number": "{:,}".format,
+    "counted": in_words,
+    "path": whole_path,
+    "escaped": escaped,
+    "rows": lambda counts, tone: [(name, count, tone) for name, count in Counter(dict(counts)).most_common()],  # of a chart
+    "unknown": of_notes,
+    "maker_notes": of_maker_notes,
+    "state": lambda state: STATE_WORDS.get(state, state),
+    "tone": lambda state: _TONES.get(state, "odd"),
+    "result_tone": lambda result: _RESULT_TONES.get(result, "odd"),
+    "problem": lambda problem: TEXTS.get(problem, ""),
+    "texts": texts_by_standard,
+    "labels": labels_of,
+    "head": head_of,
+    "words": steps_of,
+    "cause": CAUSES.get,
+    "words_of_cause": words_of,
+}
+
+
+WORDS = {
+    "changed": "see changes",
+    "contradictions": "contradicts itself",
+    "broken": "breaks a rule",
+    "same": "same as another",
+    "refused": "refused",
+    "damaged": "damaged",
+    "unread": "not wholly read",
+}
+
+
+class Marks:
+    """The lists that each picture is in. Close it."""
+
+    def __init__(self) -> None:
+        self._base = sqlite3.connect("", isolation_level=None)
+        self._base.execute("CREATE TABLE marks (path BLOB, list TEXT, place TEXT, PRIMARY KEY (path, list)) WITHOUT ROWID")
+        self._base.execute("PRAGMA journal_mode = OFF")
+        self._base.execute("BEGIN")
+
+    def close(self) -> None:
+        """Closes the connection, and with it the database."""
+        self._base.close()
+
+    def add(self, key: str, places: Iterable[tuple[bytes, str]]) -> None:
+        """Keeps where a list has some pictures; of several places the first."""
+        if key in WORDS:
+            self._base.executemany("INSERT OR IGNORE INTO marks VALUES (?, ?, ?)", ((path, key, place) for path, place in places))
+
+    def shown(self, paths: Iterable[bytes]) -> int:
+        """Notes that pictures were shown. Returns how many of them were not before."""
+        return self._base.executemany("INSERT OR IGNORE INTO marks VALUES (?, '', '')", ((path,) for path in paths)).rowcount
+
+    def of(self, path: bytes) -> list[tuple[str, str]]:
+        """What the lists say of a picture, each with its place."""
+        known = dict(self._base.execute("SELECT list, place FROM marks WHERE path = ?", (path,)))
+        return [(word, known[key]) for key, word in WORDS.items() if key in known]
 
 
 WITH_PICTURES = ("changed", "same", "captioned", "folders")  # the lists that show small pictures
@@ -91,7 +212,7 @@ class Renderer:
         values = {**self._shared, "section": section, "number": number, "has_next": has_next, "body": body}
         return str(self._templates.get_template("list.html").render(values))
 
-    def index(self, counts: Counts, lists: list["Written"], changes: Optional[Changes], rules: Optional[Checked], files: int) -> str:
+    def index(self, counts: Counts, lists: list["Written"], changes: Changes | None, rules: Checked | None, files: int) -> str:
         """The first page, or the only one, whose search box looks into the index if that has files."""
         results = [it for it, _ in changes.counted if it.has_changed is not False] if changes else []
         titles = [(it.section.key, it.section.title) for it in lists if it.entries]

@@ -63,7 +63,7 @@ def _changed(picture: ChangedPicture, name: Callable[[bytes], str]) -> str:
 _Words = Callable[[Any], Iterable[Optional[str]]]
 
 
-def _words(data: Any) -> Iterable[Optional[str]]:
+def _words(data: Any) -> Iterable[str | None]:
     """What the page says of an entry, besides the names of its pictures."""
     words = _WORDS.get(type(data))
     return words(data) if words else [getattr(data, "problem", ""), getattr(data, "detail", "")]  # of a file without an answer
@@ -78,7 +78,7 @@ def _of_contradiction(data: Contradicting) -> list[str]:
     return [text for label, detail, texts in data.rows for text in (label, detail, *texts.values())]
 
 
-def _of_rule(data: Breaking) -> list[Optional[str]]:
+def _of_rule(data: Breaking) -> list[str | None]:
     broken = [text for _, all_ in data.pictures for one in all_ for text in (one.label, one.text)]
     return [f"line {data.rule.line}: {data.rule.text}", *broken]
 

@@ -11,7 +11,7 @@ import os
 import resource
 import struct
 import sys
-from typing import Any, BinaryIO, Optional, Sequence
+from typing import Any, BinaryIO, Sequence
 
 LARGEST = 10_000  # bytes of a small picture
 ORIENTATION, EMBEDDED, WHOLE = b"o", b"e", b"w"  # what is asked: the Orientation, or a small picture, first from one of these
@@ -50,7 +50,7 @@ def _orientation(image_module: Any, file: BinaryIO) -> int:
     return turned if turned in range(1, 9) else 1
 
 
-def _shrunk(image_module: Any, source: Any, orientation: int) -> Optional[bytes]:
+def _shrunk(image_module: Any, source: Any, orientation: int) -> bytes | None:
     # FLIP_LEFT_RIGHT, ROTATE_180, FLIP_TOP_BOTTOM, TRANSPOSE, ROTATE_270, TRANSVERSE, ROTATE_90
     turns = dict(zip(range(2, 9), (0, 3, 1, 5, 4, 6, 2)))
     try:

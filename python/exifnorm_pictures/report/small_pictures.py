@@ -4,21 +4,29 @@ together, and a report takes those that are in the folder of the earlier one."""
 from __future__ import annotations
 
 import base64
+import exifnorm
 import hashlib
+import importlib.util
 import os
 import re
+import select
+import struct
+import subprocess
+import sys
 from itertools import islice
+from pathlib import Path
 from typing import Iterable, NamedTuple, Optional, Protocol, Sequence
 
 from ..catalogue.store import Catalogue
-from ..extract import coded_picture
+from ..extract import coded_picture, extraction, programs
 from ..files import opening
 from ..files.folders import NewFolder
 from ..files.session import Session
-from ..model.budgets import Budget
+from ..model.budgets import Budget, TooMuch
+from ..model.found import EXIF
 from ..model.records import Stamp, is_as_before
-from . import heif
-from .thumbnails import Shrinker, thumbnail_of
+from . import shrinking
+
 
 _PIECE, _MOST_PIECES = 1 << 20, 64  # bytes of a file at a time, and how many such pieces are compared
 _MOST_KNOWN = 10_000  # files and digests that are kept in memory
@@ -93,13 +101,13 @@ class _Source(NamedTuple):
     """What a small picture is made from: its digest, and the embedded thumbnail if that was looked for."""
 
     digest: str
-    embedded: Optional[bytes] = None
+    embedded: bytes | None = None
 
 
 class SmallPictures:
     """Makes and finds small pictures. Close it."""
 
-    def __init__(self, catalogues: Sequence[Catalogue], kept: Kept, session: Optional[Session] = None) -> None:
+    def __init__(self, catalogues: Sequence[Catalogue], kept: Kept, session: Session | None = None) -> None:
         """`catalogues` may know the digests of coded pictures."""
         self._catalogues, self._kept, self._session = catalogues, kept, session
         self._shrinker = Shrinker(session is None or session.programs)
@@ -151,7 +159,7 @@ class SmallPictures:
         """The address of a new small picture."""
         embedded = thumbnail_of(path, self._session) if source.embedded is None else source.embedded
         octets = self._shrinker.small(path, embedded, whole)
-        if not octets and self._session and (converted := heif.as_jpeg(path, self._session)):
+        if not octets and self._session and (converted := as_jpeg(path, self._session)):
             octets = self._shrinker.small(path, converted)
         return self._kept.put(name, octets) if octets else ""
 
@@ -182,3 +190,107 @@ def _digest_of_file(path: bytes, stamp: Stamp) -> str:
         if file.read(1):
             digest.update(repr((path, stamp)).encode())
     return digest.hexdigest()
+
+
+CONVERTER = "heif-convert"
+_BRANDS = (b"heic", b"heix", b"heim", b"heis", b"hevc", b"hevx", b"mif1", b"msf1", b"avif", b"avis")  # ISO/IEC 23008-12, 10; AV1-AVIF, 6
+_LARGEST = 32 << 20  # bytes of a JPEG that is made
+
+
+def as_jpeg(path: bytes, session: Session) -> bytes:
+    """The main picture of a HEIC or AVIF as JPEG, turned as its own rotation says. Empty if the file is another one, if it can't be read or
+    converted in time, or if heif-convert isn't installed or may not be started."""
+    try:
+        if not session.programs or not programs.is_there(CONVERTER) or not _is_heif(path):
+            return b""
+        folder = Path(session.folder())
+        target = folder / "converted.jpg"
+        words = [programs.needed(CONVERTER), "-q", "85", "--", os.path.abspath(os.fsdecode(path)), str(target)]
+        try:
+            programs.run(words, shrinking.SECONDS, str(folder))
+            return _first(folder)
+        finally:
+            for written in folder.glob("converted*"):
+                written.unlink()
+    except (OSError, programs.Failed):
+        return b""
+
+
+def _is_heif(path: bytes) -> bool:
+    with opening.reading(path) as file:
+        head = file.read(12)
+    return head[4:8] == b"ftyp" and head[8:12] in _BRANDS
+
+
+def _first(folder: Path) -> bytes:
+    """What was made: one file, or of a file with several pictures one for each, the main one first."""
+    files = sorted(folder.glob("converted*.jpg"), key=lambda path: (len(path.name), path.name))
+    if not files or files[0].stat().st_size > _LARGEST:
+        return b""
+    return files[0].read_bytes()
+
+
+PATIENCE = 60  # seconds of a clock for one picture, as on a share that doesn't answer
+_JPEG = b"\xff\xd8\xff"
+
+
+class Shrinker:
+    """The process that makes small pictures. It is started when it is needed, and again when a picture has ended it. Close it."""
+
+    def __init__(self, may_start: bool = True) -> None:
+        self.is_there = may_start and importlib.util.find_spec("PIL") is not None
+        self._process: "Optional[subprocess.Popen[bytes]]" = None
+
+    def close(self) -> None:
+        """Ends the process."""
+        if self._process:
+            self._process.kill()
+            self._process.communicate()
+            self._process = None
+
+    def orientation(self, path: bytes) -> int:
+        """How a picture is turned, from 1 to 8; 1 if that isn't known, and 0 if there is no answer."""
+        answer = self._answer(shrinking.ORIENTATION + path + b"\0") if self.is_there else b"\1"
+        return answer[0] if len(answer) == 1 else 0
+
+    def small(self, path: bytes, embedded: bytes, whole: bool = False) -> bytes:
+        """A small picture as JPEG; empty if there is none. It is made from the embedded thumbnail, or if it should be `whole` from the picture,
+        and from the other one only if that can't be done."""
+        if not self.is_there:
+            return embedded if embedded.startswith(_JPEG) and len(embedded) <= shrinking.LARGEST else b""
+        return self._answer((shrinking.WHOLE if whole else shrinking.EMBEDDED) + path + b"\0" + embedded)
+
+    def _answer(self, request: bytes) -> bytes:
+        """The answer to a request; empty if there is none."""
+        if self._process is None:
+            words = [sys.executable, "-E", shrinking.__file__]
+            self._process = subprocess.Popen(words, stdin=subprocess.PIPE, stdout=subprocess.PIPE, stderr=subprocess.DEVNULL)
+        try:
+            return self._asked(self._process, request)
+        except (OSError, EOFError):
+            self.close()
+            return b""
+
+    @staticmethod
+    def _asked(process: "subprocess.Popen[bytes]", request: bytes) -> bytes:
+        """The answer to a request. Raises `EOFError` if there is none in time."""
+        assert process.stdin and process.stdout
+        process.stdin.write(struct.pack(">I", len(request)) + request)
+        process.stdin.flush()
+        if not select.select([process.stdout], [], [], PATIENCE)[0]:
+            raise EOFError
+        head = process.stdout.read(4)
+        length = struct.unpack(">I", head)[0] if len(head) == 4 else shrinking.LARGEST + 1
+        if length > shrinking.LARGEST:
+            raise EOFError
+        return process.stdout.read(length)
+
+
+def thumbnail_of(path: bytes, session: Session | None = None) -> bytes:
+    """The thumbnail in the first Exif block of a picture, as far as that can be read; empty without any."""
+    try:
+        block = next((it.data for it in extraction.blocks_of_file(path, session=session).of_kind(EXIF)), None)
+        fields = exifnorm.fields(block) if block else []
+        return next((it.values for it in fields if it.type == "JPEG" and isinstance(it.values, bytes)), b"")
+    except (programs.Missing, programs.Failed, TooMuch, exifnorm.Refused, exifnorm.NormalTooLong, MemoryError):
+        return b""

@@ -4,45 +4,47 @@ from __future__ import annotations
 
 import argparse
 import contextlib
+import functools
 import json
 import os
+import shlex
 import shutil
 import sys
 from collections import Counter
-from typing import Callable, Iterable, Iterator, NamedTuple, Optional, Sequence
+from typing import Callable, IO, Iterable, Iterator, NamedTuple, Sequence
 
 from ...catalogue.store import Catalogue, NoCatalogue, of_day
 from ...comparison.changed import states as changes
-from ...comparison.coded import Coded, sentence_of_coded
 from ...comparison.changed.pairs import AFTER, heads_of
+from ...comparison.changed.states import Compared
 from ...comparison.changed.summary import Summary
+from ...comparison.changed.undo import arguments
+from ...comparison.coded import Coded, sentence_of_coded
 from ...comparison.wording import NONE, line_of, tell_apart
 from ...fields.left_out import lines as lines_of_choice
 from ...fields.listing import MAKER_NOTE
 from ...fields.plain_names import group_name
+from ...files import atomic
 from ...model.errors import WrongUse
 from ...model.results import Result
-from ...model.texts import shown_path
+from ...model.texts import pictures_in_words, shown_path
 from .. import changed_tables
 from ..choice import choice_of, listings_of, note_absent, refuse_unknown
 from ..exit_codes import UNKNOWN, status_of_results
 from ..looking import catalogue_of, files_of, is_of_pictures
 from ..names import each_of_list, refuse_pictures, say_unknown
 from ..options import Fields, Output, Run, group_of, groups_of
-from ..output import print_line, print_lines, say_notes, table_of
+from ..output import MOST_NAMED, print_line, print_lines, say_notes, table_of
 from ..parser import refuse
 from ..summary import Style, lines
-from ..undo import Undo
 
 
 def run(arguments: argparse.Namespace) -> int:
     """Prints the differences between two states."""
     files, run, output = groups_of(arguments)
     if arguments.picture is not None:
-        from .. import history  # which few runs need
-
         names = [arguments.before, arguments.after, *arguments.more]
-        return history.run(os.fsencode(arguments.picture), names, run, output)
+        return changed_tables.history_of(os.fsencode(arguments.picture), names, run, output)
     if arguments.more:
         refuse("changed", "two catalogues or folders are compared; --picture takes more")
     sides = (arguments.before, arguments.after)
@@ -93,7 +95,7 @@ class _Work:
         run: Run,
         before: Catalogue,
         after: Catalogue,
-        names: Optional[Sequence[bytes]],
+        names: Sequence[bytes] | None,
     ) -> None:
         self.counts: "Counter[Result]" = Counter()
         self.asked, self.before, self.after = asked, before, after
@@ -106,7 +108,7 @@ class _Work:
         has_pixels = before.has_digests() and after.has_digests()
         self._pixels = "" if has_pixels else ("index --pixels", "index --pixels, and --pixels here,", "--pixels")[folders]
         self._asks_for_pictures = not fields.only  # the words of --only are all that is asked
-        self.undo: Optional[Undo] = None
+        self.undo: Undo | None = None
 
     def print(self, output: Output) -> None:
         """Prints all in the form that is asked for."""
@@ -282,3 +284,58 @@ def _print_equal(equal: changes.Equal) -> None:
             for name in names:
                 print_line(f"{shown_path(name)}: {head}")
                 print_lines(f"  {line}" for line in lines)
+
+
+_HEAD = b"# exifnorm-pictures changed --undo\n"
+# What isn't known of such a picture is no text
+_HAVE_TEXTS = (Result.MOVED_NOTE, Result.SAME_REPAIRED, Result.ONLY_REACHED)
+
+
+class Undo:
+    """The arguments of a run, in a file of its session until all are known."""
+
+    def __init__(self, file: IO[bytes]) -> None:
+        self._file = file
+        self.pictures = 0  # whose texts are put back
+        self.left: list[str] = []  # the first lines about those that aren't
+        self._count = 0
+        file.write(_HEAD)
+
+    def seen(self, comparisons: Iterable[Compared]) -> Iterator[Compared]:
+        """The comparisons, after the arguments of each were written."""
+        for comparison in comparisons:
+            place = comparison.moved_to or comparison.name
+            lines, left = arguments(place, comparison.changes)
+            self.pictures += bool(lines)
+            left += _not_compared(comparison)
+            if left:
+                self._count += 1
+                line = f"  {shown_path(place)}: {', '.join(left)}"
+                self.left += [line] * (self._count <= MOST_NAMED)
+                lines.append(b"# left as it is:" + line.encode())
+            self._file.writelines(it + b"\n" for it in lines)
+            yield comparison
+
+    def put(self, name: str, folder: bytes, kept: Sequence[str]) -> Iterator[str]:
+        """Puts the file in its place, where it replaces nothing but an earlier one, and says how
+        it is used and what it leaves. Names of pictures are below a folder, if there is one."""
+        self._file.seek(0)
+        write = functools.partial(shutil.copyfileobj, self._file)
+        atomic.put(name, write, lambda head: head.startswith(_HEAD), tuple(kept))
+        to = f"cd {shlex.quote(os.fsdecode(folder.rstrip(b'/')))} && " if folder else ""
+        command = f"{to}exiftool -@ {shlex.quote(os.path.abspath(name))}"
+        texts = f"the earlier texts of labels in {pictures_in_words(self.pictures)}"
+        yield f"{shown_path(name)}: {texts}; no other field. To put them back: {command}"
+        if self.left:
+            yield f"left as they are in {pictures_in_words(self._count)}:"
+            yield from self.left
+        if self._count > MOST_NAMED:
+            yield f"  and {self._count - MOST_NAMED:,} more, which the file names"
+
+
+def _not_compared(comparison: Compared) -> list[str]:
+    """What nobody can put back, or knows to be the same."""
+    is_open = comparison.result.is_open and comparison.result not in _HAVE_TEXTS
+    if comparison.result == Result.MISSING_AFTER:
+        return ["the picture is missing"]
+    return ["not wholly compared"] * (is_open or comparison.has_more)

@@ -5,7 +5,7 @@ from __future__ import annotations
 import argparse
 import os
 import shutil
-from typing import TYPE_CHECKING, Iterator, Optional, Sequence
+from typing import TYPE_CHECKING, Iterator, Sequence
 
 from ...comparison.coded import Coded, coded_result
 from ...comparison.two_pictures import MORE, ComparedPair, FieldRow, compare, read, rows_of, with_position
@@ -137,7 +137,7 @@ def _sentence(comparison: ComparedPair, rows: Sequence[FieldRow]) -> str:
     equal = sum(it.is_equal_number for it in rows)
     has_more = rows[-1:] == [MORE]
     real = len(rows) - equal - has_more
-    what = [f"{'more than ' * has_more}{real} field{'s differ' if real != 1 else ' differs'}"] if real else []
+    what = [f"{'more than ' * has_more}{real} field{'s' * (real != 1)} differ{'s' * (real == 1)}"] if real else []
     what += [f"{equal} equal number{'s are' if equal != 1 else ' is'} only written otherwise"] if equal else []
     head = "Different metadata" + (" after a repair in memory" if comparison.result == Result.DIFFERENT_REPAIRED else "")
     return f"{head}: {', and '.join(what)}." if what else f"{head}."
@@ -153,7 +153,7 @@ def _of_pictures(comparison: ComparedPair, names: Sequence[bytes]) -> str:
     if comparison.compared.picture == Coded.UNKNOWN and len(types) > 1:
         return "Only metadata was compared: the pictures are in two formats."
     damages = [f"{shown_path(name)} is damaged: {it.damage}." for name, it in zip(names, comparison.records) if it.damage]
-    parts = f": {', '.join(comparison.compared.parts)}." if comparison.compared.picture == Coded.BESIDE else ""
+    parts = f": {', '.join(comparison.compared.parts)}." * (comparison.compared.picture == Coded.BESIDE)
     return " ".join(damages) or f"{comparison.compared.picture.sentence}{parts}"
 
 
@@ -228,7 +228,7 @@ def _row_members(row: FieldRow) -> Members:
     return {"name": row.name, **sides, "equal_number": row.is_equal_number, "note": row.note or None}
 
 
-def _side_members(row: FieldRow, side: int) -> Optional[Members]:
+def _side_members(row: FieldRow, side: int) -> Members | None:
     """The value before or after; its typed form only if the row is one field."""
     if row.plain[side] is None:
         return None

@@ -43,20 +43,20 @@ def run(arguments: argparse.Namespace) -> int:
     return each_block(files, run, lambda: describe, True, damage_lines)
 
 
-def _explained(block: Block, mended: Union[mend.Mended, str]) -> explain.Explanation:
+def _explained(block: Block, mended: mend.Mended | str) -> explain.Explanation:
     explained = explain.explain_packet(block.record, block.data) if block.kind == XMP else explain.explain(block.kind, block.data)
     explained.is_without_remedy = isinstance(mended, mend.Mended) and mended.remedy == mend.Remedy.NONE
     return explained
 
 
-def _tried_of(picture: Picture, tried: Try) -> Union[mend.Mended, str]:
+def _tried_of(picture: Picture, tried: Try) -> mend.Mended | str:
     """What `mend` does with a picture, or why that isn't known: nothing is tried of one whose XMP is over a limit."""
     if any(it.kind == XMP and it.record.cause in OVER_LIMITS for it in picture.blocks):
         return "ExifTool may take long for a packet that is over a limit"
     return tried(picture.path)
 
 
-def _tried(session: Session, name: bytes) -> Union[mend.Mended, str]:
+def _tried(session: Session, name: bytes) -> mend.Mended | str:
     """What `mend` does with a picture, without a copy, or why that isn't known. All that is tried of one picture has the time of one call."""
     try:
         with waiting(f"trying what mend does, for at most {session.seconds:g} seconds"), session.one_clock(), tempfile.TemporaryDirectory(
@@ -73,7 +73,7 @@ def _tried(session: Session, name: bytes) -> Union[mend.Mended, str]:
         return reason(error)
 
 
-def _lines(tried: Union[mend.Mended, str]) -> list[str]:
+def _lines(tried: mend.Mended | str) -> list[str]:
     if isinstance(tried, str):
         return [f"  Tried: what mend does isn't known: {tried}"] if tried else []
     if tried.remedy == mend.Remedy.NONE:
@@ -111,7 +111,7 @@ def _print_objects(files: Files, run: Run, tried: Try) -> int:
     return worst
 
 
-def _block_members(block: Block, mended: Union[mend.Mended, str]) -> Members:
+def _block_members(block: Block, mended: mend.Mended | str) -> Members:
     explained = {} if block.is_accepted else _explained(block, mended).members()
     words = {key: explained.get(key, value) for key, value in _WITHOUT.items()}
     tried = None if isinstance(mended, str) else {"step": mended.remedy, "lost": mended.lost, "gained": mended.gained}

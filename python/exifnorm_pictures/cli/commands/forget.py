@@ -13,7 +13,7 @@ from ..names import named
 from ..objects import print_object
 from ..options import Files, Output, group_of
 from ..output import print_line
-from ..sources import settle_first
+from ..names import settle_first
 
 
 def run(arguments: argparse.Namespace) -> int:

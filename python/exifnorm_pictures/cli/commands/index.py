@@ -6,7 +6,7 @@ import argparse
 import os
 import shlex
 from collections import Counter
-from typing import Iterable, Iterator, Optional, Sequence
+from typing import Iterable, Iterator, Sequence
 
 from ...catalogue import shards
 from ...catalogue.nights import copy_over
@@ -22,7 +22,7 @@ from ..looking import how_of, xmp_files_alone
 from ..names import is_catalogue, named
 from ..options import Files, Output, Run, groups_of
 from ..output import counted, print_line, print_lines, record_lines, say_notes
-from ..sources import settle_first, with_first
+from ..names import settle_first, with_first
 
 
 def going_on(run: Run, catalogue: Catalogue) -> Run:
@@ -44,7 +44,7 @@ def run(arguments: argparse.Namespace) -> int:
     return _indexed(name, _names(name, files, run), run, output, arguments.keep_old)
 
 
-def _indexed(name: str, names: Sequence[bytes], run: Run, output: Output, keep_old: Optional[str]) -> int:
+def _indexed(name: str, names: Sequence[bytes], run: Run, output: Output, keep_old: str | None) -> int:
     """Looks at the pictures of one catalogue. Returns the status."""
     excluded = Excluded(run.exclude)
     has_words = not output.json and not run.quiet

@@ -10,7 +10,7 @@ import sys
 import time
 from contextlib import suppress
 from datetime import datetime, timezone
-from typing import NamedTuple, Optional, Sequence
+from typing import NamedTuple, Sequence
 
 from ...catalogue.asking import Answer, Fitting, Texts, Unread
 from ...catalogue.field_texts import ambiguous_in
@@ -63,10 +63,10 @@ class _Form(NamedTuple):
 
     output: Output
     is_of_names: bool  # and of nothing else, for xargs
-    since: Optional[str]
+    since: str | None
 
 
-def _question(having: Sequence[str], without: Sequence[str], where: Sequence[str], more: Sequence[Question]) -> Optional[Question]:
+def _question(having: Sequence[str], without: Sequence[str], where: Sequence[str], more: Sequence[Question]) -> Question | None:
     """All that the options ask, together; None if they ask nothing."""
     questions: list[Question] = [With(given_label(word)) for word in having]
     questions += [Not(With(given_label(word))) for word in without]
@@ -74,7 +74,7 @@ def _question(having: Sequence[str], without: Sequence[str], where: Sequence[str
     return all_of([*questions, *more]) if questions or more else None
 
 
-def _columns(asked: Optional[str], question: Optional[Question], output: Output) -> list[str]:
+def _columns(asked: str | None, question: Question | None, output: Output) -> list[str]:
     """The labels whose texts are printed: those that are asked for, in a table at least those of the question."""
     if asked is not None:
         return listed_texts.labels_in(asked)
@@ -155,7 +155,7 @@ def _print_end(form: _Form, answer: Answer, columns: Sequence[str]) -> None:
         say_notes(*lines)
 
 
-def _since_then(since: Optional[str], pictures: int) -> str:
+def _since_then(since: str | None, pictures: int) -> str:
     """To which pictures --since restricts the answer."""
     return f" that {'was' if pictures == 1 else 'were'} new or changed since {escaped(since)}" if since else ""
 

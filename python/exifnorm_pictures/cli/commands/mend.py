@@ -6,7 +6,7 @@ import argparse
 import os
 import shlex
 from collections import Counter
-from typing import Iterator, Optional, Sequence
+from typing import Iterator, Sequence
 
 from ...extract import programs
 from ...files import atomic
@@ -68,7 +68,7 @@ def _counted(counts: "Counter[str]") -> str:
 
 
 def _mend_one(
-    output: Output, session: Session, picture: bytes, out: bytes, folder: Optional[bytes] = None, lossless: bool = False
+    output: Output, session: Session, picture: bytes, out: bytes, folder: bytes | None = None, lossless: bool = False
 ) -> tuple[int, str, bool]:
     """The status of a picture, by what it is counted, and whether its file is cut off or damaged."""
     try:
@@ -95,7 +95,7 @@ def _settled(files: Files) -> Files:
     return files
 
 
-def _folder(files: Files) -> Optional[bytes]:
+def _folder(files: Files) -> bytes | None:
     """The folder of the copies, if there may be several. The names are those of one picture and its copy otherwise."""
     names = files.names
     if files.catalogue is None and not files.files_from:
@@ -117,7 +117,7 @@ def _folder(files: Files) -> Optional[bytes]:
     return os.fsencode(names[0])
 
 
-def _pairs(files: Files, run: Run, folder: Optional[bytes]) -> Iterator[tuple[bytes, bytes]]:
+def _pairs(files: Files, run: Run, folder: bytes | None) -> Iterator[tuple[bytes, bytes]]:
     """The pictures and their copies. Of a catalogue those with a block that isn't accepted."""
     if folder is None:
         picture, out = map(os.fsencode, files.names)
@@ -128,7 +128,7 @@ def _pairs(files: Files, run: Run, folder: Optional[bytes]) -> Iterator[tuple[by
     yield from ((picture, os.path.join(folder, below)) for picture, below in listed)
 
 
-def _refused(name: str, run: Run, only: Optional[set[bytes]]) -> Iterator[tuple[bytes, bytes]]:
+def _refused(name: str, run: Run, only: set[bytes] | None) -> Iterator[tuple[bytes, bytes]]:
     """The pictures of a catalogue with a block that isn't accepted, and the names of their copies: below the folder that was indexed, if that
     is one alone; of `only` some, if it is no None."""
     with opened(name, run) as catalogue:
@@ -176,7 +176,7 @@ def _print(output: Output, lines: Sequence[str], members: Members) -> None:
         print_lines(lines)
 
 
-def _mended_members(picture: bytes, result: Optional[mend.Mended], problem: str = "", detail: str = "") -> Members:
+def _mended_members(picture: bytes, result: mend.Mended | None, problem: str = "", detail: str = "") -> Members:
     """A picture, or why nothing is known of it."""
     mended = result or mend.Mended(mend.Remedy.NONE, {})
     if mended.problem:

@@ -5,7 +5,7 @@ from __future__ import annotations
 import argparse
 
 from ...catalogue import shards
-from ...catalogue.merge import merge
+from ...catalogue.shards import merge
 from ..exit_codes import SUCCESS
 from ..looking import files_of, say_missing
 from ..objects import print_object

@@ -13,11 +13,11 @@ from typing import Optional, Sequence
 from ...catalogue import kept_texts, shards
 from ...catalogue.nights import Nights
 from ...catalogue.store import Catalogue, NoCatalogue, earlier_release
-from ...comparison.agreeing import checked
+from ...catalogue.checking import Checked
 from ...comparison.coded import sentence_of_coded
 from ...comparison.changed.edit_groups import Group
 from ...comparison.nightly.news import Between, Kind, News, Tally
-from ...comparison.nightly.newly_broken import newly_broken, newly_unread
+from ...comparison.nightly.news import newly_broken, newly_unread
 from ...comparison.changed.pairs import heads_of
 from ...fields.rules import Rule
 from ...model.errors import WrongUse
@@ -34,8 +34,8 @@ from ..looking import how_of, is_quiet
 from ..objects import print_object
 from ..options import Output, Run, groups_of
 from ..output import local_time, print_lines, say_notes
-from ..page_file import write_report
-from ..sources import settle_first
+from .report import write_report
+from ..names import settle_first
 
 Broken = Optional[tuple[int, int]]  # how many pictures break a rule tonight, and how many did at the last night
 
@@ -61,7 +61,11 @@ class Night:
         """2 if something can't be decided that could be, 1 with news; all of a first night is new."""
         if self.is_first:
             return DIFFERENCE
-        return UNKNOWN if any(it.kind.is_open for it in self.news) else DIFFERENCE if self.news else SUCCESS
+        if any(it.kind.is_open for it in self.news):
+            return UNKNOWN
+        if self.news:
+            return DIFFERENCE
+        return SUCCESS
 
     def look(self) -> None:
         """Fills tonight's catalogue."""
@@ -95,7 +99,7 @@ class Night:
                 raise _no_picture(self.folders)
             self.news = list(tally.all())
             if self.rules:
-                self.broken = (checked(tonight, self.rules).pictures_broken(), 0)
+                self.broken = (Checked(tonight, self.rules).pictures_broken(), 0)
         if self.nights.earlier:
             self.notes = _of_earlier(self.nights)
 
@@ -125,7 +129,7 @@ class Night:
     def _check(self, between: Between, last: Catalogue, tonight: Catalogue) -> None:
         """What breaks a rule that didn't, by the same rules."""
         with last.reading():
-            before, now = checked(last, self.rules), checked(tonight, self.rules)
+            before, now = Checked(last, self.rules), Checked(tonight, self.rules)
             for broken in newly_broken(before, now, between.moves):
                 rule = self.rules[broken.number]
                 between.tally.add(Kind.RULE, between.shown(broken.path), f"line {rule.line}: {rule.text}")
@@ -150,7 +154,7 @@ def run(arguments: argparse.Namespace) -> int:
             raise WrongUse(f"{whole_path(folder)} is no folder")
     _refuse_unknown(folders, name)
     if output.html:
-        from ...report.templating import check  # which takes long to import
+        from ...report.rendering import check  # which takes long to import
 
         check()  # which may be missing
     rules = rules_of_file(arguments.rules) if arguments.rules else []

@@ -6,7 +6,7 @@ import argparse
 import contextlib
 import json
 from collections import Counter
-from typing import TYPE_CHECKING, Iterator, NamedTuple, Optional, Sequence
+from typing import TYPE_CHECKING, Iterator, NamedTuple, Sequence
 
 from ...catalogue.store import Catalogue
 from ...comparison.same.group import Basis, Group, Link
@@ -76,14 +76,14 @@ class _Listed:
 class _Texts:
     """The texts of the labels of --columns and --differ, of each picture that is listed."""
 
-    def __init__(self, catalogue: Catalogue, columns: Optional[str], differ: Optional[str], run: Run, is_json: bool) -> None:
+    def __init__(self, catalogue: Catalogue, columns: str | None, differ: str | None, run: Run, is_json: bool) -> None:
         self._label = given_label(differ) if differ else None
         asked = listed_texts.labels_in(columns) if columns else []
         self.labels = list(dict.fromkeys([*asked, *([] if self._label is None else [self._label])]))
         self.alike = 0  # groups that aren't listed
         self.not_known = 0  # those of them that may differ, because a picture was not wholly read
         self.has_unread = False  # whether a text of one that is listed isn't known
-        self._answer: Optional[Answer] = None
+        self._answer: Answer | None = None
         if self.labels:
             from ...catalogue import asking  # which most groups don't need
 
@@ -172,7 +172,7 @@ class _Left(NamedTuple):
         return bool(self.undecided or self.but_for_parts or self.but_for_notes)
 
 
-def _left_out(catalogue: Catalogue, kind: str, kinds: Sequence[str], only: Optional[str], choice: Choice) -> _Left:
+def _left_out(catalogue: Catalogue, kind: str, kinds: Sequence[str], only: str | None, choice: Choice) -> _Left:
     """How many pictures may be the same as others, and aren't listed."""
     if kind == FILE:
         return _Left(whole_files(catalogue, only).unreadable)
@@ -291,6 +291,11 @@ def _print_lines(group: Group, number: int, keeps: Keeps, texts: _Texts) -> None
         print_line(f"  {shown_path(picture.path)}{_said_of(group, picture, about)}")
         print_lines(listed_texts.lines(texts.labels, texts.of(picture), "      "))
         print_lines(f"      not counted, {link.how}: {shown_path(link.path)}" for link in links.get(picture.path, ()))
+    _print_of_all(group, of_all)
+
+
+def _print_of_all(group: Group, of_all: str) -> None:
+    """What is true of all pictures of a group, and the files that aren't counted."""
     print_lines(f"    all: {reason}" for reason in set(group.reasons.values()) if reason and _have_one_reason(group))
     print_lines([f"    {of_all}"] * bool(of_all))
     for what, paths in (("gone", group.files.gone), ("changed since it was indexed", group.files.changed)):

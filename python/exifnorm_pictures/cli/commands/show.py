@@ -27,9 +27,9 @@ def run(arguments: argparse.Namespace) -> int:
     """Lists the fields of pictures."""
     files, run, output = groups_of(arguments)
     if arguments.captions:
-        from .. import captions  # which few runs need
+        from .. import labelled
 
-        return captions.run(files, run, output)
+        return labelled.run(files, run, output)
     if not output.json and not output.csv:
         return each_block(files, run, lambda: _describer(output.exact, run.least))
     worst = SUCCESS

@@ -8,7 +8,7 @@ import os
 import sys
 from collections import Counter
 from datetime import datetime, timezone
-from typing import BinaryIO, Callable, Iterable, Iterator, NamedTuple, Optional, Sequence
+from typing import BinaryIO, Callable, Iterable, Iterator, NamedTuple, Sequence
 
 from ...catalogue import bags
 from ...catalogue.store import Catalogue, NoCatalogue
@@ -25,7 +25,7 @@ from ..names import named
 from ..objects import print_object
 from ..options import Files, Output, Run, groups_of
 from ..output import closed_folder, print_line, print_lines
-from ..sources import settle_first, with_first
+from ..names import settle_first, with_first
 
 SHOWN = 10  # files that are named of each state
 # The words of --list, and the states of the files that are listed then
@@ -93,7 +93,7 @@ class _Sums(NamedTuple):
     earlier: int  # files that a run has read which was stopped
 
 
-def _folders(files: Files, bag: Optional[str], catalogue: Catalogue) -> list[bytes]:
+def _folders(files: Files, bag: str | None, catalogue: Catalogue) -> list[bytes]:
     """The folders to read. Raises `WrongUse`."""
     names = named(files) if files.names or files.files_from else [bags.payload(bag)] if bag else []
     folders = [os.path.abspath(it) for it in names] or catalogue.roots()
@@ -112,7 +112,7 @@ def _of_bag(bag: str, run: Run) -> Iterator[Catalogue]:
 
 
 @contextlib.contextmanager
-def _read_again(folders: Sequence[bytes], run: Run, state: Optional[str], before: Catalogue) -> Iterator[tuple[Catalogue, int]]:
+def _read_again(folders: Sequence[bytes], run: Run, state: str | None, before: Catalogue) -> Iterator[tuple[Catalogue, int]]:
     """A new catalogue of the files that are there now, each read once if it is as the catalogue has it; and how many a run has read which was
     stopped. With --state that run has left its catalogue for this one."""
     name = os.path.join(run.session.room, "catalogue")
@@ -135,7 +135,7 @@ def _read_again(folders: Sequence[bytes], run: Run, state: Optional[str], before
 _KEPT = "verified.catalogue"
 
 
-def _remove_state(state: Optional[str]) -> None:
+def _remove_state(state: str | None) -> None:
     """Removes what a run could go on from, once its answer is out."""
     sys.stdout.flush()
     if state:
@@ -155,11 +155,11 @@ def _check_state(folder: str) -> None:
 class Told:
     """How many files have each state, and the first names of each."""
 
-    def __init__(self, output: Output, listed: Optional[str]) -> None:
+    def __init__(self, output: Output, listed: str | None) -> None:
         self._output, self._list = output, listed
         self.counts: "Counter[State]" = Counter()
         self.old = 0  # files that were damaged before, and in which nothing else is damaged now
-        self._names: dict[Optional[State], list[str]] = {}  # None: of files that were damaged before
+        self._names: dict[State | None, list[str]] = {}  # None: of files that were damaged before
 
     def add(self, file: verified.Verified) -> None:
         """Counts a file, and prints it or keeps its name."""

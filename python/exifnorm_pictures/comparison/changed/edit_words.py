@@ -3,6 +3,7 @@
 from __future__ import annotations
 
 import re
+from itertools import chain
 from collections import Counter
 from typing import Optional, Sequence
 
@@ -40,7 +41,7 @@ def steps_of(edit: Edit, is_one: bool) -> list[Step]:
     steps = edit.steps if is_one or edit.note else edit.core
     steps = tuple(map(_exactly, steps)) if edit.is_exact else steps
     if edit.is_list:
-        return [one for it in steps for one in (Step(KEPT, ", "), it)][1:]
+        return [*chain.from_iterable((Step(KEPT, ", "), it) for it in steps)][1:]
     return [_shown(it, at, len(steps) - 1, is_one) for at, it in enumerate(steps)]
 
 

@@ -5,7 +5,7 @@ from __future__ import annotations
 import contextlib
 import os
 from collections import Counter
-from typing import Iterator, NamedTuple, Optional, Sequence
+from typing import Iterator, NamedTuple, Sequence
 
 from ...catalogue.store import Catalogue
 from ...model.errors import WrongUse
@@ -25,8 +25,8 @@ class State(NamedTuple):
 
     catalogue: str
     when: str  # the last run began, in UTC; empty: there was none
-    path: Optional[bytes]  # None: it isn't there
-    comparison: Optional[Compared] = None  # with the catalogue before, if that has the picture, too
+    path: bytes | None  # None: it isn't there
+    comparison: Compared | None = None  # with the catalogue before, if that has the picture, too
     may_be_elsewhere: bool = False  # it may be there under another name, edited too: only digests of the coded pictures can tell
     is_back: bool = False  # an older catalogue has it, and the one before hasn't one that is known to be it
 
@@ -36,7 +36,7 @@ def history(name: bytes, catalogues: Sequence[Catalogue]) -> Iterator[State]:
     catalogue that knows the name: its path, or its path below the folder of the catalogue. Raises `NotKnown`."""
     ordered = sorted(catalogues, key=_when)
     places = _places(name, ordered)
-    before: Optional[Catalogue] = None
+    before: Catalogue | None = None
     was_there = False
     for catalogue, place, old in zip(ordered, places, [_Place(None), *places]):
         comparison = None
@@ -57,7 +57,7 @@ def _when(catalogue: Catalogue) -> str:
 class _Place(NamedTuple):
     """The path of a picture in a catalogue; None where it isn't there by its name."""
 
-    path: Optional[bytes]
+    path: bytes | None
     may_be_elsewhere: bool = False
 
 
@@ -77,7 +77,7 @@ def _places(name: bytes, catalogues: Sequence[Catalogue]) -> list[_Place]:
     return places
 
 
-def _named(catalogue: Catalogue, name: bytes) -> Optional[bytes]:
+def _named(catalogue: Catalogue, name: bytes) -> bytes | None:
     """The path of the picture with this name in a catalogue."""
     paths = dict.fromkeys([os.path.abspath(name), os.path.normpath(os.path.join(*heads_of([catalogue]), name))])
     return next((it for it in paths if _is_there(catalogue, it)), None)

@@ -6,7 +6,7 @@ import difflib
 import re
 from dataclasses import dataclass
 from itertools import compress, count
-from typing import NamedTuple, Optional, Sequence
+from typing import NamedTuple, Sequence
 
 # Scripts without blanks between words have a word for each character
 _NO_BLANKS = "\u0e00-\u0eff\u1000-\u109f\u1780-\u17ff\u3040-\u30ff\u3400-\u4dbf\u4e00-\u9fff\uf900-\ufaff\U00020000-\U0003ffff"
@@ -79,7 +79,7 @@ class Marker:
             steps += [Step(KEPT, out)] if word == "equal" else [Step(OUT, out), Step(IN, put)]
         return _joined([*steps, Step(KEPT, "".join(words[len(words) - ends :]))])
 
-    def marked(self, before: Optional[str], after: Optional[str]) -> tuple[Optional[Pieces], Optional[Pieces]]:
+    def marked(self, before: str | None, after: str | None) -> tuple[Pieces | None, Pieces | None]:
         """Both texts in pieces; None for a text that isn't there.
 
         >>> Marker().marked("a bowl, 1820", "a bowl, 1280")[1]

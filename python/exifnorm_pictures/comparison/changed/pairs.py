@@ -8,7 +8,7 @@ import os
 import sqlite3
 import unicodedata
 from collections import Counter
-from typing import Any, Callable, Iterator, NamedTuple, Optional, Sequence, TypeVar
+from typing import Any, Callable, Iterator, NamedTuple, Sequence, TypeVar
 
 from ...catalogue.store import BLOCK_COLUMNS, PICTURE_COLUMNS, Catalogue, NoCatalogue, address, check_schema, connect, unlike
 from ...fields.field import Field
@@ -95,9 +95,9 @@ class Pair(NamedTuple):
     """A picture that was there before, what it is now, and where it is now if it has moved. It has both pictures if it was edited too."""
 
     name: bytes
-    old: Optional[PictureRecord]  # None if the other one is: then no more is known than the name
-    new: Optional[PictureRecord]
-    place: Optional[bytes]
+    old: PictureRecord | None  # None if the other one is: then no more is known than the name
+    new: PictureRecord | None
+    place: bytes | None
     is_renumbered: bool = False  # whether another picture had its new name, or has its old one
     is_sure: bool = True  # whether a move is known by the file itself, and not by what it has
     is_partner: bool = False  # the new picture is the one with the same stem
@@ -126,7 +126,7 @@ class Pairs(Sides):
     If each catalogue has one folder, pictures are matched by path relative to it; otherwise by full path. All is read of one moment.
     """
 
-    def __init__(self, before: Catalogue, after: Catalogue, only: Optional[set[bytes]] = None, by_stem: bool = False) -> None:
+    def __init__(self, before: Catalogue, after: Catalogue, only: set[bytes] | None = None, by_stem: bool = False) -> None:
         """Pairs all pictures, or `by_stem` those of one name without the ending; `differing` and `came` return only some, by name or by path."""
         self.by_stem = by_stem
         self.catalogues = (before, after)
@@ -146,7 +146,7 @@ class Pairs(Sides):
         """Closes the connection, and with it the temporary database."""
         self.base.close()
 
-    def _open(self, only: Optional[set[bytes]]) -> None:
+    def _open(self, only: set[bytes] | None) -> None:
         for base, catalogue in zip(_BASES, self.catalogues):
             self.base.execute(f"ATTACH ? AS {base}", (address(catalogue.file),))
             check_schema(self.base, catalogue.name, base)
@@ -353,12 +353,12 @@ class Pairs(Sides):
         query = f"SELECT {BLOCK_COLUMNS} FROM {_BASES[side]}.blocks WHERE picture = ? ORDER BY number"
         return with_kept_fields(self._of(side, query, picture, block_of_row))
 
-    def fields(self, side: int, block: Optional[BlockRecord]) -> list[Field]:
+    def fields(self, side: int, block: BlockRecord | None) -> list[Field]:
         """The fields of a block; none if they aren't kept, or if there is no block."""
         with self.catalogues[side].guarded():
             return fields_of(block) if block else []
 
-    def maker_notes(self, side: int, picture: PictureRecord, unpack: Callable[[bytes], Made]) -> Optional[Made]:
+    def maker_notes(self, side: int, picture: PictureRecord, unpack: Callable[[bytes], Made]) -> Made | None:
         """The result of `unpack` for what ExifTool read of a picture's MakerNotes, if it was asked."""
         return self.catalogues[side].maker_notes(picture, unpack)
 
@@ -381,7 +381,7 @@ class Pairs(Sides):
                 yield factory(row)
 
 
-def _without_pictures(name: bytes, to: Optional[bytes], row: tuple[object, ...]) -> Pair:
+def _without_pictures(name: bytes, to: bytes | None, row: tuple[object, ...]) -> Pair:
     """A picture that isn't there, or is elsewhere as it was."""
     is_unclear, is_sure, is_renumbered = (bool(row[at]) for at in (-6, -2, -1))
     return Pair(name, None, None, to, to is not None and is_renumbered, is_sure, is_unclear=is_unclear)

@@ -27,7 +27,7 @@ from ...model.verdicts import Judged, Verdict, left_open, verdicts
 from .block_pairs import NOTHING, Details, Lost, details_of
 from ..coded import Coded, coded_result as result_of_coded, parts_that_differ, result_with
 from ..differing import FieldDifference
-from .note_pairs import Noted, noted
+from .block_pairs import Noted, noted
 from .pairs import AFTER, BEFORE, Pair, Pairs
 
 if TYPE_CHECKING:
@@ -42,8 +42,8 @@ class Compared(NamedTuple):
     note: str = ""  # the kinds that were compared, and the result
     changes: Sequence[FieldDifference] = ()
     verdicts: Sequence[Verdict] = ()
-    moved_to: Optional[bytes] = None
-    partner: Optional[bytes] = None  # the picture with the same stem with which it was compared
+    moved_to: bytes | None = None
+    partner: bytes | None = None  # the picture with the same stem with which it was compared
     maker_note: "Optional[list[maker_notes.NoteDifference]]" = None  # the values that ExifTool reads otherwise, if it was asked
     repairs: Sequence[tuple[str, tuple[Step, ...], tuple[Step, ...]]] = ()  # of each block, before and after
     left_out: Sequence[str] = ()  # fields and kinds that differ and don't count
@@ -58,9 +58,9 @@ def changed(
     before: Catalogue,
     after: Catalogue,
     counts: "Counter[Result]",
-    only: Optional[set[bytes]] = None,
+    only: set[bytes] | None = None,
     every: bool = False,
-    session: Optional[Session] = None,
+    session: Session | None = None,
     choice: Choice = EVERYTHING,
     pictures: "Optional[Counter[Coded]]" = None,
     by_stem: bool = False,
@@ -85,7 +85,7 @@ def changed(
             counts[Result.SAME] += pairs.count() - there
 
 
-def compared(pair: Pair, sides: Sides, session: Optional[Session], choice: Choice = EVERYTHING) -> Compared:
+def compared(pair: Pair, sides: Sides, session: Session | None, choice: Choice = EVERYTHING) -> Compared:
     """Compares one picture before and after. Its coded picture counts, unless only some fields do; that a file is damaged is always said."""
     comparison = _by_metadata(pair, sides, session, choice)
     if pair.old is None or pair.new is None:
@@ -112,7 +112,7 @@ def _joined(*clauses: str) -> str:
     return "; ".join(filter(None, clauses))
 
 
-def _by_metadata(pair: Pair, sides: Sides, session: Optional[Session], choice: Choice) -> Compared:
+def _by_metadata(pair: Pair, sides: Sides, session: Session | None, choice: Choice) -> Compared:
     """A picture without its coded picture."""
     name, old, new, place = pair[:4]
     if old is None or new is None:
@@ -140,7 +140,7 @@ def _moved(pair: Pair) -> Compared:
     return Compared(pair.name, Result.RENUMBERED, note, moved_to=pair.place)
 
 
-def _unless_untouched(found: Compared, old: PictureRecord, new: PictureRecord, place: Optional[bytes]) -> Compared:
+def _unless_untouched(found: Compared, old: PictureRecord, new: PictureRecord, place: bytes | None) -> Compared:
     """What was found, unless it leaves open whether something has changed, and nothing was written to the file."""
     is_untouched = found.result.is_open and place is None and is_same_file(old, new)
     return found._replace(result=Result.SAME_FILE) if is_untouched else found
@@ -152,7 +152,7 @@ def _in_detail(
     old: PictureRecord,
     new: PictureRecord,
     sides: Sides,
-    session: Optional[Session],
+    session: Session | None,
     choice: Choice,
     lost: Lost,
 ) -> Compared:
@@ -178,7 +178,7 @@ def _in_detail(
     )
 
 
-def _placed(found: Compared, place: Optional[bytes]) -> Compared:
+def _placed(found: Compared, place: bytes | None) -> Compared:
     """A picture that may have moved, as its coded picture shows."""
     if place is None:
         return found
@@ -287,7 +287,7 @@ class Equal:
         self.base = sqlite3.connect("", isolation_level=None)
         self.base.executescript(_EQUAL)
         self._known: dict[bytes, int] = {}
-        self._heads: list[tuple[int, Optional[bytes], str, int]] = []
+        self._heads: list[tuple[int, bytes | None, str, int]] = []
         self._names: list[tuple[int, bytes]] = []
         self._size = 0  # of what waits
         self._count = 0
@@ -311,7 +311,7 @@ class Equal:
         if len(self._names) >= self._MOST or self._size >= WAITING_BYTES:
             self._write()
 
-    def _number(self, key: bytes) -> Optional[int]:
+    def _number(self, key: bytes) -> int | None:
         number = self._known.get(key)
         if number is not None:
             return number

@@ -6,7 +6,7 @@ ExifTool writes the pictures; this program never does.
 from __future__ import annotations
 
 import re
-from typing import Optional, Sequence
+from typing import Sequence
 
 from ...fields import labels
 from ...fields.field import Field
@@ -71,7 +71,7 @@ def _is_utf8(field: Field) -> bool:
     return not isinstance(octets, bytes) or is_utf8(octets)
 
 
-def _words(change: FieldDifference) -> Optional[list[str]]:
+def _words(change: FieldDifference) -> list[str] | None:
     """The arguments for a field; None if ExifTool can't write its earlier texts."""
     try:
         texts = [one for it in change.before for one in _texts(it)]

@@ -2,27 +2,30 @@
 
 from __future__ import annotations
 
+import hashlib
 import os
 from collections import Counter
 from dataclasses import dataclass, field
-from typing import Iterator, NamedTuple, Optional
+from typing import Iterable, Iterator, Mapping, NamedTuple
 
-from ...catalogue.label_texts import rows_of
+from ...catalogue.checking import Broken, Checked
+from ...catalogue.kept_texts import rows_of
 from ...catalogue.store import Catalogue
 from ...fields.labels import POSITION, fields_by_label
 from ...files.session import Session
 from ...model.problems import NOT_READABLE, Problem
-from ...model.records import PictureRecord
+from ...model.records import PictureRecord, Stamp
 from ...model.rest import counting
 from ...model.results import Result
 from ...model.texts import whole_path
 from ...model.words import Word
 from ...scan.moved import moved_together
-from .absent import Absent
-from ..changed.states import Compared, changed, total
-from ..coded import Coded
+from ...scan.seen import Paths
 from ..changed.edit_groups import Kinds
+from ..changed.states import Compared, changed, total
 from ..changed.summary import standards_of
+from ..coded import Coded
+
 
 SHOWN = 3  # pictures of each kind of news that are named
 
@@ -60,7 +63,7 @@ class Named(NamedTuple):
     """A picture by its name, and its new name if it has moved."""
 
     path: bytes
-    to: Optional[bytes] = None
+    to: bytes | None = None
 
 
 @dataclass
@@ -80,7 +83,7 @@ class Tally:
     def __init__(self) -> None:
         self._news: dict[tuple[Kind, str, str], News] = {}
 
-    def add(self, kind: Kind, name: bytes, about: str = "", to: Optional[bytes] = None, count: int = 1, folder_to: str = "") -> None:
+    def add(self, kind: Kind, name: bytes, about: str = "", to: bytes | None = None, count: int = 1, folder_to: str = "") -> None:
         """Counts a picture, or some of a folder."""
         news = self._news.setdefault((kind, about, folder_to), News(kind, about, to=folder_to))
         news.count += count
@@ -258,3 +261,104 @@ def _labels(comparison: Compared) -> list[str]:
     """The labels of which a field differs. What may be behind the end of a file that is cut off isn't known to differ."""
     names = {change.name.partition(" (")[0] for change in comparison.changes}
     return [label for label, fields in fields_by_label().items() if not names.isdisjoint(fields)]
+
+
+_NAMED = 3  # pictures of a folder
+
+
+@dataclass
+class Folder:
+    """A folder in which there is no file any more, and its pictures that weren't found elsewhere."""
+
+    path: bytes
+    count: int = 0
+    names: list[bytes] = field(default_factory=list)  # of the first ones
+    is_held: bool = True  # False: a picture of it was found elsewhere, so somebody has emptied it
+
+
+class Absent:
+    """The folders that are absent, by pictures that are gone."""
+
+    def __init__(self, tops: Iterable[bytes]) -> None:
+        self._tops = [os.path.abspath(it) for it in tops]
+        self._have_files: dict[bytes, bool] = {}
+        self._folders: dict[bytes, Folder] = {}
+        self._left: set[bytes] = set()  # absent folders that a picture has left for another place
+
+    def add(self, path: bytes, name: bytes, device: int | None) -> bool:
+        """Counts a picture that is gone with its folder; False if its folder is there: also an empty one on the device that the picture was on,
+        since the folder of a disk that isn't mounted is on another one."""
+        place = self._absent(path)
+        if place is None or _device_of(os.path.dirname(path)) == device is not None:
+            return False
+        folder = self._folders.setdefault(place, Folder(place))
+        folder.count += 1
+        if len(folder.names) < _NAMED:
+            folder.names.append(name)
+        return True
+
+    def has_moved(self, path: bytes) -> None:
+        """Notes a picture that was found elsewhere."""
+        place = self._absent(path)
+        if place is not None:
+            self._left.add(place)
+
+    def settled(self) -> list[Folder]:
+        """The folders, once all pictures are known."""
+        for folder in self._folders.values():
+            folder.is_held = folder.path not in self._left
+        return list(self._folders.values())
+
+    def hold(self, before: Catalogue, now: Catalogue) -> None:
+        """Keeps what was known of the pictures in absent folders, as if nobody had looked for them: they may be there tomorrow."""
+        held = [it.path for it in self.settled() if it.is_held]
+        if not held:
+            return
+        with now.attached(before.name, "last"), now.transaction():
+            for path in held:
+                start = path.rstrip(b"/") + b"/"
+                now.base.execute(_HOLD, (start, start[:-1] + b"0"))
+
+    def _absent(self, path: bytes) -> bytes | None:
+        """The highest folder above a picture in which there is no file any more, within what is looked at."""
+        top = next((it for it in self._tops if path.startswith(it.rstrip(b"/") + b"/")), None)
+        folder, absent = os.path.dirname(path), None
+        while top is not None and len(folder) >= len(top) and not self._has_files(folder):
+            absent = folder
+            folder = os.path.dirname(folder)
+        return absent
+
+    def _has_files(self, folder: bytes) -> bool:
+        if folder not in self._have_files:
+            self._have_files[folder] = any(names for _, _, names in os.walk(folder))
+        return self._have_files[folder]
+
+
+def _device_of(folder: bytes) -> int | None:
+    stamp = Stamp.at(folder)
+    return stamp.device if stamp else None
+
+
+_HOLD = """UPDATE main.pictures SET (problem, detail, run) = (SELECT problem, detail, run FROM last.pictures AS old WHERE old.path = main.pictures.path)
+    WHERE path > ? AND path < ? AND EXISTS (SELECT 1 FROM last.pictures AS old WHERE old.path = main.pictures.path)"""
+
+
+def newly_broken(before: Checked, now: Checked, moves: Mapping[bytes, bytes]) -> Iterator[Broken]:
+    """What breaks a rule now and didn't before, in memory that doesn't grow with it. A picture that moved is the same one."""
+    was = Paths()
+    for broken in before.broken():
+        was.add(_key(broken, moves.get(broken.path, broken.path)))
+    yield from (it for it in now.broken() if _key(it, it.path) not in was)
+
+
+def _key(broken: Broken, path: bytes) -> bytes:
+    about = (path, broken.number, broken.label, broken.text)
+    return hashlib.sha256(repr(about).encode("utf-8", "surrogatepass")).digest()
+
+
+def newly_unread(before: Checked, now: Checked, moves: Mapping[bytes, bytes]) -> Iterator[bytes]:
+    """The pictures that weren't wholly read, so that they may break a rule, and of which that wasn't so before."""
+    was = Paths()
+    for path in before.paths_not_known():
+        was.add(moves.get(path, path))
+    yield from (path for path in now.paths_not_known() if path not in was)

@@ -4,7 +4,7 @@ from __future__ import annotations
 
 import hashlib
 from itertools import islice
-from typing import Any, Iterator, NamedTuple, Optional, Sequence
+from typing import Any, Iterator, NamedTuple, Sequence
 
 from ...catalogue.store import Catalogue
 from ...fields.choosing import Choice
@@ -25,8 +25,8 @@ class _Counted(NamedTuple):
 
     kind: str
     name: str
-    digest: Optional[str]  # of the fields that count: empty without any, None if the block isn't accepted
-    repaired: Optional[str]  # the same, also after a repair that loses nothing
+    digest: str | None  # of the fields that count: empty without any, None if the block isn't accepted
+    repaired: str | None  # the same, also after a repair that loses nothing
     meaning: str  # of all of the block
     listing: str  # of all its fields
     other: str  # the digest of those that count, after a repair too, without the MakerNote
@@ -93,7 +93,7 @@ def _counted(row: tuple[Any, ...], choice: Choice) -> _Counted:
     return _Counted(kind_of(word), name, accepted, repaired, meaning, _sum_of(fields), other)
 
 
-def _loses_nothing(repair: Optional[str]) -> bool:
+def _loses_nothing(repair: str | None) -> bool:
     return repair is not None and not steps.loses(steps.unpacked(repair))
 
 
@@ -126,7 +126,7 @@ def _sum(rows: Sequence[tuple[object, ...]]) -> str:
     return hashlib.sha256(repr(rows).encode("utf-8", "surrogatepass")).hexdigest()
 
 
-def _together(blocks: Sequence[_Counted], kind: str, what: str) -> Optional[str]:
+def _together(blocks: Sequence[_Counted], kind: str, what: str) -> str | None:
     """One of the digests of the blocks of a kind; empty if no field counts, and None if a block isn't accepted."""
     named = [(it.name, getattr(it, what)) for it in blocks if it.kind == kind]
     if any(digest is None for _, digest in named):

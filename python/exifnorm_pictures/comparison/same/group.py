@@ -4,7 +4,7 @@ from __future__ import annotations
 
 import os
 from dataclasses import dataclass, field
-from typing import Iterator, NamedTuple, Optional
+from typing import Iterator, NamedTuple
 
 from ...model.found import EXIF, KINDS
 from ...model.problems import Problem
@@ -86,7 +86,7 @@ class Group:
         return self.shared.basis
 
     @property
-    def result(self) -> Optional[Result]:
+    def result(self) -> Result | None:
         """What `changed` says of two of its pictures, where that isn't simply the same."""
         return Result.SAME_REPAIRED if self.basis == Basis.REPAIR else None
 

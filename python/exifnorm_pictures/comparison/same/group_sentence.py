@@ -2,7 +2,7 @@
 
 from __future__ import annotations
 
-from typing import Optional, Sequence
+from typing import Sequence
 
 from ...model.found import EXIF, KINDS, NAMES, XMP, lost_kinds
 from ...model.records import PictureRecord
@@ -47,7 +47,7 @@ def _of_kinds(group: Group) -> str:
 _STATES = (Result.SAME, Result.REFUSED, Result.NOT_KNOWN, Result.ABSENT)
 
 
-def _state(group: Group, kind: str) -> Optional[Result]:
+def _state(group: Group, kind: str) -> Result | None:
     """What is known of the blocks of a kind; nothing if no picture has one, and only some fields count."""
     at = KINDS.index(kind)
     if any(picture.meanings[at] is None for picture in group.members):
@@ -78,7 +78,7 @@ def _of_metadata(pictures: Sequence[PictureRecord]) -> str:
 _REFUSED = "refused or unreadable"
 
 
-def _of_meanings(meanings: set[Optional[str]]) -> str:
+def _of_meanings(meanings: set[str | None]) -> str:
     """What the digests of some pictures say of a kind."""
     if None in meanings:
         return _REFUSED

@@ -8,19 +8,20 @@ same place in blocks with the same bytes.
 
 from __future__ import annotations
 
-from typing import Iterator, NamedTuple, Optional, Sequence
+import os
+from typing import Iterable, Iterator, NamedTuple, Sequence
 
-from ...catalogue.store import PICTURE_COLUMNS, Catalogue
+from ...catalogue.store import Catalogue, PICTURE_COLUMNS
 from ...extract.sidecars import Folders
-from ...fields.choosing import EVERYTHING, Choice, UnknownField
 from ...fields.block_fields import known_fields
+from ...fields.choosing import Choice, EVERYTHING, UnknownField
 from ...model import steps
 from ...model.found import BROKEN, EXIF, IPTC, KINDS, REST, WITHOUT_IPTC, each_kind, other_name
 from ...model.problems import NOT_THERE
-from ...model.records import PictureRecord, picture_of_row
+from ...model.records import PictureRecord, Stamp, is_marked_as, picture_of_row
 from ...model.texts import pictures_in_words
-from .group import OTHERS, Basis, Group, Shared
-from .group_files import files_of
+from .group import Basis, Files, Group, Link, OTHERS, Shared
+
 
 COUNTED = "temp.counted"  # the pictures without the fields that don't count
 # What a MakerNote may lead to: only in a block with the same bytes it is the same
@@ -37,7 +38,7 @@ class _Query(NamedTuple):
     having: str = "count(*) > 1"
 
 
-def _queries(kinds: Sequence[str], only: Optional[str]) -> Iterator[_Query]:
+def _queries(kinds: Sequence[str], only: str | None) -> Iterator[_Query]:
     chosen = _among(only)
     there = "(" + " OR ".join(f"{it}_octets != ''" for it in kinds) + ")"
     base = f"problem IS NULL AND not_read IS NOT NULL AND {there}"
@@ -64,7 +65,7 @@ class Groups:
     With `look` each file is looked at: those that are gone or have changed are listed apart and don't count.
     """
 
-    def __init__(self, catalogue: Catalogue, only: Optional[str] = None, look: bool = True) -> None:
+    def __init__(self, catalogue: Catalogue, only: str | None = None, look: bool = True) -> None:
         self.catalogue, self.only = catalogue, only
         self.absent = 0  # groups of which all files, or all but one, are gone or have changed
         self.small = 0  # groups of pictures with fewer fields than were asked for
@@ -198,7 +199,7 @@ def _reason(catalogue: Catalogue, picture: PictureRecord, basis: Basis) -> str:
     return "; ".join(reasons) or (picture.problem or "")
 
 
-def _fields_of(catalogue: Catalogue, group: Group, choice: Choice) -> Optional[int]:
+def _fields_of(catalogue: Catalogue, group: Group, choice: Choice) -> int | None:
     """The number of fields that count of the first picture, by its blocks; None if they aren't known."""
     count = 0
     for block in [] if group.members[0].file else catalogue.blocks_of(group.members[0]):
@@ -227,18 +228,18 @@ class CodedPictures(NamedTuple):
         return self.other + self.damaged + self.unread
 
 
-def coded_pictures(catalogue: Catalogue, only: Optional[str] = None) -> CodedPictures:
+def coded_pictures(catalogue: Catalogue, only: str | None = None) -> CodedPictures:
     """The pictures of a catalogue by what is known of their coded pictures. A file of XMP shows nothing."""
     conditions = ("!= ''", "= '' AND damage = '' AND type IS NOT 'XMP'", "= '' AND damage != ''", "IS NULL")
     compared, other, damaged, not_requested = (_number_of(catalogue, f"problem IS NULL AND coded_picture {it}", only) for it in conditions)
     return CodedPictures(compared, other, damaged, not_requested, _number_of(catalogue, _UNREAD, only))
 
 
-def _among(only: Optional[str]) -> str:
+def _among(only: str | None) -> str:
     return f" AND path IN {only}" if only else ""
 
 
-def _number_of(catalogue: Catalogue, where: str, only: Optional[str]) -> int:
+def _number_of(catalogue: Catalogue, where: str, only: str | None) -> int:
     return catalogue.number_of(f"SELECT count(*) FROM pictures WHERE {where}{_among(only)}")
 
 
@@ -250,7 +251,7 @@ class WholeFiles(NamedTuple):
     not_requested: int
 
 
-def whole_files(catalogue: Catalogue, only: Optional[str] = None) -> WholeFiles:
+def whole_files(catalogue: Catalogue, only: str | None = None) -> WholeFiles:
     """The files of a catalogue by what is known of their bytes."""
     words = ("!= ''", "IS NOT NULL AND sha256 = '' OR (sha256 IS NULL AND problem IS NOT NULL)", "IS NULL AND problem IS NULL")
     return WholeFiles(*(_number_of(catalogue, _whole(it), only) for it in words))
@@ -260,7 +261,7 @@ def _whole(words: str) -> str:
     return f"ifnull(problem, '') NOT IN {NOT_THERE} AND (sha256 {words})"
 
 
-def totals(catalogue: Catalogue, kinds: Sequence[str] = KINDS, only: Optional[str] = None, choice: Choice = EVERYTHING) -> tuple[int, int]:
+def totals(catalogue: Catalogue, kinds: Sequence[str] = KINDS, only: str | None = None, choice: Choice = EVERYTHING) -> tuple[int, int]:
     """The number of groups by meaning, and of files in them, by the catalogue alone: no file is looked at."""
     query = next(_queries([it for it in kinds if it in choice.kinds], only))
     file = "CASE WHEN inode > 0 THEN inode || ' ' || device || ' ' || size || ' ' || modified ELSE id END"  # which further names have, too
@@ -270,13 +271,13 @@ def totals(catalogue: Catalogue, kinds: Sequence[str] = KINDS, only: Optional[st
     return int(counts[0]), int(counts[1])
 
 
-def left_out(catalogue: Catalogue, kinds: Sequence[str] = KINDS, only: Optional[str] = None) -> int:
+def left_out(catalogue: Catalogue, kinds: Sequence[str] = KINDS, only: str | None = None) -> int:
     """How many pictures may mean the same as others, and nobody knows, because a block is refused, and not read after a repair without loss, a
     block may be lost in a damaged file, a part was neither read nor compared, or nothing of the file was read."""
     return _number_of(catalogue, f"((problem IS NULL AND {_is_open(kinds)}) OR {_UNREAD})", only)
 
 
-def after_repair(catalogue: Catalogue, kinds: Sequence[str] = KINDS, only: Optional[str] = None) -> int:
+def after_repair(catalogue: Catalogue, kinds: Sequence[str] = KINDS, only: str | None = None) -> int:
     """How many pictures with a refused block are compared by what it means after a repair without loss."""
     return _number_of(catalogue, f"problem IS NULL AND exif IS NULL AND NOT {_is_open(kinds)}", only) if EXIF in kinds else 0
 
@@ -294,7 +295,7 @@ def _may_be_lost(kinds: Sequence[str]) -> str:
     return f"not_read != '' AND ({lost}) AND id IN ({damaged})"
 
 
-def but_for_parts(catalogue: Catalogue, kinds: Sequence[str] = KINDS, only: Optional[str] = None, choice: Choice = EVERYTHING) -> int:
+def but_for_parts(catalogue: Catalogue, kinds: Sequence[str] = KINDS, only: str | None = None, choice: Choice = EVERYTHING) -> int:
     """How many pictures have a part that was not read, and blocks that mean the same as those of another one, which has no such part or one
     with other bytes: nobody knows whether they are the same. `but_for_notes` counts those with other MakerNotes."""
     counted = [it for it in kinds if it in choice.kinds]
@@ -307,7 +308,7 @@ def but_for_parts(catalogue: Catalogue, kinds: Sequence[str] = KINDS, only: Opti
     return catalogue.number_of(f"SELECT ifnull(sum(n), 0) FROM ({inner})")
 
 
-def but_for_notes(catalogue: Catalogue, kinds: Sequence[str] = KINDS, only: Optional[str] = None, choice: Choice = EVERYTHING) -> int:
+def but_for_notes(catalogue: Catalogue, kinds: Sequence[str] = KINDS, only: str | None = None, choice: Choice = EVERYTHING) -> int:
     """How many pictures may be the same as others but for their MakerNotes, which have moved, have other bytes, or lie in a block that was written
     anew: only a program that reads MakerNotes knows what they say there."""
     counted = [it for it in kinds if it in choice.kinds]
@@ -330,3 +331,53 @@ def of_notes(count: int) -> str:
     """
     which = "same --ignore MakerNote lists them, and compare asks ExifTool about two"
     return f"{pictures_in_words(count)} may be the same as others but for MakerNotes that moved or are in blocks with other bytes: {which}"
+
+
+def files_of(pictures: Iterable[PictureRecord], look: bool, folders: Folders | None) -> Files:
+    """The different files of some pictures that are there; the further names of each, and those that are gone or have changed."""
+    files = Files()
+    places: dict[object, dict[object, int]] = {}  # of each file among the pictures, by device and inode
+    further: dict[int, list[PictureRecord]] = {}
+    for picture in pictures:
+        state, (device, inode) = _state(picture, folders) if look else ("", (picture.device, picture.inode))
+        if state:
+            (files.gone if state == "gone" else files.changed).append(picture.path)
+            continue
+        of_device = places.setdefault(device if inode else None, {})
+        at = of_device.setdefault(inode or picture.path, len(files.pictures))
+        if at < len(files.pictures):
+            further.setdefault(at, []).append(picture)
+        else:
+            files.pictures.append(_shrunk(picture, files.pictures[-1:]))
+    for at in sorted(further):
+        _add_links(files, at, [files.pictures[at], *further[at]], look)
+    return files
+
+
+def _add_links(files: Files, at: int, names: list[PictureRecord], look: bool) -> None:
+    """Takes one of several names of a file for its picture, and the others for links to it."""
+    # one that leads through no symbolic link, if there is one: whoever keeps it keeps the file
+    real = (it for it in names if os.path.realpath(it.path) == it.path)
+    first = files.pictures[at] = next(real, names[0]) if look else names[0]
+    files.links += [Link.to(it.path, first.path) if look else Link(it.path, first.path) for it in names if it is not first]
+
+
+def _shrunk(picture: PictureRecord, before: Sequence[PictureRecord]) -> PictureRecord:
+    """Drops the marks, which were needed to look at the file, and takes what is equal in the picture before it from there: a group may have
+    all pictures of an archive, and is in memory."""
+    picture = picture._replace(modified=None, changed=None, inode=None, device=None, sidecars="")
+    for other in before:
+        picture = PictureRecord._make(theirs if theirs == ours else ours for ours, theirs in zip(picture, other))
+    return picture
+
+
+def _state(picture: PictureRecord, folders: Folders | None) -> tuple[str, tuple[int, int]]:
+    """`gone`, `changed`, or nothing for a file that is as it was; and the device and inode of the file."""
+    try:
+        now = os.stat(picture.path)
+    except (OSError, ValueError):  # a name that has a NUL
+        return "gone", (0, 0)
+    has_other_sidecars = folders is not None and not folders.is_marked_as(picture.path, picture.sidecars)
+    if has_other_sidecars or not is_marked_as(Stamp.of(now), picture.marks):
+        return "changed", (0, 0)
+    return "", (now.st_dev, now.st_ino)

@@ -6,7 +6,7 @@ from __future__ import annotations
 
 import contextlib
 from collections import Counter
-from typing import Callable, NamedTuple, Optional, Sequence
+from typing import Callable, NamedTuple, Sequence
 
 from ...model import rest
 from ...model.found import XMP_FILE
@@ -31,9 +31,9 @@ _ALONE = {"file": OTHER_FILE, "picture": OTHER}  # of a picture that is equal to
 class Keep(NamedTuple):
     """Whether a picture stays where the others of its group go."""
 
-    keep: Optional[bool] = None  # False: one that stays has the same picture; None: nothing shows that it may go, or that others may
+    keep: bool | None = None  # False: one that stays has the same picture; None: nothing shows that it may go, or that others may
     why: str = ""  # nothing shows it
-    same_as: Optional[bytes] = None  # the picture that stays for it
+    same_as: bytes | None = None  # the picture that stays for it
 
     def note(self, shown: Callable[[bytes], str] = whole_path) -> str:
         """The reason for people, with a path as it is shown there."""
@@ -141,7 +141,7 @@ def _key(picture: PictureRecord, reads: bool) -> _Key:
         return _NO_KEY
     if picture.coded_picture:
         return "picture", picture.coded_picture
-    digest: Optional[str] = picture.sha256 or picture.file
+    digest: str | None = picture.sha256 or picture.file
     if reads and not digest:
         from ...extract.formats.streams import digest_of_file  # which is seldom needed
 

@@ -33,6 +33,7 @@ class ConflictKind(Word):
     DIFFERENT = ("different",)
 
 
+_LONGEST = 160  # characters of a text in a line
 _ORDER = tuple(ConflictKind)
 # Character sets that are tried on bytes outside ASCII. One is taken only if it gives exactly the text of another standard.
 _CHARACTER_SETS = dict(
@@ -73,6 +74,11 @@ class Conflict(NamedTuple):
         """Whether the texts contradict each other."""
         return self.kind == ConflictKind.DIFFERENT
 
+    @property
+    def line(self) -> str:
+        """The beginning of each text, by standard."""
+        return "; ".join(dict.fromkeys(f"{text.standard}: {text.line[:_LONGEST]}" for text in self.texts))
+
 
 Positions = tuple[Optional[Located], Optional[Located]]  # of Exif and of XMP
 
@@ -100,7 +106,7 @@ def _source(text: Caption) -> tuple[str, str]:
     return text.standard, text.block
 
 
-def _of_positions(exif: Optional[Located], xmp: Optional[Located]) -> Iterator[Conflict]:
+def _of_positions(exif: Located | None, xmp: Located | None) -> Iterator[Conflict]:
     """The positions of Exif and XMP: they differ if they are further apart than the last place in which the less exact one is written."""
     if exif is None or xmp is None:
         return
@@ -138,7 +144,7 @@ def _of_people(texts: Sequence[Caption]) -> list[Caption]:
     return [it for it in texts if not it.is_empty and not it.is_own]
 
 
-def chosen(texts: Sequence[Caption], known: Sequence[Conflict], order: Sequence[str] = STANDARDS) -> Optional[Caption]:
+def chosen(texts: Sequence[Caption], known: Sequence[Conflict], order: Sequence[str] = STANDARDS) -> Caption | None:
     """The texts of a label where there is space for one field, which aren't a camera's: those that are whole, on which two standards agree, and
     the first in the order of the standards. Those of further blocks, such as of a second page, are taken where the first ones have none."""
     worse = {field for it in known for field in it.worse}
@@ -183,7 +189,7 @@ def _pair(label: Label, text: Caption, other: Caption) -> _How:
     return max(each, key=lambda it: _ORDER.index(it.kind))
 
 
-def _lists(first: list[str], second: list[str], text: Caption, other: Caption) -> Optional[_How]:
+def _lists(first: list[str], second: list[str], text: Caption, other: Caption) -> _How | None:
     """How two lists differ as wholes; None if only their texts can tell."""
     if sorted(first) == sorted(second):
         return _How(ConflictKind.ORDER, "another order")
@@ -299,7 +305,7 @@ def _is_same_time(text: str, other: str) -> bool:
     return first.startswith(second) or second.startswith(first)
 
 
-def _moment(match: "re.Match[str]") -> Optional[datetime]:
+def _moment(match: "re.Match[str]") -> datetime | None:
     """A time with its zone; None of one that there isn't, as in a month 13."""
     try:
         return datetime.fromisoformat(f"{match[1]} {match[2]}{'+00:00' if match[3] == 'Z' else match[3]}")
