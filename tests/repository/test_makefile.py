@@ -122,6 +122,8 @@ def test_check_ends_as_the_tests_do_and_other_targets_are_made_whatever_files_th
     for status in (0, 1, 127):
         made.write("status", str(status))
         assert (made.make("check").returncode == 0) == (status == 0), status
+    for name in ("_native.c", "_packed.h"):
+        made.write(f"python/exifnorm/{name}", "")
     for target in ("uninstall", "dist"):
         assert " packaging/" in made.make("-n", target).stdout
 
