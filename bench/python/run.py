@@ -64,8 +64,9 @@ def package(folder: str) -> str:
     """A folder with the package as it is installed: with the extension module, if that can be built."""
     packages = os.path.join(folder, "python")
     shutil.copytree(TOP / "python" / "exifnorm", os.path.join(packages, "exifnorm"))
-    target = os.path.join(packages, "exifnorm", "_native.abi3.so")
-    subprocess.run([sys.executable, str(TOP / "packaging" / "extension.py"), target], check=True)
+    module = os.path.join("out", "lib", "_native.abi3.so")
+    if subprocess.run(["make", "-s", "-C", str(TOP), module], check=False).returncode == 0:
+        shutil.copy(TOP / module, os.path.join(packages, "exifnorm"))
     return packages
 
 
