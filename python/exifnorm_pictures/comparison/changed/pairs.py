@@ -56,10 +56,9 @@ _SAME = f"""(typeof(old.path) = 'blob' AND old.problem IS NULL AND new.problem I
 # the same blocks, size and time. Then the only one with the same blocks and size, if no other picture of its catalogue means the same: scans of
 # one machine may all have them. A file by itself doesn't show whether its sidecars are the same, nor an
 # edit in place that keeps its time, so its blocks count, too.
-_FILE, _CONTENT = (
-    "size, modified, inode, exif_octets, iptc_octets, xmp_octets",
-    "content(size, not_read, exif_octets, iptc_octets, xmp_octets)",
-)
+_BLOCKS = ("exif_octets", "iptc_octets", "xmp_octets")
+_FILE = ", ".join(["size, modified, inode", *(f"substr({it}, 1, 16)" for it in _BLOCKS)])
+_CONTENT = f"content(size, not_read, {', '.join(_BLOCKS)})"
 _KEYS = (_FILE, "sha256, xmp_octets", f"{_CONTENT}, modified")
 _LIKELY = (f"{_CONTENT}, last(path)", _CONTENT)
 _ROUNDS = (*(it for key in _KEYS for it in (f"{key}, last(path)", key)), *_LIKELY)
@@ -83,7 +82,7 @@ _NOT_RENUMBERED = """WITH RECURSIVE links (one, other) AS (
     DELETE FROM moved WHERE old IN (SELECT old FROM none)"""
 _HAS_KEY = " AND ".join(
     [*(f"typeof({it}) = 'integer'" for it in ("size", "modified", "inode")), "typeof(path) = 'blob'"]
-    + [f"typeof({it}) != 'blob'" for it in ("sha256", "coded_picture", "xmp_octets")]
+    + [f"typeof({it}) != 'blob'" for it in ("sha256", "coded_picture", *_BLOCKS)]
 )
 
 _PARTNER = 2  # in place of `is_edited`
