@@ -6,7 +6,6 @@
 from __future__ import annotations
 
 import struct
-from dataclasses import dataclass
 from functools import cached_property
 from itertools import count
 from typing import Iterator, NamedTuple, Optional
@@ -51,16 +50,14 @@ class Entry(NamedTuple):
         return _SIZES.get(self.type, 0) * self.elements
 
 
-@dataclass
 class Directory:
     """A directory: the rows of its entries that are in the block, and how many it counts."""
 
-    name: str
-    at: int
-    rows: list[Row]
-    next: int  # the place of the next directory's offset
-    size: int  # the number of entries by its first two bytes
-    named_at: int  # the place of the offset that leads here
+    def __init__(self, name: str, at: int, rows: list[Row], next_at: int, size: int, named_at: int) -> None:
+        self.name, self.at, self.rows = name, at, rows
+        self.next = next_at  # the place of the next directory's offset
+        self.size = size  # the number of entries by its first two bytes
+        self.named_at = named_at  # the place of the offset that leads here
 
     @cached_property
     def entries(self) -> list[Entry]:

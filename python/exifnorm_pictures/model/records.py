@@ -63,7 +63,7 @@ class BlockRecord(NamedTuple):
         return unpacked(self.repair)
 
     @property
-    def meaning(self) -> Optional[str]:
+    def meaning(self) -> "str | None":
         """The digest of its meaning, if it is accepted as it is or after a repair that loses nothing."""
         return self.digest or (self.repaired if self.repair and not loses(self.steps) else None)
 
@@ -131,7 +131,7 @@ def is_as_before(stamp: Stamp, other: Stamp) -> bool:
     return stamp[:4] == other[:4]
 
 
-def is_marked_as(now: Stamp, marks: Sequence[Optional[int]]) -> bool:
+def is_marked_as(now: Stamp, marks: "Sequence[int | None]") -> bool:
     """Whether a file is the one that was looked at, by its size, times and inode; the ctime of a fresh file isn't known."""
     return tuple(now[:4]) == tuple(marks) if marks[2] != RACY else (now[0], now[1], now[3]) == (marks[0], marks[1], marks[3])
 
@@ -183,10 +183,10 @@ class PictureRecord(NamedTuple):
         cls,
         path: bytes,
         root: bytes,
-        stamp: Optional[Stamp] = None,
+        stamp: "Stamp | None" = None,
         type: str = "",
         extractor: str = "",
-        problem: Optional[str] = None,
+        problem: "str | None" = None,
         detail: str = "",
         blocks: Sequence[BlockRecord] = (),
         unread: Sequence[NotRead] = (),
@@ -206,7 +206,7 @@ class PictureRecord(NamedTuple):
 
     @classmethod
     def of_blocks(
-        cls, path: bytes, root: bytes, stamp: Optional[Stamp], blocks: Blocks, judged: Sequence[BlockRecord] = (), **others: Any
+        cls, path: bytes, root: bytes, stamp: "Stamp | None", blocks: Blocks, judged: Sequence[BlockRecord] = (), **others: Any
     ) -> "PictureRecord":
         """A picture by its blocks, as they were found and judged."""
         about = (blocks.type, blocks.extractor, blocks.problem, blocks.detail)
@@ -214,13 +214,13 @@ class PictureRecord(NamedTuple):
         return cls.of(path, root, stamp, *about, judged, blocks.not_read, **others)
 
     @property
-    def stamp(self) -> Optional[Stamp]:
+    def stamp(self) -> "Stamp | None":
         """The marks of its file, if they are known."""
         if self.size is None or self.modified is None or self.changed is None or self.inode is None:
             return None
         return Stamp(self.size, self.modified, self.changed, self.inode, self.device or 0)
 
-    def stamped(self, stamp: Optional[Stamp]) -> "PictureRecord":
+    def stamped(self, stamp: "Stamp | None") -> "PictureRecord":
         """The same picture with other marks."""
         marks: dict[str, Any] = dict(zip(Stamp._fields, stamp or _NO_STAMP))
         return self._replace(**marks)
@@ -237,12 +237,12 @@ class PictureRecord(NamedTuple):
         return not_known(self.type, [part.what for part in self.unread], (block.kind for block in self.blocks))
 
     @property
-    def marks(self) -> tuple[Optional[int], ...]:
+    def marks(self) -> "tuple[int | None, ...]":
         """Size, times and inode, as in a stamp."""
         return self.size, self.modified, self.changed, self.inode
 
     @property
-    def meanings(self) -> tuple[Optional[str], ...]:
+    def meanings(self) -> "tuple[str | None, ...]":
         """By KINDS: the digest of the meaning, empty without a block, None if it isn't known."""
         return self.exif, self.iptc, self.xmp
 
@@ -319,7 +319,7 @@ def _maker_notes(exif: Sequence[BlockRecord]) -> dict[str, str]:
     return {"maker_notes": ",".join(notes), "other_exif": others}
 
 
-def _parts_digest(parts: Sequence[NotRead]) -> Optional[str]:
+def _parts_digest(parts: Sequence[NotRead]) -> "str | None":
     """SHA-256 of some parts that were not read: empty without any, None if the bytes of one aren't known."""
     if not parts:
         return ""
