@@ -358,10 +358,11 @@ def differing(lines):
     return {(it.get("path"), part["name"]) for it in objects for part in it.get("fields", [])}
 
 
-COMPANIONS = {"--title": "--html page.html", "--link-to": "--html page.html", "--form": "--evidence sums", "--null": "--files-from names"}
+COMPANIONS = {"--form": "--evidence sums", "--null": "--files-from names"}
 MORE_LINES = {"compare": ("compare q/work/published.jpg p/work/published.jpg",)}  # one of which got a position
 # The options that are about what is printed or written. Whether the others have an effect depends on what the pictures have
-SHOWING = ("--all", "--by-picture", "--columns", "--count", "--differ", "--each", "--exact", "--html", "--list", *COMPANIONS)
+SHOWING = ("--all", "--by-picture", "--columns", "--count", "--differ", "--each", "--exact")
+SHOWING += ("--html", "--link-to", "--list", "--title", *COMPANIONS)
 
 
 def effects(line, form, archive):
