@@ -7,6 +7,7 @@ those of other programs. It attaches itself to a process that has imported the m
 
 import contextlib
 import fnmatch
+import hashlib
 import os
 import re
 import shutil
@@ -166,10 +167,11 @@ def beside(top):
 def lists(top):
     """The list of a folder of catalogues names one of the user, and that of a report files of the user which lie there."""
     (top / "disk" / "d" / "catalogues").write_bytes(LIST_HEAD + b"../../home/mine\n")
-    for name in ("notes.html", "holiday.jpg"):
-        shutil.copy(top / "home" / name, top / "disk" / "r" / name)
     with open(top / "disk" / "r" / "exifnorm-report", "a") as names:
-        names.write("notes.html\nholiday.jpg\n")
+        for name in ("notes.html", "holiday.jpg"):
+            shutil.copy(top / "home" / name, top / "disk" / "r" / name)
+            digest = hashlib.sha256((top / "home" / name).read_bytes()).hexdigest()
+            names.write(f"{digest}  {name}\n")
 
 
 def links(top):
