@@ -127,6 +127,58 @@ static void try_no_room(const unsigned char *none, void *room) {
     REQUIRE(count == 0);
 }
 
+/* The IPTC of pictures by one call: in two pieces, with too little room, of no head, none, one beside an empty one and another resource, and two. */
+static void try_iptc(const unsigned char *none) {
+    static const char empty[] = "\xff\xd8\xff\xed\0\077Photoshop 3.0\0" "8BIM\4\045\0\0\0\0\0\1a\0" "8BIM\4\4\0\0\0\0\0\0"
+                                "8BIM\4\4\0\0\0\0\0\011\034\2\170\0\4Vase\xff\xd9";
+    static const char two[] = "\xff\xd8\xff\xed\0\054Photoshop 3.0\0" "8BIM\4\4\0\0\0\0\0\1a\0"
+                              "8BIM\4\4\0\0\0\0\0\1b\0\xff\xd9";
+    static const struct {
+        const void *bytes;
+        size_t length, room;
+        uint32_t status;
+        size_t written;
+    } tries[] = {
+        {picture, PICTURE, PAGE, EXIFNORM_DONE, 9},
+        {picture, PICTURE, 9, EXIFNORM_DONE, 9},
+        {picture, PICTURE, 8, EXIFNORM_TOO_LITTLE_ROOM, 9},
+        {picture, PICTURE, 0, EXIFNORM_TOO_LITTLE_ROOM, 9},
+        {picture, PICTURE - 1, PAGE, EXIFNORM_REFUSED, UNSET},
+        {"\xff\xd8\xff\xd9", 4, 0, EXIFNORM_DONE, 0},
+        {empty, sizeof empty - 1, PAGE, EXIFNORM_DONE, 9},
+        {two, sizeof two - 1, PAGE, EXIFNORM_NOT_READ, UNSET},
+    };
+    struct exifnorm_jpeg_fault fault = {UNSET, UNSET};
+    unsigned char out[PAGE];
+    size_t written = UNSET;
+    REQUIRE(exifnorm_jpeg_iptc(none, 0, NULL, 0, &written, &fault) == EXIFNORM_REFUSED);
+    REQUIRE(fault.cause == EXIFNORM_JPEG_NO_START && fault.place == 0 && written == UNSET);
+    for (size_t i = 0; i < sizeof tries / sizeof *tries; i++) {
+        const unsigned char *bytes = (const unsigned char *)tries[i].bytes;
+        size_t copied = tries[i].status == EXIFNORM_DONE ? tries[i].written : 0;
+        memset(out, FILLER, sizeof out);
+        written = fault.cause = UNSET;
+        REQUIRE(exifnorm_jpeg_iptc(bytes, tries[i].length, out, tries[i].room, &written, &fault) == tries[i].status);
+        REQUIRE(written == tries[i].written && fault.cause == (tries[i].status == EXIFNORM_REFUSED ? EXIFNORM_JPEG_HEAD_CUT : UNSET));
+        REQUIRE(memcmp(out, caption_texts[0], copied) == 0 && is(out + copied, sizeof out - copied, FILLER));
+    }
+}
+
+/* An index of further pictures, and what is none: a shorter mark, and the mark in another segment. */
+static void try_further(void) {
+    static const char *const heads[] = {"\xff\xd8\xff\xe2\0\6MPF\0\xff\xd9", "\xff\xd8\xff\xe2\0\5MPF\xff\xd9\0",
+                                        "\xff\xd8\xff\xe1\0\6MPF\0\xff\xd9"};
+    for (size_t i = 0; i < 3; i++) {
+        const unsigned char *head = (const unsigned char *)heads[i];
+        struct exifnorm_jpeg_fault fault;
+        struct exifnorm_jpeg_part parts[2];
+        size_t count = 0;
+        REQUIRE(exifnorm_jpeg_parts(head, 12, parts, 2, &count, &fault) == EXIFNORM_DONE && count == 2);
+        REQUIRE(exifnorm_jpeg_has_further(head, parts, count) == (i == 0));
+        REQUIRE(!exifnorm_jpeg_has_further(head, parts, 0));
+    }
+}
+
 #define SYNTAX "http://www.w3.org/1999/02/22-rdf-syntax-ns#"
 #define EMPTY_PACKET "<r:RDF xmlns:r='" SYNTAX "'/>"
 #define EMPTY_FORM \
@@ -159,6 +211,7 @@ static void try_none(void) {
         try_no_picture(pointers[i]);
         try_no_packet(pointers[i], pointers[1 - i]);
         try_no_room(pointers[i], pointers[i]);
+        try_iptc(pointers[i]);
     }
 }
 
@@ -291,6 +344,7 @@ int main(int count, char **words) {
     if (count < 3 || !out)
         return 2;
     try_none();
+    try_further();
     for (size_t i = 0; i < sizeof rooms / sizeof *rooms; i++)
         try_room(out, rooms[i]);
     try_largest(out);

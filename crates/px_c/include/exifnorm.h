@@ -39,6 +39,8 @@
 
 #include <stddef.h>
 #include <stdint.h>
+#include <stdlib.h>
+#include <string.h>
 
 #ifdef __cplusplus
 extern "C" {
@@ -73,11 +75,12 @@ enum {
        the cause. */
     EXIFNORM_SECOND_REFUSED = 6,
     /* Two pictures are the same as far as they are read, and a part of the first isn't read. Or a picture has XMP that isn't read.
-       unread has the place. */
+       unread has the place. Or, of exifnorm_jpeg_iptc, a picture has more than one block of IPTC. */
     EXIFNORM_NOT_READ = 7,
     /* The same, and a part of the second isn't read; all of the first is. unread has its place. */
     EXIFNORM_SECOND_NOT_READ = 8,
-    /* The packet of XMP is in a rare form of RDF/XML, which this library doesn't read: another reader may. fault has the cause. */
+    /* The packet of XMP has what this library doesn't read, and another reader may: a rare form of RDF/XML, another encoding than UTF-8, a
+       name, namespace or language outside the usual ones, or more than its limits allow. fault has the cause. */
     EXIFNORM_RARE = 9
 };
 
@@ -293,10 +296,11 @@ struct exifnorm_unread_part {
  *   their extended XMP if they have any;
  * - nothing in them is left unread.
  *
- * So two pictures without metadata have the same. Pixels, and what follows the head, are not compared. The first bytes of a file may be
- * enough, as for exifnorm_jpeg_parts. What is read of Exif and IPTC is proved, and so are the places of packets and that the forms are
- * those of what they mean. It is also proved that one packet which is all XMP of a picture is read, unless it has no meaning within the limits
- * of exifnorm_xmp_normalise or names extended XMP, and that a packet and extended XMP are joined, unless they can't be within these limits.
+ * So two pictures without metadata have the same. Pixels, and what follows the head, are not compared: exifnorm_jpeg_has_further says whether
+ * a file has further pictures there. The first bytes of a file may be enough, as for exifnorm_jpeg_parts. What is read of Exif and IPTC is
+ * proved, and so are the places of packets and that the forms are those of what they mean. It is also proved that one packet which is all XMP
+ * of a picture is read, unless it has no meaning within the limits of exifnorm_xmp_normalise or names extended XMP, and that a packet and
+ * extended XMP are joined, unless they can't be within these limits.
  *
  * A known difference comes first: in Exif or IPTC, as for exifnorm_jpeg_same_blocks; or in XMP, if all XMP of both pictures is read, and the
  * forms differ, or one has none and no place that exifnorm_jpeg_unread returns, where XMP may be too.
@@ -480,6 +484,81 @@ static inline char *exifnorm_version_string(char *out) {
     if (exifnorm_version(out, EXIFNORM_NAME_ROOM, &written) != EXIFNORM_DONE)
         out[0] = 0;
     return out;
+}
+
+/* Finds the IPTC in a block of Photoshop's resources, for exifnorm_jpeg_iptc. iptc is NULL, or that of a block before. */
+static inline uint32_t exifnorm_photoshop_iptc(const unsigned char *block, size_t length, const unsigned char **iptc, size_t *size) {
+    struct exifnorm_photoshop_resource *resources;
+    size_t count, at;
+    uint32_t status = exifnorm_photoshop_resources(block, length, NULL, 0, &count);
+    if (status == EXIFNORM_DONE)
+        return EXIFNORM_DONE;
+    resources = (struct exifnorm_photoshop_resource *)calloc(count, sizeof *resources);
+    if (!resources)
+        return EXIFNORM_NO_MEMORY;
+    status = exifnorm_photoshop_resources(block, length, resources, count, &count);
+    for (at = 0; at < count; at++) {
+        if (resources[at].number != 0x0404 || resources[at].size == 0)
+            continue;
+        if (*iptc)
+            status = EXIFNORM_NOT_READ;
+        *iptc = block + resources[at].start;
+        *size = resources[at].size;
+    }
+    free(resources);
+    return status;
+}
+
+/* Copies the IPTC of a JPEG picture to the beginning of out, for exifnorm_captions or any other call: the data of the resource 0x0404 of
+ * Photoshop, as exifnorm_jpeg_blocks and exifnorm_photoshop_resources find it. One without a byte is no IPTC. As many bytes as the picture
+ * has are always enough for out. What this call does beyond those two is tested, and not proved.
+ *
+ *   DONE             out begins with the DataSets, and written is the number of their bytes; or written is 0: the picture has no IPTC.
+ *   NOT_READ         the picture has more than one such resource with data. Those two calls find them all.
+ *   REFUSED          fault is set: the bytes have no head.
+ *   NO_MEMORY        nothing is set.
+ *   TOO_LITTLE_ROOM  written is the number of bytes needed; out is unchanged.
+ */
+static inline uint32_t exifnorm_jpeg_iptc(const unsigned char *bytes, size_t length, /* the picture, or its first bytes */
+                                          unsigned char *out, size_t out_length,     /* receives the IPTC */
+                                          size_t *written,                           /* is set to its length */
+                                          struct exifnorm_jpeg_fault *fault) {       /* is set to the cause of a refusal */
+    const unsigned char *iptc = NULL;
+    struct exifnorm_jpeg_sizes sizes = {0, 0};
+    size_t size = 0, at;
+    uint32_t status = exifnorm_jpeg_blocks(bytes, length, NULL, 0, NULL, 0, &sizes, fault);
+    /* One more of each: calloc may return NULL for none. */
+    struct exifnorm_jpeg_block *blocks = (struct exifnorm_jpeg_block *)calloc(sizes.blocks + 1, sizeof *blocks);
+    unsigned char *joined = (unsigned char *)calloc(sizes.joined + 1, 1);
+    if (status == EXIFNORM_TOO_LITTLE_ROOM && !(blocks && joined))
+        status = EXIFNORM_NO_MEMORY;
+    if (status == EXIFNORM_TOO_LITTLE_ROOM)
+        status = exifnorm_jpeg_blocks(bytes, length, blocks, sizes.blocks, joined, sizes.joined, &sizes, fault);
+    for (at = 0; at < sizes.blocks && status == EXIFNORM_DONE; at++)
+        if (blocks[at].kind == EXIFNORM_JPEG_PHOTOSHOP)
+            status = exifnorm_photoshop_iptc((blocks[at].joined ? joined : bytes) + blocks[at].start, blocks[at].size, &iptc, &size);
+    if (status == EXIFNORM_DONE) {
+        *written = size;
+        if (size > out_length)
+            status = EXIFNORM_TOO_LITTLE_ROOM;
+        else if (size > 0)
+            memcpy(out, iptc, size);
+    }
+    free(joined);
+    free(blocks);
+    return status;
+}
+
+/* Whether the file has further pictures after the one that begins with these bytes, as the files of phones have: 1 if one of the parts of its
+ * head, as exifnorm_jpeg_parts stores them, is an index of pictures (CIPA DC-007), a segment APP2 whose data begin with "MPF" and a zero; else
+ * 0. No call reads or compares what follows the head. So of two pictures that are the same, this says whether their files have more.
+ */
+static inline uint32_t exifnorm_jpeg_has_further(const unsigned char *bytes, const struct exifnorm_jpeg_part *parts, size_t count) {
+    size_t at;
+    for (at = 0; at < count; at++)
+        if (parts[at].marker == 0xE2 && parts[at].size >= 4 && memcmp(bytes + parts[at].start, "MPF", 4) == 0)
+            return 1;
+    return 0;
 }
 
 #ifdef __cplusplus
