@@ -3,10 +3,12 @@
 
   tests/crates/outcomes.py CRATE..    prints those of the public functions of these crates
 
-A clause says something of a status if it begins with it as a premise. It says something of a constructor if it equates the result, or applies a
-definition to it whose equation for this constructor isn't ⊤; a definition about memory says something of OutOfMemory alone. A call that takes
-an allocator makes its own memory, which no clause can name: when it reports a failed allocation is tested. Whether what is said is enough, this
-doesn't tell: the tables of wrong bodies do.
+A clause says something of a status if it begins with it as a premise. It says something of a
+constructor if it equates the result, or applies a definition to it whose equation for this
+constructor isn't ⊤; a definition about memory says something of OutOfMemory alone. Of a function
+with a result and without any clause nothing is said. A call that takes an allocator makes its own
+memory, which no clause can name: when it reports a failed allocation is tested. Whether what is
+said is enough, this doesn't tell: the tables of wrong bodies do.
 """
 
 from __future__ import annotations
@@ -127,7 +129,8 @@ def missing(crate: str) -> Iterator[str]:
         premises = {it for clause in clauses for it in PREMISE.findall(clause)}
         statuses = dict.fromkeys(it for clause in clauses for it in STATUS.findall(clause))
         found = {it for clause in clauses for it in said(clause)}
-        left = [it for it in statuses if it not in premises]
+        left = ["any result"] if kind and "ensures" not in head else []
+        left += [it for it in statuses if it not in premises]
         left += [it for it in constructors(kind[1].strip() if kind else "") if not is_said(it, found)]
         yield from (f"{crate}::{function}: {it}" for it in left if not ("alloc: " in head and it.endswith(MEMORY)))
 

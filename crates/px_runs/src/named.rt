@@ -43,7 +43,10 @@ pub struct Named<'a> {
 
 impl<'a> Named<'a> {
     /// Files with these names and bytes, none of which is written yet.
-    pub fn new(alloc: Global, files: &'a [NamedFile<'a>]) -> Named<'a> {
+    pub fn new(alloc: Global, files: &'a [NamedFile<'a>]) -> Named<'a>
+        ensures files { result.files ≡ files.entry }
+        ensures written { result.written ≡ None }
+    {
         Named {
             alloc,
             files,
