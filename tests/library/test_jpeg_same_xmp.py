@@ -149,7 +149,7 @@ def made_piece(chance):
     if way < 18:
         return extended(data)
     if way == 18:
-        return of_resource(data)
+        return changed(chance, of_resource(data))
     if way == 19:
         return segment(0xE1, changed(chance, MARK) + data)
     if way == 20:
