@@ -256,11 +256,12 @@ export function same(first: Uint8Array, second: Uint8Array): boolean;
 export function jpegBlocks(picture: Uint8Array, most?: number): JpegBlock[];
 
 /**
- * Whether two JPEGs have the same Exif, IPTC and XMP: as many blocks of each kind, which mean the same, pair by pair, in their order; and no
- * XMP, or one packet each, with equal normal forms together with its extended XMP. So two JPEGs without metadata are the same. Pixels, and
- * what follows the head, are not compared. Throws NotRead if they are the same as far as both are read, but one has more that other programs
- * may read: a place that jpegUnread returns, where XMP may be too, XMP in another place, a packet that xmpNormalise refuses, a second
- * packet, or extended XMP that is missing or can't be joined to the packet. Also throws PictureRefused, OutOfMemory.
+ * Whether two JPEGs have the same Exif, IPTC and XMP: as many blocks of each kind, which mean the same, pair by pair, in their order; and
+ * no XMP, or one packet each, with equal normal forms together with its extended XMP. So two JPEGs without metadata are the same. Pixels,
+ * and what follows the head, are not compared: compare reads the further pictures there, as of phones (MPF), too. Throws NotRead if they
+ * are the same as far as both are read, but one has more that other programs may read: a place that jpegUnread returns, where XMP may be
+ * too, XMP in another place, a packet that xmpNormalise refuses, a second packet, or extended XMP that is missing or can't be joined to the
+ * packet. Also throws PictureRefused, OutOfMemory.
  */
 export function jpegSame(first: Uint8Array, second: Uint8Array): boolean;
 

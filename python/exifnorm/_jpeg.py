@@ -310,10 +310,13 @@ def jpeg_xmp(picture: Octets) -> Optional[bytes]:
 
 def jpeg_same(first: Octets, second: Octets) -> Union[bool, NotRead]:
     """Whether two JPEGs have the same Exif, IPTC and XMP: as many blocks of each kind as `jpeg_blocks` finds, which mean the same, pair by pair,
-    in their order; and no XMP, or one packet each, which have equal forms by `xmp_normal` together with their extended XMP. So two JPEGs
-    without metadata are the same. Pixels, and what follows the head, are not compared. What this says of Exif and IPTC is proved, and so is
-    what packets mean that are read. It is also proved that one packet which is all XMP of a picture is read, unless it has no meaning within
-    the limits of `xmp_normal` or names extended XMP, and that a packet and extended XMP are joined, unless they can't be within these limits.
+    in their order; and no XMP, or one packet each, which have equal forms by `xmp_normal` together
+    with their extended XMP. So two JPEGs without metadata are the same. Pixels, and what follows
+    the head, are not compared; `exifnorm.compare` reads the further pictures there, as of phones
+    (MPF), too. What this says of Exif and IPTC is proved, and so is what packets mean that are
+    read. It is also proved that one packet which is all XMP of a picture is read, unless it has no
+    meaning within the limits of `xmp_normal` or names extended XMP, and that a packet and extended
+    XMP are joined, unless they can't be within these limits.
 
     If they are the same as far as both are read, and something in one of them isn't read, the result is its place, a `NotRead`, which has no
     truth value: `if` raises TypeError, so nobody takes it for the same. Ask `is True` or `is False` where that may be. It is a place that
