@@ -130,6 +130,7 @@ def test_only_blocks_are_compared_without_xmp(way):
 
 PACKETS = [*small_packets(), VASE, VASE_AS_ELEMENT, BOWL, EMPTY, RARE, WRONG]
 PACKETS = [it for it in PACKETS if len(it) < 60_000]
+HEAD = len(photoshop(b""))  # what precedes the first resource in a segment
 
 
 def changed(chance, octets):
@@ -141,6 +142,13 @@ def changed(chance, octets):
     return octets[:place] + octets[place + 1 :] if way == 1 else octets
 
 
+def damaged(chance, octets):
+    """The same segment of resources, or with another octet before the data of the first one."""
+    place = HEAD + chance.randrange(12)
+    octet = octets[place] ^ chance.choice((0, 1, 4, 64))
+    return octets[:place] + bytes((octet,)) + octets[place + 1 :]
+
+
 def made_piece(chance):
     data = changed(chance, chance.choice(PACKETS))
     way = chance.randrange(24)
@@ -148,11 +156,11 @@ def made_piece(chance):
         return packet(data)
     if way < 18:
         return extended(data)
-    if way == 18:
-        return changed(chance, of_resource(data))
-    if way == 19:
-        return segment(0xE1, changed(chance, MARK) + data)
+    if way < 20:
+        return damaged(chance, of_resource(data))
     if way == 20:
+        return segment(0xE1, changed(chance, MARK) + data)
+    if way == 21:
         return segment(0xE1, chance.choice((b"XMP\0", b"http", b"", EXTENSION)) + data)
     return chance.choice((exif(ONE), exif(LITTLE), iptc(CAPTION), iptc(URN), COMMENT))
 
