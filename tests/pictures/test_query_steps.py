@@ -107,7 +107,7 @@ def works(counting, tmp_path_factory):
             for statement in EDITS:
                 base.execute(statement)
         (folder / "new" / "one").mkdir(parents=True)
-        unused = [f"{number} {'x' * 40}" for number in range(20)]  # texts that no picture has, longer than what the index has of a text
+        unused = [f"{number} {'x' * 40}" for number in range(20)]  # longer than what the index has of a text
         (folder / "rules").write_text(f"every picture needs credit\ncreator one of {', '.join(unused)}\n", encoding="ascii")
         (folder / "one").write_text(f"every picture needs credit\ncreator one of {unused[0]}\n", encoding="ascii")
         for words in COMMANDS:

@@ -177,38 +177,6 @@ def test_each_folder_without_pictures_is_named(folder, called):
     ]
 
 
-def test_a_text_that_no_picture_has_is_named_with_the_nearest(folder, called):
-    """Of several texts that a rule allows, those that are like none may be new."""
-    put(folder / "p", {"a.jpg": picture([("credit", "Riverside Museum")])})
-    (folder / "rules").write_text(
-        'credit is "Riversid Museum"\ncredit one of "City of Salt", "Riverside Museum"\ncredit one of "X", "Riverside Musem"\n'
-    )
-    *_, summary = map(json.loads, called("check", "--rules", "rules", "p", "--json")[1].splitlines())
-    (first, third) = summary["notes"]
-    for line, text, note in ((1, "Riversid Museum", first), (3, "Riverside Musem", third)):
-        assert f"line {line}:" in note and f'"{text}"' in note and '"Riverside Museum"' in note, note
-
-
-def test_a_text_is_there_however_its_accents_are_composed_and_however_long_it_is(folder, called):
-    """A text that only has other capitals is another one."""
-    long = "x\u00e9" * 40
-    put(folder / "p", {"a.jpg": picture([("credit", "Zu\u0308rich"), ("caption", long), ("title", "Clay")])})
-    (folder / "rules").write_text(f"credit is Z\u00fcrich\ncaption is {composed(long)}\ntitle is clay\n", encoding="utf-8")
-    *_, summary = map(json.loads, called("check", "--rules", "rules", "p", "--json")[1].splitlines())
-    (note,) = summary["notes"]
-    assert "line 3:" in note and '"clay"' in note and '"Clay"' in note
-
-
-def test_some_texts_that_no_picture_has_are_named_and_the_others_counted(folder, called):
-    put(folder / "p", {"a.jpg": picture([("credit", "Riverside Museum")])})
-    rules = [f"{label} is text{number}" for number in range(15) for label in ("credit", "caption")]
-    (folder / "rules").write_text("\n".join(rules), encoding="ascii")
-    *_, summary = map(json.loads, called("check", "--rules", "rules", "p", "--json")[1].splitlines())
-    *named, rest = summary["notes"]
-    assert [f"line {number}:" in note for number, note in enumerate(named, 1)] == [True] * len(named)
-    assert 10 <= len(named) < 30 and f" {30 - len(named)} " in rest
-
-
 def test_a_rule_for_the_folder_that_was_indexed_itself(folder, called):
     """It is about no picture, and the note has the folder below which rules name folders."""
     put(folder / "work", {"a.jpg": picture([("title", "A")])})

@@ -2,7 +2,6 @@
 
 from __future__ import annotations
 
-import difflib
 import os
 import re
 from dataclasses import replace
@@ -16,7 +15,7 @@ from ..fields.plain_names import group_name
 from ..fields.questions import Condition, fields_in, is_field
 from ..fields.rules import AFTER, AGREE, BEFORE, EQUAL, LENGTH, LIKE, NEEDS, NEVER, VALUES, Rule
 from ..model.records import has, has_short
-from ..model.texts import Members, escaped, pictures_in_words, whole_path
+from ..model.texts import Members, pictures_in_words, whole_path
 from .asking import IN_SCOPE, add_functions, forms_of_word, has_text, parts_of, pattern_of, put_wanted, unread
 from .conflicts import conflicts
 from .field_texts import DATE as FIELD_DATE, EACH, SHOWN, add_fields, ambiguous_in
@@ -26,11 +25,6 @@ from .texts import texts_of
 
 _TEXTS = f"""SELECT p.path, p.root, t.text FROM texts t JOIN pictures p ON p.id = t.picture
     WHERE t.label = ? AND {{}} AND {IN_SCOPE}"""
-_FEW = 20  # texts of a rule that are looked for; a list of words has many that no picture has
-_FREQUENT = 1000  # texts of pictures with which one of a rule is compared
-_SHORT = 100  # characters of a text that is compared with others
-_COMPARED = 500  # characters of all texts that are compared with others; it takes long
-_NAMED = 20  # texts that no picture has
 
 
 class Broken(NamedTuple):
@@ -41,15 +35,6 @@ class Broken(NamedTuple):
     label: str
     text: str | None  # the one that the rule doesn't allow; None: there is none, and it needs one
     damage: str = ""  # where the file is cut off or damaged
-
-
-class Unused(NamedTuple):
-    """A text of a rule that no picture has."""
-
-    rule: Rule
-    label: str
-    text: str
-    near: str = ""  # the one that pictures have and that most looks like it; empty if none does
 
 
 class Checked:
@@ -229,52 +214,13 @@ class Checked:
         yield from self._catalogue.rows("SELECT path FROM temp.unknown ORDER BY path", (), root_of_row)
 
     def notes(self) -> list[str]:
-        """The rules whose folders have no picture, the texts of rules that no picture has, and the names
-        that several fields have, each in a sentence."""
+        """The rules whose folders have no picture, and the names that several fields have, each in a sentence."""
         notes = []
         for rule, inside in self.about_nothing():
             folders = self._catalogue.roots()
             below = whole_path(folders[0]) if len(folders) == 1 else "the folders that were indexed"
             notes.append(f"line {rule.line}: no picture lies in {' or '.join(inside)} below {below}")
-        has = "is known to have" if self.not_known() else "has"
-        unused, more = self.fit_no_text()
-        for rule, label, text, near in unused:
-            perhaps = f'; the nearest that pictures have is "{escaped(near)}"' if near else ""
-            notes.append(f'line {rule.line}: no picture {has} the {label} "{escaped(text)}"{perhaps}')
-        if more:
-            notes.append(f"no picture {has} {more:,} more of the texts that rules allow; which texts are near was not looked for")
         return notes + [stands_for(*it) for it in ambiguous_in(self._places).items()]
-
-    def fit_no_text(self) -> tuple[list[Unused], int]:
-        """The first texts of rules that no picture has, as if they were mistyped, and how many more there are.
-        One of several texts that a rule allows may well be new: it is named only if a text is near."""
-        missing = [unused for rule in self.rules for unused in self._unused(rule)]
-        frequent: dict[str, list[str]] = {}
-        named: list[Unused] = []
-        compared = 0
-        for at, unused in enumerate(missing):
-            if compared > _COMPARED or len(named) == _NAMED:
-                return named, len(missing) - at
-            compared += len(unused.text) * (len(unused.text) <= _SHORT)
-            if unused.label not in frequent:
-                frequent[unused.label] = self._frequent(unused.label)
-            near = _nearest(unused, frequent[unused.label])
-            if near or len(unused.rule.values) == 1:
-                named.append(unused._replace(near=near))
-        return named, 0
-
-    def _unused(self, rule: Rule) -> Iterator[Unused]:
-        """The texts of a rule that no picture has."""
-        of_kind = "SELECT text FROM texts WHERE label = ? AND long = {} AND head IN (SELECT w.head FROM temp.wanted w WHERE w.number = ?)"
-        query = f"SELECT composed(text) FROM ({of_kind.format(0)} UNION {of_kind.format(1)})"
-        for label in rule.labels if rule.kind == VALUES and len(rule.values) <= _FEW else ():
-            present = {row[0] for row in self._catalogue.rows(query, (label, self._allowed[rule]) * 2)}
-            yield from (Unused(rule, label, text) for text in rule.values if not (is_field(label) or compose(text) in present))
-
-    def _frequent(self, label: str) -> list[str]:
-        """The most frequent texts of a label. One that is twice as long as another is none that looks like it."""
-        query = "SELECT text FROM texts WHERE label = ? AND length(text) <= ? GROUP BY text ORDER BY count(*) DESC, text LIMIT ?"
-        return [row[0] for row in self._catalogue.rows(query, (label, 2 * _SHORT, _FREQUENT)) if isinstance(row[0], str)]
 
     def about_nothing(self) -> list[tuple[Rule, list[str]]]:
         """The rules with folders that have no picture, and these folders: a folder may be mistyped."""
@@ -285,14 +231,6 @@ class Checked:
             if not left:
                 break
         return [(rule, [one[1] for one in of_rule]) for rule, of_rule in groupby(left, lambda one: one[0])]
-
-
-def _nearest(unused: Unused, frequent: Sequence[str]) -> str:
-    """The text that most looks like one that no picture has; empty if none does, and of long texts, which take long to compare."""
-    if len(unused.text) > _SHORT:
-        return ""
-    others = [text for text in frequent if text not in unused.rule.values]
-    return next(iter(difflib.get_close_matches(unused.text, others, 1, 0.75)), "")
 
 
 def _below(path: bytes, root: bytes) -> str:

@@ -35,7 +35,7 @@ if TYPE_CHECKING:
 
 def pictures(files: Files, run: Run) -> Iterator[Picture]:
     """The pictures that are named, and those of folders and catalogues that are named. Other files in these are passed over."""
-    if run.whole and any(is_catalogue(it) and is_of_many(os.fsencode(it)) for it in files.names):
+    if run.whole and any(map(is_catalogue, files.names)):
         _refuse_whole(files.command, run)  # before anything is printed
     for name in each_name(files):
         with opening.held(name):
@@ -43,29 +43,13 @@ def pictures(files: Files, run: Run) -> Iterator[Picture]:
 
 
 def _named(command: str, run: Run, name: bytes) -> Iterator[Picture]:
-    if not is_of_many(name):
-        note_sidecar(name)
-        yield _reading(run, name)
-    elif os.path.isdir(name) and not is_catalogue(os.fsdecode(name)):
+    if is_catalogue(os.fsdecode(name)):
+        yield from _in_catalogue(command, run, name)
+    elif os.path.isdir(name):
         yield from _in_folder(run, name)
     else:
-        yield from _in_catalogue(command, run, name)
-
-
-def is_of_many(name: bytes) -> bool:
-    """Whether a name is that of a folder or a catalogue."""
-    if os.path.isdir(name):
-        return True
-    try:
-        with opening.reading(name) as file:
-            head = file.read(100)
-    except OSError:
-        return False
-    if not head.startswith(b"SQLite"):
-        return False
-    from ..catalogue.store import head_is_ours  # which takes long to import, and most names are those of pictures
-
-    return head_is_ours(head)
+        note_sidecar(name)
+        yield _reading(run, name)
 
 
 def _refuse_whole(command: str, run: Run) -> None:

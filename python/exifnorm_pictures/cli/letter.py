@@ -2,6 +2,7 @@
 
 from __future__ import annotations
 
+import re
 from itertools import groupby
 from typing import Iterator, Sequence
 
@@ -16,29 +17,30 @@ LINES, COLUMNS = 30, 80
 OF_KIND = 5  # lines of one kind of news
 
 # What is said of one picture, and of several; {} is what the news is about
-_WORDS = {
-    Kind.LOST: ("lost its {}", "lost their {}"),
-    Kind.POSITION: ("shows where it was taken", "show where they were taken"),
-    Kind.DAMAGED: ("is damaged", "are damaged"),
-    Kind.RULE: ("breaks {}", "break {}"),
-    Kind.OTHER_PICTURE: ("has another picture", "have another picture"),
-    Kind.PARTS: ("with {}", "with {}"),
-    Kind.UNREADABLE: ("can't be read", "can't be read"),
-    Kind.OPEN: ("can't be fully compared", "can't be fully compared"),
-    Kind.UNREAD: ("was not wholly read, and may break a rule", "were not wholly read, and may break a rule"),
-    Kind.CHANGED: ("has another {}", "have another {}"),
-    Kind.ADDED: ("now has a {}", "now have a {}"),
-    Kind.OTHER: ("has other fields changed", "have other fields changed"),
-    Kind.WRITTEN: ("was written to, and isn't read", "were written to, and aren't read"),
-    Kind.UNSEEN: ("was written to, and its picture isn't read", "were written to, and their pictures aren't read"),
-    Kind.MOVED_FOLDER: ("moved with its folder", "moved with their folder"),
-    Kind.MOVED: ("moved", "moved"),
-    Kind.RENUMBERED: ("renumbered", "renumbered"),
-    Kind.GONE: ("is gone", "are gone"),
-    Kind.NEW: ("is new", "are new"),
-    Kind.READABLE: ("can be read again", "can be read again"),
-}
-_PLURAL = {"keywords": "keywords", "instructions": "instructions", "usage terms": "usage terms"}  # which have no article
+_SAID = """
+LOST           lost its {}                           lost their {}
+POSITION       shows where it was taken              show where they were taken
+DAMAGED        is damaged                            are damaged
+RULE           breaks {}                             break {}
+OTHER_PICTURE  has another picture                   have another picture
+PARTS          with {}                               with {}
+UNREADABLE     can't be read                         can't be read
+OPEN           can't be fully compared               can't be fully compared
+UNREAD         was not wholly read, and may break a rule  were not wholly read, and may break a rule
+CHANGED        has another {}                        have another {}
+ADDED          now has a {}                          now have a {}
+OTHER          has other fields changed              have other fields changed
+WRITTEN        was written to, and isn't read        were written to, and aren't read
+UNSEEN         was written to, and its picture isn't read  were written to, and their pictures aren't read
+MOVED_FOLDER   moved with its folder                 moved with their folder
+MOVED          moved                                 moved
+RENUMBERED     renumbered                            renumbered
+GONE           is gone                               are gone
+NEW            is new                                are new
+READABLE       can be read again                     can be read again
+"""
+_WORDS = {Kind[name]: words for name, *words in (re.split(" {2,}", line) for line in _SAID.strip().split("\n"))}
+_PLURAL = ("keywords", "instructions", "usage terms")  # which have no article
 
 
 def letter(head: str, news: Sequence[News], end: Sequence[str], groups: Sequence[Group] = ()) -> Iterator[str]:

@@ -4,7 +4,7 @@ from __future__ import annotations
 
 import json
 import sys
-from typing import Any, Iterator
+from typing import Any
 
 from ..model.budgets import ENCODED_CHARACTERS
 from ..model.records import PictureRecord
@@ -28,9 +28,9 @@ def print_object(command: str, record: str, members: Members) -> None:
     encoded, since a value that can't be must fail before a part is printed."""
     whole = _object(command, record, members)
     if _is_long(whole):
-        for _ in _parts(whole):
+        for _ in _ENCODER.iterencode(whole):
             pass
-        sys.stdout.writelines(_parts(whole))
+        sys.stdout.writelines(_ENCODER.iterencode(whole))
         print()
     else:
         print(_ENCODER.encode(whole))
@@ -55,22 +55,6 @@ def _is_long(value: Any) -> bool:
         elif kind is list or kind is tuple:
             waiting += one
     return False
-
-
-def _parts(value: Any) -> Iterator[str]:
-    """The JSON of a value: of an object or a list with long texts that of each member."""
-    if isinstance(value, dict) and _is_long(value):
-        for at, (name, member) in enumerate(value.items()):
-            yield f"{', ' if at else '{'}{_ENCODER.encode(name)}: "
-            yield from _parts(member)
-        yield "}"
-    elif isinstance(value, (list, tuple)) and _is_long(value):
-        for at, member in enumerate(value):
-            yield ", " if at else "["
-            yield from _parts(member)
-        yield "]"
-    else:
-        yield _ENCODER.encode(value)
 
 
 def picture_object(path: bytes, problem: str | None, detail: str) -> Members:

@@ -58,7 +58,6 @@ class Run(NamedTuple):
     quiet: bool = False
     again: bool = False
     exclude: Sequence[str] = ()
-    scheduler: str | None = None
     whole: bool = False
     pixels: bool = False
     sidecars: bool = False

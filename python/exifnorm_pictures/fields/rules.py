@@ -52,16 +52,18 @@ _PREDICATES = {  # by their words
     ("agree",): AGREE,
 }
 _PLACES = ("in", "except")
-_MEANT = {  # words in place of a predicate, and what may be meant
-    **dict.fromkeys((":", "equals", "must", "should", "are", "be"), "is"),
-    **dict.fromkeys(("matches", "match", "has", "contains", "contain", "with"), 'like "*..*"'),
-    **dict.fromkeys(("before", "until", "<", "<="), "not after"),
-    **dict.fromkeys(("after", "since", ">", ">="), "not before"),
-    **dict.fromkeys(("forbidden", "no", "none", "without", "not"), "never"),
-    **dict.fromkeys(("max", "maximum", "up", "shorter"), "at most .. characters"),
-    **dict.fromkeys(("and", "or", "&", ";"), "a comma"),
-    **dict.fromkeys(("need", "require", "requires", "required", "have"), "every picture needs"),
-}
+# What may be meant, and the words in place of it
+_OTHER_WORDS = """
+is                     : equals must should are be
+like "*..*"            matches match has contains contain with
+not after              before until < <=
+not before             after since > >=
+never                  forbidden no none without not
+at most .. characters  max maximum up shorter
+a comma                and or & ;
+every picture needs    need require requires required have
+"""
+_MEANT = {word: line[:23].rstrip() for line in _OTHER_WORDS.strip().split("\n") for word in line[23:].split()}
 MOST_RULES = 1000
 LONGEST_LINE = 100_000  # characters
 _MOST_MISTAKES = 20  # that are listed

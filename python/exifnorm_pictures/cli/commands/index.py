@@ -6,7 +6,7 @@ import argparse
 import os
 import shlex
 from collections import Counter
-from typing import Iterable, Iterator, Sequence
+from typing import TYPE_CHECKING, Iterable, Iterator, Sequence
 
 from ...catalogue import shards
 from ...catalogue.nights import copy_over
@@ -19,18 +19,25 @@ from ...scan.index import DAMAGED, OF_LAST_RUN, OF_XMP, REFUSED, IndexOptions, i
 from .. import objects
 from ..exit_codes import SUCCESS, UNKNOWN
 from ..looking import how_of, xmp_files_alone
-from ..names import is_catalogue, named
+from ..names import is_catalogue, named, settle_first, with_first
 from ..options import Files, Output, Run, groups_of
 from ..output import counted, print_line, print_lines, record_lines, say_notes
-from ..names import settle_first, with_first
+
+if TYPE_CHECKING:
+    from ...scan.parts import Outcome
 
 
 def going_on(run: Run, catalogue: Catalogue) -> Run:
-    """Goes on with XMP sidecars, and with digests of coded pictures, in a catalogue that has them. Raises `WrongUse`."""
-    if run.sidecars and not catalogue.has_sidecars() and not catalogue.is_empty():
-        raise WrongUse(f"{catalogue.name} was made without --sidecars: make a new catalogue")
+    """Goes on as a catalogue was begun. Raises `WrongUse`."""
+    return _going_on(run, catalogue.name, catalogue.has_sidecars(), catalogue.has_digests(), catalogue.is_empty())
+
+
+def _going_on(run: Run, name: str, has_sidecars: bool, has_digests: bool, is_empty: bool) -> Run:
+    """Goes on with XMP sidecars, and with digests of coded pictures, where some were read before."""
+    if run.sidecars and not has_sidecars and not is_empty:
+        raise WrongUse(f"{name} was made without --sidecars: make a new one")
     # of the pictures that changed, too
-    return run._replace(sidecars=run.sidecars or catalogue.has_sidecars(), pixels=run.pixels or catalogue.has_digests())
+    return run._replace(sidecars=run.sidecars or has_sidecars, pixels=run.pixels or has_digests)
 
 
 def run(arguments: argparse.Namespace) -> int:
@@ -38,9 +45,7 @@ def run(arguments: argparse.Namespace) -> int:
     files, run, output = groups_of(arguments)
     name, files = (arguments.shards, with_first(files)) if arguments.shards else settle_first(files)
     if arguments.shards or shards.is_folder(name):
-        from .. import index_shards  # which few need
-
-        return index_shards.indexed_shards(name, named(files), run, output, arguments.keep_old)
+        return _indexed_shards(name, named(files), run, output, arguments.keep_old)
     return _indexed(name, _names(name, files, run), run, output, arguments.keep_old)
 
 
@@ -60,11 +65,8 @@ def _indexed(name: str, names: Sequence[bytes], run: Run, output: Output, keep_o
         counts["excluded"] = excluded.count
     say_unused(excluded.unused())
     say_notes(*not_read_again(unread))
-    if output.json:
-        objects.print_object("index", "summary", {"counts": dict(counts), "damaged": damaged})
-    else:
-        print_lines([*parts, counted(counts, damaged), *steps])
-    return UNKNOWN if any(map(_is_special, names)) or any(counts[it] for it in NOT_READABLE) else SUCCESS
+    status = _print_end(output, counts, damaged, parts, steps)
+    return UNKNOWN if any(map(_is_special, names)) else status
 
 
 def _is_special(name: bytes) -> bool:
@@ -103,8 +105,6 @@ def say_unused(patterns: Iterable[str]) -> None:
 def _names(catalogue: str, files: Files, run: Run) -> list[bytes]:
     """The names that are given. Raises `WrongUse`."""
     names = named(files)
-    if run.scheduler:
-        raise WrongUse("--scheduler is for a catalogue of each folder: give --shards DIR in place of a catalogue")
     if not any(map(os.path.lexists, names)) and not _are_known(names, catalogue):
         raise WrongUse(f"there is no folder or file {', '.join(map(shown_path, names))}")
     return names
@@ -136,6 +136,50 @@ def _next_steps(catalogue: Catalogue, name: str, excluded: int) -> Iterator[str]
         yield f"{xmp_files_alone(count)}: index --sidecars, with a new catalogue, takes those beside pictures as metadata of them"
     if excluded:
         yield f"{excluded:,} excluded, and in the catalogue from an earlier run: exifnorm-pictures catalogue forget {word} FOLDER"
+
+
+def _indexed_shards(where: str, names: Sequence[bytes], run: Run, output: Output, old: str | None) -> int:
+    """Looks at the pictures of each part of an archive, and keeps the results in its catalogue in the
+    folder `where`. Returns the status."""
+    from ...scan import parts  # which few need
+
+    if old:
+        raise WrongUse(f"--keep-old copies one catalogue, and {escaped(where)} is a folder of them: copy it before the run")
+    planned = parts.plan(where, names, run.exclude)
+    run = _going_on(run, where, planned.has_sidecars, planned.has_digests, planned.is_empty)
+    options = printing_options(run, output, [])
+    outcomes = []
+    for shard in planned.shards:
+        outcomes.append(parts.indexed(where, shard, options, run.exclude))
+        if problem := outcomes[-1].problem:  # why it wasn't looked at
+            print_lines((objects.record_lines if output.json else record_lines)(problem))
+    outcome = parts.together(planned, outcomes)
+    say_unused(sorted(outcome.unused))
+    say_notes(*not_read_again(outcome.lacking))
+    steps = [] if run.quiet else _next_steps_of(where, outcome)
+    return _print_end(output, outcome.counts, outcome.damaged, [], steps)
+
+
+def _print_end(output: Output, counts: "Counter[str]", damaged: int, before: Iterable[str], after: Iterable[str]) -> int:
+    """Prints the counts, and some lines around them. Returns the status."""
+    if output.json:
+        objects.print_object("index", "summary", {"counts": dict(counts), "damaged": damaged})
+    else:
+        print_lines([*before, counted(counts, damaged), *after])
+    return UNKNOWN if any(counts[it] for it in NOT_READABLE) else SUCCESS
+
+
+def _next_steps_of(where: str, outcome: Outcome) -> Iterator[str]:
+    """What a reader of a folder of catalogues has to know, and can do next, a line for each."""
+    word = escaped(shlex.quote(where))
+    if outcome.continued:
+        folders = "1 folder goes" if outcome.continued == 1 else f"{outcome.continued:,} folders go"
+        yield f"{folders} on from a run that was stopped: pictures that it looked at count as unchanged"
+    yield f"groups of pictures with the same metadata: exifnorm-pictures same {word}"
+    if outcome.refused:
+        yield f"{outcome.refused:,} refused or unreadable: exifnorm-pictures report {word} --html report/"
+    if outcome.excluded:
+        yield f"{outcome.excluded:,} excluded, and in a catalogue from an earlier run: exifnorm-pictures catalogue forget {word} FOLDER"
 
 
 def _parts(catalogue: Catalogue) -> list[str]:
