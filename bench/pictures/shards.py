@@ -4,12 +4,13 @@
   bench/pictures/shards.py LIBRARY [--rows 100000] [--files 4000]
 
 LIBRARY is a folder such as out/lib. `index` reads small JPEG files with Exif, IPTC and XMP that it makes, and SQL makes the catalogues of many
-rows, as bench/pictures/commands.py does.
+rows, as bench/pictures/commands.py does. What goes through the scheduler of a cluster is pickled here, as Dask does, and counted.
 """
 
 import argparse
 import importlib.util
 import os
+import pickle
 import sys
 import tempfile
 from itertools import chain
@@ -23,6 +24,8 @@ sys.dont_write_bytecode = True
 import test_shards
 
 from exifnorm_pictures.catalogue import shards
+from exifnorm_pictures.scan import parts, shard_tasks
+from exifnorm_pictures.scan.batches import How
 
 Rows = Iterator[Tuple[str, str]]
 FOLDERS = 4  # with a catalogue each
@@ -77,7 +80,7 @@ def _size(folder: Path) -> int:
 
 
 def over_files(folder: Path, count: int, environment: Dict[str, str]) -> Rows:
-    """What `index` takes."""
+    """What `index` takes, and what goes through a scheduler."""
     for number in range(FOLDERS):
         (folder / "p" / str(number)).mkdir(parents=True)
         files_of.make_pictures(str(folder / "p" / str(number)), count // FOLDERS)
@@ -88,6 +91,17 @@ def over_files(folder: Path, count: int, environment: Dict[str, str]) -> Rows:
         costs = [commands.cost(folder, f"index {it} --shards of-{it} --quiet --jobs 1", environment) for it in ("few", "p")]
         yield what, _slope(costs, (4, count))
     yield "bytes of a catalogue for a picture with Exif, IPTC and XMP", f"{_size(folder / 'of-p') / count:,.0f}"
+    yield from _network(folder)
+
+
+def _network(folder: Path) -> Rows:
+    """The bytes of a part and its outcome."""
+    planned = parts.plan(str(folder / "of-p"), [os.fsencode(folder / "p")], [])
+    how = How(jobs=1)
+    sent = [(str(folder / "of-p"), shard, False, how, []) for shard in planned.shards]
+    returned = [shard_tasks.index_there(*words) for words in sent]
+    octets = sum(len(pickle.dumps(it)) for it in (planned, *sent, *returned))
+    yield "bytes through the scheduler", f"{octets / len(sent):,.0f} a folder"
 
 
 def main() -> None:

@@ -39,7 +39,7 @@ PROGRAMS = {
     "heif-enc": "libheif-examples",
     "perl": "perl",
 }
-MODULES = {"piexif": "python3-piexif", "PIL": "python3-pil", "rdflib": "python3-rdflib"}
+MODULES = {"piexif": "python3-piexif", "distributed": "python3-distributed", "PIL": "python3-pil", "rdflib": "python3-rdflib"}
 
 
 # looks for modules without running them, which takes a second with some
@@ -94,8 +94,8 @@ class Studio:
     def put_commands(cls):
         """Makes the commands, which only tests with a folder of their own call."""
         cls.wrapper("exifnorm", f'exec "{cls.program}" "$@"')
-        cls.wrapper("exifnorm-pictures", f'exec "{sys.executable}" -m exifnorm_pictures "$@"')
-        cls.wrapper("python3", f'exec "{sys.executable}" "$@"')
+        cls.wrapper("exifnorm-pictures", f'exec "{interpreter_with("distributed") or sys.executable}" -m exifnorm_pictures "$@"')
+        cls.wrapper("python3", f'exec "{interpreter_with("distributed") or sys.executable}" "$@"')
 
     @classmethod
     def close(cls):

@@ -66,7 +66,7 @@ def calls(command: str, parser: argparse.ArgumentParser):
     for value in VALUES:
         for action in parser._actions:
             option = action.option_strings[-1:]
-            if not option or option[0] == "--jobs":  # which takes seconds
+            if not option or option[0] in ("--jobs", "--scheduler"):  # which take seconds
                 continue
             if (value, option[0]) != ("pipe", "--files-from"):  # which waits for who writes
                 yield [*words, f"{option[0]}={value}"]

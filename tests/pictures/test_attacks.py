@@ -551,3 +551,12 @@ def test_texts_of_exiftool(archive):
     for ended in run_each(archive, commands, PATH=path):
         no_control(ended.check(0, 2))
     assert not RAW.search((archive / "page").read_text("utf-8"))
+
+
+@pytest.mark.parametrize("scheduler", ("nonsense", "tcp://", "tls://127.0.0.1:1", "tcp://127.0.0.1:1", "x\x1b[2J", "ftp://a"))
+def test_schedulers(scheduler, archive):
+    """A name that is no address, and an address where nothing is: a line, without the tracebacks of Dask."""
+    ended = run(archive, "index", "p", "--shards", "new", "--quiet", "--limit", "1", "--scheduler", scheduler)
+    assert (ended.status, len(ended.err.splitlines())) == (4, 1), ended.err
+    assert "internal error" not in ended.err and "Traceback" not in ended.err
+    no_control(ended)

@@ -245,7 +245,7 @@ def test_a_folder_of_an_earlier_version_is_named(archive, called_lines):
 
 
 def test_two_processes_at_one_part_lose_nothing(archive):
-    """As where somebody begins the run of a folder again on another machine."""
+    """As where a scheduler takes a worker for dead that is only far away."""
     shard = plan(str(archive / "shards"), [os.fsencode(archive / "p")], []).shards[0]
     outcomes = []
 

@@ -252,7 +252,7 @@ CALLS = {
 # What a page runs, or loads from elsewhere, or leads to
 OUTSIDE = re.compile(r"<script|<link|src=.(?!data:)|href=.(?!file:///|#|\.{1,2}/|data:image/)")
 # Options that no call can have here, and why
-ELSEWHERE = {"--help": "help.txt has it", "--no-programs": "test_options.py"}
+ELSEWHERE = {"--scheduler": "needs a cluster: test_shard_tasks.py", "--help": "help.txt has it", "--no-programs": "test_options.py"}
 
 
 def chains_of(command):

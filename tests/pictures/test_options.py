@@ -216,6 +216,7 @@ def test_a_catalogue_that_is_missing(words, archive, called, capsys):
 @pytest.mark.parametrize(
     "words, why",
     [
+        (("index", "p", "--catalogue", "d", "--scheduler", "tcp://127.0.0.1:9"), "give --shards DIR"),
         (("changed", "c", "c", "--pixels"), "for folders"),
         (("changed", "c", "c", "--whole"), "for folders"),
         (("changed", "c", "c", "--sidecars"), "without --sidecars"),

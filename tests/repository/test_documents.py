@@ -71,12 +71,13 @@ def sections() -> Iterator[object]:
 # ---- the folder in which they are run
 
 
-# exifnorm-pictures on a very busy machine: by itself it waits a minute for ExifTool.
+# exifnorm-pictures on a very busy machine: by itself it waits a minute for ExifTool, and for the first worker of a cluster.
 PATIENT = """import sys
 from exifnorm_pictures.model import budgets
 budgets.PROGRAM_SECONDS = 3600.0
 from exifnorm_pictures.cli.main import main
 sys.exit(main(sys.argv[1:]))"""
+PATIENT_DASK = {f"DASK_DISTRIBUTED__COMM__TIMEOUTS__{it}": "3600s" for it in ("CONNECT", "TCP")}
 
 
 def command(path: Path, line: str) -> None:
@@ -101,6 +102,7 @@ def environment(session_folder: Path, program: Path, library: Path) -> dict[str,
     command(commands / "make", f'exec /usr/bin/make -n -C "{TOP}" "$@"')
     return {
         **os.environ,
+        **PATIENT_DASK,
         "PATH": f"{commands}:{os.environ['PATH']}",
         "LD_LIBRARY_PATH": str(library),
         "EXIFNORM_LIBRARY": str(library / "libexifnorm.so.1"),

@@ -107,6 +107,8 @@ names FOLDER *    a folder, with all below it, or a picture
 --again           read all pictures, even if they haven't changed
 +notes
 +pixels
+--scheduler tcp://HOST:PORT  with --shards: each worker of this Dask cluster reads folders, and
+                  keeps their catalogues
 +whole
 +jobs
 --quiet           print only the counts, without progress, pictures and next steps
@@ -467,7 +469,6 @@ OPTIONS_WENT = {
     "no-exiftool": "; use --no-programs, which starts no other program either",
     "block": "; the command exifnorm takes blocks",
     "catalogue": "; name the catalogue without an option",
-    "scheduler": "; several runs of index --shards write into one folder at once",
 }
 
 # Options that have no effect without another one

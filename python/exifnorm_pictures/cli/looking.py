@@ -29,7 +29,7 @@ _DEBIAN = f"Debian: {programs.PACKAGES['exiftool']}"
 
 def how_of(run: Run, room: str, lines: Lines | None = None) -> How:
     """How a command looks at pictures."""
-    if run.maker_notes and not programs.is_there("exiftool"):
+    if run.maker_notes and not run.scheduler and not programs.is_there("exiftool"):
         say_notes(f"no MakerNote is read, because ExifTool isn't installed ({_DEBIAN}); later runs ask again")
     return How(
         run.jobs, run.maker_notes, run.whole, run.pixels, run.sidecars, run.limit, room, run.session.debug, lines, run.session.programs

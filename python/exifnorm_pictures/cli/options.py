@@ -58,6 +58,7 @@ class Run(NamedTuple):
     quiet: bool = False
     again: bool = False
     exclude: Sequence[str] = ()
+    scheduler: str | None = None
     whole: bool = False
     pixels: bool = False
     sidecars: bool = False

@@ -324,6 +324,6 @@ def _first_name(text: str) -> str:
 _VALUES: dict[str, tuple[Callable[[str], Any] | None, Any]] = {
     "N": (_positive, 0),
     "SECONDS": (_seconds, PROGRAM_SECONDS),
-    **dict.fromkeys(("FIELD", "LABEL", "LABELS", "QUESTION", "DAY", "ADDRESS", "TITLE", "LIST"), (None, None)),
+    **dict.fromkeys(("FIELD", "LABEL", "LABELS", "QUESTION", "DAY", "ADDRESS", "TITLE", "LIST", "tcp://HOST:PORT"), (None, None)),
 }
 _NAMES = tuple(command.name for command in COMMANDS)

@@ -24,7 +24,7 @@ from ..options import Files, Output, Run, groups_of
 from ..output import counted, print_line, print_lines, record_lines, say_notes
 
 if TYPE_CHECKING:
-    from ...scan.parts import Outcome
+    from ...scan.parts import Outcome, Plan
 
 
 def going_on(run: Run, catalogue: Catalogue) -> Run:
@@ -105,6 +105,8 @@ def say_unused(patterns: Iterable[str]) -> None:
 def _names(catalogue: str, files: Files, run: Run) -> list[bytes]:
     """The names that are given. Raises `WrongUse`."""
     names = named(files)
+    if run.scheduler:
+        raise WrongUse("--scheduler is for a catalogue of each folder: give --shards DIR in place of a catalogue")
     if not any(map(os.path.lexists, names)) and not _are_known(names, catalogue):
         raise WrongUse(f"there is no folder or file {', '.join(map(shown_path, names))}")
     return names
@@ -139,25 +141,58 @@ def _next_steps(catalogue: Catalogue, name: str, excluded: int) -> Iterator[str]
 
 
 def _indexed_shards(where: str, names: Sequence[bytes], run: Run, output: Output, old: str | None) -> int:
-    """Looks at the pictures of each part of an archive, and keeps the results in its catalogue in the
-    folder `where`. Returns the status."""
+    """Keeps the pictures of each part of an archive in a catalogue of its own in the folder `where`.
+    Returns the status."""
     from ...scan import parts  # which few need
 
     if old:
         raise WrongUse(f"--keep-old copies one catalogue, and {escaped(where)} is a folder of them: copy it before the run")
-    planned = parts.plan(where, names, run.exclude)
-    run = _going_on(run, where, planned.has_sidecars, planned.has_digests, planned.is_empty)
-    options = printing_options(run, output, [])
-    outcomes = []
-    for shard in planned.shards:
-        outcomes.append(parts.indexed(where, shard, options, run.exclude))
-        if problem := outcomes[-1].problem:  # why it wasn't looked at
-            print_lines((objects.record_lines if output.json else record_lines)(problem))
-    outcome = parts.together(planned, outcomes)
+    outcome = parts.together(*(_on_cluster if run.scheduler else _here)(where, names, run, output))
     say_unused(sorted(outcome.unused))
     say_notes(*not_read_again(outcome.lacking))
     steps = [] if run.quiet else _next_steps_of(where, outcome)
     return _print_end(output, outcome.counts, outcome.damaged, [], steps)
+
+
+def _like(planned: Plan, where: str, run: Run) -> Run:
+    """Looks at all parts as at those before. Raises `WrongUse`."""
+    return _going_on(run, where, planned.has_sidecars, planned.has_digests, planned.is_empty)
+
+
+def _here(where: str, names: Sequence[bytes], run: Run, output: Output) -> tuple[Plan, list[Outcome]]:
+    """By this process, one part after another."""
+    from ...scan import parts
+
+    planned = parts.plan(where, names, run.exclude)
+    options = printing_options(_like(planned, where, run), output, [])
+    outcomes = []
+    for shard in planned.shards:
+        outcomes.append(parts.indexed(where, shard, options, run.exclude))
+        _print_problem(output, outcomes[-1])
+    return planned, outcomes
+
+
+def _on_cluster(where: str, names: Sequence[bytes], run: Run, output: Output) -> tuple[Plan, list[Outcome]]:
+    """By the workers of a cluster, each of which has some parts. A line is printed for each that is done."""
+    from ...scan.shard_tasks import Parts  # only this needs Dask
+
+    assert run.scheduler
+    cluster = Parts(run.scheduler, where, run.again, how_of(run, ""), run.exclude)
+    planned = cluster.planned(names)
+    outcomes = []
+    for shard, outcome in cluster.outcomes(planned, how_of(_like(planned, where, run), "")):
+        outcomes.append(outcome)
+        _print_problem(output, outcome)
+        if not (output.json or run.quiet or outcome.problem):
+            own = "/*" * shard.part.is_flat
+            print_line(f"{shown_path(shard.part.folder)}{own}: {counted(outcome.counts)}")
+    return planned, outcomes
+
+
+def _print_problem(output: Output, outcome: Outcome) -> None:
+    """Why a part wasn't looked at."""
+    if outcome.problem:
+        print_lines((objects.record_lines if output.json else record_lines)(outcome.problem))
 
 
 def _print_end(output: Output, counts: "Counter[str]", damaged: int, before: Iterable[str], after: Iterable[str]) -> int:
