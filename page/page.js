@@ -430,7 +430,7 @@ function captionsTable({ captions }, heads) {
 }
 
 /** A text that no spreadsheet takes for a formula, whatever separates its cells. */
-const harmless = (text) => safe(text).replace(/^(?=[=+\-@\t\n＝＋－＠])|(?<=[;\t\n])(?=[=+\-@＝＋－＠])/g, "'");
+const harmless = (text) => safe(text).replace(/^(?=[\t\n])|(?:^|(?<=[;\t\n]))(?="*[=+\-@＝＋－＠])/g, "'");
 
 function saveTable(name, lines) {
   const csvCell = (text) => `"${harmless(text).replaceAll('"', '""')}"`;
@@ -590,6 +590,13 @@ function detailOf(row) {
 
 const nameOf = (path) => path.slice(path.lastIndexOf("/") + 1);
 
+/** Rows by the names of their pictures; null if several have a name. */
+function byName(rows) {
+  const found = new Map();
+  for (const row of rows) found.set(nameOf(row.path), found.has(nameOf(row.path)) ? null : row);
+  return found;
+}
+
 /**
  * Pairs pictures that are in one folder only and have the same metadata: by name, or if there is one on each side. They become one row.
  * Of others the number of candidates is shown.
@@ -606,12 +613,8 @@ function pairMoved(rows) {
     arrived.add(second);
   };
   for (const [left, right] of groups.values()) {
-    const byName = new Map();
-    for (const row of right) byName.set(nameOf(row.path), byName.has(nameOf(row.path)) ? null : row); // null: several have the name
-    for (const row of left) {
-      const other = byName.get(nameOf(row.path));
-      if (other && left.filter(({ path }) => nameOf(path) === nameOf(row.path)).length === 1) pair(row, other);
-    }
+    const [ofLeft, ofRight] = [left, right].map(byName);
+    for (const [name, row] of ofLeft) if (row && ofRight.get(name)) pair(row, ofRight.get(name));
     const [from, to] = [left.filter(({ verdict }) => verdict === "missing"), right.filter((row) => !arrived.has(row))];
     if (from.length === 1 && to.length === 1) pair(from[0], to[0]);
     else for (const [side, others] of [[from, to], [to, from]]) for (const row of side) row.candidates = others.length;
@@ -732,9 +735,10 @@ function sharedBy(group) {
   const fields = new Map();
   for (const edit of group.flatMap(({ shared }) => shared)) {
     const key = `${edit.name} ${edit.note}`;
-    fields.set(key, [...new Set([...fields.get(key) ?? [], ...edit.fields])]);
+    if (!fields.has(key)) fields.set(key, new Set());
+    for (const field of edit.fields) fields.get(key).add(field);
   }
-  return group[0].shared.map((edit) => ({ ...edit, fields: fields.get(`${edit.name} ${edit.note}`) }));
+  return group[0].shared.map((edit) => ({ ...edit, fields: [...fields.get(`${edit.name} ${edit.note}`)] }));
 }
 
 /** What changed: those that changed like no other first. `open` shows a group in the list. */
@@ -761,7 +765,9 @@ function copiesOf(rows) {
   for (const row of rows) {
     (row.identities ?? []).forEach((identity, i) => {
       const side = row.verdict === "missing" ? row.side : i, path = side && row.verdict === "moved" ? row.to : row.path;
-      if (identity) groups[side].set(identity, [...groups[side].get(identity) ?? [], path]);
+      if (!identity) return;
+      if (!groups[side].has(identity)) groups[side].set(identity, []);
+      groups[side].get(identity).push(path);
     });
   }
   for (const row of rows.filter(({ verdict }) => verdict === "missing")) row.twins = groups[row.side].get(row.identities?.[0]);
@@ -787,7 +793,7 @@ function summarise(rows, others, isPair, stoppedOf) {
   let filter = VERDICTS.find((verdict) => counts[verdict]), shown = ROWS, group = null, field = "";
   const draw = () => {
     closeResult();
-    const chosenRows = rows.filter((row) => field ? row.labels?.includes(field) : group ? group.includes(row) : filter === "all" || row.verdict === filter);
+    const chosenRows = rows.filter((row) => field ? row.labels?.includes(field) : group ? group.has(row) : filter === "all" || row.verdict === filter);
     if (filter === "different") chosenRows.sort((first, second) => byWay.get(first) - byWay.get(second));
     const lines = chosenRows.slice(0, shown).map((row) => {
       const cells = [element("td", "verb", element("span", `word ${row.verdict}`, wordOf(row))), element("td", "", safe(detailOf(row)))];
@@ -809,7 +815,7 @@ function summarise(rows, others, isPair, stoppedOf) {
   const openWay = (some) => {
     filter = "different";
     field = "";
-    group = some.length > 1 ? some : null;
+    group = some.length > 1 ? new Set(some) : null;
     shown = ROWS;
     draw();
     const lines = [...holder.querySelectorAll(".list > tbody > tr > th button")], line = group ? lines[0] : lines.find((node) => node.textContent === safeName(some[0].path));

@@ -13,7 +13,7 @@ from test_captions import data_set, with_record, with_texts
 from test_groups import FILES as TWINS
 
 FORMULA = '=HYPERLINK("http://x")\r\n\x1b'
-INSIDE = "a;=1+1;b\t+1\tc\n@x;-1,=2"  # formulas for who separates by semicolons or tabs
+INSIDE = 'a;=1+1;b\t+1\tc\n@x;-1,=2;"=3'  # formulas for who separates by semicolons or tabs
 PICTURE = jpeg(with_texts(artist=FORMULA.encode()), with_record(data_set(80, b"Otto"), data_set(5, b'a;b,c"d')), app1_xmp(title("+1")))
 NAMES = [b"=1+1.jpg", b"@a.jpg", b"+b\xff\n.jpg", b"-c.jpg", "\uff1d1.jpg".encode(), b'plain,"1".jpg']
 

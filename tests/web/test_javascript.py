@@ -286,32 +286,6 @@ def test_names_that_each_object_has(node, module, folder):
     assert {*found[0]["fields"]} == {*found[0]["texts"]} == due and len(due) == 2 * len(EVERY)
 
 
-READ_ALL = """import { readFileSync, readdirSync } from "node:fs"; import { compare, read } from "./node.js";
-const [folder, good] = process.argv.slice(1).map(String), sound = readFileSync(good), before = JSON.stringify(read(sound));
-const verdicts = new Set();
-for (const name of readdirSync(folder)) {
-  const octets = readFileSync(`${folder}/${name}`);
-  read(octets);
-  verdicts.add(compare(octets, sound).verdict);
-}
-console.log(JSON.stringify([[...verdicts].sort(), JSON.stringify(read(sound)) === before]));"""
-SOUND = TOP / "samples" / "before" / "ceramics" / "2003-12-bowl.jpg"
-
-
-def test_ten_thousand_hostile_pictures(node, module, folder):
-    """None throws, each is answered, and what is read afterwards is as before."""
-    chance = Random(SEED)
-    some = [path.read_bytes()[:6000] for path in sorted(TOP.glob("samples/*/*/*")) if path.is_file()]
-    some += [picture(xmp_segment(packet)) for packet in small_packets()]
-    (folder / "p").mkdir()
-    for number in range(10_000):
-        octets = chance.choice(some)
-        (folder / "p" / f"<img onerror=alert({number})>.jpg").write_bytes(changed(octets, chance))
-    words = ("--input-type=module", "-e", READ_ALL, folder / "p", SOUND)
-    verdicts, is_as_before = json.loads(node(*words, folder=module))
-    assert is_as_before and {"different", "refused", "not read"} <= {*verdicts}
-
-
 def test_the_module_imports_nothing_and_is_small(wasm, node):
     octets = (wasm / "exifnorm.wasm").read_bytes()
     assert len(octets) < MOST_WASM or guard.MARK.encode() in octets, "one without proofs has checks in their place"

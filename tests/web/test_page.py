@@ -2,11 +2,13 @@
 used by keyboard, in narrow and dark windows, and in print."""
 
 import csv
+import json
 import os
 import re
 import shutil
 import struct
 import time
+from base64 import b64encode
 from collections import Counter
 from itertools import combinations, permutations, product
 from pathlib import Path
@@ -22,8 +24,10 @@ import odd_heads
 from browser import CONTRAST, PATIENCE
 from changed import changed
 from commands import TOP
+from growing import FORMATS, of_fields
 from packets import PACKET
 from small_packets import small_packets
+from test_javascript import EVERY
 from test_jpeg_same import XMP, exif, iptc, photoshop, picture, resource, segment
 from test_pictures import ODD as HEADS, SAME, is_true_of, status_of
 from test_plain_words import exif_block, record_block
@@ -34,7 +38,7 @@ SAMPLES = TOP / "samples"
 BOWL, BOWL_AFTER = (SAMPLES / side / "ceramics/2003-12-bowl.jpg" for side in ("before", "after"))
 VASE, VASE_AFTER = (SAMPLES / side / "ceramics/1998-7-vase.jpg" for side in ("before", "after"))
 REFUSED, PLAN = SAMPLES / "before/arrivals/IMG_20240502.jpg", SAMPLES / "before/prints/1931-4-plan.png"
-SEED, PAIRS, MADE, MANY = 3, 120, 15, 5000
+SEED, PAIRS, MADE, MANY, STRANGE = 3, 120, 15, 5000, 10_000
 CHANGED = re.compile(
     "ERR_UPLOAD_FILE_CHANGED|ERR_FILE_NOT_FOUND|ERR_FAILED"
 )  # of a picture that a test has replaced or removed while it was shown
@@ -379,6 +383,11 @@ OF_ONE = {
     "an extension that is missing": made.jpeg(MISSING),
     "Exif, and a packet in a rare form": made.jpeg(made.app1(ONE), RARE),
     "texts of a packet": made.jpeg(of_property(TITLE.format("&lt;img src=x onerror=alert(1)>\u202e") + KEYWORDS)),
+    "names that each object has": made.jpeg(
+        app1_of("__proto__", "constructor"),
+        made.with_record(made.iim(b"__proto__")),
+        of_property("".join(f"<dc:{name}>Vase</dc:{name}><q:{name} xmlns:q='x:__proto__/'>Urn</q:{name}>" for name in EVERY)),
+    ),
 }
 OF_TWO_PICTURES = {
     "the same fields": (ORIENTED, picture(exif(ONE), iptc(b""))),
@@ -674,6 +683,115 @@ def test_samples(browser):
 
 
 # ---- hostile pictures and names
+
+
+SIGNS = ("=", "+", "-", "@", "\t", "＝", "＋", "－", "＠")
+WORDS = ["=1+1", ';"=1+1"', "＝1", "__proto__", "&lt;img src=x onerror=alert(1)&gt;", "\u202e'x'"]
+STEMS = [
+    *HOSTILE,
+    *EVERY,
+    *(f"{sign}1" for sign in SIGNS),
+    *WORDS,
+    '"=1',
+    "</script><b>",
+    "\u2028x\x7f\x9b",
+    "漢" * 70,
+    " ",
+    "#?%2e",
+    "a\\b",
+]
+STRANGERS = ["__proto__", "constructor", "=1", "<i>", "a\u202eb"]  # folders
+FOREIGN = "main :is(a, b, i, iframe, object, script, style, svg), main :not(figure) > img, [onerror], [onload]"
+NATIVE = """[Object, Array, Function, Map, String].flatMap(({ prototype }) =>
+    Object.getOwnPropertyNames(prototype).map((name) => `${name} ${typeof Object.getOwnPropertyDescriptor(prototype, name).value}`)).join()"""
+TELLING = f""";((other) => {{
+    self.onmessage = (event) => event.data.call === "native" ? self.postMessage({{ id: event.data.id, answer: {NATIVE} }}) : other(event);
+}})(self.onmessage);"""  # for the worker
+
+
+def of_a_stranger():
+    """Pictures of all formats with mistakes by chance, by their paths; a tenth of them have one in the second folder too."""
+    chance, samples = Random(SEED), [path for path in sorted(SAMPLES.glob("*/*/*")) if path.is_file()]
+    some = [path.read_bytes()[:6000] for path in samples]
+    some += [picture(segment(0xE1, XMP + packet)) for packet in small_packets()]
+    some += [make(of_fields(4, word.encode()).parts) for _, make in FORMATS.values() for word in WORDS]
+    for number in range(STRANGE):
+        path = f"{number // 1000}/{STRANGERS[number % len(STRANGERS)]}/{STEMS[number % len(STEMS)]}{number}.jpg"
+        yield path, (changed(chance.choice(some), chance), None if number % 10 else chance.choice(some))
+
+
+GIVE = """for (const [path, both] of %s) both.forEach((text, side) => {
+    if (text !== null) self.given[side].files.set(path, new File([Uint8Array.from(atob(text), (one) => one.charCodeAt(0))], "a"));
+}); 0"""
+
+
+def give_folders(browser, pictures):
+    """Chooses two folders whose files are in the page alone: while a disk is slow the browser would say nothing."""
+    browser.ask("self.given = ['first', 'second'].map((name) => ({ name, files: new Map() })); 0")
+    for at in range(0, len(pictures), 200):
+        some = [(path, [it and b64encode(it).decode() for it in both]) for path, both in pictures[at : at + 200]]
+        browser.ask(GIVE % json.dumps(some))
+    browser.ask("put(given.splice(0), null); 0")
+
+
+def test_a_folder_of_a_stranger(browser, folder, checks, record_property):
+    """Each file has its row, and no name or text of it is anything but a text: in the page, in its scripts, and in the table that is saved."""
+    browser.call("Browser.setDownloadBehavior", behavior="allow", downloadPath=str(folder))
+    browser.ask(f"end('stopped'); scripts += {json.dumps(TELLING)}; 0")
+    native = [browser.ask(NATIVE), browser.ask("ask('native')")]
+    give_folders(browser, [*of_a_stranger()])
+    heading(browser)
+    browser.ask("document.querySelector('[data-filter=all]').click(); dispatchEvent(new Event('beforeprint'))")
+    listed = rows(browser, "All pictures")
+    assert len(listed) == STRANGE and {"different", "refused", "not read"} <= {verdict for _, verdict, _ in listed}
+    ours = re.compile(r"undefined|not a function|Cannot |\[object|NaN|more than 30 seconds|unknown error")
+    checks.equal("what our own mistakes say", [row for row in listed if ours.search(row[2])], [])
+    checks.equal("elements of the list", browser.ask(f"document.querySelectorAll('{FOREIGN}').length"), 0)
+    browser.ask("dispatchEvent(new Event('afterprint'))")
+    for number in range(0, 300, 15):
+        browser.ask(f"document.querySelectorAll('.list > tbody > tr:not(.opened) > th button')[{number}].click()")
+        browser.wait("!!document.querySelector('.opened')")
+        checks.equal(f"elements of result {number}", browser.ask(f"document.querySelectorAll('{FOREIGN}').length"), 0)
+    checks.equal("what each object has", [browser.ask(NATIVE), browser.ask("ask('native')")], native)
+    browser.ask("[...document.querySelectorAll('.counts button')].at(-1).click()")
+    are_safe_rows(*saved(folder, "pictures*.csv"), checks)
+    browser.call("HeapProfiler.collectGarbage")
+    used = browser.call("Runtime.getHeapUsage")["usedSize"]
+    record_property("measured", f"the page's heap after {STRANGE:,} files of a stranger: {used / 1e6:.0f} MB")
+    assert used < MOST_MEMORY
+    browser.ask("scripts = null; document.getElementById('anew').click()")
+    assert compare(browser, BOWL, BOWL_AFTER) == "Different", "what is read afterwards is as before"
+
+
+def are_safe_rows(file, checks):
+    """No cell is a formula, whatever separates cells where the table is opened; a file has one row, or one for each field that differs."""
+    csv.field_size_limit(1 << 24)
+    for separator in "\t;,":
+        with open(file, newline="", encoding="utf-8") as lines:
+            found = [*csv.reader(lines, delimiter=separator)][1:]
+        checks.equal(f"formulas between {separator!r}", [cell for row in found for cell in row if cell.startswith(SIGNS)], [])
+    assert {len(row) for row in found} == {7} and len({row[0] for row in found}) == STRANGE
+    assert {*Counter(row[0] for row in found if row[1] != "different").values()} == {1}
+
+
+ALIKE = """(() => {
+  const count = %d, row = (path, more) => ({ path, files: [null, null], names: [], changes: [], edits: [], count: 1, ...more });
+  const half = (side) => Array.from({ length: count }, (_, i) => row(`${side}/${i}.jpg`, { verdict: "missing", side, identity: "1", identities: ["1"] }));
+  const moved = pairMoved([...half(0), ...half(1)]).filter(({ verdict }) => verdict === "moved");
+  const edited = Array.from({ length: count }, (_, i) => row(`${i}.jpg`, { verdict: "different", key: "", identities: ["2", "3"],
+    shared: [{ name: "dates", note: "1 h later", fields: [`a:${i %% 2 ? i : 0}`], steps: [] }] }));
+  summarise([...moved, ...edited], 0, true, 0);
+  document.querySelector(".ways li button").click();
+  return [moved.length, document.querySelector(".copies summary").textContent, document.querySelector(".list caption").textContent];
+})()"""
+
+
+def test_many_rows_that_are_alike(browser):
+    """A step for each pair of these rows would take longer than the browser may be silent."""
+    count = 150_000
+    moved, copies, alike = browser.ask(ALIKE % count)
+    assert moved == count and alike == f"Changed alike: {count:,}"
+    assert copies == f"The same metadata inside a folder: {count * 3:,} pictures in 3 groups"
 
 
 def test_names_that_the_browser_leaves_out(browser, folder):

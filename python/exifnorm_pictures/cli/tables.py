@@ -20,7 +20,7 @@ if TYPE_CHECKING:
 Cell = Union[str, bytes, int, float, None]
 
 # Excel and LibreOffice take these as the beginning of a formula, the wide ones in East Asian settings
-_FORMULA = re.compile(r"\A(?=[=+\-@\t\n＝＋－＠])|(?<=[;\t\n])(?=[=+\-@＝＋－＠])")
+_FORMULA = re.compile(r'\A(?=[\t\n])|(?:\A|(?<=[;\t\n]))(?="*[=+\-@＝＋－＠])')
 _PLAIN = re.compile(r"(?![+\-])[\w .+\-]*", re.ASCII)  # most texts, which stay as they are
 _SPECIAL = re.compile(r'[,;\t\n"]')  # what separates cells or rows somewhere
 
