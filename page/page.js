@@ -14,6 +14,8 @@ const counted = (number) => number.toLocaleString("en");
 const many = (number, noun) => `${counted(number)} ${noun}${number === 1 ? "" : "s"}`;
 const listed = (words) => words.length < 2 ? words.join("") : `${words.slice(0, -1).join(", ")} and ${words.at(-1)}`;
 
+const TOO_MANY = `It has more than ${counted(MOST_FILES)} files.`;
+
 const escaped = (character) => `\\u${character.codePointAt(0).toString(16).padStart(4, "0")}`;
 
 /** A text without characters that control how it is shown, such as marks of direction. */
@@ -143,7 +145,7 @@ async function filesBelow(folder, inside, fileOf, { step }) {
       if (!entry.name) continue; // Chromium has none for a name that isn't in UTF-8
       if (entry.isFile || entry.kind === "file") waiting.push(fileOf(entry).catch(() => null).then((file) => files.set(at, file))); else open.push([entry, at]);
       if (waiting.length === AT_ONCE) await Promise.all(waiting.splice(0));
-      if (files.size > MOST_FILES) throw new Error(`It has more than ${counted(MOST_FILES)} files.`);
+      if (files.size > MOST_FILES) throw new Error(TOO_MANY);
     }
   }
   await Promise.all(waiting);
@@ -873,7 +875,7 @@ for (const side of [0, 1]) {
   $(`folder-${side}`).onchange = ({ target }) => {
     const item = folderOf(target);
     target.value = "";
-    if (item.files.size) put([item], side); else say("The folder is empty.");
+    if (item.files.size > MOST_FILES) say(TOO_MANY); else if (item.files.size) put([item], side); else say("The folder is empty.");
   };
 }
 $("anew").onclick = () => {

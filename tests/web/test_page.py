@@ -813,6 +813,9 @@ def test_more_files_than_are_listed(browser):
     listing = "Array.from({ length: 600_000 }, (_, i) => ({ name: String(i), isFile: true }))"
     said = browser.ask(f"filesBelow({{ name: 'f' }}, () => {listing}, async () => null, begun()).then(() => '', (error) => error.message)")
     assert "more than 500,000 files" in said
+    files = "Array.from({ length: 600_000 }, (_, i) => ({ webkitRelativePath: `f/${i}` }))"
+    browser.ask(f"document.getElementById('folder-0').onchange({{ target: {{ files: {files} }} }}); 0")
+    assert "more than 500,000 files" in text(browser, "#status") and not browser.ask("chosen.some(Boolean)")
 
 
 def test_nothing_is_stored(browser):
