@@ -251,13 +251,13 @@ PASTED = """(() => {
 def test_a_result_is_taken_away(browser, folder):
     """As a file, and by the clipboard: no cell is a formula."""
     browser.call("Browser.setDownloadBehavior", behavior="allow", downloadPath=str(folder))
-    compare(browser, *put(folder, made.jpeg(app1_of("=1+1")), made.jpeg(app1_of("+2", "Canon"))))
+    compare(browser, *put(folder, made.jpeg(app1_of('=1;"=2')), made.jpeg(app1_of("＋2", "Canon"))))
     browser.ask("[...document.querySelectorAll('#result .steps button')].find((node) => node.textContent === 'Save as CSV').click()")
     (file,) = saved(folder, "result*.csv")
     with open(file, newline="", encoding="utf-8") as lines:
         found = [*csv.reader(lines)]
     assert found[1:] == [
-        ["0.jpg", "different", "1.jpg", "IFD0:ImageDescription", "'=1+1", "'+2", ""],
+        ["0.jpg", "different", "1.jpg", "IFD0:ImageDescription", "'=1;'\"=2", "'＋2", ""],
         ["0.jpg", "different", "1.jpg", "IFD0:Make", "Leica", "Canon", ""],
     ]
     browser.ask("navigator.clipboard.writeText = async (text) => { self.copied = text; }")
