@@ -28,10 +28,11 @@ class Documents(WithPictures):
 
     def test_what_is_not_compared(self):
         """The page lists the segments of a JPEG that the reader leaves out, and no other ones."""
-        from exifnorm_pictures.extract.formats.jpeg_segments import NOT_COMPARED
+        from exifnorm_pictures.extract.formats.jpeg_segments import COM, RESTS
 
         page = read(os.path.join(TOP, "docs", "COMPARED.md")).decode()
-        self.assertIn(f"these segments of a JPEG: {', '.join(words for *_, words in NOT_COMPARED)}.\n", page)
+        words = [f"{name} ({'COM' if marker == COM else f'APP{marker & 15}'})" for marker, _, name in RESTS]
+        self.assertIn(f"these segments of a JPEG: {', '.join(words)}.\n", page)
 
     def test_each_command_is_shown(self):
         """By an example in its help, an entry of the manual page, and a command of RECIPES, which tests run."""

@@ -76,18 +76,6 @@ def test_a_picture_that_lost_its_profile_or_comment(folder, called, part):
         assert "x.jpg" in printed and "y.jpg" not in printed, words
 
 
-@pytest.mark.parametrize("name, part", zip(("colour profile", "comment"), PARTS))
-def test_a_night_on_which_a_picture_lost_its_profile_or_comment(folder, called, name, part):
-    """It is news, once; the bytes of the metadata alone aren't."""
-    night = ("nightly", "a", "--catalogue", "n", "--pixels")
-    put(folder / "a", {"x.jpg": MASTER[:2] + part + MASTER[2:], "y.jpg": MASTER})
-    called(*night)
-    put(folder / "a", {"x.jpg": MASTER, "y.jpg": MASTER})
-    status, printed, _ = called(*night)
-    assert status == 1 and f"with {name} removed" in printed and "x.jpg" in printed and "y.jpg" not in printed, printed
-    assert called(*night)[:2] == (0, "")
-
-
 def test_only_some_fields(folder, called):
     """Whoever asks for fields alone isn't told of pictures, and the answer says so."""
     put(folder, {"a.jpg": MASTER, "b.jpg": REPLACED})

@@ -8,11 +8,13 @@ import json
 import pytest
 from hypothesis import given, settings
 from hypothesis import strategies as st
-from made_blocks import ASCII, LONG, segment
+from made_blocks import ASCII, LONG, SHORT, segment
 from made_boxes import PICTURE as CODED, XMP_UUID, Item, box, full, heif, item_exif, jxl, mime
 from made_files import Placed, app1, app1_xmp, app13, chunk, exif, iim, jpeg, mpf, page, png, png_xmp, profile, resource, tiff, title, webp
 from made_more_files import application, gif
+from made_raw import MAKERS, camera_profile, dng, srw
 from studio import SMALL_JPEG, put
+from test_bigtiff import IFD8, LONG8, big, fields
 from test_mutations import mutated
 
 from exifnorm_pictures.extract import coded_picture, readers
@@ -71,6 +73,20 @@ FILES = {
     "a JPEG XL of pieces": jxl(
         box(b"jxlp", bytes(4), b"one"), box(b"brob", b"xml ", b"abc"), box(b"jxlp", b"\x80\0\0\1", b"two"), pixels=b""
     ),
+    "a BigTIFF": big(
+        fields(
+            (0x0111, LONG8, 16),
+            (0x0117, LONG8, 6),
+            (0x014A, IFD8, [(0x0131, ASCII, b"a program\0"), (0xC5F2, SHORT, 6)]),
+            (0x8649, 1, RESOURCES),
+        ),
+        page((0x0111, LONG, 16), (0x0117, SHORT, 6)),
+        gap=b"pixels",
+        behind=b"video",
+    ),
+    **{f"a raw {kind}": MAKERS[kind]() for kind in ("cr2", "nef", "pef", "arw")},
+    "a raw srw": srw(),
+    "a raw dng": dng(b"Anna", (0xC6F5, LONG, Placed(camera_profile())), behind=b"video"),
 }
 
 
@@ -81,11 +97,6 @@ def parts_of(octets):
     assert [it.start for it in found] == ends[:-1] and ends[-1] == len(octets) and all(it.start < it.end for it in found), found
     assert all(bool(it.name) >= (it.kind == parts.REST) for it in found)
     return found
-
-
-@pytest.mark.parametrize("name", FILES)
-def test_the_parts_cover_a_file(name):
-    assert {it.kind for it in parts_of(FILES[name])} >= {parts.PICTURE, parts.STRUCTURE if "TIFF" not in name else parts.METADATA}
 
 
 @settings(max_examples=400)
@@ -105,15 +116,16 @@ def seen(octets):
         blocks = read(io.BytesIO(octets), False)
     except Broken as why:
         return str(why)
-    return [it[:3] for it in blocks.blocks], blocks.damage, coded_picture.of_stream(io.BytesIO(octets), Budget())
+    return [it[:3] for it in blocks.blocks], blocks.not_read, blocks.damage, coded_picture.of_stream(io.BytesIO(octets), Budget())
 
 
 @pytest.mark.parametrize("name", FILES)
 def test_no_byte_is_outside(name):
     """A byte that may change unseen is one of the structure."""
     octets = FILES[name]
-    known = seen(octets)
-    compared = [at for it in parts_of(octets) if it.kind != parts.STRUCTURE for at in range(it.start, it.end)]
+    known, found = seen(octets), parts_of(octets)
+    assert {it.kind for it in found} >= {parts.PICTURE, parts.STRUCTURE}
+    compared = [at for it in found if it.kind != parts.STRUCTURE for at in range(it.start, it.end)]
     assert [at for at in compared if seen(octets[:at] + bytes([octets[at] ^ 1]) + octets[at + 1 :]) == known] == []
 
 
@@ -125,6 +137,8 @@ NAMED = {
         jpeg(app13(resource(0x0404, K) + FLAG)),
         "Photoshop resource 040a (copyright flag)",
     ),
+    "a comment": (jpeg(app1(A)), jpeg(app1(A), segment(0xFE, b"by Anna")), parts.COMMENT),
+    "a colour profile": (jpeg(app1(A)), jpeg(app1(A), segment(0xE2, b"ICC_PROFILE\0\1\1abc")), parts.PROFILE),
     "credentials of a PNG": (png(chunk(b"eXIf", A)), png(chunk(b"eXIf", A), chunk(b"caBX", JUMBF)), parts.CREDENTIALS),
     "a private chunk": (png(chunk(b"eXIf", A)), png(chunk(b"eXIf", A), chunk(b"meTa", b"inventory")), "meTa chunk"),
     "credentials of a HEIF": (heif(CODED, EXIF), heif(CODED, EXIF, behind=box(b"uuid", C2PA, JUMBF)), parts.CREDENTIALS),
@@ -160,10 +174,10 @@ def test_a_part_that_is_gone_is_named_by_each_command(name, folder, called):
     put(folder / "n", {"x": poor})
     (verified, _) = map(json.loads, called("verify", "first", "--json")[1].splitlines())
     assert (verified["state"], verified["note"]) == ("other parts", f"{part} removed")
-    assert (
-        called(*night)[0] == 1
-        and f"{part} removed" in json.loads(called("changed", "first", "of-nights", "--json")[1].splitlines()[0])["note"]
-    )
+    status, printed, _ = called(*night)
+    assert status == 1 and f"with {part} removed: x\n" in printed
+    assert f"{part} removed" in json.loads(called("changed", "first", "of-nights", "--json")[1].splitlines()[0])["note"]
+    assert called(*night)[:2] == (0, ""), "it is news once"
 
 
 @pytest.mark.parametrize("name", NAMED)

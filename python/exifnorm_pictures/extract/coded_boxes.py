@@ -43,8 +43,8 @@ def add_heif(stream: Stream, coded: "hashlib.blake2b", budget: Budget) -> Iterab
     return claims
 
 
-_PLAIN = frozenset((b"ftyp", b"JXL ", b"hdlr", b"pitm", b"iinf", b"iloc", b"iref", b"ipma", b"dinf"))  # of the structure alone
-_HOLLOW = frozenset((b"mdat", b"idat", b"free", b"skip", b"wide"))  # whose content nobody claims but items
+_PLAIN = frozenset((b"JXL ", *b"ftyp hdlr pitm iinf iloc iref ipma dinf".split()))  # of the structure alone
+_HOLLOW = frozenset(b"mdat idat free skip wide".split())  # whose content nobody claims but items
 
 
 def _of_box(stream: Stream, box: Box) -> Iterator[Part]:
@@ -172,8 +172,7 @@ class _Heif:
         for box in boxes(self.stream, iinf.start + (8 if wide else 6), iinf.end):
             start = box.start + (14 if read_at(self.stream, box.start, 1) == b"\3" else 12)
             name = content(self.stream, box)[start - box.start :].partition(b"\0")[0]
-            if name:
-                yield Part(REST, start, start + len(name), "names of items")
+            yield Part(REST, start, start + len(name), "names of items")
 
 
 def add_jxl(stream: Stream, coded: "hashlib.blake2b", budget: Budget) -> Iterable[Part]:
@@ -190,7 +189,7 @@ def add_jxl(stream: Stream, coded: "hashlib.blake2b", budget: Budget) -> Iterabl
     return [*(Part(PICTURE, *it) for it in codestream if it[1] > it[0]), *claims]
 
 
-_OF_JXL = frozenset((b"jxlc", b"jxlp", b"jxll", b"jxli"))
+_OF_JXL = frozenset(b"jxlc jxlp jxll jxli".split())
 
 
 def _of_jxl(stream: Stream, box: Box) -> Iterator[Part]:

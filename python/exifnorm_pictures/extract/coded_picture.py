@@ -72,22 +72,18 @@ def followed(stream: Stream, budget: Budget) -> tuple[str, list[parts.Part]]:
 # JPEG
 
 _JFIF, _ADOBE = 0xE0, 0xEE
-_BY_LETTERS = {b"RGB": b"\0"}  # the transform of components with these letters
 _FRAMES = frozenset(range(0xC0, 0xD0)) - {0xC4, 0xC8, 0xCC}  # which are tables, and reserved
 
 
 def _jpeg(stream: Stream, coded: "hashlib.blake2b", budget: Budget) -> Iterable[parts.Part]:
     head = read_head(stream, 0, budget)
     claims = list(jpeg.parts(stream, head, budget))
-    picture = [it for it in claims if it.kind == parts.PICTURE]
-    for part in picture:
-        if part.name != jpeg.SCAN:
-            add_to(coded, stream, part.start, part.end)
-    if _jfif_decides(head):
-        coded.update(b"JFIF")
-    for part in picture:
-        if part.name == jpeg.SCAN:
-            add_to(coded, stream, part.start, part.end)
+    for name in ("", jpeg.SCAN):  # the tables come first
+        for part in claims:
+            if part.kind == parts.PICTURE and part.name == name:
+                add_to(coded, stream, part.start, part.end)
+        if not name and _jfif_decides(head):
+            coded.update(b"JFIF")
     return claims
 
 
@@ -104,7 +100,7 @@ def _jfif_decides(head: Head) -> bool:
             transform = data[11:12] if data.startswith(b"Adobe") and size >= 12 else transform
         elif marker in _FRAMES:
             names = data[6:15:3] * (data[5:6] == b"\3")
-    return is_jfif and bool(names) and (transform or _BY_LETTERS.get(names)) == b"\0"
+    return is_jfif and bool(names) and (transform == b"\0" if transform else names == b"RGB")
 
 
 # PNG and WebP

@@ -14,8 +14,15 @@ FURTHER = "further parts"  # all others of a file with more names
 TOO_LARGE = "too large to compare"
 # What programs write by themselves when they save a picture, and nobody misses
 _BY_PROGRAMS = frozenset(
-    ("JFIF", "thumbnail of JFIF", "pHYs chunk", "tIME chunk")
-    + tuple(f"Photoshop resource {it}" for it in ("03ed (resolution)", "0409 (thumbnail)", "040c (thumbnail)"))
+    (
+        "JFIF",
+        "thumbnail of JFIF",
+        "pHYs chunk",
+        "tIME chunk",
+        "Photoshop resource 03ed (resolution)",
+        "Photoshop resource 0409 (thumbnail)",
+        "Photoshop resource 040c (thumbnail)",
+    )
 )
 
 
@@ -56,14 +63,16 @@ def changes(before: str | None, after: str | None) -> list[str]:
     if before is None or after is None:
         return []
     old, new = names_in(before), names_in(after)
-    words = {(True, False): "removed", (False, True): "added", (True, True): "changed"}
-    names = sorted({**old, **new}) if FURTHER not in {**old, **new} else [*sorted(set(old) & set(new) - {FURTHER}), FURTHER]
+    kept = set(old) & set(new) | {FURTHER}
+    names = sorted({**old, **new})
+    if FURTHER in names:
+        names = [*sorted(kept - {FURTHER}), FURTHER]
     found = []
     for name in names:
         if old.get(name) == new.get(name) == "":
             found.append(f"{name} {TOO_LARGE}")
         elif old.get(name) != new.get(name):
-            found.append(f"{name} {'changed' if name == FURTHER else words[name in old, name in new]}")
+            found.append(f"{name} {'changed' if name in kept else 'removed' if name in old else 'added'}")
     return found
 
 

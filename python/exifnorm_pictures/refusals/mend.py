@@ -9,6 +9,7 @@ import re
 import tempfile
 from collections import Counter
 from dataclasses import dataclass, field
+from operator import itemgetter
 from typing import Callable, NamedTuple
 
 from ..extract import coded_picture, programs
@@ -218,8 +219,7 @@ def _best(session: Session, picture: bytes, taken: Blocks, repair: _Repair | Non
     first = os.path.join(room, "first" + suffix)
     _copy(picture, first)
     before, others = _printed(session, first), _others(first, taken)
-    best: Attempt | None = None
-    known = (0, 0)
+    attempts: list[tuple[tuple[int, int], Attempt]] = []  # each by what it loses and adds
     for remedy in (Remedy.REPAIR, *_REMEDIES):
         file = os.path.join(room, remedy + suffix)
         if remedy != Remedy.REPAIR:
@@ -239,14 +239,13 @@ def _best(session: Session, picture: bytes, taken: Blocks, repair: _Repair | Non
             left = _others(file, written)
             lost += [f"{name}: {'changed' if name in left else 'removed'}" for name, it in others.items() if not it or left.get(name) != it]
         rank = (len(lost), 0 if remedy == Remedy.REPAIR else len(gained))
-        if best is None or rank < known:
-            best, known = (remedy, file, lost, gained), rank
+        attempts.append((rank, (remedy, file, lost, gained)))
         if rank == (0, 0):
             break
-    return best
+    return min(attempts, key=itemgetter(0), default=(None, None))[1]
 
 
-_FREE = ("PageName", "DocumentName", "HostComputer")
+_FREE = "PageName DocumentName HostComputer".split()
 
 
 def _exiftool(session: Session, *words: str) -> programs.Done:
@@ -292,7 +291,7 @@ _OFFSETS = re.compile(rb"Offset|Start |Padding|IPTCDigest|XMPToolkit")  # and wh
 
 def _printed(session: Session, name: str) -> "Counter[str]":
     """All values that ExifTool prints, except offsets: as it prints them, and behind that exactly, since it rounds numbers for people."""
-    left_out = [word for group in ("System", "File", "Composite", "ExifTool", "JFIF") for word in ("-x", f"{group}:all")]
+    left_out = [word for group in "System File Composite ExifTool JFIF".split() for word in ("-x", f"{group}:all")]
     output = _exiftool(session, "-a", "-u", "-s", "-G1", *left_out, "-all", "-all#", name).stdout
     lines = [re.sub(rb"\s+", b" ", it) for it in output.split(b"\n") if it]
     both = (re.sub(rb", use -b.*?(?=\)|$)", b"", it) for it in _with_numbers(lines) if not _OFFSETS.search(it))

@@ -96,7 +96,7 @@ def leave_cut(blocks: Blocks, why: str) -> None:
         blocks.leave(f"{REST} ({CUT}{why})", b"")
 
 
-_PIXELS = frozenset((b"mdat", b"jxlc", b"jxlp", b"jp2c"))
+_PIXELS = frozenset(b"mdat jxlc jxlp jp2c".split())
 # Boxes of which a part at the end of a file is no trailer
 _OFTEN_LAST = _PIXELS | frozenset((b"uuid", b"xml ", b"Exif", b"brob", b"meta", b"moov"))
 

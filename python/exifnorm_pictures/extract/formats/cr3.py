@@ -15,7 +15,7 @@ from .canon_block import one_block
 from .streams import Stream, digest_of_parts, is_blank, leave, size_of
 
 _PREVIEW = bytes.fromhex("eaf42b5e1c984b88b9fbb7dc406e4d16")
-_WITHOUT = frozenset((b"ftyp", b"mdat", b"free", b"skip", b"wide"))
+_WITHOUT = frozenset(b"ftyp mdat free skip wide".split())
 _WITHOUT_IN_MOVIE = frozenset((b"mvhd", b"free"))
 _BELOW_TRACK = frozenset((b"mdia", b"minf", b"stbl"))
 _PIXELS = b"CRAW"

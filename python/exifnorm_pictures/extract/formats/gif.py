@@ -19,7 +19,7 @@ _OTHERS = (0xFE, 0xF9, 0x01)  # extensions without metadata: comments, controls 
 _MAGIC = b"\x01" + bytes(range(255, -1, -1)) + b"\0"
 _XMP, _IPTC, _RESOURCES = b"XMP DataXMP", b"MGKIPTC0000", b"MGK8BIM0000"
 _CREDENTIALS = {b"C2PA_GIF\1\0\0": CREDENTIALS}  # Content Credentials, A.4
-_WITHOUT = frozenset((b"NETSCAPE2.0", b"ANIMEXTS1.0", b"ICCRGBG1012"))
+_WITHOUT = frozenset(b"NETSCAPE2.0 ANIMEXTS1.0 ICCRGBG1012".split())
 
 
 def read(stream: Stream, whole: bool = False) -> Blocks:

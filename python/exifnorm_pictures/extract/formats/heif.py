@@ -20,8 +20,8 @@ BRANDS = frozenset(
     b"heic heix heim heis hevc hevx hevm hevs mif1 mif2 mif3 msf1 miaf avif avis avci avcs jpeg jpgs j2ki j2is vvic vvis evbi evbs".split()
 )
 _TYPE_OF_XMP = b"application/rdf+xml"
-_WITHOUT = frozenset((b"mdat", b"free", b"skip", b"wide"))
-_WITHOUT_IN_META = frozenset((b"dinf", b"grpl", b"free", b"skip"))
+_WITHOUT = frozenset(b"mdat free skip wide".split())
+_WITHOUT_IN_META = frozenset(b"dinf grpl free skip".split())
 # Properties without texts (ISO/IEC 23008-12, 6.5; ISO/IEC 23000-22; AV1 image file format)
 PROPERTIES = frozenset(
     b"ispe pixi pasp colr auxC irot imir clap rloc lsel hvcC av1C avcC j2kH jpgC vvcC evcC a1op a1lx clli mdcv cclv amve iscl oinf tols lhvC"
@@ -72,7 +72,7 @@ class Reader:
                 raise Broken(f"a second {box.name} at {box.at}")
             known |= {box.kind} & {*READERS, b"iprp"}
             if box.kind in READERS:
-                self.items.read(box)
+                READERS[box.kind](self.items, box)
             elif box.kind == b"iprp":
                 self._properties(box)
             elif box.uuid == canon.UUID:

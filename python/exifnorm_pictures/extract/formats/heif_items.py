@@ -62,10 +62,6 @@ class Items:
         self._described: dict[int, list[int]] = {}  # the pictures that an item describes
         self._tiles: set[int] = set()
 
-    def read(self, box: Box) -> None:
-        """Reads a box of `READERS`. Raises `Broken` and `TooMuch`."""
-        READERS[box.kind](self, box)
-
     def _full(self, box: Box) -> "tuple[int, Fields]":
         """The version and the fields of a box."""
         fields = Fields(content(self.stream, box), box.name)

@@ -1,13 +1,13 @@
 """JPEG: Exif in APP1, also split over segments, IPTC in the Photoshop resources of APP13, XMP in APP1 and extended XMP, in the picture
 itself and in those of its MPF index (CIPA DC-008 4.7, CIPA DC-007, XMP part 3).
 
-The segments of `NOT_COMPARED` are rest. All other segments of applications are compared by their bytes, and named.
+The segments of `RESTS` are rest. All other segments of applications are compared by their bytes, and named.
 """
 
 from __future__ import annotations
 
 import re
-from typing import Iterator, Sequence
+from typing import Iterator
 
 from exifnorm._library import library
 
@@ -16,8 +16,8 @@ from ...model.found import CUT, EXIF, IPTC, REST, SIX, XMP, XMP_HEAD, Blocks, Br
 from . import mpf, photoshop
 from .extended_xmp import HEAD as EXTENDED, Pieces
 from .jpeg_segments import APP0, APP1, APP13, APP14, APP15, APP2, APP3, COM, SOI
-from .jpeg_segments import EXIF_PIECE, NOT_COMPARED, PHOTOSHOP_PIECE, XMP_PACKET, XMP_PIECE
-from .jpeg_segments import Head, blocks_of, not_compared, read_head, read_up_to
+from .jpeg_segments import EXIF_PIECE, PHOTOSHOP_PIECE, RESTS, XMP_PACKET, XMP_PIECE
+from .jpeg_segments import Head, blocks_of, read_head, read_up_to, rest_of
 from .jpeg_tail import ALONE, WINDOW, Markers, Tail, segments, tail
 from .parts import CREDENTIALS, METADATA, PICTURE, REST as THE_REST, STRUCTURE, Part, Range, word
 from .streams import HEAD, Stream, digest_of, read_at, size_of
@@ -81,7 +81,7 @@ class _Head:
     def read_usual(self, first: bytes, end: int) -> bool:
         """Reads the first picture of a file, of whose bytes these are the first, by the extension module, which leaves one with an unusual head
         to `read`."""
-        found = library().jpeg_head(first, end, NOT_COMPARED)
+        found = library().jpeg_head(first, end, RESTS)
         if not found:
             return False
         self.end, self.is_all, *blocks, self.blocks.iptc_digest, rests = found
@@ -133,7 +133,7 @@ class _Head:
             self._runs.append((f"APP13 segment at {start}", data[mark:]))
         elif kind == _INDEX:
             self.indexes.append((start + 4 + mark, data[mark:]))
-        elif not_compared(marker, data):
+        elif rest_of(marker, data):
             self._pass_over(kind, data[:_FEW], len(data))
         else:
             self.blocks.leave(kind + self.of, data)
@@ -167,7 +167,7 @@ def _kind_of(marker: int, data: bytes) -> tuple[str, int]:
     if marker == APP3 and data.startswith(_META):
         return "APP3 segment Meta", 0
     name = f"APP{marker - APP0} segment"
-    return not_compared(marker, data) or (f"{name} of an unknown kind" if marker in (APP1, APP13) else f"{name} {word(data)}".rstrip()), 0
+    return rest_of(marker, data) or (f"{name} of an unknown kind" if marker in (APP1, APP13) else f"{name} {word(data)}".rstrip()), 0
 
 
 def _further(stream: Stream, head: _Head, end: int) -> list[int]:
@@ -298,12 +298,8 @@ def _of_head(head: Head, start: int, budget: Budget) -> Iterator[Part]:
         else:
             yield Part(kind, first + mark, end)
     yield Part(STRUCTURE, at, start + head.parts[-1][3] - 4)
-    yield from photoshop.parts(runs, [_joined(head, start, it) for it in runs], budget.left[RESOURCES])
-
-
-def _joined(head: Head, start: int, ranges: Sequence[Range]) -> bytes:
-    """The bytes of some ranges of a head."""
-    return b"".join(head.octets[first - start : end - start] for first, end in ranges)
+    octets = [b"".join(head.octets[first - start : end - start] for first, end in run) for run in runs]
+    yield from photoshop.parts(runs, octets, budget.left[RESOURCES])
 
 
 _CLASSES = {EXIF: METADATA, XMP: METADATA, _INDEX: STRUCTURE}  # all others are rest, but resources, which have parts of their own

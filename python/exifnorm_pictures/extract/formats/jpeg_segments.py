@@ -16,27 +16,27 @@ SOI, EOI, SOS, COM = 0xD8, 0xD9, 0xDA, 0xFE
 END_MARK = bytes((0xFF, EOI))
 APP0, APP1, APP2, APP3, APP13, APP14, APP15 = 0xE0, 0xE1, 0xE2, 0xE3, 0xED, 0xEE, 0xEF
 
-# The segments that contain no Exif, IPTC or XMP, and are compared only as the rest of a file: the marker, how the segment begins, the name of
-# the part, and its name in docs/COMPARED.md, whose list is made of this table, as that of the page is. Nothing in a segment says that it has no
-# metadata: that is what the standards of these say, and any other segment of an application may have some.
-NOT_COMPARED = (
-    (0xE0, b"JFIF\0", "JFIF", "JFIF (APP0)"),
-    (0xE0, b"JFXX\0", "thumbnail of JFIF", "the thumbnail of JFIF (APP0)"),
-    (0xE2, b"ICC_PROFILE\0", PROFILE, "ICC profiles (APP2)"),
-    (0xEB, b"JP", "JUMBF", "JUMBF (APP11)"),
-    (0xED, b"Adobe_CM", "Adobe_CM", "Adobe_CM (APP13)"),
-    (0xEE, b"Adobe", "colour transform of Adobe", "the colour transform of Adobe (APP14)"),
-    (COM, b"", COMMENT, "comments (COM)"),
+# The segments that contain no Exif, IPTC or XMP, and are compared only as the rest of a file: the marker, how the segment begins, and the name of
+# the part, which docs/COMPARED.md has, too. Nothing in a segment says that it has no metadata: that is what the standards of these say, and any
+# other segment of an application may have some, so it is also named as not read.
+RESTS = (
+    (0xE0, b"JFIF\0", "JFIF"),
+    (0xE0, b"JFXX\0", "thumbnail of JFIF"),
+    (0xE2, b"ICC_PROFILE\0", PROFILE),
+    (0xEB, b"JP", "JUMBF"),
+    (0xED, b"Adobe_CM", "Adobe_CM"),
+    (0xEE, b"Adobe", "colour transform of Adobe"),
+    (COM, b"", COMMENT),
 )
 
 
-def not_compared(marker: int, data: bytes) -> str:
-    """The name of a segment of `NOT_COMPARED`; empty of any other.
+def rest_of(marker: int, data: bytes) -> str:
+    """The name of a segment of `RESTS`; empty of any other.
 
-    >>> not_compared(0xE0, b"JFIF\\0\\1"), not_compared(0xE1, b"JFIF\\0\\1")
+    >>> rest_of(0xE0, b"JFIF\\0\\1"), rest_of(0xE1, b"JFIF\\0\\1")
     ('JFIF', '')
     """
-    return next((name for number, head, name, _ in NOT_COMPARED if marker == number and data.startswith(head)), "")
+    return next((name for number, head, name in RESTS if marker == number and data.startswith(head)), "")
 
 
 EXIF_PIECE, PHOTOSHOP_PIECE, XMP_PACKET, XMP_PIECE = (PART_KINDS.index(it) for it in ("exif", "photoshop", "xmp", "extended xmp"))

@@ -16,7 +16,7 @@ from ...model.found import EXIF, FEW, IPTC, SIX, XMP, Blocks
 from .parts import METADATA, REST, STRUCTURE, Joined, Part, Range
 
 HEAD = b"Photoshop 3.0\0"
-SIGNATURES = (b"8BIM", b"PHUT", b"AgHg", b"DCSR", b"MeSa")  # Photoshop, PhotoDeluxe, Lightroom, and two that are not documented
+SIGNATURES = frozenset(b"8BIM PHUT AgHg DCSR MeSa".split())  # Photoshop, PhotoDeluxe, Lightroom, and two that are not documented
 
 _KINDS = {0x0404: IPTC, 0x0422: EXIF, 0x0424: XMP}
 _MORE_EXIF = 0x0423

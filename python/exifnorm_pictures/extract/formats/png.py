@@ -19,8 +19,8 @@ from .streams import Stream, leave_rest, read_at, size_of
 START = b"\x89PNG\r\n\x1a\n"
 _XMP_KEYWORD = b"xml:com.adobe.xmp"
 _PROFILE = b"raw profile type "
-TEXTS = (b"tEXt", b"zTXt", b"iTXt")
-PIXELS = frozenset((b"IHDR", b"PLTE", b"tRNS", b"IDAT", b"acTL", b"fcTL", b"fdAT"))  # chunks of the coded picture
+TEXTS = b"tEXt zTXt iTXt".split()
+PIXELS = frozenset(b"IHDR PLTE tRNS IDAT acTL fcTL fdAT".split())  # chunks of the coded picture
 _NAMES = {b"iCCP": PROFILE, b"caBX": CREDENTIALS}
 
 

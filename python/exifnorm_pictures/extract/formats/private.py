@@ -139,7 +139,7 @@ class Private:
         directories = Directories(inside)
         directory = directories.read(directories.first)
         values = filter(None, map(directories.place_of, directory.entries))
-        for begin, end in ((0, 8), (directory.at, directory.end), *values):
+        for begin, end in ((0, 8), (directory.at, directory.end - 4), *values):  # no next one is read
             self._reached.add(start + end, start + begin)
         block = Layout(directories, Table(directory.entries, {})).block(part)
         self.blocks.add(EXIF, block, f"camera profile at {start}", part)

@@ -9,7 +9,6 @@ from __future__ import annotations
 
 import contextlib
 import hashlib
-import itertools
 from collections import deque
 from operator import itemgetter
 from typing import Iterable, Iterator, NamedTuple
@@ -249,20 +248,18 @@ class Reader:
         for page in pages:
             yield from self._parts_of(page)
         yield from (Part(PICTURE, *it) for it in self._reached.pixels)
+        header = self._reached.parts[:1]
+        unused = self.directories.unused({*self._lists, *_OWN})
+        yield from (Part(STRUCTURE, *it) for it in (*header, *unused))
         yield from (Part(METADATA, *it) for it in self._reached.parts)
 
     def _parts_of(self, page: Page) -> Iterator[Part]:
         kept = []
-        variant = self.directories.variant
-        length = 4 + 2 * variant.offset  # of an entry: its tag, its type, and two numbers
-        places = itertools.count(page.directory.at + variant.number, length)
-        for at, entry in zip(places, page.directory.entries):
+        for entry in page.directory.entries:
             place = self.directories.place_of(entry)
             if entry.tag in self._private.tags:
                 with contextlib.suppress(Broken):
                     self._private.takes(entry, page.words)
-            if place and entry.tag in _OWN:
-                yield Part(STRUCTURE, at, at + length)
             if place and entry.tag == _PHOTOSHOP:
                 yield from photoshop.parts([[place]], [self.directories.shared(entry)])
             elif place and entry.tag in _NAMES:

@@ -9,7 +9,7 @@ from __future__ import annotations
 import struct
 from bisect import bisect_left
 from itertools import count
-from typing import NamedTuple
+from typing import Container, Iterator, NamedTuple
 
 from ...model.budgets import DIRECTORIES, ENTRIES, VALUE_BYTES, budget_of
 from ...model.found import Broken
@@ -106,6 +106,19 @@ class Directories:
                 self._in_entries[place] = place + entry.size
             entries.append(entry)
         return entries
+
+    def unused(self, leading: Container[int]) -> Iterator[tuple[int, int]]:
+        """The bytes of the directories that were read that are of no field: the offset of the next
+        directory, the entries of tags that lead elsewhere, and what a short value leaves of the
+        last field of its entry."""
+        width, length = self.variant.offset, self._row.size
+        for start in self._starts[1:]:
+            first, last = start + self.variant.number, self._ends[start] - width
+            yield last, last + width
+            rows = self._row.iter_unpack(read_at(self.stream, first, last - first))
+            for end, (tag, kind, elements, _) in zip(count(first + length, length), rows):
+                size = min(self.variant.sizes.get(kind, width) * elements, width)
+                yield end - (length if tag in leading else width - size), end
 
     def place_of(self, entry: Entry) -> tuple[int, int] | None:
         """The range of a value; None if it is in its entry, or the file doesn't contain all of it."""

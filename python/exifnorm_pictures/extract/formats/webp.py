@@ -13,7 +13,6 @@ from .streams import Stream, leave_rest, read_at, size_of
 
 _FIRST = 12  # the offset of the first chunk
 PIXELS = frozenset((b"VP8 ", b"VP8L", b"ALPH", b"ANIM", b"ANMF"))  # chunks of the coded picture
-_WITHOUT = frozenset((*PIXELS, b"VP8X", b"ICCP"))  # chunks without metadata (RFC 9649, 2.6 and 2.7)
 _XMP = (b"XMP ", b"XMP\0")
 _NAMES = {b"ICCP": PROFILE, b"C2PA": CREDENTIALS}
 
@@ -35,7 +34,7 @@ def read(stream: Stream, whole: bool = False) -> Blocks:
         after = at + 8 + length + length % 2
         if kind == b"ICCP":
             blocks.pass_over(PROFILE, length)
-        elif kind not in _WITHOUT:
+        elif _CLASSES.get(kind) not in (PICTURE, STRUCTURE):
             blocks.budget.spend(CHUNK_BYTES, length)
             _add(blocks, kind, read_at(stream, at + 8, length), at)
     leave_rest(blocks, stream, min(after, end))
